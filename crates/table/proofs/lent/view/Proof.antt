@@ -1,4 +1,10 @@
+use Prim.Native.Nat.{_+_, _<_, _≤_}
+use native.Mathlib.Nat.{add-sub-cancel-left}
+use native.Mathlib.Omega.{arith}
+use lib.ListN.{length}
 use borrow.Author.Needs.{needs}
+use borrow.Author.Tests.{lt-leb, le-leb}
+use Rattle.table.specs.Lent.{viewed}
 use Rattle.table.proofs.lent.view.Statement.{statement}
 use Rattle.table.proofs.lent.view.Tie as tie
 use Rattle.table.proofs.lent.view.Reads as reads
@@ -18,7 +24,11 @@ part-result-end c = search needs
 
 -- src/lent.rt:13:9
 returns : tie.Need-returns
-returns c = ?
+unfolding viewed
+returns c =
+    let v = c .before .before .args .v in
+    let h : length (c .before .before .args .lent .now) < v .at + v .len = omega arith in
+    rw (lt-leb _ _ h)
 
 -- src/lent.rt:15:8
 sub-if2 : tie.Need-sub-if2
@@ -38,7 +48,11 @@ part-result-end-2 c = search needs
 
 -- src/lent.rt:16:9
 returns-2 : tie.Need-returns-2
-returns-2 c = ?
+unfolding viewed
+returns-2 c =
+    let v = c .before .before .before .args .v in
+    let h : length (c .before .before .before .args .lent .now) < v .at + v .len = omega arith in
+    rw (lt-leb _ _ h)
 
 -- src/lent.rt:18:15
 add-end : tie.Need-add-end
@@ -58,7 +72,11 @@ part-result-end-3 c = search needs
 
 -- src/lent.rt:7:1
 returns-3 : tie.Need-returns-3
-returns-3 c = ?
+unfolding viewed
+returns-3 c =
+    let v = c .before .before .before .args .v in
+    let h : v .at + v .len ≤ length (c .before .before .before .args .lent .now) = omega arith in
+    rw (le-leb _ _ h, add-sub-cancel-left)
 
 pub view-spec : {M : Type 1} → statement M
 view-spec =
