@@ -1,1 +1,4 @@
+pub mod Bits
+pub mod Table
+pub mod Writing
 pub mod Lent

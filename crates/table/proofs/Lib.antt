@@ -1,0 +1,9 @@
+pub mod Lists
+pub mod Bits
+pub mod Fields
+pub mod Walks
+pub mod Laws
+pub mod Telling
+pub mod Leading
+pub mod Structure
+pub mod Steps
