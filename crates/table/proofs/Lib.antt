@@ -7,3 +7,6 @@ pub mod Telling
 pub mod Leading
 pub mod Structure
 pub mod Steps
+pub mod Reading
+pub mod Stores
+pub mod Steppings

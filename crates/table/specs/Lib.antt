@@ -2,3 +2,4 @@ pub mod Bits
 pub mod Table
 pub mod Writing
 pub mod Lent
+pub mod Cursor

@@ -1,0 +1,102 @@
+// Numbers in bytes. Each function answers on any slice and any place: what lies past the end is not there.
+ghost use mathlib.Core.Path.{_≡_};
+ghost use Prim.Native.Nat.{_+_, _*_, _%_, _^_, _<_, _≤_};
+ghost use lib.ListN.{getD};
+ghost use Rattle.table.specs.Bits.{bitsOf, field};
+
+// A byte as a number that has room for more.
+pub fn wide(b: u8) -> u64
+    ensures { λ r. ⌜ (r ≡ b) × (r < 256) ⌝ }
+{
+    b as u64
+}
+
+// The byte at a place, 0 past the end.
+pub fn byte(s: &[u8], at: usize) -> u8
+    ensures { λ r. ⌜ r ≡ getD (now (s .entry)) at 0 ⌝ }
+{
+    if at < s.len() { s[at] } else { 0 }
+}
+
+fn least(a: usize, b: usize) -> usize
+    ensures { λ r. ⌜ (r ≤ a) × (r ≤ b) × (0 < a → 0 < b → 0 < r) ⌝ }
+{
+    if a < b { a } else { b }
+}
+
+// The number in the w bits from bit p on; of more than 64 bits, the last 64.
+pub fn bits(s: &[u8], p: usize, w: usize) -> u64
+    ensures { λ r. ⌜ r ≡ field (bitsOf (now (s .entry))) p w % 2 ^ 64 ⌝ }
+{
+    let mut v: u64 = 0;
+    let mut i = p / 8;
+    // The bits of byte i that are behind, and those of the field that are ahead.
+    let mut behind = p % 8;
+    let mut ahead = w;
+    while 0 < ahead {
+        if s.len() <= i {
+            return v;
+        }
+        let n = least(ahead, 8 - behind);
+        v = (v << n) + (wide(s[i]) >> (8 - behind - n)) % (1u64 << n);
+        ahead -= n;
+        i += (behind + n) / 8;
+        behind = (behind + n) % 8;
+    }
+    v
+}
+
+// The number in n bytes, the high one first; of more than 8 bytes, the last 8.
+pub fn big_endian(s: &[u8], at: usize, n: usize) -> u64
+    ensures { λ r. ⌜ r ≡ field (bitsOf (now (s .entry))) (at * 8) (n * 8) % 2 ^ 64 ⌝ }
+{
+    let mut v: u64 = 0;
+    let mut i = at;
+    let mut ahead = n;
+    while 0 < ahead {
+        if s.len() <= i {
+            return v;
+        }
+        v = (v << 8) + wide(s[i]);
+        i += 1;
+        ahead -= 1;
+    }
+    v
+}
+
+// A byte's bits behind those of v, one after the other.
+fn with_byte(v: u64, b: u8) -> u64
+    requires { ⌜ v < 2 ^ 56 ⌝ }
+    ensures { λ r. ⌜ r ≡ v * 256 + b ⌝ }
+{
+    let x = wide(b);
+    let v1 = v * 2 + x / 128;
+    let v2 = v1 * 2 + x / 64 % 2;
+    let v3 = v2 * 2 + x / 32 % 2;
+    let v4 = v3 * 2 + x / 16 % 2;
+    let v5 = v4 * 2 + x / 8 % 2;
+    let v6 = v5 * 2 + x / 4 % 2;
+    let v7 = v6 * 2 + x / 2 % 2;
+    v7 * 2 + x % 2
+}
+
+// The 33 bits that start in the last bit of a byte, as the standard's times do.
+pub fn time33(s: &[u8], at: usize) -> u64
+    ensures { λ r. ⌜ r ≡ field (bitsOf (now (s .entry))) (at * 8 + 7) 33 ⌝ }
+{
+    if s.len() <= at {
+        return 0;
+    }
+    let mut v = wide(s[at]) % 2;
+    let mut i = at + 1;
+    let mut ahead: usize = 4;
+    while 0 < ahead {
+        if s.len() <= i {
+            return v;
+        }
+        v = with_byte(v, s[i]);
+        i += 1;
+        ahead -= 1;
+    }
+    v
+}
