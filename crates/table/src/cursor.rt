@@ -1,14 +1,15 @@
 // A cursor in lent bytes, by value: a bit position, and steps that answer the next one.
 ghost use mathlib.Core.Path.{_≡_};
 ghost use Rattle.table.specs.Bits.{bitsOf};
-ghost use Rattle.table.specs.Cursor.{takenOf, passedOf};
+ghost use Rattle.table.specs.Cursor.{place, takenOf, passedOf};
 ghost use Rattle.table.specs.Table.{number, part, parse};
 use crate::View;
 use crate::numbers::bits;
-use std::num::wrapping_add_usize;
 
+// Bit `bit` of byte `byte`.
 pub struct Cursor {
-    pub at: usize,
+    pub byte: usize,
+    pub bit: usize,
 }
 
 // A number and the cursor after it, or refusal 21.
@@ -26,20 +27,27 @@ pub enum Passed {
 impl Cursor {
     // The number in the next w bits.
     pub fn take(self, s: &[u8], w: usize) -> Taken
-        ensures { λ r. ⌜ r ≡ takenOf (parse (number w) (bitsOf (now (s .entry))) (self .at)) ⌝ }
+        ensures { λ r. ⌜ r ≡ takenOf (parse (number w) (bitsOf (now (s .entry))) (place self)) ⌝ }
     {
-        let at = self.at;
-        let i = at / 8;
-        let behind = at % 8;
-        if s.len() < i {
+        let byte = self.byte;
+        let bit = self.bit;
+        if s.len() < byte {
             return Taken::Short {
                 expected: w / 8,
                 actual: 0,
             };
         }
+        if s.len() - byte < bit / 8 {
+            return Taken::Short {
+                expected: w / 8,
+                actual: 0,
+            };
+        }
+        let i = byte + bit / 8;
+        let j = bit % 8;
         let present = s.len() - i;
-        if present < w / 8 + (w % 8 + behind + 7) / 8 {
-            let broken = (behind + 7) / 8;
+        if present < w / 8 + (w % 8 + j + 7) / 8 {
+            let broken = (j + 7) / 8;
             if present < broken {
                 return Taken::Short {
                     expected: w / 8,
@@ -51,41 +59,49 @@ impl Cursor {
                 actual: present - broken,
             };
         }
-        let v = bits(s, at, w);
+        let v = bits(s, i, j, w);
+        let over = w % 8 + j;
         Taken::Value(
             v,
             Cursor {
-                at: wrapping_add_usize(at, w),
+                byte: i + w / 8 + over / 8,
+                bit: over % 8,
             },
         )
     }
 
-    // The next n bytes, from a byte's first bit on.
+    // The next n bytes, as they lie from a byte's first bit on.
     pub fn pass(self, s: &[u8], n: usize) -> Passed
-        ensures { λ r. ⌜ r ≡ passedOf (parse (part n) (bitsOf (now (s .entry))) (self .at)) ⌝ }
+        ensures { λ r. ⌜ r ≡ passedOf (parse (part n) (bitsOf (now (s .entry))) (place self)) ⌝ }
     {
-        let at = self.at;
-        let i = at / 8;
-        if s.len() < i {
+        let byte = self.byte;
+        let bit = self.bit;
+        if s.len() < byte {
             return Passed::Short {
                 expected: 1,
                 actual: 0,
             };
         }
-        let present = s.len() - i;
+        let present = s.len() - byte;
         if present < n {
             return Passed::Short {
                 expected: 1,
                 actual: 0,
             };
         }
-        if present - n < (at % 8 + 7) / 8 {
+        if present - n < bit / 8 + (bit % 8 + 7) / 8 {
             return Passed::Short {
                 expected: 1,
                 actual: 0,
             };
         }
-        let next = wrapping_add_usize(at, n % 0x2000_0000_0000_0000 * 8);
-        Passed::Run(View { at: i, len: n }, Cursor { at: next })
+        let i = byte + bit / 8;
+        Passed::Run(
+            View { at: i, len: n },
+            Cursor {
+                byte: i + n,
+                bit: bit % 8,
+            },
+        )
     }
 }

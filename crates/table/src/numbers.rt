@@ -24,23 +24,29 @@ fn least(a: usize, b: usize) -> usize
     if a < b { a } else { b }
 }
 
-// The number in the w bits from bit p on; of more than 64 bits, the last 64.
-pub fn bits(s: &[u8], p: usize, w: usize) -> u64
-    ensures { λ r. ⌜ r ≡ field (bitsOf (now (s .entry))) p w % 2 ^ 64 ⌝ }
+// The number in w bits from bit j of byte i on; of more than 64 bits, the last 64.
+pub fn bits(s: &[u8], i: usize, j: usize, w: usize) -> u64
+    ensures { λ r. ⌜ r ≡ field (bitsOf (now (s .entry))) (i * 8 + j) w % 2 ^ 64 ⌝ }
 {
+    if s.len() <= i {
+        return 0;
+    }
+    if s.len() - i <= j / 8 {
+        return 0;
+    }
     let mut v: u64 = 0;
-    let mut i = p / 8;
-    // The bits of byte i that are behind, and those of the field that are ahead.
-    let mut behind = p % 8;
+    let mut at = i + j / 8;
+    // The bits of the byte that are behind, and those of the field that are ahead.
+    let mut behind = j % 8;
     let mut ahead = w;
     while 0 < ahead {
-        if s.len() <= i {
+        if s.len() <= at {
             return v;
         }
         let n = least(ahead, 8 - behind);
-        v = (v << n) + (wide(s[i]) >> (8 - behind - n)) % (1u64 << n);
+        v = (v << n) + (wide(s[at]) >> (8 - behind - n)) % (1u64 << n);
         ahead -= n;
-        i += (behind + n) / 8;
+        at += (behind + n) / 8;
         behind = (behind + n) % 8;
     }
     v

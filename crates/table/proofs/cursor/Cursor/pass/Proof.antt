@@ -7,46 +7,35 @@ use Rattle.table.proofs.cursor.Cursor.pass.Statement.{statement}
 use Rattle.table.proofs.cursor.Cursor.pass.Tie as tie
 
 returns : tie.Need-returns
-returns c =
-    let a = c .before .before .args in
-    pass-short (a .s .now) (a .self .at) (a .n) (omega arith)
+returns c = let a = c .before .args in pass-short (a .s .now) (a .self) (a .n) (omega arith)
 
 sub-present : tie.Need-sub-present
 sub-present c = search needs
 
 returns-2 : tie.Need-returns-2
-returns-2 c =
-    let a = c .before .before .before .args in
-    pass-short (a .s .now) (a .self .at) (a .n) (omega arith)
+returns-2 c = let a = c .before .before .args in pass-short (a .s .now) (a .self) (a .n) (omega arith)
 
 add-if3 : tie.Need-add-if3
 add-if3 c = search needs
 
+add-if3-2 : tie.Need-add-if3-2
+add-if3-2 c = search needs
+
 returns-3 : tie.Need-returns-3
-returns-3 c =
-    let a = c .before .before .before .before .args in
-    pass-short (a .s .now) (a .self .at) (a .n) (omega arith)
+returns-3 c = let a = c .before .before .before .args in pass-short (a .s .now) (a .self) (a .n) (omega arith)
 
-mul-wrapping-add-usize : tie.Need-mul-wrapping-add-usize
-mul-wrapping-add-usize c = search needs
+add-i : tie.Need-add-i
+add-i c = search needs
 
-wrapping-add-usize-requires : tie.Need-wrapping-add-usize-requires
-wrapping-add-usize-requires c κs = search needs
+add-t10 : tie.Need-add-t10
+add-t10 c = search needs
 
 returns-4 : tie.Need-returns-4
 returns-4 c =
-    let a = c .before .before .before .before .before .args in
-    pass-run (a .s .now) (a .self .at) (a .n) _ (omega arith) (c .wrapping-add-usize .ensures ∙ omega arith)
+    let a = c .before .before .before .args in
+    pass-run (a .s .now) (a .self) (a .n) _ _ _ (omega arith) (omega arith) (omega arith) (omega arith)
 
 pub pass-spec : {M : Type 1} → statement M
 pass-spec =
     tie.close
-    (tie.spec
-    returns
-    sub-present
-    returns-2
-    add-if3
-    returns-3
-    mul-wrapping-add-usize
-    wrapping-add-usize-requires
-    returns-4)
+    (tie.spec returns sub-present returns-2 add-if3 add-if3-2 returns-3 add-i add-t10 returns-4)

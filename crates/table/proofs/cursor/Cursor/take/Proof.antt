@@ -1,70 +1,80 @@
 -- `table::cursor::Cursor::take`: the reading of one number, by how many bits are left.
-use lib.ListN.{length}
-use Rattle.table.proofs.Steppings.{outside, lacking, enough, none-left, some-left, take-short, take-value}
+use Prim.Native.Nat.{_+_, _*_, _/_, _%_}
+use mathlib.Core.Path.{_≡_}
+use native.Mathlib.Omega.{arith}
+use Rattle.table.proofs.Steppings.{take-short, take-value}
 use borrow.Author.Needs.{needs}
 use Rattle.table.proofs.cursor.Cursor.take.Statement.{statement}
 use Rattle.table.proofs.cursor.Cursor.take.Tie as tie
 
 returns : tie.Need-returns
-returns c =
-    let a = c .before .before .args in
-    let o = outside (length (a .s .now)) (a .self .at) (a .w) (c .if1 .taken) in
-    take-short (a .s .now) (a .self .at) (a .w) 0 (o .0) (o .1)
+returns c = let a = c .before .before .args in take-short (a .s .now) (a .self) (a .w) 0 (omega arith) (omega arith)
+
+sub-if2 : tie.Need-sub-if2
+sub-if2 c = search needs
+
+returns-2 : tie.Need-returns-2
+returns-2 c = let a = c .before .before .before .args in take-short (a .s .now) (a .self) (a .w) 0 (omega arith) (omega arith)
+
+add-i : tie.Need-add-i
+add-i c = search needs
 
 sub-present : tie.Need-sub-present
 sub-present c = search needs
 
-add-if2 : tie.Need-add-if2
-add-if2 c = search needs
+add-if3 : tie.Need-add-if3
+add-if3 c = search needs
 
-add-if2-2 : tie.Need-add-if2-2
-add-if2-2 c = search needs
+add-if3-2 : tie.Need-add-if3-2
+add-if3-2 c = search needs
 
-add-if2-3 : tie.Need-add-if2-3
-add-if2-3 c = search needs
+add-if3-3 : tie.Need-add-if3-3
+add-if3-3 c = search needs
 
 add-broken : tie.Need-add-broken
 add-broken c = search needs
 
-returns-2 : tie.Need-returns-2
-returns-2 c =
-    let e = c .before .before in
-    let a = e .before .before .args in
-    let n = length (a .s .now) in
-    take-short (a .s .now) (a .self .at) (a .w) 0 (lacking n (a .self .at) (a .w) (e .if1 .left) (c .before .if2 .taken)) (none-left n (a .self .at) (e .if1 .left) (c .if3 .taken))
-
 returns-3 : tie.Need-returns-3
-returns-3 c =
-    let e = c .before .before in
-    let a = e .before .before .args in
-    let n = length (a .s .now) in
-    take-short (a .s .now) (a .self .at) (a .w) _ (lacking n (a .self .at) (a .w) (e .if1 .left) (c .before .if2 .taken)) (some-left n (a .self .at) (e .if1 .left) (c .if3 .left))
+returns-3 c = let a = c .before .before .before .before .before .args in take-short (a .s .now) (a .self) (a .w) 0 (omega arith) (omega arith)
+
+returns-4 : tie.Need-returns-4
+returns-4 c = let a = c .before .before .before .before .before .args in take-short (a .s .now) (a .self) (a .w) _ (omega arith) (omega arith)
 
 bits-requires : tie.Need-bits-requires
 bits-requires c κs = search needs
 
-wrapping-add-usize-requires : tie.Need-wrapping-add-usize-requires
-wrapping-add-usize-requires c κs = search needs
+add-over : tie.Need-add-over
+add-over c = search needs
 
-returns-4 : tie.Need-returns-4
-returns-4 c =
-    let b = c .before in
-    let e = b .before .before in
-    let a = e .before .before .args in
-    take-value (a .s .now) (a .self .at) (a .w) _ _ (enough (length (a .s .now)) (a .self .at) (a .w) (e .if1 .left) (b .before .if2 .left)) (b .bits .ensures) (c .wrapping-add-usize .ensures)
+add-t12 : tie.Need-add-t12
+add-t12 c = search needs
+
+add-t18 : tie.Need-add-t18
+add-t18 c = search needs
+
+returns-5 : tie.Need-returns-5
+returns-5 c =
+    let a = c .before .before .before .before .before .args in
+    let e : (a .self .byte + a .self .bit / 8) * 8 + a .self .bit % 8 ≡ a .self .byte * 8 + a .self .bit = omega arith in
+    take-value (a .s .now) (a .self) (a .w) _ _ _ (omega arith) (rw e at (c .bits .ensures)) (omega arith) (omega arith)
 
 pub take-spec : {M : Type 1} → statement M
 take-spec =
     tie.close
     (tie.spec
     returns
-    sub-present
-    add-if2
-    add-if2-2
-    add-if2-3
-    add-broken
+    sub-if2
     returns-2
+    add-i
+    sub-present
+    add-if3
+    add-if3-2
+    add-if3-3
+    add-broken
     returns-3
+    returns-4
     bits-requires
-    wrapping-add-usize-requires
-    returns-4)
+    add-over
+    add-t12
+    add-t18
+    returns-5)
