@@ -14,7 +14,7 @@ use Rattle.names.specs.declared.algorithm.EncryptionAlgorithm.the-varian
 }
 use Rattle.names.specs.Numbering.{Class, named, reserved, private, Table, valueOf, fair, pick}
 
--- The table: the number of each name, in the order of the numbers. 01: algorithm 0 to 3 are named, 4 to 31 reserved, 32 to 63 private; as a bare number, 64 to 255 too.
+-- The table: the number of each name, in the order of the numbers.
 abbrev pub algorithmNumber : EncryptionAlgorithm → ℕ
 algorithmNumber None = 0
 algorithmNumber DesEcb = 1
@@ -32,7 +32,7 @@ algorithmClass TripleDesEde3Ecb = named
 algorithmClass (Reserved n) = reserved
 algorithmClass (Private n) = private
 
--- the ranges of what is left
+-- 01: 4 to 31 reserved, 32 to 63 private; as a bare number, 64 to 255 too
 abbrev pub otherAlgorithm : ℕ → EncryptionAlgorithm
 otherAlgorithm n = pick (ltb n 32) (Reserved n) (Private n)
 
