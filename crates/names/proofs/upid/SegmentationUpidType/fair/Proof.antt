@@ -1,0 +1,41 @@
+-- `fair` meets its contract: a name's own number stands for it, and for any other value the classes are compared. Assumes nothing.
+use mathlib.Core.Path.{ap}
+use denote.Enum.Declared.{tagOf}
+use borrow.Author.Needs.{needs}
+use Rattle.names.specs.Numbering.{reserved}
+use Rattle.names.specs.Upid.{upidTypes, upidTypeClass, upidTypeOf, fairUpidType}
+use Rattle.names.specs.declared.upid.SegmentationUpidType.the-variants.{Reserved}
+use Rattle.names.proofs.Laws.{fair-by, own-name, name-fair}
+use Rattle.names.proofs.Upids.{sound}
+use Rattle.names.proofs.upid.SegmentationUpidType.{the-type}
+use Rattle.names.proofs.upid.SegmentationUpidType.fair.Statement.{statement}
+use Rattle.names.proofs.upid.SegmentationUpidType.fair.Tie as tie
+
+enum-known-self : tie.Need-enum-known-self
+enum-known-self c = search needs
+
+from-type-requires : tie.Need-from-type-requires
+from-type-requires c κs = search needs
+
+enum-told : tie.Need-enum-told
+enum-told c = search needs
+
+returns : tie.Need-returns
+unfolding upidTypeOf fairUpidType
+returns c =
+    let n = c .before .before .before .before .self .given in
+    rw (n .1) (fair-by upidTypes (Reserved (n .0 .0)) _ reserved (ap upidTypeClass (c .enum-told .given .1)) (c .before .before .from-type .ensures))
+
+returns-2 : tie.Need-returns-2
+unfolding upidTypeOf fairUpidType
+returns-2 c =
+    let n = c .before .before .before .self .given in
+    rw (n .1) (own-name upidTypes (tagOf the-type) sound (Reserved (n .0 .0)) _ (c .before .from-type .ensures) (c .match2 .keys2))
+
+returns-3 : tie.Need-returns-3
+unfolding upidTypeOf fairUpidType
+returns-3 c = name-fair upidTypes (tagOf the-type) sound (c .before .args .self) (c .match .keys2)
+
+pub fair-spec : {M : Type 1} → statement M
+fair-spec =
+    tie.close (tie.spec enum-known-self from-type-requires enum-told returns returns-2 returns-3)

@@ -1,0 +1,53 @@
+-- encryption_algorithm, six bits of the splice header. 000: `EncryptionAlgorithm`.
+use Prim.Native.Nat.{ℕ}
+use mathlib.Core.Bool.{Bool}
+use mathlib.Core.List.{List, [], _∷_}
+use lib.Dec.{ltb}
+use Rattle.names.specs.declared.algorithm.EncryptionAlgorithm.{EncryptionAlgorithm}
+use Rattle.names.specs.declared.algorithm.EncryptionAlgorithm.the-variants.{
+  None,
+  DesEcb,
+  DesCbc,
+  TripleDesEde3Ecb,
+  Reserved,
+  Private,
+}
+use Rattle.names.specs.Numbering.{Class, named, reserved, private, Table, valueOf, fair, pick}
+
+-- The table: the number of each name, in the order of the numbers.
+abbrev pub algorithmNumber : EncryptionAlgorithm → ℕ
+algorithmNumber None = 0
+algorithmNumber DesEcb = 1
+algorithmNumber DesCbc = 2
+algorithmNumber TripleDesEde3Ecb = 3
+algorithmNumber (Reserved n) = n
+algorithmNumber (Private n) = n
+
+-- which values are names, and which carry a number without one
+abbrev pub algorithmClass : EncryptionAlgorithm → Class
+algorithmClass None = named
+algorithmClass DesEcb = named
+algorithmClass DesCbc = named
+algorithmClass TripleDesEde3Ecb = named
+algorithmClass (Reserved n) = reserved
+algorithmClass (Private n) = private
+
+-- 01: 4 to 31 reserved, 32 to 63 private; as a bare number, 64 to 255 too
+abbrev pub otherAlgorithm : ℕ → EncryptionAlgorithm
+otherAlgorithm n = pick (ltb n 32) (Reserved n) (Private n)
+
+abbrev pub algorithms : Table EncryptionAlgorithm
+algorithms = record {
+  number = algorithmNumber;
+  class = algorithmClass;
+  names = None ∷ DesEcb ∷ DesCbc ∷ TripleDesEde3Ecb ∷ [];
+  others = otherAlgorithm;
+}
+
+-- the value that a number stands for
+unfoldable pub algorithmOf : ℕ → EncryptionAlgorithm
+algorithmOf n = valueOf algorithms n
+
+-- whether a value is what its own number stands for
+unfoldable pub fairAlgorithm : EncryptionAlgorithm → Bool
+fairAlgorithm x = fair algorithms x

@@ -1,0 +1,48 @@
+-- Named numbers: what every table of this crate says, and how a number and a value are looked up in it.
+use Prim.Native.Nat.{ℕ}
+use mathlib.Core.Bool.{Bool, true, false}
+use mathlib.Core.List.{List, [], _∷_}
+use mathlib.Core.Option.{Option, none, some}
+use lib.Dec.{eqb}
+
+-- A value is a name, or it carries a number that has no name and is reserved or private.
+abbrev pub Class : Type 0
+Class = ℕ
+
+abbrev pub named : Class
+named = 0
+
+abbrev pub reserved : Class
+reserved = 1
+
+abbrev pub private : Class
+private = 2
+
+-- The number and the class of each value, the names in the order of their numbers, and the value of a number that no name has.
+pub record Table (A : Type 0) : Type 0 where
+  pub number : A → ℕ
+  pub class : A → Class
+  pub names : List A
+  pub others : ℕ → A
+
+abbrev pub pick : {A : Type 0} → Bool → A → A → A
+pick true a b = a
+pick false a b = b
+
+-- the name that a number has, if it has one
+abbrev pub nameOf : {A : Type 0} → (A → ℕ) → List A → ℕ → Option A
+nameOf number [] n = none
+nameOf number (x ∷ names) n = pick (eqb n (number x)) (some x) (nameOf number names n)
+
+abbrev pub or : {A : Type 0} → Option A → A → A
+or none other = other
+or (some x) other = x
+
+-- the value that a number stands for
+abbrev pub valueOf : {A : Type 0} → Table A → ℕ → A
+valueOf T n = or (nameOf (T .number) (T .names) n) (T .others n)
+
+-- 01, refusal 33: not "a reserved number that has a name or lies in another range". The number of a fair value stands for a value of
+-- the same class, which is then the value itself.
+abbrev pub fair : {A : Type 0} → Table A → A → Bool
+fair T x = eqb (T .class (valueOf T (T .number x))) (T .class x)
