@@ -10,3 +10,4 @@ pub mod Steps
 pub mod Reading
 pub mod Stores
 pub mod Steppings
+pub mod Cursors

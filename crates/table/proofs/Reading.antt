@@ -1,5 +1,6 @@
 -- What the functions that read numbers rest on.
 --     field-lt, field-exact      a field is below 2 ^ w, so 64 bits hold one of at most 64
+--     bits-are                   what `bits` answers of at most 64 bits
 --     turn-bits, turn-byte, turn-none     a turn of the loops that read
 --     shift-in                   w bits more behind a number that is kept modulo 2 ^ 64
 use Prim.Native.Nat.{ℕ, zero, suc, _+_, _*_, _-_, _/_, _%_, _^_, _<_, _≤_}
@@ -24,6 +25,12 @@ pub field-exact : (s : List ℕ) (at w : ℕ) → w ≤ 64 → field (bitsOf s) 
 field-exact s at w h =
     let m : 2 ^ w ≤ 2 ^ 64 = pow-mono h in
     mod-eq-of-lt (omega (arith, field-lt s at w))
+
+-- what `bits` answers of at most 64 bits
+pub bits-are : (s : List ℕ) (at w v : ℕ) → w ≤ 64 → v ≡ field (bitsOf s) at w % 2 ^ 64 → (v ≡ field (bitsOf s) at w) × (v < 2 ^ w)
+bits-are s at w v h e =
+    let f : v ≡ field (bitsOf s) at w = e ∙ field-exact s at w h in
+    (f, rw f (field-lt s at w))
 
 pub shift-in : (f w d : ℕ) → w ≤ 64 → d < 2 ^ w → f % 2 ^ 64 * 2 ^ w % 2 ^ 64 + d ≡ (f * 2 ^ w + d) % 2 ^ 64
 shift-in f w d h l =

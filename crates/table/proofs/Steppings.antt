@@ -95,6 +95,13 @@ pub place-of : (at : ℕ) → place (cursorAt at) ≡ at
 unfolding place cursorAt
 place-of at = omega arith
 
+pub settled-at : (at : ℕ) → cursorAt (place (cursorAt at)) ≡ cursorAt at
+settled-at at = ap cursorAt (place-of at)
+
+-- a cursor that a step answers, whose bit lies in its byte
+abbrev pub Settled : Cursor → Type 0
+Settled c = cursorAt (place c) ≡ c
+
 -- 64 bits hold the number that is read
 abbrev Exact : Answer ℕ → Type 0
 Exact r = (v m : ℕ) → r ≡ got v m → v % 2 ^ 64 ≡ v
@@ -106,17 +113,17 @@ exact s w at h v m e =
     let z : field (bitsOf s) at w ≡ v = cc in
     rw (← z) (field-exact s at w h)
 
-number-got : (r : Answer ℕ) (n : Number) → Exact r → Taken.Got n ≡ takenOf r → r ≡ got (n .value) (place (n .next))
+number-got : (r : Answer ℕ) (n : Number) → Exact r → Taken.Got n ≡ takenOf r → (r ≡ got (n .value) (place (n .next))) × Settled (n .next)
 unfolding takenOf
 number-got (got v m) n h f =
     let a : n .value ≡ v % 2 ^ 64 = cc in
     let c : n .next ≡ cursorAt m = cc in
-    rw (a, c, place-of m, h v m refl)
+    (rw (a, c, place-of m, h v m refl), rw c (settled-at m))
 number-got (short e a) n h f = zero-one cc
 
 -- a number of at most 64 bits
 pub taken-got : (s : List ℕ) (w at : ℕ) (n : Number) → w ≤ 64 → Taken.Got n ≡ takenOf (parse (number w) (bitsOf s) at)
-    → parse (number w) (bitsOf s) at ≡ got (n .value) (place (n .next))
+    → (parse (number w) (bitsOf s) at ≡ got (n .value) (place (n .next))) × Settled (n .next)
 taken-got s w at n h f = number-got (parse (number w) (bitsOf s) at) n (exact s w at h) f
 
 pub taken-lacks : (r : Answer ℕ) (x : Short) → Taken.Lacks x ≡ takenOf r → r ≡ short (x .expected) (x .actual)
@@ -124,12 +131,12 @@ unfolding takenOf
 taken-lacks (got v m) x f = zero-one cc
 taken-lacks (short e a) x f = cc
 
-pub flagged-got : (r : Answer Bool) (y : Flag) → Flagged.Got y ≡ flaggedOf r → r ≡ got (y .set) (place (y .next))
+pub flagged-got : (r : Answer Bool) (y : Flag) → Flagged.Got y ≡ flaggedOf r → (r ≡ got (y .set) (place (y .next))) × Settled (y .next)
 unfolding flaggedOf
 flagged-got (got b m) y f =
     let v : y .set ≡ b = cc in
     let c : y .next ≡ cursorAt m = cc in
-    rw (v, c, place-of m)
+    (rw (v, c, place-of m), rw c (settled-at m))
 flagged-got (short e a) y f = zero-one cc
 
 pub flagged-lacks : (r : Answer Bool) (x : Short) → Flagged.Lacks x ≡ flaggedOf r → r ≡ short (x .expected) (x .actual)
@@ -137,11 +144,11 @@ unfolding flaggedOf
 flagged-lacks (got b m) x f = zero-one cc
 flagged-lacks (short e a) x f = cc
 
-pub skipped-got : (r : Answer (Unit {0})) (c : Cursor) → Skipped.Got c ≡ skippedOf r → r ≡ got tt (place c)
+pub skipped-got : (r : Answer (Unit {0})) (c : Cursor) → Skipped.Got c ≡ skippedOf r → (r ≡ got tt (place c)) × Settled c
 unfolding skippedOf
 skipped-got (got u m) c f =
     let e : c ≡ cursorAt m = cc in
-    rw (e, place-of m)
+    (rw (e, place-of m), rw e (settled-at m))
 skipped-got (short e a) c f = zero-one cc
 
 pub skipped-lacks : (r : Answer (Unit {0})) (x : Short) → Skipped.Lacks x ≡ skippedOf r → r ≡ short (x .expected) (x .actual)
@@ -149,12 +156,12 @@ unfolding skippedOf
 skipped-lacks (got u m) x f = zero-one cc
 skipped-lacks (short e a) x f = cc
 
-pub passed-got : (r : Answer View) (y : Run) → Passed.Got y ≡ passedOf r → r ≡ got (y .bytes) (place (y .next))
+pub passed-got : (r : Answer View) (y : Run) → Passed.Got y ≡ passedOf r → (r ≡ got (y .bytes) (place (y .next))) × Settled (y .next)
 unfolding passedOf
 passed-got (got v m) y f =
     let e : y .bytes ≡ v = cc in
     let c : y .next ≡ cursorAt m = cc in
-    rw (e, c, place-of m)
+    (rw (e, c, place-of m), rw c (settled-at m))
 passed-got (short e a) y f = zero-one cc
 
 pub passed-lacks : (r : Answer View) (x : Short) → Passed.Lacks x ≡ passedOf r → r ≡ short (x .expected) (x .actual)

@@ -1,5 +1,6 @@
 -- Reading a table step by step, by bit positions, as the code that reads it does. s are the bytes, `at` the bit.
 --     takes-.., lacks-..      a field that is there, and one that is not
+--     reads-..                one that was read is there
 --     takes-in, lacks-in      an inner table that is read, and one that is not
 --     list-turn, list-short   a turn of a list's loop
 use Prim.Native.Nat.{ℕ, zero, suc, _+_, _*_, _-_, _/_, _%_, _^_, _<_, _≤_}
@@ -11,7 +12,7 @@ use lib.Dec.{leb, eqb}
 use lib.ListN.{length, getD, drop}
 use borrow.Author.Tests.{le-leb, lt-leb}
 use Rattle.table.specs.Bits.{pick, bitsOf, field}
-use Rattle.table.specs.Table.{Table, done, uint, view, left, must, inside, number, bit, reserved, part, remaining, list, uimsbf, flag, ones, Answer, got, short, parse, canonical}
+use Rattle.table.specs.Table.{Table, done, uint, view, left, must, inside, flagNumber, number, bit, reserved, part, remaining, list, uimsbf, flag, ones, Answer, got, short, parse, canonical}
 use Rattle.table.specs.declared.View.{View}
 use Rattle.table.proofs.Bits.{length-bits}
 use Rattle.table.proofs.Laws.{field-there, view-there}
@@ -106,6 +107,17 @@ module _ {X : Type 0} (s : List ℕ) (at : ℕ) where
   pub takes-remaining : (p : X → ℕ) (k : ℕ → Table X) → parse (inside remaining p k) (bitsOf s) at ≡ parse (k ((length s * 8 - at) / 8)) (bitsOf s) at
   unfolding remaining
   takes-remaining p k = rw (length-bits s)
+
+  -- a field that was read is there
+  pub reads-number : (w : ℕ) (p : X → ℕ) (k : ℕ → Table X) (y : X) (m : ℕ) → parse (uimsbf w p k) (bitsOf s) at ≡ got y m
+      → (at + w ≤ length s * 8) × (parse (k (field (bitsOf s) at w)) (bitsOf s) (at + w) ≡ got y m)
+  unfolding number
+  reads-number w p k y m e = rw (length-bits s) at (field-there w p k (bitsOf s) at y m e)
+
+  pub reads-flag : (p : X → Bool) (k : Bool → Table X) (y : X) (m : ℕ) → parse (flag p k) (bitsOf s) at ≡ got y m
+      → (at + 1 ≤ length s * 8) × (parse (k (eqb (field (bitsOf s) at 1) 1)) (bitsOf s) (at + 1) ≡ got y m)
+  unfolding bit
+  reads-flag p k y m e = rw (length-bits s) at (field-there 1 (λ x. flagNumber (p x)) (λ v. k (eqb v 1)) (bitsOf s) at y m e)
 
 -- ---- a list, element by element
 module _ {Y : Type 0} (n : ℕ) (d : Y) (t : Table Y) (bs : List ℕ) (at : ℕ) where

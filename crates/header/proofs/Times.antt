@@ -1,0 +1,140 @@
+-- splice_time(): what a reader answers, and its laws as a structure.
+use Prim.Native.Nat.{ℕ, _+_, _*_, _%_, _^_, _<_, _≤_}
+use mathlib.Core.Bool.{Bool, true, false}
+use mathlib.Core.List.{List, [], _∷_, _++_}
+use mathlib.Core.Path.{_≡_, refl, ap, sym, _∙_}
+use native.Mathlib.Nat.{zero-add}
+use native.Mathlib.Omega.{arith}
+use lib.ListN.{length}
+use borrow.Author.Tests.{lt-ltb, le-ltb}
+use Rattle.table.specs.Bits.{pick, bitsOf, AllBytes}
+use Rattle.table.specs.Cursor.{place, takenOf, flaggedOf, skippedOf}
+use Rattle.table.specs.Table.{Table, done, number, bit, reserved, uimsbf, ones, Answer, got, short, parse, canonical}
+use Rattle.table.specs.Writing.{Same, made, make}
+use Rattle.table.specs.declared.cursor.Cursor.{Cursor}
+use Rattle.table.specs.declared.cursor.Flag.{Flag}
+use Rattle.table.specs.declared.cursor.Flagged.{Flagged}
+use Rattle.table.specs.declared.cursor.Number.{Number}
+use Rattle.table.specs.declared.cursor.Short.{Short}
+use Rattle.table.specs.declared.cursor.Skipped.{Skipped}
+use Rattle.table.specs.declared.cursor.Taken.{Taken}
+use Rattle.table.proofs.Cursors.{goes-flag, stops-flag, goes-ones, stops-ones, goes-number, stops-number}
+use Rattle.table.proofs.Laws.{Tells}
+use Rattle.table.proofs.Leading.{Leads, leads-done, leads-number, leads-flag, leads-ones}
+use Rattle.table.proofs.Lists.{zero-one}
+use Rattle.table.proofs.Steppings.{Settled, taken-got, skipped-got}
+use Rattle.table.proofs.Structure as laws
+use Rattle.table.proofs.Telling.{tells-number, tells-either, tells-ones}
+use Rattle.header.specs.Time.{spliceTime, specified, ticks, notImmediate, timeRead, adjustedOf}
+use Rattle.header.specs.declared.time.AdjustedTime.{AdjustedTime}
+use Rattle.header.specs.declared.time.SpliceTime.{SpliceTime}
+use Rattle.header.specs.declared.time.SpliceTime.the-variants.{Immediate, Unspecified, At}
+use Rattle.header.specs.declared.time.TimeRead.{TimeRead}
+
+-- ---- a reader's answer
+time-got : (r : Answer SpliceTime) (t : SpliceTime) (c : Cursor) → Settled c → r ≡ got t (place c) → TimeRead.Got (record { time = t; next = c }) ≡ timeRead r
+unfolding timeRead
+time-got r t c h e = rw (e, h)
+
+time-lacks : (r : Answer SpliceTime) (x : Short) → r ≡ short (x .expected) (x .actual) → TimeRead.Lacks x ≡ timeRead r
+unfolding timeRead
+time-lacks r x e = rw e
+
+-- ---- the walk of the reader, step by step
+module _ (s : List ℕ) (at : ℕ) where
+  pub no-flag : (x : Short) → Flagged.Lacks x ≡ flaggedOf (parse bit (bitsOf s) at) → TimeRead.Lacks x ≡ timeRead (parse spliceTime (bitsOf s) at)
+  unfolding spliceTime
+  no-flag x e = time-lacks _ x (stops-flag s at _ _ x e)
+
+  module _ (f : Flag) (ef : Flagged.Got f ≡ flaggedOf (parse bit (bitsOf s) at)) where
+    flagged : (b : Bool) → f .set ≡ b → parse spliceTime (bitsOf s) at ≡ parse (pick b (ones 6 (uimsbf 33 ticks λ t. done (At t))) (ones 7 (done Unspecified))) (bitsOf s) (place (f .next))
+    unfolding spliceTime
+    flagged b e = rw (← e) (goes-flag s at _ _ f ef)
+
+    module _ (on : f .set ≡ true) where
+      pub no-reserved : (x : Short) → Skipped.Lacks x ≡ skippedOf (parse (reserved 6) (bitsOf s) (place (f .next))) → TimeRead.Lacks x ≡ timeRead (parse spliceTime (bitsOf s) at)
+      no-reserved x e = time-lacks _ x (flagged true on ∙ stops-ones s _ 6 _ x e)
+
+      module _ (c : Cursor) (ec : Skipped.Got c ≡ skippedOf (parse (reserved 6) (bitsOf s) (place (f .next)))) where
+        pub no-time : (x : Short) → Taken.Lacks x ≡ takenOf (parse (number 33) (bitsOf s) (place c)) → TimeRead.Lacks x ≡ timeRead (parse spliceTime (bitsOf s) at)
+        no-time x e = time-lacks _ x (flagged true on ∙ goes-ones s _ 6 _ c ec ∙ stops-number s _ 33 ticks (λ t. done (At t)) x e)
+
+        pub at-time : (n : Number) → Taken.Got n ≡ takenOf (parse (number 33) (bitsOf s) (place c))
+            → TimeRead.Got (record { time = At (n .value); next = n .next }) ≡ timeRead (parse spliceTime (bitsOf s) at)
+        at-time n e =
+            time-got _ (At (n .value)) (n .next) (taken-got s 33 (place c) n (omega arith) e .1)
+            (flagged true on ∙ goes-ones s _ 6 _ c ec ∙ goes-number s _ 33 ticks (λ t. done (At t)) n (omega arith) e)
+
+    module _ (off : f .set ≡ false) where
+      pub no-rest : (x : Short) → Skipped.Lacks x ≡ skippedOf (parse (reserved 7) (bitsOf s) (place (f .next))) → TimeRead.Lacks x ≡ timeRead (parse spliceTime (bitsOf s) at)
+      no-rest x e = time-lacks _ x (flagged false off ∙ stops-ones s _ 7 _ x e)
+
+      pub unspecified : (c : Cursor) → Skipped.Got c ≡ skippedOf (parse (reserved 7) (bitsOf s) (place (f .next)))
+          → TimeRead.Got (record { time = Unspecified; next = c }) ≡ timeRead (parse spliceTime (bitsOf s) at)
+      unspecified c e = time-got _ Unspecified c (skipped-got _ c e .1) (flagged false off ∙ goes-ones s _ 7 _ c e)
+
+-- ---- the structure
+-- from any bit on, at which a byte begins
+pub time-tells : (at : ℕ) → at % 8 ≡ 0 → Tells spliceTime at (λ a y. (a % 8 ≡ 0) × (notImmediate y ≡ true))
+unfolding spliceTime
+time-tells at e =
+    tells-either _ _ at _
+    (tells-ones 6 _ (at + 1) _ (tells-number 33 _ _ (at + 1 + 6) _ λ v h. (((let z : (at + 1 + 6 + 33) % 8 ≡ 0 = omega arith in z, refl), refl), refl)))
+    (tells-ones 7 _ (at + 1) _ ((let z : (at + 1 + 7) % 8 ≡ 0 = omega arith in z, refl), refl))
+
+abbrev pub timeSize : SpliceTime → ℕ
+timeSize Immediate = 0
+timeSize Unspecified = 1
+timeSize (At t) = 5
+
+pub time-leads : (x : SpliceTime) (at m : ℕ) → notImmediate x ≡ true → Leads spliceTime x x at (at + timeSize x * 8) m
+unfolding spliceTime
+time-leads Immediate at m f = zero-one cc
+time-leads Unspecified at m f = leads-flag _ _ _ _ at _ m (leads-ones 7 _ _ _ (at + 1) _ m (leads-done Unspecified _ _ _ _ m refl (omega arith)))
+time-leads (At t) at m f = leads-flag _ _ _ _ at _ m (leads-ones 6 _ _ _ (at + 1) _ m (leads-number 33 _ _ _ _ (at + 1 + 6) _ m (leads-done (At t) _ _ _ _ m refl (omega arith))))
+
+abbrev structure : laws.Structure spliceTime
+structure = record {
+  fair = notImmediate;
+  size = timeSize;
+  moved = λ x. x;
+  Shape = λ x. Unit {0};
+  After = λ m. Unit {0};
+  none = tt;
+  tells = time-tells 0 refl;
+  ends = λ x m h f u. rw zero-add at (time-leads x 0 m f);
+}
+
+-- what is written of a time reads as that time, whatever follows, and is canonical
+pub time-write-read : (lent : List ℕ) (x : SpliceTime) (b r : List ℕ) → make spliceTime (notImmediate x) lent x ≡ made b
+    → (parse spliceTime (bitsOf (b ++ r)) 0 ≡ got x (length b * 8)) × (canonical spliceTime (bitsOf (b ++ r)) 0 ≡ true)
+time-write-read lent x b r e = laws.write-read spliceTime structure lent x b r tt e tt
+
+-- canonical bytes are what is written of their reading
+pub time-read-write : (s : List ℕ) (x : SpliceTime) → AllBytes s → parse spliceTime (bitsOf s) 0 ≡ got x (length s * 8) → canonical spliceTime (bitsOf s) 0 ≡ true
+    → make spliceTime (notImmediate x) s x ≡ made s
+time-read-write s x a e c = laws.read-write-all spliceTime structure s x a e c
+
+-- canonical bytes of equal readings are equal
+pub time-one : (s r : List ℕ) (x y : SpliceTime) → AllBytes s → AllBytes r → parse spliceTime (bitsOf s) 0 ≡ got x (length s * 8) → parse spliceTime (bitsOf r) 0 ≡ got y (length r * 8)
+    → canonical spliceTime (bitsOf s) 0 ≡ true → canonical spliceTime (bitsOf r) 0 ≡ true → Same spliceTime s x r y → s ≡ r
+time-one s r x y a b p q c d h = laws.one-encoding spliceTime structure s r x y a b p q c d h
+
+-- ---- the adjusted time, case by case
+module _ (adjustment : ℕ) where
+  pub adjust-wide : (x : SpliceTime) → 2 ^ 33 ≤ adjustment → AdjustedTime.TooLarge ≡ adjustedOf x adjustment
+  unfolding adjustedOf
+  adjust-wide x h = rw (le-ltb adjustment (2 ^ 33) h)
+
+  module _ (narrow : adjustment < 2 ^ 33) where
+    pub adjust-none : (x : SpliceTime) → specified x ≡ false → ticks x ≡ 0 → AdjustedTime.Nothing ≡ adjustedOf x adjustment
+    unfolding adjustedOf
+    adjust-none x e z = rw (lt-ltb adjustment (2 ^ 33) narrow, z, e)
+
+    pub adjust-late : (x : SpliceTime) (t : ℕ) → x ≡ At t → 2 ^ 33 ≤ t → AdjustedTime.TooLarge ≡ adjustedOf x adjustment
+    unfolding adjustedOf
+    adjust-late x t e h = rw (e, lt-ltb adjustment (2 ^ 33) narrow, le-ltb t (2 ^ 33) h)
+
+    pub adjust-at : (x : SpliceTime) (t : ℕ) → x ≡ At t → t < 2 ^ 33 → AdjustedTime.At (t + adjustment) ≡ adjustedOf x adjustment
+    unfolding adjustedOf
+    adjust-at x t e h = rw (e, lt-ltb adjustment (2 ^ 33) narrow, lt-ltb t (2 ^ 33) h)

@@ -1,0 +1,54 @@
+-- splice_time() and the adjusted time. 01, "Commands".
+use Prim.Native.Nat.{ℕ, _+_, _^_}
+use mathlib.Core.Bool.{Bool, true, false}
+use mathlib.Core.List.{List, []}
+use lib.Dec.{ltb}
+use Rattle.table.specs.Bits.{pick}
+use Rattle.table.specs.Cursor.{cursorAt}
+use Rattle.table.specs.Table.{Table, done, uimsbf, flag, ones, Answer, got, short}
+use Rattle.header.specs.declared.time.SpliceTime.{SpliceTime}
+use Rattle.header.specs.declared.time.SpliceTime.the-variants.{Immediate, Unspecified, At}
+use Rattle.header.specs.declared.time.TimeRead.{TimeRead}
+use Rattle.header.specs.declared.time.AdjustedTime.{AdjustedTime}
+
+abbrev pub specified : SpliceTime → Bool
+specified Immediate = false
+specified Unspecified = false
+specified (At t) = true
+
+abbrev pub ticks : SpliceTime → ℕ
+ticks Immediate = 0
+ticks Unspecified = 0
+ticks (At t) = t
+
+-- "splice_time. That is flag 1; if set, reserved 6, time 33; else reserved 7."
+unfoldable pub spliceTime : Table SpliceTime
+spliceTime =
+    flag specified λ time-specified.
+    pick time-specified
+    (ones 6 (
+    uimsbf 33 ticks λ pts-time.
+    done (At pts-time)))
+    (ones 7 (
+    done Unspecified))
+
+-- refusal 33: "an immediate time in a time signal"
+abbrev pub notImmediate : SpliceTime → Bool
+notImmediate Immediate = false
+notImmediate Unspecified = true
+notImmediate (At t) = true
+
+-- what a reader answers
+unfoldable pub timeRead : Answer SpliceTime → TimeRead
+timeRead (got t at) = TimeRead.Got (record { time = t; next = cursorAt at })
+timeRead (short expected actual) = TimeRead.Lacks (record { expected = expected; actual = actual })
+
+-- "Adjusted time: where a time is specified, time plus pts_adjustment, 0 to 17,179,869,182; otherwise none."
+-- Refusal 32, first: a number that exceeds its field of 33 bits.
+unfoldable pub adjustedOf : SpliceTime → ℕ → AdjustedTime
+adjustedOf t adjustment =
+    pick (ltb adjustment (2 ^ 33))
+    (pick (ltb (ticks t) (2 ^ 33))
+    (pick (specified t) (AdjustedTime.At (ticks t + adjustment)) AdjustedTime.Nothing)
+    AdjustedTime.TooLarge)
+    AdjustedTime.TooLarge

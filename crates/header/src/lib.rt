@@ -1,0 +1,3 @@
+// The splice header, splice times and the adjusted time.
+pub mod header;
+pub mod time;
