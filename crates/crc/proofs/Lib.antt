@@ -1,0 +1,8 @@
+pub mod Annex
+pub mod Bytes
+pub mod Laws
+pub mod Linear
+pub mod Turns
+pub mod Vectors
+pub mod Windows
+pub mod Xor
