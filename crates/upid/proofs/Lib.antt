@@ -1,0 +1,9 @@
+pub mod Ranges
+pub mod Laws
+pub mod Walks
+pub mod Cutting
+pub mod Tree
+pub mod Answers
+pub mod Theorems
+pub mod Utf8
+pub mod Rows

@@ -1,0 +1,12 @@
+-- `upid::mid::blank` meets its contract, by computation. Assumes nothing.
+use mathlib.Core.Path.{refl}
+use Rattle.upid.specs.Upid.{listed, blanks}
+use Rattle.upid.proofs.mid.blank.Statement.{statement}
+use Rattle.upid.proofs.mid.blank.Tie as tie
+
+returns : tie.Need-returns
+unfolding listed blanks
+returns c = refl
+
+pub blank-spec : {M : Type 1} → statement M
+blank-spec = tie.close (tie.spec returns)

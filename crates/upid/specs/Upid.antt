@@ -1,0 +1,149 @@
+-- What a UPID says (document 01, "Identifiers"). These are definitions.
+use Prim.Native.Nat.{ℕ, zero, suc, _+_, _-_}
+use mathlib.Core.Bool.{Bool, cond, not, _&&_, _||_}
+use mathlib.Core.List.{List, [], _∷_, _++_}
+use lib.Dec.{ltb, eqb}
+use lib.ListN.{length, take, drop, replicate}
+use Rattle.upid.specs.Text.{textOf}
+use Rattle.upid.specs.declared.Part.{Part}
+use Rattle.upid.specs.declared.PartList.{PartList}
+use Rattle.upid.specs.declared.Upid.{Upid}
+use Rattle.upid.specs.declared.Refusal.{Refusal}
+use Rattle.upid.specs.declared.Refusal.the-variants.{TooLong, Short, Mismatch, NotText, WrongLength}
+use Rattle.upid.specs.declared.UpidRead.{UpidRead}
+use Rattle.upid.specs.declared.UpidRead.the-variants.{Fine, Refused}
+
+-- ---- document 01's number and values of each refusal
+
+unfoldable pub numberOf : Refusal → ℕ
+numberOf TooLong = 2
+numberOf (Short expected actual) = 21
+numberOf Mismatch = 23
+numberOf (NotText kind bytes) = 24
+numberOf (WrongLength kind expected actual) = 25
+
+unfoldable pub valuesOf : Refusal → List ℕ
+valuesOf TooLong = []
+valuesOf (Short expected actual) = expected ∷ actual ∷ []
+valuesOf Mismatch = []
+valuesOf (NotText kind bytes) = kind ∷ bytes .at ∷ bytes .len ∷ []
+valuesOf (WrongLength kind expected actual) = kind ∷ expected ∷ actual ∷ []
+
+-- ---- the types
+
+-- "types 2, 5, 8 have 8; 3, 6, 7, 10 have 12; 4 has 32"; 0 stands for any number
+unfoldable pub lengthOf : ℕ → ℕ
+lengthOf k =
+    cond (eqb k 2 || eqb k 5 || eqb k 8) 8
+    (cond (eqb k 3 || eqb k 6 || eqb k 7 || eqb k 10) 12
+    (cond (eqb k 4) 32 0))
+
+-- "Types 2, 3, 7 are UTF-8"
+unfoldable pub isText : ℕ → Bool
+isText k = eqb k 2 || eqb k 3 || eqb k 7
+
+-- "Types 5 and 6 are one kind .. both report type 6"
+unfoldable pub reportedOf : ℕ → ℕ
+reportedOf k = cond (eqb k 5) 6 k
+
+-- A payload of type k, other than a MID, that starts at `start` of the top UPID: type 0 has none, a type without a fixed length takes any
+-- bytes, and length is tested before text.
+unfoldable pub plainOf : ℕ → ℕ → List ℕ → UpidRead
+plainOf k start bytes =
+    cond (eqb k 0) (Refused Mismatch)
+    (cond (eqb (lengthOf k) 0) (Fine (reportedOf k))
+    (cond (not (eqb (length bytes) (lengthOf k))) (Refused (WrongLength k (lengthOf k) (length bytes)))
+    (cond (isText k && not (textOf bytes)) (Refused (NotText k (record { at = start; len = length bytes })))
+    (Fine (reportedOf k)))))
+
+-- ---- a MID "repeats type, length, payload"
+
+-- "the first faulty part ends the walk at once and its refusal stands"
+infixr 40 _then_
+unfoldable pub _then_ : UpidRead → UpidRead → UpidRead
+Fine k then b = b
+Refused r then b = Refused r
+
+-- A MID with these bytes. "Fewer than 2 bytes: 21 (1, 0). Payload short, tested first: 21 (length, present)"; then the part itself, and then
+-- those after it. n is any number from the count of the bytes on: it says that the reading ends (`walk-any` in proofs/Laws.antt).
+unfoldable pub walkOf : ℕ → ℕ → List ℕ → UpidRead
+walkOf zero start bytes = Fine 13
+walkOf (suc n) start [] = Fine 13
+walkOf (suc n) start (k ∷ []) = Refused (Short 1 0)
+walkOf (suc n) start (k ∷ (l ∷ rest)) =
+    cond (ltb (length rest) l) (Refused (Short l (length rest)))
+    (cond (eqb k 13) (walkOf n (start + 2) (take l rest)) (plainOf k (start + 2) (take l rest))
+    then walkOf n (start + (2 + l)) (drop l rest))
+
+-- a payload of any type
+unfoldable pub readOf : ℕ → ℕ → List ℕ → UpidRead
+readOf k start bytes = cond (eqb k 13) (walkOf (length bytes) start bytes) (plainOf k start bytes)
+
+-- The parts of a MID that is accepted, "outer part before its inner ones", and then those after it.
+unfoldable pub partsOf : ℕ → ℕ → ℕ → List ℕ → List Part
+partsOf zero level start bytes = []
+partsOf (suc n) level start [] = []
+partsOf (suc n) level start (k ∷ []) = []
+partsOf (suc n) level start (k ∷ (l ∷ rest)) =
+    record { kind = reportedOf k; level = level; start = start + 2; len = l }
+    ∷ (cond (eqb k 13) (partsOf n (level + 1) (start + 2) (take l rest)) []
+    ++ partsOf n level (start + (2 + l)) (drop l rest))
+
+-- "A part list of anything but a MID has count 0"
+unfoldable pub listOf : ℕ → ℕ → ℕ → List ℕ → List Part
+listOf k level start bytes = cond (eqb k 13) (partsOf (length bytes) level start bytes) []
+
+-- ---- the answers
+
+-- "Length 0 at top level is None and reports type 0, whichever type was written"
+unfoldable pub checkOf : ℕ → List ℕ → UpidRead
+checkOf k bytes =
+    cond (ltb 255 (length bytes)) (Refused TooLong)
+    (cond (eqb (length bytes) 0) (Fine 0)
+    (readOf k 0 bytes))
+
+-- "The EIDR identifier of 12 bytes is held by value"; all zero where there is none
+unfoldable pub eidrOf : ℕ → List ℕ → List ℕ
+eidrOf k bytes = cond (eqb k 10 && eqb (length bytes) 12) bytes (replicate 12 0)
+
+unfoldable pub blanks : ℕ → List Part
+blanks n = replicate n (record { kind = 0; level = 0; start = 0; len = 0 })
+
+-- "a list of 127 part records with a count .. places past the count are all zero"
+unfoldable pub listed : List Part → PartList
+listed ps = record { parts = ps ++ blanks (127 - length ps); count = length ps }
+
+-- the parts of what is accepted, and none of what is refused
+unfoldable pub unlessRefused : UpidRead → List Part → List Part
+unlessRefused (Fine k) ps = ps
+unlessRefused (Refused r) ps = []
+
+unfoldable pub upidOf : ℕ → List ℕ → Upid
+upidOf k bytes =
+    record {
+      read = checkOf k bytes;
+      eidr = eidrOf k bytes;
+      list = listed (unlessRefused (checkOf k bytes) (listOf k 1 0 bytes));
+    }
+
+-- ---- what an answer says
+
+abbrev pub Accepted : UpidRead → Type 0
+Accepted (Fine k) = Unit {0}
+Accepted (Refused r) = ⊥
+
+-- the parts in an answer: those before its count
+abbrev pub partsIn : Upid → List Part
+partsIn u = take (u .list .count) (u .list .parts)
+
+-- an answer in document 01's terms: a reported type with parts, or a refusal's number with its values
+pub data Told : Type 0 where
+  accepted : ℕ → List Part → Told
+  refused : ℕ → List ℕ → Told
+
+unfoldable pub tells : UpidRead → List Part → Told
+tells (Fine k) ps = accepted k ps
+tells (Refused r) ps = refused (numberOf r) (valuesOf r)
+
+abbrev pub told : Upid → Told
+told u = tells (u .read) (partsIn u)

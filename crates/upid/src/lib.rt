@@ -1,0 +1,109 @@
+// UPIDs: what a segmentation descriptor says its segment is (document 01, "Identifiers").
+ghost use mathlib.Core.Path.{_≡_};
+ghost use Rattle.upid.specs.Upid.{checkOf, upidOf, eidrOf};
+use crate::mid::blank;
+use crate::mid::check_payload;
+use crate::mid::list_parts;
+use table::View;
+
+mod mid;
+mod plain;
+pub mod text;
+
+// Refusals 2, 21, 23, 24 and 25. A view counts from the start of the UPID.
+pub enum Refusal {
+    TooLong,
+    Short {
+        expected: usize,
+        actual: usize,
+    },
+    Mismatch,
+    NotText {
+        kind: u8,
+        bytes: View,
+    },
+    WrongLength {
+        kind: u8,
+        expected: usize,
+        actual: usize,
+    },
+}
+
+// What a UPID is read as: its reported type, or the first refusal.
+pub enum UpidRead {
+    Fine(u8),
+    Refused(Refusal),
+}
+
+// A part of a MID: its reported type, its level (1 for the direct parts of the top MID), and its payload, `len` bytes from `start` of the top UPID on.
+pub struct Part {
+    pub kind: u8,
+    pub level: u8,
+    pub start: u8,
+    pub len: u8,
+}
+
+// The parts of a MID, each before those inside it; all zero past the count.
+pub struct PartList {
+    pub parts: [Part; 127],
+    pub count: usize,
+}
+
+// The whole answer: an EIDR by value, all zero where the UPID is none, and a MID's parts.
+pub struct Upid {
+    pub read: UpidRead,
+    pub eidr: [u8; 12],
+    pub list: PartList,
+}
+
+// What the bytes are read as under the type `kind`, without the list of parts.
+pub fn check_upid(kind: u8, bytes: &[u8]) -> UpidRead
+    ensures { λ r. ⌜ r ≡ checkOf kind (now (bytes .entry)) ⌝ }
+{
+    if 255 < bytes.len() {
+        return UpidRead::Refused(Refusal::TooLong);
+    }
+    if bytes.len() == 0 {
+        return UpidRead::Fine(0);
+    }
+    check_payload(kind, bytes, 0)
+}
+
+// The same, with the list of parts.
+pub fn read_upid(kind: u8, bytes: &[u8]) -> Upid
+    ensures { λ r. ⌜ r ≡ upidOf kind (now (bytes .entry)) ⌝ }
+{
+    let held = eidr(kind, bytes);
+    let read = check_upid(kind, bytes);
+    match read {
+        UpidRead::Refused(_) => Upid {
+            read,
+            eidr: held,
+            list: blank(),
+        },
+        UpidRead::Fine(_) => Upid {
+            read,
+            eidr: held,
+            list: list_parts(kind, bytes, 0, 1, blank()),
+        },
+    }
+}
+
+// The EIDR identifier by value; all zero where the UPID is none.
+pub fn eidr(kind: u8, bytes: &[u8]) -> [u8; 12]
+    ensures { λ r. ⌜ r ≡ eidrOf kind (now (bytes .entry)) ⌝ }
+{
+    let mut out = [0u8; 12];
+    if kind != 10 {
+        return out;
+    }
+    if bytes.len() != 12 {
+        return out;
+    }
+    let mut i: usize = 0;
+    while i < 12 {
+        out[i] = bytes[i];
+        i += 1;
+    }
+    out
+}

@@ -1,0 +1,109 @@
+// MIDs: UPIDs inside a UPID, to any depth that 255 bytes have room for.
+ghost use mathlib.Core.Path.{_≡_};
+ghost use mathlib.Core.List.{[]};
+ghost use Prim.Native.Nat.{_+_, _≤_, _<_};
+ghost use lib.ListN.{length};
+ghost use Rattle.upid.specs.Upid.{readOf, listOf, listed};
+ghost use Rattle.upid.specs.Walk.{grown, Room};
+use crate::Part;
+use crate::PartList;
+use crate::Refusal;
+use crate::UpidRead;
+use crate::plain::check_plain;
+use crate::plain::reported;
+
+fn wide(b: u8) -> usize
+    ensures { λ r. ⌜ (r ≡ b) × (r < 256) ⌝ }
+{
+    b as usize
+}
+
+// A payload, and where it is a MID each of its parts in byte order: the first refusal ends the walk. `start` is where it lies in the top UPID.
+pub(crate) fn check_payload(kind: u8, s: &[u8], start: usize) -> UpidRead
+    requires { ⌜ start + length (now s) ≤ 255 ⌝ }
+    ensures { λ r. ⌜ r ≡ readOf kind start (now (s .entry)) ⌝ }
+{
+    if kind != 13 {
+        return check_plain(kind, s, start);
+    }
+    let mut answer = UpidRead::Fine(13);
+    let mut at: usize = 0;
+    'walk: while at < s.len() {
+        let left = s.len() - at;
+        if left < 2 {
+            answer = UpidRead::Refused(Refusal::Short {
+                expected: 1,
+                actual: 0,
+            });
+            break 'walk;
+        }
+        let k = s[at];
+        let n = wide(s[at + 1]);
+        let body = at + 2;
+        let present = s.len() - body;
+        if present < n {
+            answer = UpidRead::Refused(Refusal::Short {
+                expected: n,
+                actual: present,
+            });
+            break 'walk;
+        }
+        let end = body + n;
+        let inner = check_payload(k, &s[body..end], start + body);
+        match inner {
+            UpidRead::Refused(r) => {
+                answer = UpidRead::Refused(r);
+                break 'walk;
+            }
+            UpidRead::Fine(_) => {}
+        }
+        at = end;
+    }
+    answer
+}
+
+// No parts.
+pub(crate) fn blank() -> PartList
+    ensures { λ r. ⌜ r ≡ listed [] ⌝ }
+{
+    let none = Part {
+        kind: 0,
+        level: 0,
+        start: 0,
+        len: 0,
+    };
+    PartList {
+        parts: [none; 127],
+        count: 0,
+    }
+}
+
+// The parts of a payload that was accepted, after those of `w`; there are none where it is no MID. `level` is that of its direct parts.
+pub(crate) fn list_parts(kind: u8, s: &[u8], start: usize, level: u8, w: PartList) -> PartList
+    requires { ⌜ Room kind start level (now s) w ⌝ }
+    ensures { λ r. ⌜ r ≡ grown w (listOf kind level start (now (s .entry))) ⌝ }
+{
+    if kind != 13 {
+        return w;
+    }
+    let mut out = w;
+    let mut at: usize = 0;
+    while at < s.len() {
+        let k = s[at];
+        let l = s[at + 1];
+        let from = at + 2;
+        let to = from + wide(l);
+        let place = start + from;
+        let count = out.count;
+        out.parts[count] = Part {
+            kind: reported(k),
+            level,
+            start: place as u8,
+            len: l,
+        };
+        out.count = count + 1;
+        out = list_parts(k, &s[from..to], place, level + 1, out);
+        at = to;
+    }
+    out
+}
