@@ -8,7 +8,7 @@ use native.Mathlib.Omega.{arith}
 use lib.ListN.{length}
 use borrow.Author.Tests.{lt-ltb, le-ltb}
 use Rattle.table.specs.Bits.{pick, bitsOf, AllBytes}
-use Rattle.table.specs.Cursor.{place, takenOf, flaggedOf, skippedOf}
+use Rattle.table.specs.Cursor.{place, cursorAt, takenOf, flaggedOf, skippedOf}
 use Rattle.table.specs.Table.{Table, done, number, bit, reserved, uimsbf, ones, Answer, got, short, parse, canonical}
 use Rattle.table.specs.Writing.{Same, made, make}
 use Rattle.table.specs.declared.cursor.Cursor.{Cursor}
@@ -22,7 +22,7 @@ use Rattle.table.proofs.Cursors.{goes-flag, stops-flag, goes-ones, stops-ones, 
 use Rattle.table.proofs.Laws.{Tells}
 use Rattle.table.proofs.Leading.{Leads, leads-done, leads-number, leads-flag, leads-ones}
 use Rattle.table.proofs.Lists.{zero-one}
-use Rattle.table.proofs.Steppings.{Settled, taken-got, skipped-got}
+use Rattle.table.proofs.Steppings.{Settled, place-of, settled-at, taken-got, skipped-got}
 use Rattle.table.proofs.Structure as laws
 use Rattle.table.proofs.Telling.{tells-number, tells-either, tells-ones}
 use Rattle.header.specs.Time.{spliceTime, specified, ticks, notImmediate, timeRead, adjustedOf}
@@ -30,15 +30,29 @@ use Rattle.header.specs.declared.time.AdjustedTime.{AdjustedTime}
 use Rattle.header.specs.declared.time.SpliceTime.{SpliceTime}
 use Rattle.header.specs.declared.time.SpliceTime.the-variants.{Immediate, Unspecified, At}
 use Rattle.header.specs.declared.time.TimeRead.{TimeRead}
+use Rattle.header.specs.declared.time.Timed.{Timed}
 
--- ---- a reader's answer
-time-got : (r : Answer SpliceTime) (t : SpliceTime) (c : Cursor) → Settled c → r ≡ got t (place c) → TimeRead.Got (record { time = t; next = c }) ≡ timeRead r
+-- ---- a reader's answer, made and undone
+pub time-got : (r : Answer SpliceTime) (t : SpliceTime) (c : Cursor) → Settled c → r ≡ got t (place c) → TimeRead.Got (record { time = t; next = c }) ≡ timeRead r
 unfolding timeRead
 time-got r t c h e = rw (e, h)
 
-time-lacks : (r : Answer SpliceTime) (x : Short) → r ≡ short (x .expected) (x .actual) → TimeRead.Lacks x ≡ timeRead r
+pub time-lacks : (r : Answer SpliceTime) (x : Short) → r ≡ short (x .expected) (x .actual) → TimeRead.Lacks x ≡ timeRead r
 unfolding timeRead
 time-lacks r x e = rw e
+
+pub timed-got : (r : Answer SpliceTime) (t : Timed) → TimeRead.Got t ≡ timeRead r → (r ≡ got (t .time) (place (t .next))) × Settled (t .next)
+unfolding timeRead
+timed-got (got x m) t f =
+    let e : t .time ≡ x = cc in
+    let c : t .next ≡ cursorAt m = cc in
+    (rw (e, c, place-of m), rw c (settled-at m))
+timed-got (short e a) t f = zero-one cc
+
+pub timed-lacks : (r : Answer SpliceTime) (x : Short) → TimeRead.Lacks x ≡ timeRead r → r ≡ short (x .expected) (x .actual)
+unfolding timeRead
+timed-lacks (got y m) x f = zero-one cc
+timed-lacks (short e a) x f = cc
 
 -- ---- the walk of the reader, step by step
 module _ (s : List ℕ) (at : ℕ) where

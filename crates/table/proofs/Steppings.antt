@@ -25,7 +25,7 @@ use Rattle.table.specs.declared.cursor.Taken.{Taken}
 use Rattle.table.proofs.Bits.{length-bits}
 use Rattle.table.proofs.Laws.{field-there}
 use Rattle.table.proofs.Lists.{zero-one}
-use Rattle.table.proofs.Reading.{field-exact}
+use Rattle.table.proofs.Reading.{field-lt, field-exact}
 
 -- ---- one field, from bit `at` on
 module _ (s : List ℕ) (at : ℕ) where
@@ -125,6 +125,13 @@ number-got (short e a) n h f = zero-one cc
 pub taken-got : (s : List ℕ) (w at : ℕ) (n : Number) → w ≤ 64 → Taken.Got n ≡ takenOf (parse (number w) (bitsOf s) at)
     → (parse (number w) (bitsOf s) at ≡ got (n .value) (place (n .next))) × Settled (n .next)
 taken-got s w at n h f = number-got (parse (number w) (bitsOf s) at) n (exact s w at h) f
+
+pub taken-lt : (s : List ℕ) (w at : ℕ) (n : Number) → w ≤ 64 → Taken.Got n ≡ takenOf (parse (number w) (bitsOf s) at) → n .value < 2 ^ w
+unfolding number
+taken-lt s w at n h f =
+    let i = field-there w (λ (v : ℕ). v) done (bitsOf s) at (n .value) (place (n .next)) (taken-got s w at n h f .0) in
+    let z : field (bitsOf s) at w ≡ n .value = cc in
+    rw (← z) (field-lt s at w)
 
 pub taken-lacks : (r : Answer ℕ) (x : Short) → Taken.Lacks x ≡ takenOf r → r ≡ short (x .expected) (x .actual)
 unfolding takenOf

@@ -1,0 +1,160 @@
+-- What the readers of an insert answer, made of a reading and undone.
+use Prim.Native.Nat.{ℕ}
+use mathlib.Core.List.{List}
+use mathlib.Core.Path.{_≡_, refl}
+use Rattle.table.specs.Cursor.{place, cursorAt}
+use Rattle.table.specs.Table.{Answer, got, short}
+use Rattle.table.specs.declared.cursor.Cursor.{Cursor}
+use Rattle.table.specs.declared.cursor.Short.{Short}
+use Rattle.table.proofs.Lists.{zero-one}
+use Rattle.table.proofs.Steppings.{Settled, place-of, settled-at}
+use Rattle.command.specs.Insert.{WithComponents}
+use Rattle.command.specs.Walk.{componentRead, skimmedOf, breakRead, modedRead, activeRead, insertRead}
+use Rattle.command.specs.declared.components.Component.{Component}
+use Rattle.command.specs.declared.components.ComponentRead.{ComponentRead}
+use Rattle.command.specs.declared.components.ComponentSplice.{ComponentSplice}
+use Rattle.command.specs.declared.components.Skimmed.{Skimmed}
+use Rattle.command.specs.declared.insert.ActiveRead.{ActiveRead}
+use Rattle.command.specs.declared.insert.Break.{Break}
+use Rattle.command.specs.declared.insert.BreakRead.{BreakRead}
+use Rattle.command.specs.declared.insert.Broken.{Broken}
+use Rattle.command.specs.declared.insert.Insert.{Insert}
+use Rattle.command.specs.declared.insert.Insertion.{Insertion}
+use Rattle.command.specs.declared.insert.InsertRead.{InsertRead}
+use Rattle.command.specs.declared.insert.Moded.{Moded}
+use Rattle.command.specs.declared.insert.ModedRead.{ModedRead}
+use Rattle.command.specs.declared.insert.SpliceMode.{SpliceMode}
+
+-- ---- a component
+pub component-got : (r : Answer ComponentSplice) (y : ComponentSplice) (c : Cursor) → Settled c → r ≡ got y (place c) → ComponentRead.Got (record { component = y; next = c }) ≡ componentRead r
+unfolding componentRead
+component-got r y c h e = rw (e, h)
+
+pub component-lacks : (r : Answer ComponentSplice) (x : Short) → r ≡ short (x .expected) (x .actual) → ComponentRead.Lacks x ≡ componentRead r
+unfolding componentRead
+component-lacks r x e = rw e
+
+pub got-component : (r : Answer ComponentSplice) (y : Component) → ComponentRead.Got y ≡ componentRead r → (r ≡ got (y .component) (place (y .next))) × Settled (y .next)
+unfolding componentRead
+got-component (got x m) y f =
+    let e : y .component ≡ x = cc in
+    let c : y .next ≡ cursorAt m = cc in
+    (rw (e, c, place-of m), rw c (settled-at m))
+got-component (short e a) y f = zero-one cc
+
+pub lacks-component : (r : Answer ComponentSplice) (x : Short) → ComponentRead.Lacks x ≡ componentRead r → r ≡ short (x .expected) (x .actual)
+unfolding componentRead
+lacks-component (got y m) x f = zero-one cc
+lacks-component (short e a) x f = cc
+
+-- ---- components that are skimmed
+pub skim-got : (r : Answer (List ComponentSplice)) (ys : List ComponentSplice) (c : Cursor) → Settled c → r ≡ got ys (place c) → Skimmed.Got c ≡ skimmedOf r
+unfolding skimmedOf
+skim-got r ys c h e = rw (e, h)
+
+pub skim-lacks : (r : Answer (List ComponentSplice)) (x : Short) → r ≡ short (x .expected) (x .actual) → Skimmed.Lacks x ≡ skimmedOf r
+unfolding skimmedOf
+skim-lacks r x e = rw e
+
+-- they were read, whichever they are
+pub record Skims (r : Answer (List ComponentSplice)) (c : Cursor) : Type 0 where
+  pub list : List ComponentSplice
+  pub is : r ≡ got list (place c)
+  pub settled : Settled c
+
+pub got-skim : (r : Answer (List ComponentSplice)) (c : Cursor) → Skimmed.Got c ≡ skimmedOf r → Skims r c
+unfolding skimmedOf
+got-skim (got ys m) c f =
+    let e : c ≡ cursorAt m = cc in
+    record { list = ys; is = rw (e, place-of m); settled = rw e (settled-at m) }
+got-skim (short e a) c f = zero-one cc
+
+pub lacks-skim : (r : Answer (List ComponentSplice)) (x : Short) → Skimmed.Lacks x ≡ skimmedOf r → r ≡ short (x .expected) (x .actual)
+unfolding skimmedOf
+lacks-skim (got ys m) x f = zero-one cc
+lacks-skim (short e a) x f = cc
+
+-- ---- a duration
+pub break-got : (r : Answer Break) (y : Break) (c : Cursor) → Settled c → r ≡ got y (place c) → BreakRead.Got (record { duration = y; next = c }) ≡ breakRead r
+unfolding breakRead
+break-got r y c h e = rw (e, h)
+
+pub break-lacks : (r : Answer Break) (x : Short) → r ≡ short (x .expected) (x .actual) → BreakRead.Lacks x ≡ breakRead r
+unfolding breakRead
+break-lacks r x e = rw e
+
+pub got-break : (r : Answer Break) (y : Broken) → BreakRead.Got y ≡ breakRead r → (r ≡ got (y .duration) (place (y .next))) × Settled (y .next)
+unfolding breakRead
+got-break (got x m) y f =
+    let e : y .duration ≡ x = cc in
+    let c : y .next ≡ cursorAt m = cc in
+    (rw (e, c, place-of m), rw c (settled-at m))
+got-break (short e a) y f = zero-one cc
+
+pub lacks-break : (r : Answer Break) (x : Short) → BreakRead.Lacks x ≡ breakRead r → r ≡ short (x .expected) (x .actual)
+unfolding breakRead
+lacks-break (got y m) x f = zero-one cc
+lacks-break (short e a) x f = cc
+
+-- ---- a mode, with whichever components
+pub mode-got : (r : Answer (WithComponents SpliceMode)) (y : SpliceMode) (cs : List ComponentSplice) (c : Cursor) → Settled c
+    → r ≡ got (record { value = y; components = cs }) (place c) → ModedRead.Got (record { mode = y; next = c }) ≡ modedRead r
+unfolding modedRead
+mode-got r y cs c h e = rw (e, h)
+
+pub mode-lacks : (r : Answer (WithComponents SpliceMode)) (x : Short) → r ≡ short (x .expected) (x .actual) → ModedRead.Lacks x ≡ modedRead r
+unfolding modedRead
+mode-lacks r x e = rw e
+
+pub record Modes (r : Answer (WithComponents SpliceMode)) (y : Moded) : Type 0 where
+  pub list : List ComponentSplice
+  pub is : r ≡ got (record { value = y .mode; components = list }) (place (y .next))
+  pub settled : Settled (y .next)
+
+pub got-mode : (r : Answer (WithComponents SpliceMode)) (y : Moded) → ModedRead.Got y ≡ modedRead r → Modes r y
+unfolding modedRead
+got-mode (got x m) y f =
+    let e : y .mode ≡ x .value = cc in
+    let c : y .next ≡ cursorAt m = cc in
+    record { list = x .components; is = rw (e, c, place-of m); settled = rw c (settled-at m) }
+got-mode (short e a) y f = zero-one cc
+
+pub lacks-mode : (r : Answer (WithComponents SpliceMode)) (x : Short) → ModedRead.Lacks x ≡ modedRead r → r ≡ short (x .expected) (x .actual)
+unfolding modedRead
+lacks-mode (got y m) x f = zero-one cc
+lacks-mode (short e a) x f = cc
+
+-- ---- what is not cancelled
+pub active-got : (r : Answer (WithComponents Insert)) (y : Insert) (cs : List ComponentSplice) (m : ℕ) → r ≡ got (record { value = y; components = cs }) m → ActiveRead.Got y ≡ activeRead r
+unfolding activeRead
+active-got r y cs m e = rw e
+
+pub active-lacks : (r : Answer (WithComponents Insert)) (x : Short) → r ≡ short (x .expected) (x .actual) → ActiveRead.Lacks x ≡ activeRead r
+unfolding activeRead
+active-lacks r x e = rw e
+
+pub record Actives (r : Answer (WithComponents Insert)) (y : Insert) : Type 0 where
+  pub list : List ComponentSplice
+  pub end : ℕ
+  pub is : r ≡ got (record { value = y; components = list }) end
+
+pub got-active : (r : Answer (WithComponents Insert)) (y : Insert) → ActiveRead.Got y ≡ activeRead r → Actives r y
+unfolding activeRead
+got-active (got x m) y f =
+    let e : y ≡ x .value = cc in
+    record { list = x .components; end = m; is = rw e }
+got-active (short e a) y f = zero-one cc
+
+pub lacks-active : (r : Answer (WithComponents Insert)) (x : Short) → ActiveRead.Lacks x ≡ activeRead r → r ≡ short (x .expected) (x .actual)
+unfolding activeRead
+lacks-active (got y m) x f = zero-one cc
+lacks-active (short e a) x f = cc
+
+-- ---- an insert
+pub insert-got : (r : Answer (WithComponents Insertion)) (y : Insertion) (cs : List ComponentSplice) (m : ℕ) → r ≡ got (record { value = y; components = cs }) m → InsertRead.Got y ≡ insertRead r
+unfolding insertRead
+insert-got r y cs m e = rw e
+
+pub insert-lacks : (r : Answer (WithComponents Insertion)) (x : Short) → r ≡ short (x .expected) (x .actual) → InsertRead.Lacks x ≡ insertRead r
+unfolding insertRead
+insert-lacks r x e = rw e

@@ -1,0 +1,111 @@
+-- What the reader of a payload by its type answers.
+use Prim.Native.Nat.{ℕ, _+_, _*_, _-_, _/_, _<_, _≤_}
+use mathlib.Core.Bool.{Bool, true, false}
+use mathlib.Core.List.{List, [], _∷_}
+use mathlib.Core.Path.{_≡_, refl, ap, sym, _∙_}
+use native.Mathlib.Omega.{arith}
+use lib.Dec.{eqb}
+use lib.ListN.{length}
+use borrow.Author.Tests.{eq-eqb, ne-eqb}
+use Rattle.header.specs.Time.{spliceTime, timeRead}
+use Rattle.header.specs.declared.time.SpliceTime.{SpliceTime}
+use Rattle.header.specs.declared.time.TimeRead.{TimeRead}
+use Rattle.header.specs.declared.time.Timed.{Timed}
+use Rattle.header.proofs.Times.{timed-got, timed-lacks}
+use Rattle.table.specs.Bits.{pick, bitsOf, field}
+use Rattle.table.specs.Cursor.{place, takenOf}
+use Rattle.table.specs.Table.{done, number, Answer, got, short, parse}
+use Rattle.table.specs.declared.cursor.Number.{Number}
+use Rattle.table.specs.declared.cursor.Short.{Short}
+use Rattle.table.specs.declared.cursor.Taken.{Taken}
+use Rattle.table.proofs.Bits.{length-bits}
+use Rattle.table.proofs.Cursors.{stops-number}
+use Rattle.table.proofs.Laws.{field-there}
+use Rattle.table.proofs.Lists.{zero-one}
+use Rattle.table.proofs.Steppings.{taken-got}
+use Rattle.table.proofs.Steps.{takes-number, takes-remaining, takes-part}
+use Rattle.command.specs.Command.{private, read, empty, commandOf}
+use Rattle.command.specs.Insert.{WithComponents, insert}
+use Rattle.command.specs.Walk.{insertRead}
+use Rattle.command.specs.declared.CommandRead.{CommandRead}
+use Rattle.command.specs.declared.SpliceCommand.{SpliceCommand}
+use Rattle.command.specs.declared.insert.Insertion.{Insertion}
+use Rattle.command.specs.declared.insert.InsertRead.{InsertRead}
+
+-- ---- an empty payload
+pub is-empty : (s : List ℕ) (c : SpliceCommand) → length s ≡ 0 → CommandRead.Is c ≡ empty c s
+is-empty s c e = rw (eq-eqb (length s) 0 e)
+
+pub not-empty : (s : List ℕ) (c : SpliceCommand) → (length s ≡ 0 → ⊥) → CommandRead.Malformed ≡ empty c s
+not-empty s c e = rw (ne-eqb (length s) 0 e)
+
+-- ---- a time signal
+pub signal : (r : Answer SpliceTime) (t : Timed) → TimeRead.Got t ≡ timeRead r → CommandRead.Is (SpliceCommand.TimeSignal (t .time)) ≡ read SpliceCommand.TimeSignal r
+signal r t e = rw (timed-got r t e .0)
+
+pub no-signal : (r : Answer SpliceTime) (x : Short) → TimeRead.Lacks x ≡ timeRead r → CommandRead.Malformed ≡ read SpliceCommand.TimeSignal r
+no-signal r x e = rw (timed-lacks r x e)
+
+-- ---- an insert
+pub insertion : (r : Answer (WithComponents Insertion)) (i : Insertion) → InsertRead.Got i ≡ insertRead r
+    → CommandRead.Is (SpliceCommand.SpliceInsert i) ≡ read (λ x. SpliceCommand.SpliceInsert (x .value)) r
+unfolding insertRead
+insertion (got x m) i e = cc
+insertion (short x a) i e = zero-one cc
+
+pub no-insertion : (r : Answer (WithComponents Insertion)) (x : Short) → InsertRead.Lacks x ≡ insertRead r → CommandRead.Malformed ≡ read (λ x. SpliceCommand.SpliceInsert (x .value)) r
+unfolding insertRead
+no-insertion (got y m) x e = zero-one cc
+no-insertion (short y a) x e = refl
+
+-- ---- a private command
+module _ (s : List ℕ) where
+  pub no-identifier : (x : Short) → Taken.Lacks x ≡ takenOf (parse (number 32) (bitsOf s) 0) → CommandRead.Malformed ≡ read SpliceCommand.PrivateCommand (parse private (bitsOf s) 0)
+  unfolding private
+  no-identifier x e = rw (stops-number s 0 32 _ _ x e)
+
+  module _ (n : Number) (en : Taken.Got n ≡ takenOf (parse (number 32) (bitsOf s) 0)) where
+    there : (32 ≤ length s * 8) × (n .value ≡ field (bitsOf s) 0 32)
+    unfolding number
+    there =
+        let i = field-there 32 (λ (v : ℕ). v) done (bitsOf s) 0 (n .value) (place (n .next)) (taken-got s 32 0 n (omega arith) en .0) in
+        (omega (arith, i .0, length-bits s), cc)
+
+    pub four : 4 ≤ length s
+    four = omega (arith, there .0)
+
+    pub identified : CommandRead.Is (SpliceCommand.PrivateCommand (record { identifier = n .value; «private_bytes» = record { at = 4; len = length s - 4 } }))
+        ≡ read SpliceCommand.PrivateCommand (parse private (bitsOf s) 0)
+    unfolding private
+    identified =
+        let m : (length s * 8 - 32) / 8 ≡ length s - 4 = omega arith in
+        rw (← m) (ap (read SpliceCommand.PrivateCommand) (sym (takes-number s 0 32 (n .value) _ _ (there .0) (there .1) ∙ takes-remaining s 32 _ _ ∙ takes-part s 32 _ _ _ (omega (arith, four)))))
+
+-- ---- by the type
+by-type : (k n : ℕ) (s : List ℕ) (r : CommandRead) → k ≡ n → r ≡ commandOf n s → r ≡ commandOf k s
+by-type k n s r e h = rw e h
+
+module _ (k : ℕ) (s : List ℕ) (r : CommandRead) where
+  pub of-null : k ≡ 0x00 → r ≡ empty SpliceCommand.SpliceNull s → r ≡ commandOf k s
+  unfolding commandOf
+  of-null e h = by-type k 0x00 s r e h
+
+  pub of-insert : k ≡ 0x05 → r ≡ read (λ x. SpliceCommand.SpliceInsert (x .value)) (parse insert (bitsOf s) 0) → r ≡ commandOf k s
+  unfolding commandOf
+  of-insert e h = by-type k 0x05 s r e h
+
+  pub of-signal : k ≡ 0x06 → r ≡ read SpliceCommand.TimeSignal (parse spliceTime (bitsOf s) 0) → r ≡ commandOf k s
+  unfolding commandOf
+  of-signal e h = by-type k 0x06 s r e h
+
+  pub of-reservation : k ≡ 0x07 → r ≡ empty SpliceCommand.BandwidthReservation s → r ≡ commandOf k s
+  unfolding commandOf
+  of-reservation e h = by-type k 0x07 s r e h
+
+  pub of-private : k ≡ 0xff → r ≡ read SpliceCommand.PrivateCommand (parse private (bitsOf s) 0) → r ≡ commandOf k s
+  unfolding commandOf
+  of-private e h = by-type k 0xff s r e h
+
+pub of-none : (k : ℕ) (s : List ℕ) → (k ≡ 0x00 → ⊥) → (k ≡ 0x05 → ⊥) → (k ≡ 0x06 → ⊥) → (k ≡ 0x07 → ⊥) → (k ≡ 0xff → ⊥) → CommandRead.UnknownType ≡ commandOf k s
+unfolding commandOf
+of-none k s h₁ h₂ h₃ h₄ h₅ = rw (ne-eqb k 0x00 h₁, ne-eqb k 0x05 h₂, ne-eqb k 0x06 h₃, ne-eqb k 0x07 h₄, ne-eqb k 0xff h₅)

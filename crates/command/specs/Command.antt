@@ -1,0 +1,59 @@
+-- The payloads of the commands by their type. 01, "Commands".
+use Prim.Native.Nat.{ℕ, _-_}
+use mathlib.Core.List.{List, [], _++_}
+use lib.Dec.{eqb}
+use lib.ListN.{length, replicate}
+use Rattle.header.specs.Time.{spliceTime}
+use Rattle.table.specs.Bits.{pick, bitsOf}
+use Rattle.table.specs.Table.{Table, done, inside, uimsbf, remaining, part, Answer, got, short, parse}
+use Rattle.command.specs.Insert.{WithComponents, insert, blank}
+use Rattle.command.specs.declared.CommandRead.{CommandRead}
+use Rattle.command.specs.declared.Private.{Private}
+use Rattle.command.specs.declared.SpliceCommand.{SpliceCommand}
+use Rattle.command.specs.declared.components.ComponentSplice.{ComponentSplice}
+use Rattle.command.specs.declared.insert.Insertion.{Insertion}
+
+-- "Private: identifier 32, the rest as a view."
+unfoldable pub private : Table Private
+private =
+    uimsbf 32 (λ x. x .identifier) λ identifier.
+    inside remaining (λ x. x .«private_bytes» .len) λ n.
+    inside (part n) (λ x. x .«private_bytes») λ bytes.
+    done (record { identifier = identifier; «private_bytes» = bytes })
+
+-- what a table's reading makes of a command; "Bytes after insert or time signal are tolerated"
+abbrev pub read : {X : Type 0} → (X → SpliceCommand) → Answer X → CommandRead
+read f (got x at) = CommandRead.Is (f x)
+read f (short expected actual) = CommandRead.Malformed
+
+-- "Null and bandwidth reservation: payload empty."
+abbrev pub empty : SpliceCommand → List ℕ → CommandRead
+empty command payload = pick (eqb (length payload) 0) (CommandRead.Is command) CommandRead.Malformed
+
+-- refusal 10: "command type is none of 0x00, 0x05, 0x06, 0x07, 0xFF"; refusal 11: "command payload malformed"
+unfoldable pub commandOf : ℕ → List ℕ → CommandRead
+commandOf kind payload =
+    pick (eqb kind 0x00) (empty SpliceCommand.SpliceNull payload)
+    (pick (eqb kind 0x05) (read (λ x. SpliceCommand.SpliceInsert (x .value)) (parse insert (bitsOf payload) 0))
+    (pick (eqb kind 0x06) (read SpliceCommand.TimeSignal (parse spliceTime (bitsOf payload) 0))
+    (pick (eqb kind 0x07) (empty SpliceCommand.BandwidthReservation payload)
+    (pick (eqb kind 0xff) (read SpliceCommand.PrivateCommand (parse private (bitsOf payload) 0))
+    CommandRead.UnknownType))))
+
+-- 01's number of each refusal; none has values
+abbrev pub numberOf : CommandRead → ℕ
+numberOf (CommandRead.Is c) = 0
+numberOf CommandRead.UnknownType = 10
+numberOf CommandRead.Malformed = 11
+
+-- "arrays with a count, 255 components, blank .. past it"
+unfoldable pub array : List ComponentSplice → List ComponentSplice
+array cs = cs ++ replicate (255 - length cs) blank
+
+-- the components of an insert's payload, none where it is malformed
+abbrev pub componentsIn : Answer (WithComponents Insertion) → List ComponentSplice
+componentsIn (got x at) = x .components
+componentsIn (short expected actual) = []
+
+unfoldable pub componentsOf : List ℕ → List ComponentSplice
+componentsOf payload = array (componentsIn (parse insert (bitsOf payload) 0))

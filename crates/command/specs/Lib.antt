@@ -1,0 +1,3 @@
+pub mod Insert
+pub mod Command
+pub mod Walk

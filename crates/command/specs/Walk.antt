@@ -1,0 +1,41 @@
+-- What the private readers of an insert answer. No public contract cites this.
+use Prim.Native.Nat.{ℕ}
+use mathlib.Core.List.{List, []}
+use Rattle.table.specs.Cursor.{cursorAt}
+use Rattle.table.specs.Table.{Answer, got, short}
+use Rattle.command.specs.Insert.{WithComponents}
+use Rattle.command.specs.declared.components.ComponentSplice.{ComponentSplice}
+use Rattle.command.specs.declared.components.ComponentRead.{ComponentRead}
+use Rattle.command.specs.declared.components.Skimmed.{Skimmed}
+use Rattle.command.specs.declared.insert.ActiveRead.{ActiveRead}
+use Rattle.command.specs.declared.insert.Break.{Break}
+use Rattle.command.specs.declared.insert.BreakRead.{BreakRead}
+use Rattle.command.specs.declared.insert.Insert.{Insert}
+use Rattle.command.specs.declared.insert.Insertion.{Insertion}
+use Rattle.command.specs.declared.insert.InsertRead.{InsertRead}
+use Rattle.command.specs.declared.insert.ModedRead.{ModedRead}
+use Rattle.command.specs.declared.insert.SpliceMode.{SpliceMode}
+
+unfoldable pub componentRead : Answer ComponentSplice → ComponentRead
+componentRead (got c at) = ComponentRead.Got (record { component = c; next = cursorAt at })
+componentRead (short expected actual) = ComponentRead.Lacks (record { expected = expected; actual = actual })
+
+unfoldable pub skimmedOf : Answer (List ComponentSplice) → Skimmed
+skimmedOf (got cs at) = Skimmed.Got (cursorAt at)
+skimmedOf (short expected actual) = Skimmed.Lacks (record { expected = expected; actual = actual })
+
+unfoldable pub breakRead : Answer Break → BreakRead
+breakRead (got d at) = BreakRead.Got (record { duration = d; next = cursorAt at })
+breakRead (short expected actual) = BreakRead.Lacks (record { expected = expected; actual = actual })
+
+unfoldable pub modedRead : Answer (WithComponents SpliceMode) → ModedRead
+modedRead (got m at) = ModedRead.Got (record { mode = m .value; next = cursorAt at })
+modedRead (short expected actual) = ModedRead.Lacks (record { expected = expected; actual = actual })
+
+unfoldable pub activeRead : Answer (WithComponents Insert) → ActiveRead
+activeRead (got i at) = ActiveRead.Got (i .value)
+activeRead (short expected actual) = ActiveRead.Lacks (record { expected = expected; actual = actual })
+
+unfoldable pub insertRead : Answer (WithComponents Insertion) → InsertRead
+insertRead (got i at) = InsertRead.Got (i .value)
+insertRead (short expected actual) = InsertRead.Lacks (record { expected = expected; actual = actual })

@@ -1,0 +1,102 @@
+// The splice commands: what a section asks for.
+ghost use mathlib.Core.Path.{_≡_};
+ghost use Rattle.command.specs.Command.{private, read, empty, commandOf};
+ghost use Rattle.command.specs.Insert.{insert};
+ghost use Rattle.command.specs.declared.SpliceCommand.{SpliceCommand};
+ghost use Rattle.header.specs.Time.{spliceTime};
+ghost use Rattle.table.specs.Bits.{bitsOf};
+ghost use Rattle.table.specs.Table.{parse};
+use crate::insert::InsertRead;
+use crate::insert::Insertion;
+use crate::insert::read_insert;
+use header::time::SpliceTime;
+use header::time::TimeRead;
+use header::time::read_splice_time;
+use table::View;
+use table::cursor::Cursor;
+use table::cursor::Taken;
+
+pub mod components;
+pub mod insert;
+
+pub struct Private {
+    pub identifier: u32,
+    pub private_bytes: View,
+}
+
+pub enum SpliceCommand {
+    SpliceNull,
+    SpliceInsert(Insertion),
+    TimeSignal(SpliceTime),
+    BandwidthReservation,
+    PrivateCommand(Private),
+}
+
+// A command; or refusal 10, a type that none has; or refusal 11, a malformed payload.
+pub enum CommandRead {
+    Is(SpliceCommand),
+    UnknownType,
+    Malformed,
+}
+
+fn read_empty(s: &[u8], command: SpliceCommand) -> CommandRead
+    ensures { λ r. ⌜ r ≡ empty command (now (s .entry)) ⌝ }
+{
+    if s.len() == 0 {
+        return CommandRead::Is(command);
+    }
+    CommandRead::Malformed
+}
+
+fn read_time_signal(s: &[u8]) -> CommandRead
+    ensures { λ r. ⌜ r ≡ read SpliceCommand.TimeSignal (parse spliceTime (bitsOf (now (s .entry))) 0) ⌝ }
+{
+    match read_splice_time(s, Cursor { byte: 0, bit: 0 }) {
+        TimeRead::Got(t) => {
+            let time = t.time;
+            CommandRead::Is(SpliceCommand::TimeSignal(time))
+        }
+        TimeRead::Lacks(_) => CommandRead::Malformed,
+    }
+}
+
+fn read_private(s: &[u8]) -> CommandRead
+    ensures { λ r. ⌜ r ≡ read SpliceCommand.PrivateCommand (parse private (bitsOf (now (s .entry))) 0) ⌝ }
+{
+    let c = Cursor { byte: 0, bit: 0 };
+    let identifier = match c.take(s, 32) {
+        Taken::Got(n) => n,
+        Taken::Lacks(_) => return CommandRead::Malformed,
+    };
+    let rest = View {
+        at: 4,
+        len: s.len() - 4,
+    };
+    CommandRead::Is(SpliceCommand::PrivateCommand(Private {
+        identifier: identifier.value as u32,
+        private_bytes: rest,
+    }))
+}
+
+fn read_splice_insert(s: &[u8]) -> CommandRead
+    ensures { λ r. ⌜ r ≡ read (λ x. SpliceCommand.SpliceInsert (x .value)) (parse insert (bitsOf (now (s .entry))) 0) ⌝ }
+{
+    match read_insert(s) {
+        InsertRead::Got(i) => CommandRead::Is(SpliceCommand::SpliceInsert(i)),
+        InsertRead::Lacks(_) => CommandRead::Malformed,
+    }
+}
+
+// The command of a type, in its payload.
+pub fn read_command(kind: u8, payload: &[u8]) -> CommandRead
+    ensures { λ r. ⌜ r ≡ commandOf kind (now (payload .entry)) ⌝ }
+{
+    match kind {
+        0x00 => read_empty(payload, SpliceCommand::SpliceNull),
+        0x05 => read_splice_insert(payload),
+        0x06 => read_time_signal(payload),
+        0x07 => read_empty(payload, SpliceCommand::BandwidthReservation),
+        0xFF => read_private(payload),
+        _ => CommandRead::UnknownType,
+    }
+}
