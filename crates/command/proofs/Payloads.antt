@@ -23,11 +23,12 @@ use Rattle.table.proofs.Cursors.{stops-number}
 use Rattle.table.proofs.Laws.{field-there}
 use Rattle.table.proofs.Lists.{zero-one}
 use Rattle.table.proofs.Steppings.{taken-got}
-use Rattle.table.proofs.Steps.{takes-number, takes-remaining, takes-part}
+use Rattle.table.proofs.Steps.{takes-number, takes-remaining, takes-part, reads-number, reads-part}
 use Rattle.command.specs.Command.{private, read, empty, commandOf}
 use Rattle.command.specs.Insert.{WithComponents, insert}
 use Rattle.command.specs.Walk.{insertRead}
 use Rattle.command.specs.declared.CommandRead.{CommandRead}
+use Rattle.command.specs.declared.Private.{Private}
 use Rattle.command.specs.declared.SpliceCommand.{SpliceCommand}
 use Rattle.command.specs.declared.insert.Insertion.{Insertion}
 use Rattle.command.specs.declared.insert.InsertRead.{InsertRead}
@@ -109,3 +110,55 @@ module _ (k : ℕ) (s : List ℕ) (r : CommandRead) where
 pub of-none : (k : ℕ) (s : List ℕ) → (k ≡ 0x00 → ⊥) → (k ≡ 0x05 → ⊥) → (k ≡ 0x06 → ⊥) → (k ≡ 0x07 → ⊥) → (k ≡ 0xff → ⊥) → CommandRead.UnknownType ≡ commandOf k s
 unfolding commandOf
 of-none k s h₁ h₂ h₃ h₄ h₅ = rw (ne-eqb k 0x00 h₁, ne-eqb k 0x05 h₂, ne-eqb k 0x06 h₃, ne-eqb k 0x07 h₄, ne-eqb k 0xff h₅)
+
+-- ---- the bytes of a private command begin behind its identifier
+private-at : (s : List ℕ) (p : Private) (m : ℕ) → parse private (bitsOf s) 0 ≡ got p m → p .«private_bytes» .at ≡ 4
+unfolding private
+private-at s p m e =
+    let e₁ = reads-number s 0 32 _ _ p m e .1 in
+    let e₂ = sym (takes-remaining s 32 _ _) ∙ e₁ in
+    let e₃ = reads-part s 32 _ _ _ p m e₂ .1 in
+    let z : p ≡ record { identifier = field (bitsOf s) 0 32; «private_bytes» = record { at = 4; len = (length s * 8 - 32) / 8 } } = cc in
+    ap (λ (x : Private). x .«private_bytes» .at) z
+
+-- whether it is so of an answer
+BehindFour : CommandRead → Type 0
+BehindFour r = (p : Private) → r ≡ CommandRead.Is (SpliceCommand.PrivateCommand p) → p .«private_bytes» .at ≡ 4
+
+pick-has : (P : CommandRead → Type 0) (b : Bool) (x y : CommandRead) → P x → P y → P (pick b x y)
+pick-has P true x y h k = h
+pick-has P false x y h k = k
+
+no-private : {X : Type 0} (f : X → SpliceCommand) (r : Answer X) → ((x : X) (p : Private) → f x ≡ SpliceCommand.PrivateCommand p → ⊥) → BehindFour (read f r)
+unfolding BehindFour
+no-private f (got x m) h p e = absurd (h x p cc)
+no-private f (short x a) h p e = zero-one cc
+
+a-private : (s : List ℕ) (r : Answer Private) → ((p : Private) (m : ℕ) → r ≡ got p m → p .«private_bytes» .at ≡ 4) → BehindFour (read SpliceCommand.PrivateCommand r)
+unfolding BehindFour
+a-private s (got x m) h p e =
+    let z : x ≡ p = cc in
+    rw (← z) (h x m refl)
+a-private s (short x a) h p e = zero-one cc
+
+empty-has : (b : Bool) (c : SpliceCommand) → ((p : Private) → c ≡ SpliceCommand.PrivateCommand p → ⊥) → BehindFour (pick b (CommandRead.Is c) CommandRead.Malformed)
+unfolding BehindFour
+empty-has true c h p e = absurd (h p cc)
+empty-has false c h p e = zero-one cc
+
+none-has : BehindFour CommandRead.UnknownType
+unfolding BehindFour
+none-has p e = zero-one cc
+
+behind-four : (k : ℕ) (s : List ℕ) → BehindFour (commandOf k s)
+unfolding commandOf
+behind-four k s =
+    pick-has BehindFour (eqb k 0x00) _ _ (empty-has (eqb (length s) 0) SpliceCommand.SpliceNull (λ p e. zero-one cc))
+    (pick-has BehindFour (eqb k 0x05) _ _ (no-private (λ x. SpliceCommand.SpliceInsert (x .value)) (parse insert (bitsOf s) 0) (λ x p e. zero-one cc))
+    (pick-has BehindFour (eqb k 0x06) _ _ (no-private SpliceCommand.TimeSignal (parse spliceTime (bitsOf s) 0) (λ x p e. zero-one cc))
+    (pick-has BehindFour (eqb k 0x07) _ _ (empty-has (eqb (length s) 0) SpliceCommand.BandwidthReservation (λ p e. zero-one cc))
+    (pick-has BehindFour (eqb k 0xff) _ _ (a-private s (parse private (bitsOf s) 0) (private-at s)) none-has))))
+
+pub private-behind : (k : ℕ) (s : List ℕ) (p : Private) → commandOf k s ≡ CommandRead.Is (SpliceCommand.PrivateCommand p) → p .«private_bytes» .at ≡ 4
+unfolding BehindFour
+private-behind k s p e = behind-four k s p e

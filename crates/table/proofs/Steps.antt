@@ -119,6 +119,11 @@ module _ {X : Type 0} (s : List ℕ) (at : ℕ) where
   unfolding bit
   reads-flag p k y m e = rw (length-bits s) at (field-there 1 (λ x. flagNumber (p x)) (λ v. k (eqb v 1)) (bitsOf s) at y m e)
 
+  pub reads-part : (n : ℕ) (q : X → View) (k : View → Table X) (y : X) (m : ℕ) → parse (inside (part n) q k) (bitsOf s) at ≡ got y m
+      → (at + n * 8 ≤ length s * 8) × (parse (k (record { at = at / 8; len = n })) (bitsOf s) (at + n * 8) ≡ got y m)
+  unfolding part
+  reads-part n q k y m e = rw (length-bits s) at (view-there n (λ x. q x .at) (λ a. k (record { at = a; len = n })) (bitsOf s) at y m e)
+
 -- ---- a list, element by element
 module _ {Y : Type 0} (n : ℕ) (d : Y) (t : Table Y) (bs : List ℕ) (at : ℕ) where
   -- the first element, and then the others

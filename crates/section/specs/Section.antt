@@ -1,0 +1,126 @@
+-- A section, by positions. 01, "Section": three bytes of common header; 11 of splice header; command; 2 of loop length; loop; anything; 4 of CRC.
+use Prim.Native.Nat.{ℕ, _+_, _*_, _-_}
+use mathlib.Core.Bool.{Bool, not}
+use mathlib.Core.List.{List}
+use lib.Dec.{ltb, eqb}
+use lib.ListN.{length, getD, take, drop}
+use Rattle.command.specs.Command.{commandOf}
+use Rattle.command.specs.declared.CommandRead.{CommandRead}
+use Rattle.command.specs.declared.SpliceCommand.{SpliceCommand}
+use Rattle.crc.specs.Crc.{crcOf}
+use Rattle.header.specs.Header.{headerOf}
+use Rattle.header.specs.declared.header.HeaderRead.{HeaderRead}
+use Rattle.table.specs.Bits.{pick, bitsOf, field}
+use Rattle.table.specs.declared.View.{View}
+use Rattle.section.specs.declared.Refusal.{Refusal}
+use Rattle.section.specs.declared.SectionRead.{SectionRead}
+
+-- ---- the layout: the splice header begins at byte 3, the command at byte 14, and the last four bytes are the CRC
+-- splice_command_length: 12 bits from the middle of byte 11 on
+unfoldable pub commandLength : List ℕ → ℕ
+commandLength s = field (bitsOf s) 92 12
+
+unfoldable pub commandType : List ℕ → ℕ
+commandType s = getD s 13 0
+
+unfoldable pub commandBytes : List ℕ → List ℕ
+commandBytes s = take (commandLength s) (drop 14 s)
+
+-- the bytes after the command, CRC excluded
+unfoldable pub roomAfter : List ℕ → ℕ
+roomAfter s = length s - 18 - commandLength s
+
+-- descriptor_loop_length: the two bytes after the command
+unfoldable pub loopLength : List ℕ → ℕ
+loopLength s = field (bitsOf s) ((14 + commandLength s) * 8) 16
+
+unfoldable pub loopPlace : List ℕ → View
+loopPlace s = record { at = 16 + commandLength s; len = loopLength s }
+
+-- ---- the conditions of refusals 1 to 9; 10 and 11 are the command's
+-- 1: "section under 3 bytes"
+abbrev pub under3 : List ℕ → Bool
+under3 s = ltb (length s) 3
+
+-- 2: "section over 4,096 .. bytes"
+abbrev pub over4096 : List ℕ → Bool
+over4096 s = ltb 4096 (length s)
+
+-- 3: "first byte is not 0xFC"
+abbrev pub otherTable : List ℕ → Bool
+otherTable s = not (eqb (getD s 0 0) 0xfc)
+
+-- 4: "CRC over all bytes is not 0"
+abbrev pub wrongCrc : List ℕ → Bool
+wrongCrc s = not (eqb (crcOf s) 0)
+
+-- 5: "section under 18 bytes"
+abbrev pub under18 : List ℕ → Bool
+under18 s = ltb (length s) 18
+
+-- 6: "encrypted bit set", the first of byte 4
+abbrev pub encrypted : List ℕ → Bool
+encrypted s = eqb (field (bitsOf s) 32 1) 1
+
+-- 7: "command length exceeds the bytes after the header, CRC excluded"
+abbrev pub commandTooLong : List ℕ → Bool
+commandTooLong s = ltb (length s - 18) (commandLength s)
+
+-- 8: "fewer than 2 bytes follow the command"
+abbrev pub noLoopLength : List ℕ → Bool
+noLoopLength s = ltb (roomAfter s) 2
+
+-- 9: "loop length + 2 exceeds those bytes"
+abbrev pub loopTooLong : List ℕ → Bool
+loopTooLong s = ltb (roomAfter s) (loopLength s + 2)
+
+-- ---- the reading
+-- a command whose views count from `base` bytes before its payload
+unfoldable pub moved : ℕ → SpliceCommand → SpliceCommand
+moved base (SpliceCommand.PrivateCommand p) =
+    SpliceCommand.PrivateCommand (record { identifier = p .identifier; «private_bytes» = record { at = base + p .«private_bytes» .at; len = p .«private_bytes» .len } })
+moved base SpliceCommand.SpliceNull = SpliceCommand.SpliceNull
+moved base (SpliceCommand.SpliceInsert i) = SpliceCommand.SpliceInsert i
+moved base (SpliceCommand.TimeSignal t) = SpliceCommand.TimeSignal t
+moved base SpliceCommand.BandwidthReservation = SpliceCommand.BandwidthReservation
+
+-- the header, the command and the loop's place; 10 and 11. (A section of 18 bytes has a header.)
+unfoldable pub accepted : HeaderRead → CommandRead → View → SectionRead
+accepted (HeaderRead.Header h) (CommandRead.Is c) loop = SectionRead.Is (record { header = h; command = moved 14 c; descriptors = loop })
+accepted (HeaderRead.Header h) CommandRead.UnknownType loop = SectionRead.Refused Refusal.UnknownCommand
+accepted (HeaderRead.Header h) CommandRead.Malformed loop = SectionRead.Refused Refusal.MalformedCommand
+accepted HeaderRead.TooShort r loop = SectionRead.Refused Refusal.NoHeader
+
+-- 6 to 11
+unfoldable pub laidOut : List ℕ → SectionRead
+laidOut s =
+    pick (encrypted s) (SectionRead.Refused Refusal.Encrypted)
+    (pick (commandTooLong s) (SectionRead.Refused Refusal.CommandTooLong)
+    (pick (noLoopLength s) (SectionRead.Refused Refusal.NoLoopLength)
+    (pick (loopTooLong s) (SectionRead.Refused Refusal.LoopTooLong)
+    (accepted (headerOf (drop 3 s)) (commandOf (commandType s) (commandBytes s)) (loopPlace s)))))
+
+-- refusals 1 to 11 "are checked in order of number"
+unfoldable pub sectionOf : List ℕ → SectionRead
+sectionOf s =
+    pick (under3 s) (SectionRead.Refused Refusal.TooShort)
+    (pick (over4096 s) (SectionRead.Refused Refusal.TooLong)
+    (pick (otherTable s) (SectionRead.Refused Refusal.OtherTable)
+    (pick (wrongCrc s) (SectionRead.Refused Refusal.WrongCrc)
+    (pick (under18 s) (SectionRead.Refused Refusal.NoHeader)
+    (laidOut s)))))
+
+-- 01's number of each refusal; none has values
+unfoldable pub numberOf : SectionRead → ℕ
+numberOf (SectionRead.Is s) = 0
+numberOf (SectionRead.Refused Refusal.TooShort) = 1
+numberOf (SectionRead.Refused Refusal.TooLong) = 2
+numberOf (SectionRead.Refused Refusal.OtherTable) = 3
+numberOf (SectionRead.Refused Refusal.WrongCrc) = 4
+numberOf (SectionRead.Refused Refusal.NoHeader) = 5
+numberOf (SectionRead.Refused Refusal.Encrypted) = 6
+numberOf (SectionRead.Refused Refusal.CommandTooLong) = 7
+numberOf (SectionRead.Refused Refusal.NoLoopLength) = 8
+numberOf (SectionRead.Refused Refusal.LoopTooLong) = 9
+numberOf (SectionRead.Refused Refusal.UnknownCommand) = 10
+numberOf (SectionRead.Refused Refusal.MalformedCommand) = 11
