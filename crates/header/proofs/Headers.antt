@@ -129,6 +129,10 @@ pub header-refused : (s : List ℕ) → length s < 11 → headerOf s ≡ TooShor
 unfolding headerOf
 header-refused s h = refused (parse spliceHeader (bitsOf s) 0) (λ y m e. too-short s y m h e)
 
+pub header-there : (s : List ℕ) → 11 ≤ length s → (x : SpliceInfoHeader) × (headerOf s ≡ Header x)
+unfolding headerOf headerRead
+header-there s h = (_, ap headerRead (header-got s h))
+
 -- what the reader's numbers say
 module _ (s : List ℕ) (v₁ v₂ v₃ v₄ v₅ v₆ v₇ v₈ : ℕ) (a : EncryptionAlgorithm) (t : SpliceCommandType) where
   pub header-is : 11 ≤ length s → v₁ ≡ field (bitsOf s) 0 8 → v₂ ≡ field (bitsOf s) 8 1 → v₃ ≡ field (bitsOf s) 9 6 → v₄ ≡ field (bitsOf s) 15 33 → v₅ ≡ field (bitsOf s) 48 8

@@ -6,10 +6,11 @@ use Rattle.names.specs.Algorithm.{algorithmOf}
 use Rattle.names.specs.Command.{commandOf}
 use Rattle.table.specs.Bits.{bitsOf}
 use Rattle.table.specs.Table.{number, bit, reserved, got, parse}
-use Rattle.header.specs.Header.{spliceHeader, headerRead, headerOf}
-use Rattle.header.specs.Time.{spliceTime}
+use Rattle.table.specs.Writing.{refused, make}
+use Rattle.header.specs.Header.{spliceHeader, headerRead, headerOf, numberOf}
+use Rattle.header.specs.Time.{spliceTime, notImmediate}
 use Rattle.header.specs.declared.header.HeaderRead.the-variants.{Header, TooShort}
-use Rattle.header.specs.declared.time.SpliceTime.the-variants.{Unspecified, At}
+use Rattle.header.specs.declared.time.SpliceTime.the-variants.{Immediate, Unspecified, At}
 
 pub row-k : parse spliceTime (bitsOf (0xff ∷ 0xff ∷ 0xff ∷ 0xff ∷ 0xff ∷ [])) 0 ≡ got (At 8589934591) 40
 unfolding spliceTime number bit reserved
@@ -32,3 +33,16 @@ pub sample : headerOf (0 ∷ 0 ∷ 0 ∷ 0 ∷ 0 ∷ 0 ∷ 0xff ∷ 0xff ∷ 0xf
 })
 unfolding headerOf headerRead spliceHeader number bit
 sample = refl
+
+-- the writer's refusals 32 and 33, and the reader's 5
+pub too-wide : make spliceTime (notImmediate (At 8589934592)) [] (At 8589934592) ≡ refused 32
+unfolding spliceTime number bit reserved
+too-wide = refl
+
+pub immediate : make spliceTime (notImmediate Immediate) [] Immediate ≡ refused 33
+unfolding spliceTime number bit reserved
+immediate = refl
+
+pub no-bytes : numberOf (headerOf []) ≡ 5
+unfolding headerOf headerRead spliceHeader number bit
+no-bytes = refl

@@ -1,9 +1,10 @@
 -- A section, by positions. 01, "Section": three bytes of common header; 11 of splice header; command; 2 of loop length; loop; anything; 4 of CRC.
-use Prim.Native.Nat.{ℕ, _+_, _*_, _-_}
-use mathlib.Core.Bool.{Bool, not}
-use mathlib.Core.List.{List}
+use Prim.Native.Nat.{ℕ, suc, _+_, _*_, _-_}
+use mathlib.Core.Bool.{Bool, true, false, not}
+use mathlib.Core.List.{List, [], _∷_}
 use lib.Dec.{ltb, eqb}
 use lib.ListN.{length, getD, take, drop}
+use Rattle.command.specs.Command as command
 use Rattle.command.specs.Command.{commandOf}
 use Rattle.command.specs.declared.CommandRead.{CommandRead}
 use Rattle.command.specs.declared.SpliceCommand.{SpliceCommand}
@@ -37,7 +38,7 @@ loopLength s = field (bitsOf s) ((14 + commandLength s) * 8) 16
 unfoldable pub loopPlace : List ℕ → View
 loopPlace s = record { at = 16 + commandLength s; len = loopLength s }
 
--- ---- the conditions of refusals 1 to 9; 10 and 11 are the command's
+-- ---- the conditions of refusals 1 to 11
 -- 1: "section under 3 bytes"
 abbrev pub under3 : List ℕ → Bool
 under3 s = ltb (length s) 3
@@ -73,6 +74,25 @@ noLoopLength s = ltb (roomAfter s) 2
 -- 9: "loop length + 2 exceeds those bytes"
 abbrev pub loopTooLong : List ℕ → Bool
 loopTooLong s = ltb (roomAfter s) (loopLength s + 2)
+
+-- 10: "command type is none of 0x00, 0x05, 0x06, 0x07, 0xFF"
+abbrev pub unknownCommand : List ℕ → Bool
+unknownCommand s = eqb (command.numberOf (commandOf (commandType s) (commandBytes s))) 10
+
+-- 11: "command payload malformed"
+abbrev pub malformedCommand : List ℕ → Bool
+malformedCommand s = eqb (command.numberOf (commandOf (commandType s) (commandBytes s))) 11
+
+-- in order; and the number of the first that holds, 0 if none does
+abbrev pub conditions : List ℕ → List Bool
+conditions s =
+    under3 s ∷ over4096 s ∷ otherTable s ∷ wrongCrc s ∷ under18 s ∷ encrypted s ∷ commandTooLong s ∷ noLoopLength s ∷ loopTooLong s ∷ unknownCommand s
+    ∷ malformedCommand s ∷ []
+
+abbrev pub first : ℕ → List Bool → ℕ
+first n [] = 0
+first n (true ∷ bs) = n
+first n (false ∷ bs) = first (suc n) bs
 
 -- ---- the reading
 -- a command whose views count from `base` bytes before its payload

@@ -8,8 +8,8 @@ use mathlib.Core.Path.{_≡_, refl, ap, ap₂, sym, _∙_}
 use native.Mathlib.Nat.{pow-suc, add-zero, mul-one, mod-one, mod-eq-of-lt, mod-lt, zero-add, zero-mul, one-mul, add-mul, mul-assoc, add-assoc, add-comm, mul-comm, suc-add, div-one, mul-div-cancel, div-div-eq-div-mul, div-lt-iff-lt-mul}
 use native.Mathlib.Numerals.{one-add}
 use native.Mathlib.Omega.{arith}
-use lib.ListN.{length, take, drop, length-append, length-drop}
-use lib.Pow.{pow-pos, mod-pow-add, shr-shr, high, low}
+use lib.ListN.{length, getD, take, drop, length-append, length-take, length-drop}
+use lib.Pow.{pow-pos, pow-mono, mod-pow-add, shr-shr, high, low}
 use lib.Seq.{take-append-le, drop-append-le}
 use Rattle.table.specs.Bits.{num, bitsOfNum, bitsOf, field, bytesN, bytesOf, bigEndian, AllBytes}
 use Rattle.table.proofs.Lists.{append-nil}
@@ -158,3 +158,16 @@ bytes-num (suc n) v =
     let e : suc n * 8 ≡ 8 + n * 8 = omega arith in
     ap (λ (w : ℕ). bytesN (suc n) (bitsOfNum w v)) e ∙ ap (bytesN (suc n)) (bits-split 8 (n * 8) v)
     ∙ bytes-byte n (v / 2 ^ (n * 8)) (bitsOfNum (n * 8) v) ∙ ap (λ (l : List ℕ). v / 2 ^ (n * 8) % 256 ∷ l) (bytes-num n v)
+
+-- what the prover knows of a slice of bytes: all are bytes
+pub bytes-all : (s : List ℕ) → ((k : ℕ) → getD s k 0 < 256) → AllBytes s
+bytes-all [] h = tt
+bytes-all (b ∷ s) h = (h 0, bytes-all s (λ k. h (suc k)))
+
+-- and so are those that are made of bits
+pub all-bytesN : (n : ℕ) (l : List ℕ) → AllBits l → AllBytes (bytesN n l)
+all-bytesN zero l a = tt
+all-bytesN (suc n) l a =
+    let h : num 0 (take 8 l) < 2 ^ length (take 8 l) = num-below (take 8 l) (all-take 8 l a) in
+    let m : 2 ^ length (take 8 l) ≤ 2 ^ 8 = pow-mono {i = length (take 8 l)} {j = 8} (omega (arith, length-take 8 l)) in
+    (omega arith, all-bytesN n (drop 8 l) (all-drop 8 l a))

@@ -1,0 +1,101 @@
+-- A section is accepted exactly when none of 1 to 11 applies, and a refusal is the first that does.
+use Prim.Native.Nat.{ℕ, zero, suc, _≤_}
+use mathlib.Core.Bool.{Bool, true, false}
+use mathlib.Core.List.{List, [], _∷_}
+use mathlib.Core.Path.{_≡_, refl, ap, sym, _∙_}
+use native.Mathlib.Omega.{arith}
+use lib.Dec.{eqb}
+use lib.ListN.{length, drop, length-drop}
+use borrow.Author.Tests.{ltb-false}
+use Rattle.command.specs.Command as command
+use Rattle.command.specs.Command.{commandOf}
+use Rattle.command.specs.declared.CommandRead.{CommandRead}
+use Rattle.header.specs.Header.{headerOf}
+use Rattle.header.specs.declared.header.HeaderRead.{HeaderRead}
+use Rattle.header.specs.declared.header.SpliceInfoHeader.{SpliceInfoHeader}
+use Rattle.header.proofs.Headers.{header-there}
+use Rattle.table.specs.Bits.{pick}
+use Rattle.table.specs.declared.View.{View}
+use Rattle.table.proofs.Lists.{zero-one}
+use Rattle.section.specs.Section.{under3, over4096, otherTable, wrongCrc, under18, encrypted, commandTooLong, noLoopLength, loopTooLong, unknownCommand, malformedCommand, conditions, first, commandType, commandBytes, loopPlace, accepted, laidOut, sectionOf, numberOf}
+use Rattle.section.specs.declared.Refusal.{Refusal}
+use Rattle.section.specs.declared.Section.{Section}
+use Rattle.section.specs.declared.SectionRead.{SectionRead}
+
+-- ---- the first refusal that applies
+last : (r : CommandRead) (h : SpliceInfoHeader) (v : View) → numberOf (accepted (HeaderRead.Header h) r v) ≡ first 10 (eqb (command.numberOf r) 10 ∷ eqb (command.numberOf r) 11 ∷ [])
+unfolding numberOf accepted
+last (CommandRead.Is c) h v = refl
+last CommandRead.UnknownType h v = refl
+last CommandRead.Malformed h v = refl
+
+chain : (b₁ b₂ b₃ b₄ b₅ b₆ b₇ b₈ b₉ : Bool) (r : SectionRead) (bs : List Bool) → (b₅ ≡ false → numberOf r ≡ first 10 bs)
+    → numberOf
+    (pick b₁ (SectionRead.Refused Refusal.TooShort)
+    (pick b₂ (SectionRead.Refused Refusal.TooLong)
+    (pick b₃ (SectionRead.Refused Refusal.OtherTable)
+    (pick b₄ (SectionRead.Refused Refusal.WrongCrc)
+    (pick b₅ (SectionRead.Refused Refusal.NoHeader)
+    (pick b₆ (SectionRead.Refused Refusal.Encrypted)
+    (pick b₇ (SectionRead.Refused Refusal.CommandTooLong)
+    (pick b₈ (SectionRead.Refused Refusal.NoLoopLength)
+    (pick b₉ (SectionRead.Refused Refusal.LoopTooLong) r)))))))))
+    ≡ first 1 (b₁ ∷ b₂ ∷ b₃ ∷ b₄ ∷ b₅ ∷ b₆ ∷ b₇ ∷ b₈ ∷ b₉ ∷ bs)
+unfolding numberOf
+chain true b₂ b₃ b₄ b₅ b₆ b₇ b₈ b₉ r bs h = refl
+chain false true b₃ b₄ b₅ b₆ b₇ b₈ b₉ r bs h = refl
+chain false false true b₄ b₅ b₆ b₇ b₈ b₉ r bs h = refl
+chain false false false true b₅ b₆ b₇ b₈ b₉ r bs h = refl
+chain false false false false true b₆ b₇ b₈ b₉ r bs h = refl
+chain false false false false false true b₇ b₈ b₉ r bs h = refl
+chain false false false false false false true b₈ b₉ r bs h = refl
+chain false false false false false false false true b₉ r bs h = refl
+chain false false false false false false false false true r bs h = refl
+chain false false false false false false false false false r bs h = h refl
+
+-- refusals 1 to 11 are given in order of number, each under its condition and no other
+pub refusals-in-order : (s : List ℕ) → numberOf (sectionOf s) ≡ first 1 (conditions s)
+unfolding sectionOf laidOut
+refusals-in-order s =
+    chain (under3 s) (over4096 s) (otherTable s) (wrongCrc s) (under18 s) (encrypted s) (commandTooLong s) (noLoopLength s) (loopTooLong s)
+    (accepted (headerOf (drop 3 s)) (commandOf (commandType s) (commandBytes s)) (loopPlace s)) (unknownCommand s ∷ malformedCommand s ∷ [])
+    (λ e. let h = header-there (drop 3 s) (omega (arith, length-drop 3 s, ltb-false (length s) 18 e)) in
+    rw (h .1) (last (commandOf (commandType s) (commandBytes s)) (h .0) (loopPlace s)))
+
+-- ---- accepted exactly when none applies
+abbrev pub None : List Bool → Type 0
+None [] = Unit {0}
+None (b ∷ bs) = (b ≡ false) × None bs
+
+none-first : (n : ℕ) (bs : List Bool) → None bs → first n bs ≡ 0
+none-first n [] h = refl
+none-first n (true ∷ bs) h = zero-one cc
+none-first n (false ∷ bs) h = none-first (suc n) bs (h .1)
+
+first-none : (n : ℕ) (bs : List Bool) → first (suc n) bs ≡ 0 → None bs
+first-none n [] e = tt
+first-none n (true ∷ bs) e = absurd (omega arith)
+first-none n (false ∷ bs) e = (refl, first-none (suc n) bs e)
+
+is : (r : SectionRead) → numberOf r ≡ 0 → (x : Section) × (r ≡ SectionRead.Is x)
+unfolding numberOf
+is (SectionRead.Is x) e = (x, refl)
+is (SectionRead.Refused Refusal.TooShort) e = absurd (omega arith)
+is (SectionRead.Refused Refusal.TooLong) e = absurd (omega arith)
+is (SectionRead.Refused Refusal.OtherTable) e = absurd (omega arith)
+is (SectionRead.Refused Refusal.WrongCrc) e = absurd (omega arith)
+is (SectionRead.Refused Refusal.NoHeader) e = absurd (omega arith)
+is (SectionRead.Refused Refusal.Encrypted) e = absurd (omega arith)
+is (SectionRead.Refused Refusal.CommandTooLong) e = absurd (omega arith)
+is (SectionRead.Refused Refusal.NoLoopLength) e = absurd (omega arith)
+is (SectionRead.Refused Refusal.LoopTooLong) e = absurd (omega arith)
+is (SectionRead.Refused Refusal.UnknownCommand) e = absurd (omega arith)
+is (SectionRead.Refused Refusal.MalformedCommand) e = absurd (omega arith)
+
+-- 01: "A section is accepted exactly when none of 1 to 11 applies"
+pub accepted-if-none : (s : List ℕ) → None (conditions s) → (x : Section) × (sectionOf s ≡ SectionRead.Is x)
+accepted-if-none s h = is (sectionOf s) (refusals-in-order s ∙ none-first 1 (conditions s) h)
+
+pub none-if-accepted : (s : List ℕ) (x : Section) → sectionOf s ≡ SectionRead.Is x → None (conditions s)
+unfolding numberOf
+none-if-accepted s x e = first-none 0 (conditions s) (sym (refusals-in-order s) ∙ ap numberOf e)
