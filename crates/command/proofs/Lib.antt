@@ -1,3 +1,4 @@
 pub mod Answers
 pub mod Walking
 pub mod Payloads
+pub mod Filling

@@ -3,6 +3,8 @@ use Prim.Native.Nat.{ℕ}
 use mathlib.Core.List.{List, []}
 use Rattle.table.specs.Cursor.{cursorAt}
 use Rattle.table.specs.Table.{Answer, got, short}
+use lib.Seq.{sets}
+use Rattle.command.specs.Command.{array}
 use Rattle.command.specs.Insert.{WithComponents}
 use Rattle.command.specs.declared.components.ComponentSplice.{ComponentSplice}
 use Rattle.command.specs.declared.components.ComponentRead.{ComponentRead}
@@ -39,3 +41,13 @@ activeRead (short expected actual) = ActiveRead.Lacks (record { expected = expec
 unfoldable pub insertRead : Answer (WithComponents Insertion) → InsertRead
 insertRead (got i at) = InsertRead.Got (i .value)
 insertRead (short expected actual) = InsertRead.Lacks (record { expected = expected; actual = actual })
+
+-- the list that was read, none where it was not
+abbrev pub listIn : Answer (List ComponentSplice) → List ComponentSplice
+listIn (got cs at) = cs
+listIn (short expected actual) = []
+
+-- components stored in an array from place i on; blank all of it where they are not read
+unfoldable pub filled : List ComponentSplice → ℕ → Answer (List ComponentSplice) → List ComponentSplice
+filled places i (got cs at) = sets places i cs
+filled places i (short expected actual) = array []

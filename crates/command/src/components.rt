@@ -1,18 +1,25 @@
 // The components of a splice_insert(): skimmed on the way to what follows them, and read on demand.
 ghost use mathlib.Core.Path.{_≡_};
-ghost use Prim.Native.Nat.{_<_};
 ghost use Rattle.command.specs.Insert.{blank, component};
-ghost use Rattle.command.specs.Walk.{componentRead, skimmedOf};
+ghost use mathlib.Core.List.{[]};
+ghost use Prim.Native.Nat.{_≤_};
+ghost use Rattle.command.specs.Command.{array, componentsOf};
+ghost use Rattle.command.specs.Walk.{componentRead, skimmedOf, listIn};
 ghost use Rattle.table.specs.Bits.{bitsOf};
 ghost use Rattle.table.specs.Cursor.{place};
 ghost use Rattle.table.specs.Table.{list, parse};
 ghost use Rattle.table.proofs.Steppings.{Settled};
+use crate::insert::InsertRead;
+use crate::insert::SpliceInsert;
+use crate::insert::SpliceMode;
+use crate::insert::read_insert;
 use crate::insert::read_time_unless;
 use header::time::SpliceTime;
 use header::time::TimeRead;
 use table::cursor::Cursor;
 use table::cursor::Short;
 use table::cursor::Taken;
+use table::numbers::bits;
 
 pub struct ComponentSplice {
     pub component_tag: u8,
@@ -77,4 +84,57 @@ pub(crate) fn skim(s: &[u8], c: Cursor, count: usize, immediate: bool) -> Skimme
         ahead -= 1;
     }
     Skimmed::Got(at)
+}
+
+fn blanks() -> [ComponentSplice; 255]
+    ensures { λ r. ⌜ r ≡ array [] ⌝ }
+{
+    [ComponentSplice {
+        component_tag: 0,
+        splice_time: SpliceTime::Unspecified,
+    }; 255]
+}
+
+// `count` components in their array, blank past them.
+fn fill(s: &[u8], c: Cursor, count: usize, immediate: bool) -> [ComponentSplice; 255]
+    requires { ⌜ count ≤ 255 ⌝ }
+    ensures { λ r. ⌜ r ≡ array (listIn (parse (list count blank (component immediate)) (bitsOf (now (s .entry))) (place c))) ⌝ }
+{
+    let mut out = blanks();
+    let mut at = c;
+    let mut i: usize = 0;
+    while i < count {
+        match read_component(s, at, immediate) {
+            ComponentRead::Got(y) => {
+                let component = y.component;
+                out[i] = component;
+                at = y.next;
+            }
+            ComponentRead::Lacks(_) => return blanks(),
+        }
+        i += 1;
+    }
+    out
+}
+
+// The components of an insert's payload, blank past their count; none where the payload is malformed.
+pub fn read_components(payload: &[u8]) -> [ComponentSplice; 255]
+    ensures { λ r. ⌜ r ≡ componentsOf (now (payload .entry)) ⌝ }
+{
+    let insertion = match read_insert(payload) {
+        InsertRead::Got(i) => i,
+        InsertRead::Lacks(_) => return blanks(),
+    };
+    let detail = insertion.splice_detail;
+    let insert = match detail {
+        SpliceInsert::Insert(i) => i,
+        SpliceInsert::Cancel => return blanks(),
+    };
+    let mode = insert.splice_mode;
+    let count = match mode {
+        SpliceMode::Components(n) => n,
+        SpliceMode::Program(_) => return blanks(),
+    };
+    let first = Cursor { byte: 7, bit: 0 };
+    fill(payload, first, count as usize, bits(payload, 5, 3, 1) == 1)
 }

@@ -16,7 +16,7 @@ use Rattle.table.specs.Table.{Table, done, uint, view, left, must, insid
 use Rattle.table.specs.declared.View.{View}
 use Rattle.table.proofs.Bits.{length-bits}
 use Rattle.table.proofs.Laws.{field-there, view-there}
-use Rattle.table.proofs.Lists.{and-assoc}
+use Rattle.table.proofs.Lists.{zero-one, and-assoc}
 
 -- ---- a table inside another
 -- the answer of the inner table, and then the outer one from where it ended
@@ -42,6 +42,20 @@ module _ {X Y : Type 0} (t : Table Y) (q : X → Y) (k : Y → Table X) (bs : Li
 
   pub lacks-in : (x a : ℕ) → parse t bs at ≡ short x a → parse (inside t q k) bs at ≡ short x a
   lacks-in x a e = parse-inside t q k bs at ∙ ap (onward bs k) e
+
+-- an outer table that was read: so was the inner one, with the reading `inner` that ends before bit `seam`
+pub record Reads {X Y : Type 0} (t : Table Y) (k : Y → Table X) (bs : List ℕ) (at : ℕ) (x : X) (m : ℕ) : Type 0 where
+  pub inner : Y
+  pub seam : ℕ
+  pub front : parse t bs at ≡ got inner seam
+  pub back : parse (k inner) bs seam ≡ got x m
+
+pub reads-in : {X Y : Type 0} (t : Table Y) (q : X → Y) (k : Y → Table X) (bs : List ℕ) (at : ℕ) (x : X) (m : ℕ) → parse (inside t q k) bs at ≡ got x m → Reads t k bs at x m
+reads-in {X} {Y} t q k bs at x m e = go (parse t bs at) refl (sym (parse-inside t q k bs at) ∙ e)
+  where
+    go : (r : Answer Y) → parse t bs at ≡ r → onward bs k r ≡ got x m → Reads t k bs at x m
+    go (got y n) p f = record { inner = y; seam = n; front = p; back = f }
+    go (short d a) p f = zero-one cc
 
 -- the canonical form of an inner table that is read, and of the outer one from there on
 pub canonical-inside : {X Y : Type 0} (t : Table Y) (q : X → Y) (k : Y → Table X) (bs : List ℕ) (at : ℕ) (y : Y) (m : ℕ) → parse t bs at ≡ got y m
@@ -118,6 +132,10 @@ module _ {X : Type 0} (s : List ℕ) (at : ℕ) where
       → (at + 1 ≤ length s * 8) × (parse (k (eqb (field (bitsOf s) at 1) 1)) (bitsOf s) (at + 1) ≡ got y m)
   unfolding bit
   reads-flag p k y m e = rw (length-bits s) at (field-there 1 (λ x. flagNumber (p x)) (λ v. k (eqb v 1)) (bitsOf s) at y m e)
+
+  pub reads-ones : (w : ℕ) (t : Table X) (y : X) (m : ℕ) → parse (ones w t) (bitsOf s) at ≡ got y m → (at + w ≤ length s * 8) × (parse t (bitsOf s) (at + w) ≡ got y m)
+  unfolding reserved
+  reads-ones w t y m e = rw (length-bits s) at (field-there w (λ x. 2 ^ w - 1) (λ v. must (eqb v (2 ^ w - 1)) t) (bitsOf s) at y m e)
 
   pub reads-part : (n : ℕ) (q : X → View) (k : View → Table X) (y : X) (m : ℕ) → parse (inside (part n) q k) (bitsOf s) at ≡ got y m
       → (at + n * 8 ≤ length s * 8) × (parse (k (record { at = at / 8; len = n })) (bitsOf s) (at + n * 8) ≡ got y m)
