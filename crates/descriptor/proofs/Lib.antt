@@ -1,0 +1,10 @@
+pub mod Octets
+pub mod Plains
+pub mod Backs
+pub mod Parts
+pub mod Segmentations
+pub mod Tags
+pub mod Structures
+pub mod Rows
+pub mod SegmentationTells
+pub mod SegmentationLaws

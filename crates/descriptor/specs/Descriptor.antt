@@ -1,0 +1,99 @@
+-- What a descriptor's payload is read as. 01, "Loop items". These are definitions.
+use Prim.Native.Nat.{ℕ, _+_}
+use mathlib.Core.Bool.{Bool, true, false, _&&_, _||_}
+use mathlib.Core.List.{List, [], _∷_}
+use lib.Dec.{ltb, eqb}
+use lib.ListN.{length, getD}
+use Rattle.table.specs.Bits.{pick, bitsOf}
+use Rattle.table.specs.Lent.{viewed}
+use Rattle.table.specs.Table.{Answer, got, short, parse}
+use Rattle.table.specs.declared.View.{View}
+use Rattle.upid.specs.Upid.{checkOf}
+use Rattle.upid.specs.declared.Refusal.{Refusal}
+use Rattle.upid.specs.declared.Refusal.the-variants.{TooLong, Short, Mismatch, NotText, WrongLength}
+use Rattle.upid.specs.declared.UpidRead.{UpidRead}
+use Rattle.descriptor.specs.Plain.{avail, dtmf, time, privateBytes}
+use Rattle.descriptor.specs.Segmentation.{Fore, Head, head, front, back, insertFrom}
+use Rattle.descriptor.specs.declared.Descriptor.{Descriptor}
+use Rattle.descriptor.specs.declared.Descriptor.the-variants.{Avail, Dtmf, Segmentation, Time, Reserved}
+use Rattle.descriptor.specs.declared.DescriptorRead.{DescriptorRead}
+use Rattle.descriptor.specs.declared.DescriptorRead.the-variants.{Is, Refused}
+use Rattle.descriptor.specs.declared.back.Back.{Back}
+use Rattle.descriptor.specs.declared.front.Front.{Front}
+use Rattle.descriptor.specs.declared.segmentation.SegmentationDetail.the-variants.{Cancel, Insert}
+use Rattle.descriptor.specs.declared.segmentation.SegmentationUpid.{SegmentationUpid}
+
+-- what a table reads, and then what is made of it; "the first fault stands"
+infixr 40 _andThen_
+abbrev pub _andThen_ : {X : Type 0} → Answer X → (X → ℕ → DescriptorRead) → DescriptorRead
+got x at andThen k = k x at
+short expected actual andThen k = Refused (Short expected actual)
+
+-- "Shorter: 21 (n, actual)"
+abbrev pub atLeast : ℕ → List ℕ → DescriptorRead → DescriptorRead
+atLeast n s r = pick (ltb (length s) n) (Refused (Short n (length s))) r
+
+unfoldable pub availOf : List ℕ → DescriptorRead
+availOf s = atLeast 4 s (parse avail (bitsOf s) 0 andThen λ x at. Is (Avail x))
+
+unfoldable pub dtmfOf : List ℕ → DescriptorRead
+dtmfOf s = parse dtmf (bitsOf s) 0 andThen λ x at. Is (Dtmf x)
+
+unfoldable pub timeOf : List ℕ → DescriptorRead
+timeOf s = atLeast 12 s (parse time (bitsOf s) 0 andThen λ x at. Is (Time x))
+
+unfoldable pub reservedOf : ℕ → List ℕ → DescriptorRead
+reservedOf tag s = parse privateBytes (bitsOf s) 0 andThen λ v at. Is (Reserved tag v)
+
+-- ---- segmentation: the UPID's own rules stand between the fields up to it and those after it
+
+-- a view in a UPID at `at` of the payload
+abbrev pub moved : ℕ → Refusal → Refusal
+moved at TooLong = TooLong
+moved at (Short expected actual) = Short expected actual
+moved at Mismatch = Mismatch
+moved at (NotText kind text) = NotText kind (record { at = at + text .at; len = text .len })
+moved at (WrongLength kind expected actual) = WrongLength kind expected actual
+
+-- "Length 0 at top level is None"; "The EIDR identifier of 12 bytes is held by value. Else an item's UPID is its reported type and one view of its bytes"
+abbrev pub reportedUpid : ℕ → View → SegmentationUpid
+reportedUpid kind bytes = record { kind = kind; bytes = pick (eqb kind 0 || eqb kind 10) (record { at = 0; len = 0 }) bytes }
+
+abbrev pub ifFine : UpidRead → View → (SegmentationUpid → DescriptorRead) → DescriptorRead
+ifFine (UpidRead.Fine kind) bytes k = k (reportedUpid kind bytes)
+ifFine (UpidRead.Refused r) bytes k = Refused (moved (bytes .at) r)
+
+unfoldable pub inserted : ℕ → Front → SegmentationUpid → Back → DescriptorRead
+inserted event f upid b = Is (Segmentation (record { «segmentation_event_id» = event; «descriptor_detail» = Insert (insertFrom f upid b) }))
+
+unfoldable pub insertOf : List ℕ → ℕ → ℕ → DescriptorRead
+insertOf s event at =
+    parse front (bitsOf s) at andThen λ f at.
+    let written = f .front .«segmentation_upid» in
+    ifFine (checkOf (written .kind) (viewed s (written .bytes))) (written .bytes) λ upid.
+    parse back (bitsOf s) at andThen λ b at.
+    inserted event (f .front) upid b
+
+unfoldable pub segmentationOf : List ℕ → DescriptorRead
+segmentationOf s =
+    parse head (bitsOf s) 0 andThen λ h at.
+    pick (h .cancel)
+    (Is (Segmentation (record { «segmentation_event_id» = h .event; «descriptor_detail» = Cancel })))
+    (insertOf s (h .event) at)
+
+-- ---- by tag and identifier
+
+-- "CUEI"
+unfoldable pub isCuei : List ℕ → Bool
+isCuei id = eqb (getD id 0 0) 0x43 && (eqb (getD id 1 0) 0x55 && (eqb (getD id 2 0) 0x45 && eqb (getD id 3 0) 0x49))
+
+unfoldable pub cueiOf : ℕ → List ℕ → DescriptorRead
+cueiOf tag s =
+    pick (eqb tag 0) (availOf s)
+    (pick (eqb tag 1) (dtmfOf s)
+    (pick (eqb tag 2) (segmentationOf s)
+    (pick (eqb tag 3) (timeOf s)
+    (reservedOf tag s))))
+
+unfoldable pub descriptorOf : ℕ → List ℕ → List ℕ → DescriptorRead
+descriptorOf tag identifier s = pick (isCuei identifier) (cueiOf tag s) (reservedOf tag s)

@@ -1,0 +1,4 @@
+pub mod Plain
+pub mod Segmentation
+pub mod Descriptor
+pub mod Walk

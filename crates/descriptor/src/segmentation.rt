@@ -1,0 +1,226 @@
+// Segmentation descriptors.
+ghost use mathlib.Core.Path.{_≡_};
+ghost use Rattle.descriptor.specs.Descriptor.{reportedUpid, inserted, insertOf, segmentationOf};
+ghost use Rattle.descriptor.specs.Walk.{upidChecked};
+ghost use Rattle.table.specs.Cursor.{place};
+use crate::Descriptor;
+use crate::DescriptorRead;
+use crate::back::Back;
+use crate::back::BackRead;
+use crate::back::read_back;
+use crate::front::Front;
+use crate::front::FrontRead;
+use crate::front::read_front;
+use crate::octet::lacks;
+use names::flags::DeviceRestrictions;
+use names::segmentation::SegmentationTypeId;
+use table::View;
+use table::cursor::Cursor;
+use table::cursor::Flagged;
+use table::cursor::Skipped;
+use table::cursor::Taken;
+use table::lent::view;
+use upid::Refusal;
+use upid::UpidRead;
+use upid::check_upid;
+
+pub struct DeliveryRestrictions {
+    pub web_delivery_allowed_flag: bool,
+    pub no_regional_blackout_flag: bool,
+    pub archive_allowed_flag: bool,
+    pub device_restrictions: DeviceRestrictions,
+}
+
+pub enum DeliveryRestrictionFlags {
+    None,
+    DeliveryRestrictions(DeliveryRestrictions),
+}
+
+// By components, with their count. The components themselves stand beside a descriptor.
+pub enum SegmentationMode {
+    Program,
+    Component(u8),
+}
+
+pub struct ModeComponent {
+    pub component_tag: u8,
+    pub pts_offset: u64,
+}
+
+pub enum SegmentationDuration {
+    Absent,
+    Ticks(u64),
+}
+
+// The type of a UPID and its bytes. None (type 0) and EIDR (type 10), whose bytes stand beside a descriptor, have the blank view.
+pub struct SegmentationUpid {
+    pub kind: u8,
+    pub bytes: View,
+}
+
+pub struct SubSegment {
+    pub sub_segment_num: u8,
+    pub sub_segments_expected: u8,
+}
+
+pub enum SubSegments {
+    Absent,
+    Is(SubSegment),
+}
+
+// The three flags say what their parts say.
+pub struct SegmentationInsert {
+    pub program_segmentation_flag: bool,
+    pub segmentation_duration_flag: bool,
+    pub delivery_not_restricted_flag: bool,
+    pub delivery_restrictions: DeliveryRestrictionFlags,
+    pub segmentation_mode: SegmentationMode,
+    pub segmentation_duration: SegmentationDuration,
+    pub segmentation_upid: SegmentationUpid,
+    pub segmentation_type_id: SegmentationTypeId,
+    pub segment_num: u8,
+    pub segments_expected: u8,
+    pub sub_segments: SubSegments,
+}
+
+pub enum SegmentationDetail {
+    Cancel,
+    Insert(SegmentationInsert),
+}
+
+pub struct SegmentationDescriptor {
+    pub segmentation_event_id: u32,
+    pub descriptor_detail: SegmentationDetail,
+}
+
+// What a UPID is read as.
+enum UpidChecked {
+    Is(SegmentationUpid),
+    Refused(Refusal),
+}
+
+// A UPID that its rules accept. Where there are no bytes to view, or they stand beside the descriptor, the view is blank.
+fn reported(kind: u8, bytes: View) -> SegmentationUpid
+    ensures { λ r. ⌜ r ≡ reportedUpid kind bytes ⌝ }
+{
+    match kind {
+        0 | 10 => SegmentationUpid {
+            kind,
+            bytes: View { at: 0, len: 0 },
+        },
+        _ => SegmentationUpid { kind, bytes },
+    }
+}
+
+// A UPID as written, by its own rules: with its reported type, or refused, with a view that counts from the payload's start.
+fn checked_upid(payload: &[u8], written: SegmentationUpid) -> UpidChecked
+    ensures { λ r. ⌜ r ≡ upidChecked (now (payload .entry)) written ⌝ }
+{
+    let bytes = written.bytes;
+    let part = view(payload, bytes);
+    match check_upid(written.kind, part) {
+        UpidRead::Fine(kind) => UpidChecked::Is(reported(kind, bytes)),
+        UpidRead::Refused(refusal) => match refusal {
+            Refusal::TooLong => UpidChecked::Refused(refusal),
+            Refusal::Short {
+                expected: _,
+                actual: _,
+            } => UpidChecked::Refused(refusal),
+            Refusal::Mismatch => UpidChecked::Refused(refusal),
+            Refusal::NotText { kind, bytes: text } => UpidChecked::Refused(Refusal::NotText {
+                kind,
+                bytes: View {
+                    at: bytes.at + text.at,
+                    len: text.len,
+                },
+            }),
+            Refusal::WrongLength {
+                kind: _,
+                expected: _,
+                actual: _,
+            } => UpidChecked::Refused(refusal),
+        },
+    }
+}
+
+// A descriptor that is not cancelled, of all its fields.
+fn insert(
+    event: u32,
+    front: Front,
+    segmentation_upid: SegmentationUpid,
+    back: Back,
+) -> DescriptorRead
+    ensures { λ r. ⌜ r ≡ inserted event front «segmentation_upid» back ⌝ }
+{
+    let delivery_restrictions = front.delivery_restrictions;
+    let segmentation_mode = front.segmentation_mode;
+    let segmentation_duration = front.segmentation_duration;
+    let segmentation_type_id = back.segmentation_type_id;
+    let sub_segments = back.sub_segments;
+    DescriptorRead::Is(Descriptor::Segmentation(SegmentationDescriptor {
+        segmentation_event_id: event,
+        descriptor_detail: SegmentationDetail::Insert(SegmentationInsert {
+            program_segmentation_flag: front.program_segmentation_flag,
+            segmentation_duration_flag: front.segmentation_duration_flag,
+            delivery_not_restricted_flag: front.delivery_not_restricted_flag,
+            delivery_restrictions,
+            segmentation_mode,
+            segmentation_duration,
+            segmentation_upid,
+            segmentation_type_id,
+            segment_num: back.segment_num,
+            segments_expected: back.segments_expected,
+            sub_segments,
+        }),
+    }))
+}
+
+// What follows the head of a descriptor that is not cancelled.
+fn read_insert(payload: &[u8], c: Cursor, event: u32) -> DescriptorRead
+    ensures { λ r. ⌜ r ≡ insertOf (now (payload .entry)) event (place c) ⌝ }
+{
+    let fronted = match read_front(payload, c) {
+        FrontRead::Got(f) => f,
+        FrontRead::Lacks(e) => return lacks(e),
+    };
+    let front = fronted.front;
+    let next = fronted.next;
+    let written = front.segmentation_upid;
+    let segmentation_upid = match checked_upid(payload, written) {
+        UpidChecked::Is(u) => u,
+        UpidChecked::Refused(r) => return DescriptorRead::Refused(r),
+    };
+    let back = match read_back(payload, next) {
+        BackRead::Got(b) => b,
+        BackRead::Lacks(e) => return lacks(e),
+    };
+    insert(event, front, segmentation_upid, back)
+}
+
+// Tag 2.
+pub fn read_segmentation(payload: &[u8]) -> DescriptorRead
+    ensures { λ r. ⌜ r ≡ segmentationOf (now (payload .entry)) ⌝ }
+{
+    let start = Cursor { byte: 0, bit: 0 };
+    let event = match start.take(payload, 32) {
+        Taken::Got(n) => n,
+        Taken::Lacks(e) => return lacks(e),
+    };
+    let next = event.next;
+    let cancel = match next.flag(payload) {
+        Flagged::Got(f) => f,
+        Flagged::Lacks(e) => return lacks(e),
+    };
+    let next = cancel.next;
+    let next = match next.skip(payload, 7) {
+        Skipped::Got(c) => c,
+        Skipped::Lacks(e) => return lacks(e),
+    };
+    if cancel.set {
+        return DescriptorRead::Is(Descriptor::Segmentation(SegmentationDescriptor {
+            segmentation_event_id: event.value as u32,
+            descriptor_detail: SegmentationDetail::Cancel,
+        }));
+    }
+    read_insert(payload, next, event.value as u32)
+}

@@ -1,0 +1,8 @@
+pub mod Inside
+pub mod Places
+pub mod Wholes
+pub mod Steps
+pub mod Lists
+pub mod Cuttings
+pub mod Theorems
+pub mod Rows

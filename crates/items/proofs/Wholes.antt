@@ -1,0 +1,78 @@
+-- Laws of an item that is read. Assumes nothing.
+--     is-movable, refused-movable    the views of a payload's reading lie inside it, so no place grows too large
+--     whole-is, whole-refused        the answer
+use Prim.Native.Nat.{ℕ, suc, _+_, _-_, _^_, _≤_, _<_}
+use mathlib.Core.List.{List, [], _∷_}
+use mathlib.Core.Path.{_≡_, sym, ap, _∙_}
+use native.Mathlib.Numerals.{add-one}
+use native.Mathlib.Omega.{arith}
+use lib.ListN.{length, take, drop, getD, length-take, length-drop}
+use lib.Seq.{drop-cons}
+use Rattle.table.specs.declared.View.{View}
+use Rattle.upid.specs.declared.Refusal.{Refusal}
+use Rattle.descriptor.specs.Descriptor.{descriptorOf}
+use Rattle.descriptor.specs.declared.Descriptor.{Descriptor}
+use Rattle.descriptor.specs.declared.DescriptorRead.{DescriptorRead}
+use Rattle.descriptor.specs.declared.DescriptorRead.the-variants as read
+use Rattle.items.specs.Items.{itemAt, identifierWith, readAt, wholeAt}
+use Rattle.items.specs.Place.{descriptorViews, refusalViews, readViews, movedDescriptor, movedRefusal}
+use Rattle.items.specs.Walk.{Movable}
+use Rattle.items.specs.declared.Item.{Item}
+use Rattle.items.specs.declared.Item.the-variants.{Refused, Is}
+use Rattle.items.specs.declared.ItemRefusal.the-variants.{Other}
+use Rattle.items.specs.declared.Step.{Step}
+use Rattle.items.proofs.Inside.{read-inside}
+use Rattle.items.proofs.Places.{all-into}
+
+-- ---- a part of the loop and its reading
+
+module _ (loop : List ℕ) (start n tag : ℕ) (id : List ℕ) (r : DescriptorRead) where
+  movable : r ≡ descriptorOf tag id (take n (drop start loop)) → length loop ≤ 4076 → start ≤ 4076 → Movable start (readViews r)
+  movable e fits h =
+      let size = length-take n (drop start loop) in
+      let left = length-drop start loop in
+      rw e (all-into (λ v i. omega (arith, size, left, i)) (read-inside tag id (take n (drop start loop))))
+
+  pub is-movable : (d : Descriptor) → r ≡ descriptorOf tag id (take n (drop start loop)) → r ≡ read.Is d → length loop ≤ 4076 → start ≤ 4076 → Movable start (descriptorViews d)
+  is-movable d e f fits h = rw f at (movable e fits h)
+
+  pub refused-movable : (q : Refusal) → r ≡ descriptorOf tag id (take n (drop start loop)) → r ≡ read.Refused q → length loop ≤ 4076 → start ≤ 4076 → Movable start (refusalViews q)
+  refused-movable q e f fits h = rw f at (movable e fits h)
+
+-- ---- the answer
+
+part-cons : (s : List ℕ) (i n : ℕ) → i < length s → take (suc n) (drop i s) ≡ getD s i 0 ∷ take n (drop (i + 1) s)
+part-cons s i n h = rw (add-one, drop-cons s i 0)
+
+-- the four bytes of the identifier
+four : List ℕ → ℕ → List ℕ
+four s at = getD s (at + 2) 0 ∷ getD s (at + 3) 0 ∷ getD s (at + 4) 0 ∷ getD s (at + 5) 0 ∷ []
+
+four-is : (s : List ℕ) (at : ℕ) → at + 6 ≤ length s → four s at ≡ take 4 (drop (at + 2) s)
+unfolding four
+four-is s at h =
+    let e3 : at + 2 + 1 ≡ at + 3 = omega arith in
+    let e4 : at + 3 + 1 ≡ at + 4 = omega arith in
+    let e5 : at + 4 + 1 ≡ at + 5 = omega arith in
+    cc (part-cons s (at + 2) 3 (omega arith), part-cons s (at + 3) 2 (omega arith), part-cons s (at + 4) 1 (omega arith), part-cons s (at + 5) 0 (omega arith))
+
+module _ (loop : List ℕ) (offset L : ℕ) (h : 4 ≤ L) (there : offset + (L + 2) ≤ length loop) (r : DescriptorRead)
+    (is : r ≡ descriptorOf (getD loop offset 0) (getD loop (offset + 2) 0 ∷ getD loop (offset + 3) 0 ∷ getD loop (offset + 4) 0 ∷ getD loop (offset + 5) 0 ∷ []) (take (offset + (L + 2) - (offset + 6)) (drop (offset + 6) loop)))
+    (id : List ℕ) (beside : id ≡ identifierWith (getD loop (offset + 2) 0 ∷ getD loop (offset + 3) 0 ∷ getD loop (offset + 4) 0 ∷ getD loop (offset + 5) 0 ∷ []) r) where
+  reading : r ≡ readAt loop offset L
+  unfolding readAt four
+  reading =
+      let n : offset + (L + 2) - (offset + 6) ≡ L - 4 = omega arith in
+      is ∙ rw (n, four-is loop offset (omega arith))
+
+  answer : (i : Item) → i ≡ itemAt (offset + 6) r → _≡_ {A = Step} (record { item = i; identifier = id; next = offset + (L + 2) }) (wholeAt loop offset L)
+  unfolding wholeAt four
+  answer i e = rw (e, beside, four-is loop offset (omega arith), reading)
+
+  pub whole-is : (d moved : Descriptor) → r ≡ read.Is d → moved ≡ movedDescriptor (offset + 6) d
+      → _≡_ {A = Step} (record { item = Is moved; identifier = id; next = offset + (L + 2) }) (wholeAt loop offset L)
+  whole-is d moved e f = answer (Is moved) (rw (e, f))
+
+  pub whole-refused : (q moved : Refusal) → r ≡ read.Refused q → moved ≡ movedRefusal (offset + 6) q
+      → _≡_ {A = Step} (record { item = Refused (Other moved); identifier = id; next = offset + (L + 2) }) (wholeAt loop offset L)
+  whole-refused q moved e f = answer (Refused (Other moved)) (rw (e, f))

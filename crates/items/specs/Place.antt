@@ -1,0 +1,112 @@
+-- Where the views of an item lie (document 01, "Identifiers": "an item's UPID is its reported type and one view of its bytes"). These are definitions.
+use Prim.Native.Nat.{ℕ, _+_}
+use mathlib.Core.Bool.{cond, _||_}
+use mathlib.Core.List.{List, [], _∷_}
+use lib.Dec.{eqb}
+use Rattle.table.specs.declared.View.{View}
+use Rattle.upid.specs.declared.Refusal.{Refusal}
+use Rattle.upid.specs.declared.Refusal.the-variants.{TooLong, Short, Mismatch, NotText, WrongLength}
+use Rattle.descriptor.specs.declared.Descriptor.{Descriptor}
+use Rattle.descriptor.specs.declared.Descriptor.the-variants.{Avail, Dtmf, Segmentation, Time, Reserved}
+use Rattle.descriptor.specs.declared.DescriptorRead.{DescriptorRead}
+use Rattle.descriptor.specs.declared.DescriptorRead.the-variants as read
+use Rattle.descriptor.specs.declared.segmentation.SegmentationDetail.{SegmentationDetail}
+use Rattle.descriptor.specs.declared.segmentation.SegmentationDetail.the-variants.{Cancel, Insert}
+use Rattle.descriptor.specs.declared.segmentation.SegmentationInsert.{SegmentationInsert}
+use Rattle.descriptor.specs.declared.segmentation.SegmentationUpid.{SegmentationUpid}
+use Rattle.items.specs.declared.Item.{Item}
+use Rattle.items.specs.declared.Item.the-variants.{End, Refused, Is}
+use Rattle.items.specs.declared.ItemRefusal.{ItemRefusal}
+use Rattle.items.specs.declared.ItemRefusal.the-variants.{InvalidDescriptorLength, Other}
+
+-- ---- the views that there are
+
+-- None (type 0) and EIDR (type 10) have none
+abbrev pub upidViews : SegmentationUpid → List View
+upidViews u = cond (eqb (u .kind) 0 || eqb (u .kind) 10) [] (u .bytes ∷ [])
+
+abbrev pub detailViews : SegmentationDetail → List View
+detailViews Cancel = []
+detailViews (Insert i) = upidViews (i .«segmentation_upid»)
+
+-- DTMF characters, a UPID, private bytes
+abbrev pub descriptorViews : Descriptor → List View
+descriptorViews (Avail x) = []
+descriptorViews (Dtmf x) = x .«dtmf_chars» ∷ []
+descriptorViews (Segmentation x) = detailViews (x .«descriptor_detail»)
+descriptorViews (Time x) = []
+descriptorViews (Reserved tag bytes) = bytes ∷ []
+
+-- the text of refusal 24
+abbrev pub refusalViews : Refusal → List View
+refusalViews TooLong = []
+refusalViews (Short expected actual) = []
+refusalViews Mismatch = []
+refusalViews (NotText kind bytes) = bytes ∷ []
+refusalViews (WrongLength kind expected actual) = []
+
+abbrev pub readViews : DescriptorRead → List View
+readViews (read.Is d) = descriptorViews d
+readViews (read.Refused r) = refusalViews r
+
+abbrev pub viewsOf : Item → List View
+viewsOf End = []
+viewsOf (Refused InvalidDescriptorLength) = []
+viewsOf (Refused (Other r)) = refusalViews r
+viewsOf (Is d) = descriptorViews d
+
+-- an item has at most one; the blank view stands where it has none
+abbrev pub firstView : List View → View
+firstView [] = record { at = 0; len = 0 }
+firstView (v ∷ vs) = v
+
+abbrev pub viewOf : Item → View
+viewOf item = firstView (viewsOf item)
+
+-- ---- views that count from a payload's start, counted from the start of the loop, where the payload lies at `base`
+
+abbrev pub moved : ℕ → View → View
+moved base v = record { at = base + v .at; len = v .len }
+
+-- blank views stay blank
+abbrev pub movedUpid : ℕ → SegmentationUpid → SegmentationUpid
+movedUpid base u = cond (eqb (u .kind) 0 || eqb (u .kind) 10) u (record { kind = u .kind; bytes = moved base (u .bytes) })
+
+-- the same with another UPID
+abbrev pub withUpid : SegmentationInsert → SegmentationUpid → SegmentationInsert
+withUpid i upid =
+    record {
+      «program_segmentation_flag» = i .«program_segmentation_flag»;
+      «segmentation_duration_flag» = i .«segmentation_duration_flag»;
+      «delivery_not_restricted_flag» = i .«delivery_not_restricted_flag»;
+      «delivery_restrictions» = i .«delivery_restrictions»;
+      «segmentation_mode» = i .«segmentation_mode»;
+      «segmentation_duration» = i .«segmentation_duration»;
+      «segmentation_upid» = upid;
+      «segmentation_type_id» = i .«segmentation_type_id»;
+      «segment_num» = i .«segment_num»;
+      «segments_expected» = i .«segments_expected»;
+      «sub_segments» = i .«sub_segments»;
+    }
+
+abbrev pub movedInsert : ℕ → SegmentationInsert → SegmentationInsert
+movedInsert base i = withUpid i (movedUpid base (i .«segmentation_upid»))
+
+abbrev pub movedDetail : ℕ → SegmentationDetail → SegmentationDetail
+movedDetail base Cancel = Cancel
+movedDetail base (Insert i) = Insert (movedInsert base i)
+
+abbrev pub movedDescriptor : ℕ → Descriptor → Descriptor
+movedDescriptor base (Avail x) = Avail x
+movedDescriptor base (Dtmf x) = Dtmf (record { preroll = x .preroll; «dtmf_chars» = moved base (x .«dtmf_chars») })
+movedDescriptor base (Segmentation x) =
+    Segmentation (record { «segmentation_event_id» = x .«segmentation_event_id»; «descriptor_detail» = movedDetail base (x .«descriptor_detail») })
+movedDescriptor base (Time x) = Time x
+movedDescriptor base (Reserved tag bytes) = Reserved tag (moved base bytes)
+
+abbrev pub movedRefusal : ℕ → Refusal → Refusal
+movedRefusal base TooLong = TooLong
+movedRefusal base (Short expected actual) = Short expected actual
+movedRefusal base Mismatch = Mismatch
+movedRefusal base (NotText kind bytes) = NotText kind (moved base bytes)
+movedRefusal base (WrongLength kind expected actual) = WrongLength kind expected actual
