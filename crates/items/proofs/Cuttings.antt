@@ -19,7 +19,7 @@ use Rattle.items.specs.Items.{Listed, stepOf, listed}
 use Rattle.items.specs.Place.{viewsOf}
 use Rattle.items.proofs.Lists.{Walked, stop, step, at-end}
 use Rattle.items.proofs.Places.{all-into}
-use Rattle.items.proofs.Steps.{Stands, Turn, ends, goes, forward, within, Between, views-between, clause}
+use Rattle.items.proofs.Steps.{Stands, ends, goes, forward, within, views-between, clause}
 
 -- ---- no two cuttings
 

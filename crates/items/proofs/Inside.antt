@@ -21,9 +21,9 @@ use Rattle.upid.specs.Upid.{checkOf}
 use Rattle.upid.specs.declared.Refusal.{Refusal}
 use Rattle.upid.specs.declared.Refusal.the-variants.{TooLong, Short, Mismatch, NotText, WrongLength}
 use Rattle.upid.specs.declared.UpidRead.{UpidRead}
-use Rattle.descriptor.specs.Descriptor.{_andThen_, atLeast, moved, reportedUpid, ifFine, availOf, dtmfOf, timeOf, reservedOf, inserted, insertOf, segmentationOf, isCuei, cueiOf, descriptorOf}
+use Rattle.descriptor.specs.Descriptor.{_andThen_, moved, reportedUpid, ifFine, availOf, dtmfOf, timeOf, reservedOf, inserted, insertOf, segmentationOf, isCuei, cueiOf, descriptorOf}
 use Rattle.descriptor.specs.Plain.{avail, dtmf, time, privateBytes}
-use Rattle.descriptor.specs.Segmentation.{Fore, Head, deliveryRestrictions, mode, duration, writtenUpid, parts, front, back, head}
+use Rattle.descriptor.specs.Segmentation.{Fore, deliveryRestrictions, mode, duration, writtenUpid, parts, front, back, head}
 use Rattle.descriptor.specs.declared.DescriptorRead.{DescriptorRead}
 use Rattle.descriptor.specs.declared.plain.DTMFDescriptor.{DTMFDescriptor}
 use Rattle.descriptor.specs.declared.segmentation.SegmentationUpid.{SegmentationUpid}

@@ -4,20 +4,20 @@
 --     turn                       a step inside a loop ends it by an ending rule, or goes past an item that stands there whole
 use Prim.Native.Nat.{ℕ, _+_, _-_, _≤_, _<_}
 use mathlib.Core.Path.{_≡_, refl}
-use mathlib.Core.List.{List, [], _∷_}
+use mathlib.Core.List.{List, []}
 use native.Mathlib.Omega.{arith}
 use lib.ListN.{length, take, drop, getD, length-drop, length-take}
 use lib.Seq.{getD-drop}
 use borrow.Author.Tests.{lt-ltb, le-ltb, le-leb, lt-leb}
 use Rattle.table.specs.declared.View.{View}
 use Rattle.upid.proofs.Laws.{by-cases}
-use Rattle.upid.specs.Cover.{All, none, more}
+use Rattle.upid.specs.Cover.{All, none}
 use Rattle.upid.specs.declared.Refusal.the-variants.{TooLong}
 use Rattle.descriptor.specs.declared.DescriptorRead.{DescriptorRead}
 use Rattle.descriptor.specs.declared.DescriptorRead.the-variants as read
-use Rattle.items.specs.Cover.{Ends, few, over, full}
+use Rattle.items.specs.Cover.{Ends, few, over, full, TakesRest}
 use Rattle.items.specs.Items.{short, bare, itemAt, readAt, wholeAt, stepOf, unlessEnd, Listed}
-use Rattle.items.specs.Place.{viewsOf, readViews, moved}
+use Rattle.items.specs.Place.{viewsOf, moved}
 use Rattle.items.specs.declared.Item.the-variants.{End, Refused, Is}
 use Rattle.items.specs.declared.ItemRefusal.{ItemRefusal}
 use Rattle.items.specs.declared.ItemRefusal.the-variants.{InvalidDescriptorLength, Other}
@@ -162,13 +162,8 @@ pub within : {loop : List ℕ} {offset next : ℕ} → Turn loop offset next →
 within (ends e) = omega arith
 within (goes L s) = s .there
 
--- it is refused, and the next offset is the loop's length
-pub record EndsHere (loop : List ℕ) (s : Step) : Type 0 where
-  pub refusal : ItemRefusal
-  pub is : s ≡ bare (Refused refusal) (length loop)
-
 module _ (loop : List ℕ) (offset : ℕ) (fits : length loop ≤ 4076) where
-  pub takes-rest : Ends (drop offset loop) → EndsHere loop (stepOf loop offset)
+  pub takes-rest : Ends (drop offset loop) → TakesRest loop (stepOf loop offset)
   takes-rest (few a b) =
       let n : length (drop offset loop) ≡ length loop - offset = left-is loop offset in
       record { refusal = _; is = step-few loop offset fits (omega arith) (omega arith) }

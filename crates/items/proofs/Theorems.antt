@@ -2,14 +2,14 @@
 -- loop` are the items that it gives one after the other. The proofs stand in Steps.antt, Lists.antt and Cuttings.antt. Assumes nothing.
 use Prim.Native.Nat.{ℕ, _≤_, _<_}
 use mathlib.Core.Path.{_≡_, sym, _∙_}
-use mathlib.Core.List.{List, []}
+use mathlib.Core.List.{List}
 use native.Mathlib.Omega.{arith}
 use lib.ListN.{length, drop}
 use borrow.Author.Tests.{lt-ltb}
 use Rattle.upid.proofs.Laws.{by-cases}
 use Rattle.upid.specs.Cover.{All}
 use Rattle.upid.specs.declared.Refusal.the-variants.{TooLong}
-use Rattle.items.specs.Cover.{Ends, Cutting, Covered, Run}
+use Rattle.items.specs.Cover.{Ends, Cutting, TakesRest, Covered, Run}
 use Rattle.items.specs.Items.{bare, stepOf, Listed, itemsOf, countOf}
 use Rattle.items.specs.Place.{viewsOf}
 use Rattle.items.specs.declared.Item.the-variants.{Refused}
@@ -49,7 +49,7 @@ pub a-step-stays-within : (loop : List ℕ) (offset : ℕ) → length loop ≤ 4
 a-step-stays-within loop offset fits inside = steps.within (steps.turn loop offset fits inside)
 
 -- An ending refusal takes the rest.
-pub an-ending-refusal-takes-the-rest : (loop : List ℕ) (offset : ℕ) → length loop ≤ 4076 → Ends (drop offset loop) → steps.EndsHere loop (stepOf loop offset)
+pub an-ending-refusal-takes-the-rest : (loop : List ℕ) (offset : ℕ) → length loop ≤ 4076 → Ends (drop offset loop) → TakesRest loop (stepOf loop offset)
 an-ending-refusal-takes-the-rest loop offset fits e = steps.takes-rest loop offset fits e
 
 pub at-most-2037-items : (loop : List ℕ) → length (itemsOf loop) ≤ 2037

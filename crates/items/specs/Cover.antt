@@ -7,7 +7,10 @@ use lib.Dec.{leb, ltb}
 use lib.ListN.{length, take, drop, getD}
 use Rattle.table.specs.Lent.{viewed}
 use Rattle.table.specs.declared.View.{View}
-use Rattle.items.specs.Items.{Listed}
+use Rattle.items.specs.Items.{bare, Listed}
+use Rattle.items.specs.declared.Item.the-variants.{Refused}
+use Rattle.items.specs.declared.ItemRefusal.{ItemRefusal}
+use Rattle.items.specs.declared.Step.{Step}
 
 -- ---- the rules of a cutting, which know nothing of a reader
 
@@ -61,6 +64,11 @@ times i [] = 0
 times i (x ∷ xs) = cond (lies i x) 1 0 + times i xs
 
 -- ---- the claims
+
+-- the step refuses the item and takes the rest: the next offset is the loop's length
+pub record TakesRest (loop : List ℕ) (s : Step) : Type 0 where
+  pub refusal : ItemRefusal
+  pub is : s ≡ bare (Refused refusal) (length loop)
 
 -- The items' bytes are one cutting of the loop, in order from its start to its end; no other cutting meets the rules; and each byte lies in
 -- exactly one item.

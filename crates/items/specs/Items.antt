@@ -5,10 +5,8 @@ use mathlib.Core.List.{List, [], _∷_}
 use lib.Dec.{ltb, leb}
 use lib.ListN.{length, take, drop, getD, replicate}
 use Rattle.upid.specs.Upid as upid
-use Rattle.upid.specs.declared.Refusal.{Refusal}
 use Rattle.upid.specs.declared.Refusal.the-variants.{TooLong, Short}
 use Rattle.descriptor.specs.Descriptor.{descriptorOf}
-use Rattle.descriptor.specs.declared.Descriptor.{Descriptor}
 use Rattle.descriptor.specs.declared.Descriptor.the-variants.{Avail, Dtmf, Segmentation, Time, Reserved}
 use Rattle.descriptor.specs.declared.DescriptorRead.{DescriptorRead}
 use Rattle.descriptor.specs.declared.DescriptorRead.the-variants as read
@@ -102,7 +100,7 @@ unlessEnd (Refused r) xs = xs
 unlessEnd (Is d) xs = xs
 
 -- The items from an offset on, one step after the other until the step says that the loop has ended. n is any number from the count of the bytes
--- left on: it says that this ends (`from-any` in proofs/Laws.antt).
+-- left on: it says that this ends (`from-any` in proofs/Lists.antt).
 unfoldable pub itemsFrom : ℕ → List ℕ → ℕ → List Listed
 itemsFrom zero loop offset = []
 itemsFrom (suc n) loop offset = unlessEnd (stepOf loop offset .item) (listed loop offset ∷ itemsFrom n loop (stepOf loop offset .next))

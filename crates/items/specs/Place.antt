@@ -6,6 +6,7 @@ use lib.Dec.{eqb}
 use Rattle.table.specs.declared.View.{View}
 use Rattle.upid.specs.declared.Refusal.{Refusal}
 use Rattle.upid.specs.declared.Refusal.the-variants.{TooLong, Short, Mismatch, NotText, WrongLength}
+use Rattle.descriptor.specs.Descriptor as descriptor
 use Rattle.descriptor.specs.declared.Descriptor.{Descriptor}
 use Rattle.descriptor.specs.declared.Descriptor.the-variants.{Avail, Dtmf, Segmentation, Time, Reserved}
 use Rattle.descriptor.specs.declared.DescriptorRead.{DescriptorRead}
@@ -16,7 +17,6 @@ use Rattle.descriptor.specs.declared.segmentation.SegmentationInsert.{Segmentat
 use Rattle.descriptor.specs.declared.segmentation.SegmentationUpid.{SegmentationUpid}
 use Rattle.items.specs.declared.Item.{Item}
 use Rattle.items.specs.declared.Item.the-variants.{End, Refused, Is}
-use Rattle.items.specs.declared.ItemRefusal.{ItemRefusal}
 use Rattle.items.specs.declared.ItemRefusal.the-variants.{InvalidDescriptorLength, Other}
 
 -- ---- the views that there are
@@ -104,9 +104,6 @@ movedDescriptor base (Segmentation x) =
 movedDescriptor base (Time x) = Time x
 movedDescriptor base (Reserved tag bytes) = Reserved tag (moved base bytes)
 
+-- as the view of a UPID's refusal moves in its payload
 abbrev pub movedRefusal : ℕ → Refusal → Refusal
-movedRefusal base TooLong = TooLong
-movedRefusal base (Short expected actual) = Short expected actual
-movedRefusal base Mismatch = Mismatch
-movedRefusal base (NotText kind bytes) = NotText kind (moved base bytes)
-movedRefusal base (WrongLength kind expected actual) = WrongLength kind expected actual
+movedRefusal = descriptor.moved

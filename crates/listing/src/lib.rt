@@ -4,14 +4,12 @@ ghost use lib.ListN.{length};
 use descriptor::Descriptor;
 use descriptor::segmentation::SegmentationDescriptor;
 use descriptor::segmentation::SegmentationDetail;
-use descriptor::segmentation::SegmentationInsert;
 use descriptor::segmentation::SegmentationUpid;
 use items::Item;
 use items::ItemRefusal;
 use items::iteration::Counted;
 use items::iteration::count_items;
 use items::iteration::step;
-use names::segmentation::SegmentationTypeId;
 use upid::Refusal;
 
 // A space and a number.

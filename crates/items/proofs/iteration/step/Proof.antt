@@ -1,6 +1,6 @@
--- `items::iteration::step` meets its contract: each answer takes the definition's tests in turn. Assumes nothing.
+-- `items::iteration::step` meets its contract: each answer takes the definition's tests in turn. Where L was read, `w` is the place that knows it
+-- and `e` the one before it, with at least 6 bytes left. Assumes nothing.
 use mathlib.Core.Path.{sym, _∙_}
-use native.Mathlib.Omega.{arith}
 use Rattle.items.proofs.Steps.{step-long, step-end, step-few, step-over, step-full, step-small, step-whole}
 use borrow.Author.Needs.{needs}
 use Rattle.items.proofs.iteration.step.Statement.{statement}
@@ -52,13 +52,19 @@ plain-requires-4 : tie.Need-plain-requires-4
 plain-requires-4 c κs = search needs
 
 returns-4 : tie.Need-returns-4
-returns-4 c = (let w = c .before .before .before in let e = w .before .before in c .plain4 .ensures ∙ rw (c .before .lacks2 .ensures) (sym (step-over _ _ (e .before .before .if1 .left) (e .before .if2 .left) _ (w .wide .ensures .0) (e .if3 .left) (c .before .before .if4 .taken))))
+returns-4 c =
+    let w = c .before .before .before in
+    let e = w .before .before in
+    c .plain4 .ensures ∙ rw (c .before .lacks2 .ensures) (sym (step-over _ _ (e .before .before .if1 .left) (e .before .if2 .left) _ (w .wide .ensures .0) (e .if3 .left) (c .before .before .if4 .taken)))
 
 plain-requires-5 : tie.Need-plain-requires-5
 plain-requires-5 c κs = search needs
 
 returns-5 : tie.Need-returns-5
-returns-5 c = (let w = c .before .before .before in let e = w .before .before in c .plain5 .ensures ∙ sym (step-full _ _ (e .before .before .if1 .left) (e .before .if2 .left) _ (w .wide .ensures .0) (e .if3 .left) (c .before .before .if4 .left) (c .before .if5 .taken)))
+returns-5 c =
+    let w = c .before .before .before in
+    let e = w .before .before in
+    c .plain5 .ensures ∙ sym (step-full _ _ (e .before .before .if1 .left) (e .before .if2 .left) _ (w .wide .ensures .0) (e .if3 .left) (c .before .before .if4 .left) (c .before .if5 .taken))
 
 add-lacks-2 : tie.Need-add-lacks-2
 add-lacks-2 c = search needs
@@ -76,13 +82,19 @@ plain-requires-6 : tie.Need-plain-requires-6
 plain-requires-6 c κs = search needs
 
 returns-6 : tie.Need-returns-6
-returns-6 c = (let w = c .before .before .before .before .before in let e = w .before .before in c .plain6 .ensures ∙ rw (c .before .lacks3 .ensures) (sym (step-small _ _ (e .before .before .if1 .left) (e .before .if2 .left) _ (w .wide .ensures .0) (e .if3 .left) (c .before .before .before .before .if4 .left) (c .before .before .before .if5 .left) (c .before .before .if6 .taken))))
+returns-6 c =
+    let w = c .before .before .before .before .before in
+    let e = w .before .before in
+    c .plain6 .ensures ∙ rw (c .before .lacks3 .ensures) (sym (step-small _ _ (e .before .before .if1 .left) (e .before .if2 .left) _ (w .wide .ensures .0) (e .if3 .left) (c .before .before .before .before .if4 .left) (c .before .before .before .if5 .left) (c .before .before .if6 .taken)))
 
 whole-requires : tie.Need-whole-requires
 whole-requires c κs = search needs
 
 returns-7 : tie.Need-returns-7
-returns-7 c = (let w = c .before .before .before .before in let e = w .before .before in c .whole .ensures ∙ sym (step-whole _ _ (e .before .before .if1 .left) (e .before .if2 .left) _ (w .wide .ensures .0) (e .if3 .left) (c .before .before .before .if4 .left) (c .before .before .if5 .left) (c .before .if6 .left)))
+returns-7 c =
+    let w = c .before .before .before .before in
+    let e = w .before .before in
+    c .whole .ensures ∙ sym (step-whole _ _ (e .before .before .if1 .left) (e .before .if2 .left) _ (w .wide .ensures .0) (e .if3 .left) (c .before .before .before .if4 .left) (c .before .before .if5 .left) (c .before .if6 .left))
 
 pub step-spec : {M : Type 1} → statement M
 step-spec =

@@ -61,19 +61,27 @@ enum-known-read : tie.Need-enum-known-read
 enum-known-read c = search needs
 
 move-descriptor-requires : tie.Need-move-descriptor-requires
-move-descriptor-requires c κs = (let s = c .before .before .before .before .before .before .before .before .before .before .before .before in is-movable (s .args .bytes .now) (s .args .offset + 6) (s .args .offset + (s .args .len + 2) - (s .args .offset + 6)) _ _ _ _ (c .before .before .before .before .read-descriptor .ensures) (c .before .read .given .1) (omega arith) (omega arith))
+move-descriptor-requires c κs =
+    let s = c .before .before .before .before .before .before .before .before .before .before .before .before in
+    is-movable (s .args .bytes .now) (s .args .offset + 6) (s .args .offset + (s .args .len + 2) - (s .args .offset + 6)) _ _ _ _ (c .before .before .before .before .read-descriptor .ensures) (c .before .read .given .1) (omega arith) (omega arith)
 
 enum-known-read-2 : tie.Need-enum-known-read-2
 enum-known-read-2 c = search needs
 
 move-refusal-requires : tie.Need-move-refusal-requires
-move-refusal-requires c κs = (let s = c .before .before .before .before .before .before .before .before .before .before .before .before in refused-movable (s .args .bytes .now) (s .args .offset + 6) (s .args .offset + (s .args .len + 2) - (s .args .offset + 6)) _ _ _ _ (c .before .before .before .before .read-descriptor .ensures) (c .before .read2 .given .1) (omega arith) (omega arith))
+move-refusal-requires c κs =
+    let s = c .before .before .before .before .before .before .before .before .before .before .before .before in
+    refused-movable (s .args .bytes .now) (s .args .offset + 6) (s .args .offset + (s .args .len + 2) - (s .args .offset + 6)) _ _ _ _ (c .before .before .before .before .read-descriptor .ensures) (c .before .read2 .given .1) (omega arith) (omega arith)
 
 returns : tie.Need-returns
-returns c = (let s = c .before .before .before .before .before .before .before .before .before .before .before .before .before in whole-is (s .args .bytes .now) (s .args .offset) (s .args .len) (omega arith) (omega arith) _ (c .before .before .before .before .before .read-descriptor .ensures) _ (c .before .before .before .before .beside .ensures) _ _ (c .before .before .read .given .1) (c .move-descriptor .ensures))
+returns c =
+    let s = c .before .before .before .before .before .before .before .before .before .before .before .before .before in
+    whole-is (s .args .bytes .now) (s .args .offset) (s .args .len) (omega arith) (omega arith) _ (c .before .before .before .before .before .read-descriptor .ensures) _ (c .before .before .before .before .beside .ensures) _ _ (c .before .before .read .given .1) (c .move-descriptor .ensures)
 
 returns-2 : tie.Need-returns-2
-returns-2 c = (let s = c .before .before .before .before .before .before .before .before .before .before .before .before .before in whole-refused (s .args .bytes .now) (s .args .offset) (s .args .len) (omega arith) (omega arith) _ (c .before .before .before .before .before .read-descriptor .ensures) _ (c .before .before .before .before .beside .ensures) _ _ (c .before .before .read2 .given .1) (c .move-refusal .ensures))
+returns-2 c =
+    let s = c .before .before .before .before .before .before .before .before .before .before .before .before .before in
+    whole-refused (s .args .bytes .now) (s .args .offset) (s .args .len) (omega arith) (omega arith) _ (c .before .before .before .before .before .read-descriptor .ensures) _ (c .before .before .before .before .beside .ensures) _ _ (c .before .before .read2 .given .1) (c .move-refusal .ensures)
 
 pub whole-spec : {M : Type 1} → statement M
 whole-spec =
