@@ -8,3 +8,5 @@ pub mod Structures
 pub mod Rows
 pub mod SegmentationTells
 pub mod SegmentationLaws
+pub mod Insides
+pub mod Besides

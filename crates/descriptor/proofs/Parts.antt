@@ -80,7 +80,7 @@ component-got (got x m) y e =
     placed v c
 component-got (short z a) y e = zero-one cc
 
-component-lacks : (r : Answer ModeComponent) (x : Short) → ComponentRead.Lacks x ≡ componentRead r → r ≡ short (x .expected) (x .actual)
+pub component-lacks : (r : Answer ModeComponent) (x : Short) → ComponentRead.Lacks x ≡ componentRead r → r ≡ short (x .expected) (x .actual)
 unfolding componentRead
 component-lacks (got z m) x e = zero-one cc
 component-lacks (short z a) x e = cc

@@ -21,7 +21,7 @@ use Rattle.table.specs.declared.cursor.Skipped.{Skipped}
 use Rattle.table.specs.declared.cursor.Taken.{Taken}
 use Rattle.table.proofs.Cursors.{goes-flag, stops-flag, goes-ones, stops-ones, goes-number, stops-number}
 use Rattle.table.proofs.Lists.{zero-one}
-use Rattle.table.proofs.Steppings.{Settled}
+use Rattle.table.proofs.Steppings.{Settled, skipped-got}
 use Rattle.table.proofs.Steps.{takes-in, lacks-in}
 use Rattle.table.specs.Cursor.{cursorAt}
 use Rattle.upid.specs.Upid.{checkOf}
@@ -30,7 +30,7 @@ use Rattle.upid.specs.declared.UpidRead.{UpidRead}
 use Rattle.upid.proofs.Theorems.{view-of-24-lies-inside}
 use Rattle.descriptor.specs.Descriptor.{moved, reportedUpid, ifFine, inserted, insertOf, segmentationOf, _andThen_}
 use Rattle.descriptor.specs.Segmentation.{Fore, Head, deliveryRestrictions, mode, duration, writtenUpid, parts, front, back, head}
-use Rattle.descriptor.specs.Walk.{lacking, restrictionsRead, modeRead, durationRead, upidRead, frontRead, backRead, upidAnswer, upidChecked}
+use Rattle.descriptor.specs.Walk.{lacking, restrictionsRead, modeRead, durationRead, upidRead, frontRead, backRead, headRead, upidAnswer, upidChecked}
 use Rattle.descriptor.specs.declared.Descriptor.the-variants.{Segmentation}
 use Rattle.descriptor.specs.declared.DescriptorRead.{DescriptorRead}
 use Rattle.descriptor.specs.declared.DescriptorRead.the-variants.{Is, Refused}
@@ -46,6 +46,8 @@ use Rattle.descriptor.specs.declared.front.Mode.{Mode}
 use Rattle.descriptor.specs.declared.front.ModeRead.{ModeRead}
 use Rattle.descriptor.specs.declared.front.Written.{Written}
 use Rattle.descriptor.specs.declared.front.WrittenRead.{WrittenRead}
+use Rattle.descriptor.specs.declared.segmentation.HeadRead.{HeadRead}
+use Rattle.descriptor.specs.declared.segmentation.Headed.{Headed}
 use Rattle.descriptor.specs.declared.segmentation.SegmentationDetail.the-variants.{Cancel}
 use Rattle.descriptor.specs.declared.segmentation.SegmentationUpid.{SegmentationUpid}
 use Rattle.descriptor.specs.declared.segmentation.UpidChecked.{UpidChecked}
@@ -234,38 +236,72 @@ module _ (s : List ℕ) (event at : ℕ) where
       insert-is b e = sym (checked ∙ rw (back-got _ b e .1))
 
 -- ---- the head, step by step
+head-none : (r : Answer Head) (x : Short) → r ≡ short (x .expected) (x .actual) → HeadRead.Lacks x ≡ headRead r
+unfolding headRead
+head-none r x e = rw e
+
+head-is : (r : Answer Head) (x : Head) (c : Cursor) → Settled c → r ≡ got x (place c) → HeadRead.Got (record { event = x .event; cancel = x .cancel; next = c }) ≡ headRead r
+unfolding headRead
+head-is r x c h e = rw (e, h)
+
+pub head-got : (r : Answer Head) (y : Headed) → HeadRead.Got y ≡ headRead r → r ≡ got (record { event = y .event; cancel = y .cancel }) (place (y .next))
+unfolding headRead
+head-got (got x m) y e =
+    let v : record { event = y .event; cancel = y .cancel } ≡ x = heads (y .event) (y .cancel) x (cc) (cc) in
+    let c : y .next ≡ cursorAt m = cc in
+    placed v c .0
+  where
+    heads : (n : ℕ) (b : Bool) (x : Head) → n ≡ x .event → b ≡ x .cancel → record { event = n; cancel = b } ≡ x
+    heads n b x e f = rw (e, f)
+head-got (short z a) y e = zero-one cc
+
+pub head-lacks : (r : Answer Head) (x : Short) → HeadRead.Lacks x ≡ headRead r → r ≡ short (x .expected) (x .actual)
+unfolding headRead
+head-lacks (got z m) x e = zero-one cc
+head-lacks (short z a) x e = cc
+
 abbrev start : Cursor
 start = record { byte = 0; bit = 0 }
 
 module _ (s : List ℕ) where
-  lacked : (x : Short) → parse head (bitsOf s) (place start) ≡ short (x .expected) (x .actual) → lacking x ≡ segmentationOf s
-  unfolding segmentationOf lacking
-  lacked x e = rw (← place-start, e)
+  lacked : (x : Short) → parse head (bitsOf s) (place start) ≡ short (x .expected) (x .actual) → HeadRead.Lacks x ≡ headRead (parse head (bitsOf s) 0)
+  lacked x e = head-none _ x (rw place-start at e)
 
-  pub no-event : (x : Short) → Taken.Lacks x ≡ takenOf (parse (number 32) (bitsOf s) (place start)) → lacking x ≡ segmentationOf s
+  pub no-event : (x : Short) → Taken.Lacks x ≡ takenOf (parse (number 32) (bitsOf s) (place start)) → HeadRead.Lacks x ≡ headRead (parse head (bitsOf s) 0)
   unfolding head
   no-event x e = lacked x (stops-number s _ 32 _ _ x e)
 
   module _ (n : Number) (en : Taken.Got n ≡ takenOf (parse (number 32) (bitsOf s) (place start))) where
-    pub no-cancel : (x : Short) → Flagged.Lacks x ≡ flaggedOf (parse bit (bitsOf s) (place (n .next))) → lacking x ≡ segmentationOf s
+    pub no-cancel : (x : Short) → Flagged.Lacks x ≡ flaggedOf (parse bit (bitsOf s) (place (n .next))) → HeadRead.Lacks x ≡ headRead (parse head (bitsOf s) 0)
     unfolding head
     no-cancel x e = lacked x (goes-number s _ 32 _ _ n (omega arith) en ∙ stops-flag s _ _ _ x e)
 
     module _ (f : Flag) (ef : Flagged.Got f ≡ flaggedOf (parse bit (bitsOf s) (place (n .next)))) where
-      pub no-reserved : (x : Short) → Skipped.Lacks x ≡ skippedOf (parse (reserved 7) (bitsOf s) (place (f .next))) → lacking x ≡ segmentationOf s
+      pub no-reserved : (x : Short) → Skipped.Lacks x ≡ skippedOf (parse (reserved 7) (bitsOf s) (place (f .next))) → HeadRead.Lacks x ≡ headRead (parse head (bitsOf s) 0)
       unfolding head
       no-reserved x e = lacked x (goes-number s _ 32 _ _ n (omega arith) en ∙ goes-flag s _ _ _ f ef ∙ stops-ones s _ 7 _ x e)
 
-      module _ (c : Cursor) (ec : Skipped.Got c ≡ skippedOf (parse (reserved 7) (bitsOf s) (place (f .next)))) where
-        headed : segmentationOf s ≡ pick (f .set) (Is (Segmentation (record { «segmentation_event_id» = n .value; «descriptor_detail» = Cancel }))) (insertOf s (n .value) (place c))
-        unfolding segmentationOf head
-        headed =
-            let g : parse head (bitsOf s) (place start) ≡ got (record { event = n .value; cancel = f .set }) (place c) =
-            goes-number s _ 32 _ _ n (omega arith) en ∙ goes-flag s _ _ _ f ef ∙ goes-ones s _ 7 _ c ec in
-            rw (rw place-start at g)
+      pub head-at : (c : Cursor) → Skipped.Got c ≡ skippedOf (parse (reserved 7) (bitsOf s) (place (f .next)))
+          → HeadRead.Got (record { event = n .value; cancel = f .set; next = c }) ≡ headRead (parse head (bitsOf s) 0)
+      unfolding head
+      head-at c ec =
+          let g : parse head (bitsOf s) (place start) ≡ got (record { event = n .value; cancel = f .set }) (place c) =
+          goes-number s _ 32 _ _ n (omega arith) en ∙ goes-flag s _ _ _ f ef ∙ goes-ones s _ 7 _ c ec in
+          head-is _ (record { event = n .value; cancel = f .set }) c (skipped-got _ c ec .1) (rw place-start at g)
 
-        pub cancel-is : f .set ≡ true → Is (Segmentation (record { «segmentation_event_id» = n .value; «descriptor_detail» = Cancel })) ≡ segmentationOf s
-        cancel-is on = sym (headed ∙ rw on)
+  -- ---- and what follows it
+  pub no-head : (x : Short) → HeadRead.Lacks x ≡ headRead (parse head (bitsOf s) 0) → lacking x ≡ segmentationOf s
+  unfolding segmentationOf lacking
+  no-head x e = rw (head-lacks _ x e)
 
-        pub insert-from : f .set ≡ false → insertOf s (n .value) (place c) ≡ segmentationOf s
-        insert-from off = sym (headed ∙ rw off)
+  module _ (h : Headed) (eh : HeadRead.Got h ≡ headRead (parse head (bitsOf s) 0)) where
+    headed : segmentationOf s
+        ≡ pick (h .cancel) (Is (Segmentation (record { «segmentation_event_id» = h .event; «descriptor_detail» = Cancel }))) (insertOf s (h .event) (place (h .next)))
+    unfolding segmentationOf
+    headed = rw (head-got _ h eh)
+
+    pub cancel-is : h .cancel ≡ true → Is (Segmentation (record { «segmentation_event_id» = h .event; «descriptor_detail» = Cancel })) ≡ segmentationOf s
+    cancel-is on = sym (headed ∙ rw on)
+
+    pub insert-from : h .cancel ≡ false → insertOf s (h .event) (place (h .next)) ≡ segmentationOf s
+    insert-from off = sym (headed ∙ rw off)

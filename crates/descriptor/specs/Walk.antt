@@ -1,6 +1,7 @@
 -- What the contracts of private functions say: the readings of the tables as the functions answer them. These are definitions.
 use Prim.Native.Nat.{ℕ}
 use mathlib.Core.List.{List}
+use lib.Seq.{sets}
 use Rattle.table.specs.Cursor.{cursorAt}
 use Rattle.table.specs.Lent.{viewed}
 use Rattle.table.specs.Table.{Answer, got, short}
@@ -11,7 +12,8 @@ use Rattle.upid.specs.Upid.{checkOf}
 use Rattle.upid.specs.declared.Refusal.the-variants.{Short}
 use Rattle.upid.specs.declared.UpidRead.{UpidRead}
 use Rattle.descriptor.specs.Descriptor.{moved, reportedUpid}
-use Rattle.descriptor.specs.Segmentation.{Moded, Fore}
+use Rattle.descriptor.specs.Segmentation.{Moded, Fore, Head}
+use Rattle.descriptor.specs.Whole.{blanks}
 use Rattle.descriptor.specs.declared.DescriptorRead.{DescriptorRead}
 use Rattle.descriptor.specs.declared.DescriptorRead.the-variants.{Refused}
 use Rattle.descriptor.specs.declared.back.Back.{Back}
@@ -25,6 +27,7 @@ use Rattle.descriptor.specs.declared.front.ModeRead.{ModeRead}
 use Rattle.descriptor.specs.declared.front.WrittenRead.{WrittenRead}
 use Rattle.descriptor.specs.declared.octet.Octet.{Octet}
 use Rattle.descriptor.specs.declared.segmentation.DeliveryRestrictionFlags.{DeliveryRestrictionFlags}
+use Rattle.descriptor.specs.declared.segmentation.HeadRead.{HeadRead}
 use Rattle.descriptor.specs.declared.segmentation.ModeComponent.{ModeComponent}
 use Rattle.descriptor.specs.declared.segmentation.SegmentationDuration.{SegmentationDuration}
 use Rattle.descriptor.specs.declared.segmentation.SegmentationUpid.{SegmentationUpid}
@@ -67,6 +70,10 @@ unfoldable pub frontRead : Answer Fore → FrontRead
 frontRead (got x at) = FrontRead.Got (record { front = x .front; next = cursorAt at })
 frontRead (short expected actual) = FrontRead.Lacks (record { expected = expected; actual = actual })
 
+unfoldable pub headRead : Answer Head → HeadRead
+headRead (got x at) = HeadRead.Got (record { event = x .event; cancel = x .cancel; next = cursorAt at })
+headRead (short expected actual) = HeadRead.Lacks (record { expected = expected; actual = actual })
+
 unfoldable pub subSegmentsRead : Answer SubSegments → SubSegmentsRead
 subSegmentsRead (got x at) = SubSegmentsRead.Got x
 subSegmentsRead (short expected actual) = SubSegmentsRead.Lacks (record { expected = expected; actual = actual })
@@ -82,3 +89,8 @@ upidAnswer (UpidRead.Refused r) bytes = UpidChecked.Refused (moved (bytes .at) r
 
 unfoldable pub upidChecked : List ℕ → SegmentationUpid → UpidChecked
 upidChecked s u = upidAnswer (checkOf (u .kind) (viewed s (u .bytes))) (u .bytes)
+
+-- components stored in an array from place i on; the blank array where they are not all there
+unfoldable pub filling : List ModeComponent → ℕ → Answer (List ModeComponent) → List ModeComponent
+filling out i (got cs at) = sets out i cs
+filling out i (short expected actual) = blanks

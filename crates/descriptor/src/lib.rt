@@ -18,6 +18,7 @@ mod front;
 mod octet;
 pub mod plain;
 pub mod segmentation;
+pub mod whole;
 
 // A descriptor. The identifier of a reserved one stands beside it.
 pub enum Descriptor {

@@ -1,8 +1,11 @@
 // Segmentation descriptors.
 ghost use mathlib.Core.Path.{_≡_};
 ghost use Rattle.descriptor.specs.Descriptor.{reportedUpid, inserted, insertOf, segmentationOf};
-ghost use Rattle.descriptor.specs.Walk.{upidChecked};
+ghost use Rattle.descriptor.specs.Segmentation.{head};
+ghost use Rattle.descriptor.specs.Walk.{upidChecked, headRead};
+ghost use Rattle.table.specs.Bits.{bitsOf};
 ghost use Rattle.table.specs.Cursor.{place};
+ghost use Rattle.table.specs.Table.{parse};
 use crate::Descriptor;
 use crate::DescriptorRead;
 use crate::back::Back;
@@ -17,6 +20,7 @@ use names::segmentation::SegmentationTypeId;
 use table::View;
 use table::cursor::Cursor;
 use table::cursor::Flagged;
+use table::cursor::Short;
 use table::cursor::Skipped;
 use table::cursor::Taken;
 use table::lent::view;
@@ -197,30 +201,56 @@ fn read_insert(payload: &[u8], c: Cursor, event: u32) -> DescriptorRead
     insert(event, front, segmentation_upid, back)
 }
 
-// Tag 2.
-pub fn read_segmentation(payload: &[u8]) -> DescriptorRead
-    ensures { λ r. ⌜ r ≡ segmentationOf (now (payload .entry)) ⌝ }
+// The event and whether it is cancelled, with the cursor after them.
+pub(crate) struct Headed {
+    pub event: u32,
+    pub cancel: bool,
+    pub next: Cursor,
+}
+
+pub(crate) enum HeadRead {
+    Got(Headed),
+    Lacks(Short),
+}
+
+pub(crate) fn read_head(payload: &[u8]) -> HeadRead
+    ensures { λ r. ⌜ r ≡ headRead (parse head (bitsOf (now (payload .entry))) 0) ⌝ }
 {
     let start = Cursor { byte: 0, bit: 0 };
     let event = match start.take(payload, 32) {
         Taken::Got(n) => n,
-        Taken::Lacks(e) => return lacks(e),
+        Taken::Lacks(e) => return HeadRead::Lacks(e),
     };
     let next = event.next;
     let cancel = match next.flag(payload) {
         Flagged::Got(f) => f,
-        Flagged::Lacks(e) => return lacks(e),
+        Flagged::Lacks(e) => return HeadRead::Lacks(e),
     };
     let next = cancel.next;
-    let next = match next.skip(payload, 7) {
-        Skipped::Got(c) => c,
-        Skipped::Lacks(e) => return lacks(e),
+    match next.skip(payload, 7) {
+        Skipped::Got(next) => HeadRead::Got(Headed {
+            event: event.value as u32,
+            cancel: cancel.set,
+            next,
+        }),
+        Skipped::Lacks(e) => HeadRead::Lacks(e),
+    }
+}
+
+// Tag 2.
+pub fn read_segmentation(payload: &[u8]) -> DescriptorRead
+    ensures { λ r. ⌜ r ≡ segmentationOf (now (payload .entry)) ⌝ }
+{
+    let head = match read_head(payload) {
+        HeadRead::Got(h) => h,
+        HeadRead::Lacks(e) => return lacks(e),
     };
-    if cancel.set {
+    if head.cancel {
         return DescriptorRead::Is(Descriptor::Segmentation(SegmentationDescriptor {
-            segmentation_event_id: event.value as u32,
+            segmentation_event_id: head.event,
             descriptor_detail: SegmentationDetail::Cancel,
         }));
     }
-    read_insert(payload, next, event.value as u32)
+    let next = head.next;
+    read_insert(payload, next, head.event)
 }

@@ -144,3 +144,11 @@ numberOf (SectionRead.Refused Refusal.NoLoopLength) = 8
 numberOf (SectionRead.Refused Refusal.LoopTooLong) = 9
 numberOf (SectionRead.Refused Refusal.UnknownCommand) = 10
 numberOf (SectionRead.Refused Refusal.MalformedCommand) = 11
+
+-- where a private command's bytes lie; any other command has none
+abbrev pub privateView : SpliceCommand → View
+privateView (SpliceCommand.PrivateCommand p) = p .«private_bytes»
+privateView SpliceCommand.SpliceNull = record { at = 0; len = 0 }
+privateView (SpliceCommand.SpliceInsert i) = record { at = 0; len = 0 }
+privateView (SpliceCommand.TimeSignal t) = record { at = 0; len = 0 }
+privateView SpliceCommand.BandwidthReservation = record { at = 0; len = 0 }

@@ -2,7 +2,8 @@
 ghost use mathlib.Core.Path.{_≡_};
 ghost use Prim.Native.Nat.{_+_, _≤_};
 ghost use lib.ListN.{length};
-ghost use Rattle.section.specs.Section.{commandLength, commandType, commandBytes, loopLength, loopPlace, moved, accepted, laidOut, sectionOf};
+ghost use Rattle.section.specs.Section.{commandLength, commandType, commandBytes, loopLength, loopPlace, moved, accepted, laidOut, sectionOf, privateView};
+ghost use Rattle.table.specs.Lent.{viewed};
 ghost use Rattle.section.specs.Walk.{viewStart};
 ghost use Rattle.command.specs.Command.{commandOf};
 ghost use Rattle.header.specs.Header.{headerOf};
@@ -16,6 +17,7 @@ use header::header::HeaderRead;
 use header::header::SpliceInfoHeader;
 use header::header::read_header;
 use table::View;
+use table::lent::view;
 use table::numbers::big_endian;
 use table::numbers::bits;
 
@@ -136,4 +138,29 @@ pub fn read_section(s: &[u8]) -> SectionRead
         return SectionRead::Refused(Refusal::NoHeader);
     }
     read_layout(s)
+}
+
+// The loop of a section, as a part of the lent bytes.
+pub fn loop_of(s: &[u8], x: Section) -> &[u8]
+    ensures { λ r. ⌜ now r ≡ viewed (now (s .entry)) (x .descriptors) ⌝ }
+{
+    let place = x.descriptors;
+    view(s, place)
+}
+
+// The bytes of a private command, as a part of the lent section; none of any other command.
+pub fn private_bytes_of(s: &[u8], c: SpliceCommand) -> &[u8]
+    ensures { λ r. ⌜ now r ≡ viewed (now (s .entry)) (privateView c) ⌝ }
+{
+    let nothing = View { at: 0, len: 0 };
+    match c {
+        SpliceCommand::PrivateCommand(p) => {
+            let place = p.private_bytes;
+            view(s, place)
+        }
+        SpliceCommand::SpliceNull => view(s, nothing),
+        SpliceCommand::SpliceInsert(_) => view(s, nothing),
+        SpliceCommand::TimeSignal(_) => view(s, nothing),
+        SpliceCommand::BandwidthReservation => view(s, nothing),
+    }
 }

@@ -1,0 +1,283 @@
+-- What stands beside a segmentation descriptor: where its components lie, and what the readers of them answer.
+use Prim.Native.Nat.{ℕ, zero, suc, _+_, _*_, _-_, _/_, _^_, _<_, _≤_}
+use mathlib.Core.Bool.{Bool, true, false}
+use mathlib.Core.List.{List, [], _∷_, _++_}
+use mathlib.Core.Path.{_≡_, refl, ap, sym, subst, _∙_}
+use native.Mathlib.Nat.{zero-add, sub-zero, zero-sub, suc-sub-suc}
+use native.Mathlib.Numerals.{add-one}
+use native.Mathlib.Omega.{arith}
+use lib.Dec.{eqb}
+use lib.ListN.{length, getD, drop, set, replicate, length-replicate}
+use lib.Seq.{sets, sets-eq}
+use Rattle.table.specs.Bits.{pick, bitsOf, field}
+use Rattle.table.specs.Cursor.{place}
+use Rattle.table.specs.Lent.{viewed}
+use Rattle.table.specs.Table.{Table, done, must, inside, reserved, list, ones, Answer, got, short, parse}
+use Rattle.table.specs.declared.cursor.Cursor.{Cursor}
+use Rattle.table.specs.declared.cursor.Short.{Short}
+use Rattle.table.proofs.Laws.{field-there}
+use Rattle.table.proofs.Lists.{zero-one}
+use Rattle.table.proofs.Reading.{field-lt}
+use Rattle.table.proofs.Steps.{onward, takes-in, lacks-in, reads-number, reads-flag, list-turn, list-short, list-none}
+use Rattle.upid.specs.Upid.{eidrOf}
+use Rattle.descriptor.specs.Segmentation.{
+  deliveryRestrictions,
+  component,
+  blankComponent,
+  Moded,
+  mode,
+  duration,
+  writtenUpid,
+  Fore,
+  parts,
+  front,
+  back,
+  Head,
+  head,
+  insertFrom,
+  Segmentation,
+  segmentation,
+}
+use Rattle.descriptor.specs.Walk.{componentRead, filling, frontRead, backRead, headRead}
+use Rattle.descriptor.specs.Descriptor.{descriptorOf}
+use Rattle.descriptor.specs.Whole.{blanks, filled, blankBeside, besideIn, besideOf, besideRead, identifierRead, wholeOf}
+use Rattle.descriptor.specs.declared.DescriptorRead.{DescriptorRead}
+use Rattle.descriptor.specs.declared.back.Back.{Back}
+use Rattle.descriptor.specs.declared.back.BackRead.{BackRead}
+use Rattle.descriptor.specs.declared.front.Component.{Component}
+use Rattle.descriptor.specs.declared.front.ComponentRead.{ComponentRead}
+use Rattle.descriptor.specs.declared.front.Front.{Front}
+use Rattle.descriptor.specs.declared.front.FrontRead.{FrontRead}
+use Rattle.descriptor.specs.declared.front.Fronted.{Fronted}
+use Rattle.descriptor.specs.declared.segmentation.HeadRead.{HeadRead}
+use Rattle.descriptor.specs.declared.segmentation.Headed.{Headed}
+use Rattle.descriptor.specs.declared.segmentation.ModeComponent.{ModeComponent}
+use Rattle.descriptor.specs.declared.segmentation.SegmentationDetail.the-variants.{Cancel, Insert}
+use Rattle.descriptor.specs.declared.segmentation.SegmentationMode.{SegmentationMode}
+use Rattle.descriptor.specs.declared.whole.Beside.{Beside}
+use Rattle.descriptor.proofs.Backs.{back-got, back-lacks}
+use Rattle.descriptor.proofs.Insides.{reads-in}
+use Rattle.descriptor.proofs.Parts.{component-got, component-lacks}
+use Rattle.descriptor.proofs.Segmentations.{front-got, front-lacks, head-got, head-lacks}
+
+-- ---- where the components lie
+reads-ones : {X : Type 0} (s : List ℕ) (at w : ℕ) (t : Table X) (y : X) (m : ℕ) → parse (ones w t) (bitsOf s) at ≡ got y m → parse t (bitsOf s) (at + w) ≡ got y m
+unfolding reserved
+reads-ones {X} s at w t y m e = field-there w (λ (x : X). 2 ^ w - 1) (λ v. must (eqb v (2 ^ w - 1)) t) (bitsOf s) at y m e .1
+
+-- where a reading ends
+abbrev end : {X : Type 0} → Answer X → ℕ
+end (got x m) = m
+end (short e a) = 0
+
+head-at : (s : List ℕ) (h : Head) (m : ℕ) → parse head (bitsOf s) 0 ≡ got h m → 40 ≡ m
+unfolding head
+head-at s h m e =
+    let e₁ = reads-number s 0 32 _ _ h m e .1 in
+    let e₂ = reads-flag s 32 _ _ h m e₁ .1 in
+    ap end (reads-ones s 33 7 _ h m e₂)
+
+restrictions-at : (s : List ℕ) (b : Bool) (x : _) (m : ℕ) → parse (deliveryRestrictions b) (bitsOf s) 43 ≡ got x m → 48 ≡ m
+unfolding deliveryRestrictions
+restrictions-at s true x m e = ap end (reads-ones s 43 5 _ x m e)
+restrictions-at s false x m e =
+    let e₁ = reads-flag s 43 _ _ x m e .1 in
+    let e₂ = reads-flag s 44 _ _ x m e₁ .1 in
+    let e₃ = reads-flag s 45 _ _ x m e₂ .1 in
+    ap end (reads-number s 46 2 _ _ x m e₃ .1)
+
+-- the components of a mode: none, or a list from bit 56 on
+abbrev Listed : List ℕ → SegmentationMode → List ModeComponent → Type 0
+Listed s SegmentationMode.Program cs = cs ≡ []
+Listed s (SegmentationMode.Component n) cs = (m : ℕ) × (parse (list n blankComponent component) (bitsOf s) 56 ≡ got cs m) × (n < 256)
+
+abbrev modeIn : Answer Moded → Moded
+modeIn (got x m) = x
+modeIn (short e a) = record { mode = SegmentationMode.Program; components = [] }
+
+mode-listed : (s : List ℕ) (b : Bool) (x : Moded) (m : ℕ) → parse (mode b) (bitsOf s) 48 ≡ got x m → Listed s (x .mode) (x .components)
+unfolding mode
+mode-listed s true x m e = rw (← (ap modeIn e)) refl
+mode-listed s false x m e =
+    let e₁ = reads-number s 48 8 _ _ x m e .1 in
+    let i = reads-in (list (field (bitsOf s) 48 8) blankComponent component) _ _ (bitsOf s) 56 x m e₁ in
+    rw (← (ap modeIn (i .3))) (i .1, i .2, field-lt s 48 8)
+
+abbrev modeOf : Answer Fore → Moded
+modeOf (got x m) = record { mode = x .front .«segmentation_mode»; components = x .components }
+modeOf (short e a) = record { mode = SegmentationMode.Program; components = [] }
+
+parts-listed : (s : List ℕ) (p l f : Bool) (x : Fore) (m : ℕ) → parse (parts p l f) (bitsOf s) 43 ≡ got x m → Listed s (x .front .«segmentation_mode») (x .components)
+unfolding parts
+parts-listed s p l f x m e =
+    let i = reads-in (deliveryRestrictions f) _ _ (bitsOf s) 43 x m e in
+    let j = reads-in (mode p) _ _ (bitsOf s) (i .1) x m (i .3) in
+    let k = reads-in (duration l) _ _ (bitsOf s) (j .1) x m (j .3) in
+    let w = reads-in writtenUpid _ _ (bitsOf s) (k .1) x m (k .3) in
+    let z : record { mode = x .front .«segmentation_mode»; components = x .components } ≡ j .0 = sym (ap modeOf (w .3)) in
+    let g : parse (mode p) (bitsOf s) 48 ≡ got (j .0) (j .1) = rw (restrictions-at s f (i .0) (i .1) (i .2)) (j .2) in
+    subst (λ (y : Moded). Listed s (y .mode) (y .components)) (sym z) (mode-listed s p (j .0) (j .1) g)
+
+front-listed : (s : List ℕ) (x : Fore) (m : ℕ) → parse front (bitsOf s) 40 ≡ got x m → Listed s (x .front .«segmentation_mode») (x .components)
+unfolding front
+front-listed s x m e =
+    let e₁ = reads-flag s 40 _ _ x m e .1 in
+    let e₂ = reads-flag s 41 _ _ x m e₁ .1 in
+    let e₃ = reads-flag s 42 _ _ x m e₂ .1 in
+    parts-listed s _ _ _ x m e₃
+
+-- ---- an array that is filled
+list-length : (n : ℕ) (bs : List ℕ) (at : ℕ) (cs : List ModeComponent) (m : ℕ) → parse (list n blankComponent component) bs at ≡ got cs m → length cs ≡ n
+unfolding list
+list-length zero bs at cs m e = let z : cs ≡ [] = cc in ap length z
+list-length (suc n) bs at cs m e =
+    let i = reads-in component _ _ bs at cs m e in
+    let j = reads-in (list n blankComponent component) (drop 1) _ bs (i .1) cs m (i .3) in
+    let z : cs ≡ i .0 ∷ j .0 = cc (j .3) in
+    ap length z ∙ ap suc (list-length n bs (i .1) (j .0) (j .1) (j .2))
+
+drop-replicate : (i n : ℕ) (a : ModeComponent) → drop i (replicate n a) ≡ replicate (n - i) a
+drop-replicate zero n a = rw sub-zero
+drop-replicate (suc i) zero a = rw zero-sub
+drop-replicate (suc i) (suc n) a = rw suc-sub-suc (drop-replicate i n a)
+
+sets-front : (n : ℕ) (a : ModeComponent) (xs : List ModeComponent) → length xs ≤ n → sets (replicate n a) 0 xs ≡ xs ++ replicate (n - length xs) a
+sets-front n a xs h =
+    let e : 0 + length xs ≡ length xs = zero-add (length xs) in
+    let f : 0 + length xs ≤ length (replicate n a) = omega (arith, length-replicate n a) in
+    sets-eq xs (replicate n a) 0 f ∙ rw (e, drop-replicate)
+
+pub filled-is : (n : ℕ) (bs : List ℕ) (at : ℕ) (cs : List ModeComponent) (m : ℕ) → n ≤ 255 → parse (list n blankComponent component) bs at ≡ got cs m
+    → filling blanks 0 (parse (list n blankComponent component) bs at) ≡ filled cs
+unfolding filling blanks filled
+filled-is n bs at cs m h e = rw e (sets-front 255 blankComponent cs (omega (arith, list-length n bs at cs m e)))
+
+filled-none : filled [] ≡ blanks
+unfolding filled blanks
+filled-none = refl
+
+-- ---- the loop that fills: what is left gives what the whole gives
+abbrev pub fillingFrom : List ℕ → List ModeComponent → ℕ → ℕ → Cursor → List ModeComponent
+fillingFrom s out i n c = filling out i (parse (list n blankComponent component) (bitsOf s) (place c))
+
+pub fill-start : (s : List ℕ) (n : ℕ) (c : Cursor) (out : List ModeComponent) → out ≡ blanks → (length out ≡ 255) × (fillingFrom s out 0 (n - 0) c ≡ fillingFrom s blanks 0 n c)
+unfolding blanks
+fill-start s n c out e =
+    let z : n - 0 ≡ n = omega arith in
+    (ap length e ∙ length-replicate 255 blankComponent, rw (e, z))
+
+filling-onward : (bs : List ℕ) (out : List ModeComponent) (i : ℕ) (y : ModeComponent) (r : Answer (List ModeComponent))
+    → filling out i (onward bs (λ ys. done (y ∷ ys)) r) ≡ filling (set out i y) (suc i) r
+unfolding filling
+filling-onward bs out i y (got xs m) = refl
+filling-onward bs out i y (short e a) = refl
+
+module _ (s : List ℕ) (n : ℕ) (from : Cursor) (out : List ModeComponent) (i : ℕ) (c : Cursor) (inv : fillingFrom s out i (n - i) c ≡ fillingFrom s blanks 0 n from) where
+  pub fill-end : n ≤ i → out ≡ fillingFrom s blanks 0 n from
+  unfolding filling
+  fill-end h =
+      let z : n - i ≡ 0 = omega arith in
+      let k : fillingFrom s out i (n - i) c ≡ out = rw (z, list-none blankComponent component (bitsOf s) (place c)) in
+      sym k ∙ inv
+
+  module _ (h : i < n) where
+    left-at : fillingFrom s out i (n - i) c ≡ fillingFrom s out i (suc (n - (i + 1))) c
+    left-at = ap (λ (k : ℕ). fillingFrom s out i k c) (let z : n - i ≡ suc (n - (i + 1)) = omega arith in z)
+
+    pub fill-turn : (k : ℕ) → k ≡ i → (m : Component) → ComponentRead.Got m ≡ componentRead (parse component (bitsOf s) (place c))
+        → fillingFrom s (set out k (m .component)) (i + 1) (n - (i + 1)) (m .next) ≡ fillingFrom s blanks 0 n from
+    fill-turn k ek m e =
+        rw ek
+        (ap (λ (k : ℕ). filling (set out i (m .component)) k (parse (list (n - (i + 1)) blankComponent component) (bitsOf s) (place (m .next)))) (add-one i)
+        ∙ sym
+        (ap (filling out i) (list-turn (n - (i + 1)) blankComponent component (bitsOf s) (place c) (m .component) (place (m .next)) (component-got _ m e .0))
+        ∙ filling-onward (bitsOf s) out i (m .component) _)
+        ∙ sym left-at ∙ inv)
+
+    pub fill-short : (x : Short) → ComponentRead.Lacks x ≡ componentRead (parse component (bitsOf s) (place c)) → blanks ≡ fillingFrom s blanks 0 n from
+    unfolding filling
+    fill-short x e =
+        sym (ap (filling out i) (list-short (n - (i + 1)) blankComponent component (bitsOf s) (place c) (x .expected) (x .actual) (component-lacks _ x e)))
+        ∙ sym left-at ∙ inv
+
+-- ---- beside a segmentation descriptor, step by step
+module _ (s : List ℕ) where
+  nothing : (x : Short) → parse segmentation (bitsOf s) 0 ≡ short (x .expected) (x .actual) → blankBeside ≡ besideOf s
+  unfolding besideOf besideIn
+  nothing x e = rw e
+
+  pub beside-no-head : (x : Short) → HeadRead.Lacks x ≡ headRead (parse head (bitsOf s) 0) → blankBeside ≡ besideOf s
+  unfolding segmentation
+  beside-no-head x e = nothing x (lacks-in head _ _ (bitsOf s) 0 (x .expected) (x .actual) (head-lacks _ x e))
+
+  module _ (h : Headed) (eh : HeadRead.Got h ≡ headRead (parse head (bitsOf s) 0)) where
+    pub beside-cancelled : h .cancel ≡ true → blankBeside ≡ besideOf s
+    unfolding segmentation besideOf besideIn blankBeside blanks filled eidrOf
+    beside-cancelled on =
+        let g : parse segmentation (bitsOf s) 0 ≡ got (record { descriptor = record { «segmentation_event_id» = h .event; «descriptor_detail» = Cancel }; components = [] }) (place (h .next)) =
+        takes-in head _ _ (bitsOf s) 0 _ (place (h .next)) (head-got _ h eh) ∙ rw on in
+        rw g
+
+    module _ (off : h .cancel ≡ false) where
+      pub beside-no-front : (x : Short) → FrontRead.Lacks x ≡ frontRead (parse front (bitsOf s) (place (h .next))) → blankBeside ≡ besideOf s
+      unfolding segmentation
+      beside-no-front x e =
+          nothing x
+          (takes-in head _ _ (bitsOf s) 0 _ (place (h .next)) (head-got _ h eh)
+          ∙ rw off (lacks-in front _ _ (bitsOf s) (place (h .next)) (x .expected) (x .actual) (front-lacks _ x e)))
+
+      module _ (f : Fronted) (ef : FrontRead.Got f ≡ frontRead (parse front (bitsOf s) (place (h .next)))) where
+        pub beside-no-back : (x : Short) → BackRead.Lacks x ≡ backRead (parse back (bitsOf s) (place (f .next))) → blankBeside ≡ besideOf s
+        unfolding segmentation
+        beside-no-back x e =
+            let i = front-got _ f ef in
+            nothing x
+            (takes-in head _ _ (bitsOf s) 0 _ (place (h .next)) (head-got _ h eh)
+            ∙ rw off
+            (takes-in front _ _ (bitsOf s) (place (h .next)) (i .0) (place (f .next)) (i .2)
+            ∙ lacks-in back _ _ (bitsOf s) (place (f .next)) (x .expected) (x .actual) (back-lacks _ x e)))
+
+        module _ (b : Back) (eb : BackRead.Got b ≡ backRead (parse back (bitsOf s) (place (f .next)))) (held : List ℕ)
+            (eheld : held ≡ eidrOf (f .front .«segmentation_upid» .kind) (viewed s (f .front .«segmentation_upid» .bytes))) where
+          beside : (cs : List ModeComponent) → cs ≡ filled (front-got _ f ef .0 .components) → record { components = cs; eidr = held } ≡ besideOf s
+          unfolding segmentation besideOf besideIn
+          beside cs e =
+              let i = front-got _ f ef in
+              let j = back-got _ b eb in
+              let g : parse segmentation (bitsOf s) 0 ≡ got (record {
+                descriptor = record { «segmentation_event_id» = h .event; «descriptor_detail» = Insert (insertFrom (i .0 .front) (i .0 .front .«segmentation_upid») b) };
+                components = i .0 .components;
+              }) (j .0) =
+              takes-in head _ _ (bitsOf s) 0 _ (place (h .next)) (head-got _ h eh)
+              ∙ rw off
+              (takes-in front _ _ (bitsOf s) (place (h .next)) (i .0) (place (f .next)) (i .2)
+              ∙ takes-in back _ _ (bitsOf s) (place (f .next)) b (j .0) (j .1)) in
+              rw (g, ← i .1, ← eheld, e)
+
+          there : Listed s (f .front .«segmentation_mode») (front-got _ f ef .0 .components)
+          there =
+              let i = front-got _ f ef in
+              let z : 40 ≡ place (h .next) = head-at s _ (place (h .next)) (head-got _ h eh) in
+              subst (λ (k : Front). Listed s (k .«segmentation_mode») (i .0 .components)) (sym (i .1)) (front-listed s (i .0) (place (f .next)) (rw z (i .2)))
+
+          there-as : (k : SegmentationMode) → f .front .«segmentation_mode» ≡ k → Listed s k (front-got _ f ef .0 .components)
+          there-as k e = subst (λ (k : SegmentationMode). Listed s k (front-got _ f ef .0 .components)) e there
+
+          pub beside-program : f .front .«segmentation_mode» ≡ SegmentationMode.Program → (cs : List ModeComponent) → cs ≡ blanks
+              → record { components = cs; eidr = held } ≡ besideOf s
+          beside-program e cs ecs = beside cs (ecs ∙ sym (ap filled (there-as SegmentationMode.Program e) ∙ filled-none))
+
+          pub beside-components : (n : ℕ) → f .front .«segmentation_mode» ≡ SegmentationMode.Component n → (cs : List ModeComponent)
+              → cs ≡ filling blanks 0 (parse (list n blankComponent component) (bitsOf s) (place (record { byte = 7; bit = 0 }))) → record { components = cs; eidr = held } ≡ besideOf s
+          unfolding place
+          beside-components n e cs ecs =
+              let t : (m : ℕ) × (parse (list n blankComponent component) (bitsOf s) 56 ≡ got (front-got _ f ef .0 .components) m) × (n < 256) = there-as (SegmentationMode.Component n) e in
+              beside cs (ecs ∙ filled-is n (bitsOf s) 56 _ (t .0) (omega arith) (t .1))
+
+-- ---- beside any descriptor
+pub whole-is : (tag : ℕ) (id s : List ℕ) (r q : DescriptorRead) → r ≡ descriptorOf tag id s → r ≡ q → (i : List ℕ) → i ≡ identifierRead q id → (b : Beside) → b ≡ besideRead q s
+    → record { read = r; identifier = i; beside = b } ≡ wholeOf tag id s
+unfolding wholeOf
+whole-is tag id s r q e f i ei b eb =
+    let z : descriptorOf tag id s ≡ q = sym e ∙ f in
+    rw (z, f, ei, eb)

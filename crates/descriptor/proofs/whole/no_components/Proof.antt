@@ -1,0 +1,12 @@
+-- `descriptor::whole::no_components`, by definition.
+use mathlib.Core.Path.{refl}
+use Rattle.descriptor.specs.Whole.{blanks}
+use Rattle.descriptor.proofs.whole.no_components.Statement.{statement}
+use Rattle.descriptor.proofs.whole.no_components.Tie as tie
+
+returns : tie.Need-returns
+unfolding blanks
+returns c = refl
+
+pub no-components-spec : {M : Type 1} → statement M
+no-components-spec = tie.close (tie.spec returns)

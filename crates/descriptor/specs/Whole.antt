@@ -1,0 +1,63 @@
+-- What stands beside a descriptor. 01, "What must change shape": "arrays stand beside enums, not in them". These are definitions.
+use Prim.Native.Nat.{ℕ, _-_}
+use mathlib.Core.List.{List, [], _++_}
+use lib.ListN.{length, replicate}
+use Rattle.table.specs.Bits.{bitsOf}
+use Rattle.table.specs.Lent.{viewed}
+use Rattle.table.specs.Table.{Answer, got, short, parse}
+use Rattle.upid.specs.Upid.{eidrOf}
+use Rattle.descriptor.specs.Descriptor.{descriptorOf}
+use Rattle.descriptor.specs.Segmentation as table
+use Rattle.descriptor.specs.Segmentation.{blankComponent, frontOf, segmentation}
+use Rattle.descriptor.specs.declared.Descriptor.the-variants.{Avail, Dtmf, Segmentation, Time, Reserved}
+use Rattle.descriptor.specs.declared.DescriptorRead.{DescriptorRead}
+use Rattle.descriptor.specs.declared.DescriptorRead.the-variants.{Is, Refused}
+use Rattle.descriptor.specs.declared.segmentation.ModeComponent.{ModeComponent}
+use Rattle.descriptor.specs.declared.whole.Beside.{Beside}
+use Rattle.descriptor.specs.declared.whole.WholeDescriptor.{WholeDescriptor}
+
+unfoldable pub blanks : List ModeComponent
+blanks = replicate 255 blankComponent
+
+-- "arrays with a count, 255 components, blank (all zero ..) past it"
+unfoldable pub filled : List ModeComponent → List ModeComponent
+filled cs = cs ++ replicate (255 - length cs) blankComponent
+
+unfoldable pub blankBeside : Beside
+blankBeside = record { components = blanks; eidr = replicate 12 0 }
+
+-- beside a segmentation descriptor, which has a UPID as written; "The EIDR identifier of 12 bytes is held by value"
+unfoldable pub besideIn : List ℕ → Answer table.Segmentation → Beside
+besideIn s (got x at) =
+    let upid = frontOf (x .descriptor .«descriptor_detail») .«segmentation_upid» in
+    record { components = filled (x .components); eidr = eidrOf (upid .kind) (viewed s (upid .bytes)) }
+besideIn s (short expected actual) = blankBeside
+
+unfoldable pub besideOf : List ℕ → Beside
+besideOf s = besideIn s (parse segmentation (bitsOf s) 0)
+
+-- ---- beside any descriptor
+abbrev pub besideRead : DescriptorRead → List ℕ → Beside
+besideRead (Is (Avail x)) s = blankBeside
+besideRead (Is (Dtmf x)) s = blankBeside
+besideRead (Is (Segmentation x)) s = besideOf s
+besideRead (Is (Time x)) s = blankBeside
+besideRead (Is (Reserved tag v)) s = blankBeside
+besideRead (Refused r) s = blankBeside
+
+-- the identifier of a reserved one; the others are "CUEI"
+abbrev pub identifierRead : DescriptorRead → List ℕ → List ℕ
+identifierRead (Is (Avail x)) id = replicate 4 0
+identifierRead (Is (Dtmf x)) id = replicate 4 0
+identifierRead (Is (Segmentation x)) id = replicate 4 0
+identifierRead (Is (Time x)) id = replicate 4 0
+identifierRead (Is (Reserved tag v)) id = id
+identifierRead (Refused r) id = replicate 4 0
+
+unfoldable pub wholeOf : ℕ → List ℕ → List ℕ → WholeDescriptor
+wholeOf tag id s =
+    record {
+      read = descriptorOf tag id s;
+      identifier = identifierRead (descriptorOf tag id s) id;
+      beside = besideRead (descriptorOf tag id s) s;
+    }

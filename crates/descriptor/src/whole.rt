@@ -1,0 +1,163 @@
+// What stands beside a descriptor, for those who ask: the identifier of a reserved one, and the components and the EIDR of a segmentation descriptor.
+ghost use mathlib.Core.Path.{_≡_};
+ghost use Rattle.descriptor.specs.Segmentation.{blankComponent, component};
+ghost use Rattle.descriptor.specs.Walk.{filling};
+ghost use Rattle.descriptor.specs.Whole.{blankBeside, blanks, besideOf, wholeOf};
+ghost use Rattle.table.specs.Bits.{bitsOf};
+ghost use Rattle.table.specs.Cursor.{place};
+ghost use Rattle.table.specs.Table.{list, parse};
+use crate::Descriptor;
+use crate::DescriptorRead;
+use crate::back::BackRead;
+use crate::back::read_back;
+use crate::front::ComponentRead;
+use crate::front::FrontRead;
+use crate::front::read_component;
+use crate::front::read_front;
+use crate::octet::size;
+use crate::read_descriptor;
+use crate::segmentation::HeadRead;
+use crate::segmentation::ModeComponent;
+use crate::segmentation::SegmentationMode;
+use crate::segmentation::read_head;
+use table::cursor::Cursor;
+use table::lent::view;
+use upid::eidr;
+
+// The components, blank past their count, and the EIDR identifier, all zero where the UPID is none.
+pub struct Beside {
+    pub components: [ModeComponent; 255],
+    pub eidr: [u8; 12],
+}
+
+// The identifier is all zero where the kind of the descriptor implies it.
+pub struct WholeDescriptor {
+    pub read: DescriptorRead,
+    pub identifier: [u8; 4],
+    pub beside: Beside,
+}
+
+fn no_components() -> [ModeComponent; 255]
+    ensures { λ r. ⌜ r ≡ blanks ⌝ }
+{
+    let none = ModeComponent {
+        component_tag: 0,
+        pts_offset: 0,
+    };
+    [none; 255]
+}
+
+fn nothing() -> Beside
+    ensures { λ r. ⌜ r ≡ blankBeside ⌝ }
+{
+    Beside {
+        components: no_components(),
+        eidr: [0u8; 12],
+    }
+}
+
+// n components from a cursor on; none where they are not all there.
+fn list_components(s: &[u8], c: Cursor, n: u8) -> [ModeComponent; 255]
+    ensures { λ r. ⌜ r ≡ filling blanks 0 (parse (list n blankComponent component) (bitsOf (now (s .entry))) (place c)) ⌝ }
+{
+    let mut out = no_components();
+    let mut next = c;
+    let mut i: u8 = 0;
+    while i < n {
+        let read = match read_component(s, next) {
+            ComponentRead::Got(m) => m,
+            ComponentRead::Lacks(_) => return no_components(),
+        };
+        let there = read.next;
+        let component = read.component;
+        let at = size(i);
+        out[at] = component;
+        next = there;
+        i += 1;
+    }
+    out
+}
+
+// What stands beside a segmentation descriptor; nothing where its payload lacks a field.
+pub fn read_beside(payload: &[u8]) -> Beside
+    ensures { λ r. ⌜ r ≡ besideOf (now (payload .entry)) ⌝ }
+{
+    let head = match read_head(payload) {
+        HeadRead::Got(h) => h,
+        HeadRead::Lacks(_) => return nothing(),
+    };
+    if head.cancel {
+        return nothing();
+    }
+    let next = head.next;
+    let fronted = match read_front(payload, next) {
+        FrontRead::Got(f) => f,
+        FrontRead::Lacks(_) => return nothing(),
+    };
+    let next = fronted.next;
+    match read_back(payload, next) {
+        BackRead::Got(_) => {}
+        BackRead::Lacks(_) => return nothing(),
+    }
+    let front = fronted.front;
+    let written = front.segmentation_upid;
+    let bytes = written.bytes;
+    let part = view(payload, bytes);
+    let eidr = eidr(written.kind, part);
+    let mode = front.segmentation_mode;
+    match mode {
+        SegmentationMode::Program => Beside {
+            components: no_components(),
+            eidr,
+        },
+        SegmentationMode::Component(n) => Beside {
+            components: list_components(payload, Cursor { byte: 7, bit: 0 }, n),
+            eidr,
+        },
+    }
+}
+
+// The descriptor that a tag, an identifier and a payload make, with all that stands beside it.
+pub fn read_whole(tag: u8, identifier: [u8; 4], payload: &[u8]) -> WholeDescriptor
+    ensures { λ r. ⌜ r ≡ wholeOf tag identifier (now (payload .entry)) ⌝ }
+{
+    let none = [0u8; 4];
+    let read = read_descriptor(tag, identifier, payload);
+    match read {
+        DescriptorRead::Refused(_) => WholeDescriptor {
+            read,
+            identifier: none,
+            beside: nothing(),
+        },
+        DescriptorRead::Is(d) => match d {
+            Descriptor::Avail(_) => WholeDescriptor {
+                read,
+                identifier: none,
+                beside: nothing(),
+            },
+            Descriptor::Dtmf(_) => WholeDescriptor {
+                read,
+                identifier: none,
+                beside: nothing(),
+            },
+            Descriptor::Segmentation(_) => WholeDescriptor {
+                read,
+                identifier: none,
+                beside: read_beside(payload),
+            },
+            Descriptor::Time(_) => WholeDescriptor {
+                read,
+                identifier: none,
+                beside: nothing(),
+            },
+            Descriptor::Reserved {
+                tag: _,
+                private_bytes: _,
+            } => WholeDescriptor {
+                read,
+                identifier,
+                beside: nothing(),
+            },
+        },
+    }
+}
