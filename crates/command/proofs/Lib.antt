@@ -4,3 +4,7 @@ pub mod Payloads
 pub mod Filling
 pub mod Rows
 pub mod PrivateTrips
+pub mod InsertTells
+pub mod ModeLeads
+pub mod InsertLeads
+pub mod InsertTrips

@@ -1,3 +1,4 @@
 pub mod Insert
 pub mod Command
 pub mod Walk
+pub mod Fair
