@@ -61,9 +61,9 @@ module _ {s : List ℕ} (p : Plain s) where
         h .0,
         h .1,
         sym
-        (laid-out _ (omega arith) (omega arith)
-        (has-parts s 0 bit not-one 0 (sym (p .none)) (omega arith) (omega arith) 0 (sym l) _ (omega arith)
-        (is-section _ (h .0) (h .1) _ _ SpliceCommand.SpliceNull SpliceCommand.SpliceNull (record { at = 16; len = 0 }) (null t) refl (rw (p .none, l))))),
+            (laid-out _ (omega arith) (omega arith)
+            (has-parts s 0 bit not-one 0 (sym (p .none)) (omega arith) (omega arith) 0 (sym l) _ (omega arith)
+            (is-section _ (h .0) (h .1) _ _ SpliceCommand.SpliceNull SpliceCommand.SpliceNull (record { at = 16; len = 0 }) (null t) refl (rw (p .none, l))))),
       )
 
 -- ---- one of each length

@@ -1,12 +1,12 @@
 // The full reading of a section, for those who ask: the components of an insert beside what the section says.
 ghost use mathlib.Core.Path.{_≡_};
 ghost use Rattle.section.specs.Whole.{besideCommand, wholeSectionOf};
+use crate::SectionRead;
+use crate::read_section;
 use command::SpliceCommand;
 use command::components::ComponentSplice;
 use command::components::blanks;
 use command::components::read_components;
-use crate::SectionRead;
-use crate::read_section;
 use table::numbers::bits;
 
 // The components are blank past their count, and all of them where the command is no insert by components.

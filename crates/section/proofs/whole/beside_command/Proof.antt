@@ -1,68 +1,50 @@
+-- `section::whole::beside_command`, by the kind of the command.
 use borrow.Author.Needs.{needs}
 use Rattle.section.proofs.whole.beside_command.Statement.{statement}
 use Rattle.section.proofs.whole.beside_command.Tie as tie
-use Rattle.section.proofs.whole.beside_command.Reads as reads
-use Rattle.section.proofs.whole.beside_command.Lts as lts
-use Rattle.command.proofs.components.blanks.Reads as blanks-reads
-use Rattle.command.proofs.components.read_components.Reads as read-components-reads
 
--- src/whole.rt:23:38
 enum-told : tie.Need-enum-told
 enum-told c = search needs
 
--- src/whole.rt:23:38
 blanks-requires : tie.Need-blanks-requires
 blanks-requires c κs = search needs
 
--- src/whole.rt:24:43
 enum-told-2 : tie.Need-enum-told-2
 enum-told-2 c = search needs
 
--- src/whole.rt:24:43
 read-components-requires : tie.Need-read-components-requires
 read-components-requires c κs = search needs
 
--- src/whole.rt:25:41
 enum-told-3 : tie.Need-enum-told-3
 enum-told-3 c = search needs
 
--- src/whole.rt:25:41
 blanks-requires-2 : tie.Need-blanks-requires-2
 blanks-requires-2 c κs = search needs
 
--- src/whole.rt:26:48
 enum-told-4 : tie.Need-enum-told-4
 enum-told-4 c = search needs
 
--- src/whole.rt:26:48
 blanks-requires-3 : tie.Need-blanks-requires-3
 blanks-requires-3 c κs = search needs
 
--- src/whole.rt:27:45
 enum-told-5 : tie.Need-enum-told-5
 enum-told-5 c = search needs
 
--- src/whole.rt:27:45
 blanks-requires-4 : tie.Need-blanks-requires-4
 blanks-requires-4 c κs = search needs
 
--- src/whole.rt:19:1
 returns : tie.Need-returns
 returns c = search needs
 
--- src/whole.rt:19:1
 returns-2 : tie.Need-returns-2
-returns-2 c = ?
+returns-2 c = rw (c .before .enum-told2 .given .1) (c .read-components .ensures)
 
--- src/whole.rt:19:1
 returns-3 : tie.Need-returns-3
 returns-3 c = search needs
 
--- src/whole.rt:19:1
 returns-4 : tie.Need-returns-4
 returns-4 c = search needs
 
--- src/whole.rt:19:1
 returns-5 : tie.Need-returns-5
 returns-5 c = search needs
 

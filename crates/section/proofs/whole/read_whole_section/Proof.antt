@@ -1,60 +1,60 @@
+-- `section::whole::read_whole_section`: the command's bytes lie in an accepted section.
+use mathlib.Core.Path.{refl, sym, _∙_}
+use native.Mathlib.Omega.{arith}
+use Rattle.section.proofs.Frame.{size-is}
+use Rattle.section.proofs.Wholes.{command-there, whole-is, whole-refused}
 use borrow.Author.Needs.{needs}
 use Rattle.section.proofs.whole.read_whole_section.Statement.{statement}
 use Rattle.section.proofs.whole.read_whole_section.Tie as tie
-use Rattle.section.proofs.whole.read_whole_section.Reads as reads
-use Rattle.section.proofs.whole.read_whole_section.Lts as lts
-use Rattle.command.proofs.components.blanks.Reads as blanks-reads
-use Rattle.section.proofs.read_section.Reads as read-section-reads
-use Rattle.section.proofs.whole.beside_command.Reads as beside-command-reads
-use Rattle.table.proofs.numbers.bits.Reads as bits-reads
 
--- src/whole.rt:35:9
 read-section-requires : tie.Need-read-section-requires
 read-section-requires c κs = search needs
 
--- src/whole.rt:39:25
 enum-told : tie.Need-enum-told
 enum-told c = search needs
 
--- src/whole.rt:39:25
 blanks-requires : tie.Need-blanks-requires
 blanks-requires c κs = search needs
 
--- src/whole.rt:41:25
 enum-known-read : tie.Need-enum-known-read
 enum-known-read c = search needs
 
--- src/whole.rt:43:24
 bits-requires : tie.Need-bits-requires
 bits-requires c κs = search needs
 
--- src/whole.rt:44:23
 add-end : tie.Need-add-end
-add-end c = ?
+add-end c = let a = c .before .before .before .before .before .before .args in omega (arith, size-is (a .s .now) _ (c .bits .ensures))
 
--- src/whole.rt:47:53
 sub-beside-command : tie.Need-sub-beside-command
 sub-beside-command c = search needs
 
--- src/whole.rt:47:53
 part-beside-command-start : tie.Need-part-beside-command-start
 part-beside-command-start c = search needs
 
--- src/whole.rt:47:53
 part-beside-command-end : tie.Need-part-beside-command-end
-part-beside-command-end c = ?
+part-beside-command-end c =
+    let read = c .before .before in
+    let section = read .before .before in
+    let a = section .before .before .args in
+    omega (arith, size-is (a .s .now) _ (c .bits .ensures), command-there (a .s .now) _ (section .read-section .ensures) _ (read .read .given .1))
 
--- src/whole.rt:47:29
 beside-command-requires : tie.Need-beside-command-requires
 beside-command-requires c κs = search needs
 
--- src/whole.rt:32:1
 returns : tie.Need-returns
-returns c = ?
+returns c =
+    let told = c .before in
+    let section = told .before .before in
+    let a = section .before .before .args in
+    whole-refused (a .s .now) _ (section .read-section .ensures) _ (told .enum-told .given .1) _ (c .blanks .ensures)
 
--- src/whole.rt:32:1
 returns-2 : tie.Need-returns-2
-returns-2 c = ?
+returns-2 c =
+    let bits = c .before .before in
+    let read = bits .before .before in
+    let section = read .before .before in
+    let a = section .before .before .args in
+    whole-is (a .s .now) _ (sym (read .read .given .1) ∙ section .read-section .ensures) _ refl _ (size-is (a .s .now) _ (bits .bits .ensures) .0) _ (c .beside-command .ensures)
 
 pub read-whole-section-spec : {M : Type 1} → statement M
 read-whole-section-spec =
