@@ -1,16 +1,18 @@
--- Rows a to g of document 01, "Worked rows", and the loop of its `looplist`, over the public definitions. Assumes nothing.
+-- Rows a to g of document 01, "Worked rows", the loop of its `looplist`, and a full reading, over the public definitions. Assumes nothing.
 use Prim.Native.Nat.{ℕ}
 use mathlib.Core.List.{List, [], _∷_, map}
 use mathlib.Core.Path.{_≡_, refl}
 use lib.ListN.{replicate}
 use Rattle.table.specs.Lent.{viewed}
-use Rattle.table.specs.Table.{number, reserved, part, remaining}
+use Rattle.table.specs.Table.{number, bit, reserved, part, remaining, list}
 use Rattle.upid.specs.Upid as upid
-use Rattle.descriptor.specs.Descriptor.{descriptorOf, cueiOf, isCuei, availOf, dtmfOf, reservedOf}
+use Rattle.descriptor.specs.Descriptor.{descriptorOf, cueiOf, isCuei, availOf, dtmfOf, segmentationOf, insertOf, inserted, reservedOf}
 use Rattle.descriptor.specs.Plain.{avail, dtmf, privateBytes}
+use Rattle.descriptor.specs.Segmentation.{blankComponent, deliveryRestrictions, component, mode, duration, writtenUpid, parts, front, subSegments, back, head, segmentation}
+use Rattle.descriptor.specs.Whole.{filled, besideIn, besideOf}
 use Rattle.descriptor.specs.declared.Descriptor.{Descriptor}
 use Rattle.descriptor.specs.declared.Descriptor.the-variants.{Avail, Dtmf, Reserved}
-use Rattle.items.specs.Items.{numberOf, valuesOf, readAt, wholeAt, stepOf, Listed, itemsFrom, itemsOf}
+use Rattle.items.specs.Items.{numberOf, valuesOf, readAt, wholeAt, stepOf, readingOf, Listed, itemsFrom, itemsOf}
 use Rattle.items.specs.Place.{viewOf}
 use Rattle.items.specs.declared.Item.{Item}
 use Rattle.items.specs.declared.Item.the-variants.{End, Refused, Is}
@@ -70,3 +72,13 @@ pub data Hold : List Row → Type 0 where
 pub rows-hold : Hold rows
 unfolding rows itemsOf itemsFrom stepOf wholeAt readAt numberOf valuesOf upid.numberOf upid.valuesOf descriptorOf cueiOf isCuei availOf dtmfOf reservedOf avail dtmf privateBytes number reserved part remaining viewed
 rows-hold = more refl (more refl (more refl (more refl (more refl (more refl (more refl (more refl none)))))))
+
+-- ---- beside a segmentation descriptor: its one component, tag 5 and offset 7, then blanks; and the 12 bytes of its EIDR
+pub row-beside : readingOf (0x02 ∷ 0x22 ∷ C (0 ∷ 0 ∷ 0 ∷ 0x2A ∷ 0x7F ∷ 0x3F ∷ 1 ∷ 5 ∷ 0xFE ∷ 0 ∷ 0 ∷ 0 ∷ 7
+    ∷ 0x0A ∷ 12 ∷ 1 ∷ 2 ∷ 3 ∷ 4 ∷ 5 ∷ 6 ∷ 7 ∷ 8 ∷ 9 ∷ 10 ∷ 11 ∷ 12 ∷ 0x10 ∷ 1 ∷ 1 ∷ [])) 0 .beside
+    ≡ record {
+      components = record { «component_tag» = 5; «pts_offset» = 7 } ∷ replicate 254 blankComponent;
+      eidr = 1 ∷ 2 ∷ 3 ∷ 4 ∷ 5 ∷ 6 ∷ 7 ∷ 8 ∷ 9 ∷ 10 ∷ 11 ∷ 12 ∷ [];
+    }
+unfolding readingOf stepOf wholeAt readAt descriptorOf cueiOf isCuei segmentationOf insertOf inserted head front parts deliveryRestrictions mode component duration writtenUpid back subSegments segmentation number bit reserved part remaining list viewed upid.checkOf upid.readOf upid.plainOf upid.lengthOf upid.isText upid.reportedOf besideOf besideIn filled upid.eidrOf
+row-beside = refl
