@@ -1,20 +1,25 @@
 -- 01, "Worked rows": "Sections with right CRC and command length 0: 18 and 19 bytes give 8; 20 with loop length 0 and command type 0 is accepted."
--- Stated of every such section, and of one of each length.
+-- Stated of every such section, and of one of each length; then a full reading.
 use Prim.Native.Nat.{ℕ, _+_, _*_, _-_, _%_, _^_, _≤_}
 use mathlib.Core.List.{List, [], _∷_}
 use mathlib.Core.Path.{_≡_, refl, ap, sym, _∙_}
 use native.Mathlib.Omega.{arith}
-use lib.ListN.{length, getD, drop, take, length-drop}
+use lib.ListN.{length, getD, drop, replicate, length-drop}
 use Rattle.crc.specs.Crc.{crcOf, messageBits, bits, crcBits, crcBit}
-use Rattle.command.specs.Command.{commandOf}
+use Rattle.command.specs.Command.{commandOf, array, componentsOf}
+use Rattle.command.specs.Insert.{blank, timeUnless, component, moded, breakDuration, ending, active, insert}
 use Rattle.command.specs.declared.CommandRead.{CommandRead}
 use Rattle.command.specs.declared.SpliceCommand.{SpliceCommand}
-use Rattle.header.specs.Header.{headerOf}
+use Rattle.header.specs.Header.{spliceHeader, headerRead, headerOf}
+use Rattle.header.specs.Time.{spliceTime}
 use Rattle.header.specs.declared.header.HeaderRead.{HeaderRead}
 use Rattle.header.specs.declared.header.SpliceInfoHeader.{SpliceInfoHeader}
+use Rattle.header.specs.declared.time.SpliceTime.{SpliceTime}
 use Rattle.header.proofs.Headers.{header-there}
 use Rattle.table.specs.Bits.{bitsOf, field}
-use Rattle.section.specs.Section.{commandLength, commandType, commandBytes, loopLength, loopPlace, moved, laidOut, sectionOf, numberOf}
+use Rattle.table.specs.Table.{number, bit, reserved, list}
+use Rattle.section.specs.Section.{commandLength, commandType, commandBytes, roomAfter, loopLength, loopPlace, moved, accepted, laidOut, sectionOf, numberOf}
+use Rattle.section.specs.Whole.{wholeSectionOf}
 use Rattle.section.specs.declared.Refusal.{Refusal}
 use Rattle.section.specs.declared.SectionRead.{SectionRead}
 use Rattle.section.proofs.Frame.{is-laid-out, is-loopless, has-parts, is-section}
@@ -27,8 +32,8 @@ pub record Plain (s : List ℕ) : Type 0 where
   pub none : commandLength s ≡ 0
 
 module _ {s : List ℕ} (p : Plain s) where
-  bit : 0 ≡ field (bitsOf s) 32 1 % 2 ^ 64
-  bit = rw (p .clear)
+  clear-bit : 0 ≡ field (bitsOf s) 32 1 % 2 ^ 64
+  clear-bit = rw (p .clear)
 
   not-one : _≡_ {A = ℕ} 0 1 → ⊥
   not-one e = omega arith
@@ -40,7 +45,7 @@ module _ {s : List ℕ} (p : Plain s) where
   no-loop-length : 18 ≤ length s → length s ≤ 19 → numberOf (sectionOf s) ≡ 8
   unfolding numberOf
   no-loop-length h k =
-      sym (ap numberOf (laid-out (SectionRead.Refused Refusal.NoLoopLength) h (omega arith) (is-loopless s 0 bit not-one 0 (sym (p .none)) (omega arith) (omega arith))))
+      sym (ap numberOf (laid-out (SectionRead.Refused Refusal.NoLoopLength) h (omega arith) (is-loopless s 0 clear-bit not-one 0 (sym (p .none)) (omega arith) (omega arith))))
 
   pub row-18 : length s ≡ 18 → numberOf (sectionOf s) ≡ 8
   row-18 e = no-loop-length (omega arith) (omega arith)
@@ -62,7 +67,7 @@ module _ {s : List ℕ} (p : Plain s) where
         h .1,
         sym
             (laid-out _ (omega arith) (omega arith)
-            (has-parts s 0 bit not-one 0 (sym (p .none)) (omega arith) (omega arith) 0 (sym l) _ (omega arith)
+            (has-parts s 0 clear-bit not-one 0 (sym (p .none)) (omega arith) (omega arith) 0 (sym l) _ (omega arith)
             (is-section _ (h .0) (h .1) _ _ SpliceCommand.SpliceNull SpliceCommand.SpliceNull (record { at = 16; len = 0 }) (null t) refl (rw (p .none, l))))),
       )
 
@@ -97,3 +102,15 @@ example-19 = row-19 plain-19 refl
 pub example-20 : numberOf (sectionOf of-20) ≡ 0
 unfolding loopLength commandType commandLength numberOf
 example-20 = ap numberOf (row-20 plain-20 refl refl refl .2)
+
+-- ---- a full reading: an insert by two components, tag 1 at time 5 and tag 2 without a time
+abbrev of-39 : List ℕ
+of-39 =
+    0xfc ∷ 0x30 ∷ 0x24 ∷ 0x00 ∷ 0x00 ∷ 0x00 ∷ 0x00 ∷ 0x00 ∷ 0x00 ∷ 0xff ∷ 0xff ∷ 0xf0 ∷ 0x13 ∷ 0x05
+    ∷ 0x00 ∷ 0x00 ∷ 0x00 ∷ 0x01 ∷ 0x7f ∷ 0x8f ∷ 0x02 ∷ 0x01 ∷ 0xfe ∷ 0x00 ∷ 0x00 ∷ 0x00 ∷ 0x05 ∷ 0x02 ∷ 0x7f ∷ 0x00 ∷ 0x09 ∷ 0x00 ∷ 0x00
+    ∷ 0x00 ∷ 0x00 ∷ 0xc0 ∷ 0x07 ∷ 0xc4 ∷ 0x9b ∷ []
+
+pub row-components : wholeSectionOf of-39 .components
+    ≡ record { «component_tag» = 1; «splice_time» = SpliceTime.At 5 } ∷ record { «component_tag» = 2; «splice_time» = SpliceTime.Unspecified } ∷ replicate 253 blank
+unfolding wholeSectionOf sectionOf laidOut accepted moved commandLength commandType commandBytes roomAfter loopLength crcOf messageBits bits crcBits crcBit headerOf headerRead spliceHeader commandOf componentsOf array insert active ending moded breakDuration timeUnless component spliceTime number bit reserved list
+row-components = refl
