@@ -1,1 +1,3 @@
 pub mod RowsHold
+pub mod FixedAnswers
+pub mod Theorems
