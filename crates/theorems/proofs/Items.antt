@@ -3,6 +3,7 @@
 --     unsplit        a run of the section that is accepted as a MID
 --     mid-of         a MID of an item
 --     eidr-of        an EIDR of an item
+--     beside-runs    the identifier beside an item
 use Prim.Native.Nat.{ℕ, _+_, _-_, _≤_}
 use mathlib.Core.Bool.{Bool, true, false, cond, _||_}
 use mathlib.Core.List.{List, [], _∷_, map}
@@ -31,10 +32,10 @@ use Rattle.descriptor.specs.declared.segmentation.SegmentationDetail.{Segmentat
 use Rattle.descriptor.specs.declared.segmentation.SegmentationUpid.{SegmentationUpid}
 use Rattle.items.proofs.Places.{all-into, all-map}
 use Rattle.items.proofs.Steps.{Clause, long, ended, last, small, entire}
-use Rattle.items.specs.Items.{itemAt, readAt, wholeAt}
+use Rattle.items.specs.Items.{itemAt, identifierWith, readAt, wholeAt}
 use Rattle.items.specs.Place.{moved, movedUpid, movedDetail, movedDescriptor}
 use Rattle.items.specs.declared.Step.{Step}
-use Rattle.theorems.specs.Identifiers.{Identifier, OneRun, inLent, detailUpids, descriptorUpids, upidsOf, partView, upidStart, Announced, Unsplit}
+use Rattle.theorems.specs.Identifiers.{Identifier, OneRun, inLent, detailUpids, descriptorUpids, upidsOf, partView, upidStart, besidesOf, Announced, Unsplit}
 use Rattle.theorems.proofs.Runs.{run-of-run, viewed-is, viewed-inside, length-viewed, length-run, lent-run, getD-run}
 use Rattle.theorems.proofs.Upids.{upidsRead, Source, sources, mid-is-written, eidr-is-written}
 
@@ -185,3 +186,29 @@ module _ (s : List ℕ) (i : Identifier) (r : OneRun s i) (offset next : ℕ) (u
       f .from .beside ∙ held (written .kind) (viewed inner (written .bytes)) (e .0) (e .1) ∙ sym same in
       at-start (besideOf inner .eidr) _ (written .bytes .at) (f .from .start)
       (record { inside = omega (arith, run .inside, twelve); run = is ∙ run .run ∙ ap (λ (n : ℕ). take n (drop (i .start + (offset + 6 + written .bytes .at)) s)) twelve })
+
+-- ---- the identifier of a reserved descriptor
+
+module _ (s : List ℕ) (i : Identifier) (r : OneRun s i) where
+  abbrev four : ℕ → List ℕ
+  four offset = take 4 (drop (offset + 2) (i .bytes))
+
+  beside-read : (base offset : ℕ) → offset + 6 ≤ length (i .bytes) → (d : DescriptorRead)
+      → All (OneRun s) (besidesOf (i .start) offset (identifierWith (four offset) d) (itemAt base d))
+  beside-read base offset h (DescriptorRead.Is (Descriptor.Avail x)) = none
+  beside-read base offset h (DescriptorRead.Is (Descriptor.Dtmf x)) = none
+  beside-read base offset h (DescriptorRead.Is (Descriptor.Segmentation x)) = none
+  beside-read base offset h (DescriptorRead.Is (Descriptor.Time x)) = none
+  beside-read base offset h (DescriptorRead.Is (Descriptor.Reserved tag v)) =
+      let l : length (i .bytes) ≡ i .len = length-run s i r in
+      let run : OneRun s (inLent (i .start) (i .bytes) (record { at = offset + 2; len = 4 })) = lent-run s i r (record { at = offset + 2; len = 4 }) (omega arith) in
+      more (record { inside = run .inside; run = sym (viewed-is (i .bytes) (record { at = offset + 2; len = 4 }) (omega arith)) ∙ run .run }) none
+  beside-read base offset h (DescriptorRead.Refused q) = none
+
+  pub beside-runs : {offset : ℕ} {st : Step} → Clause (i .bytes) offset st → All (OneRun s) (besidesOf (i .start) offset (st .identifier) (st .item))
+  unfolding wholeAt
+  beside-runs (long h) = none
+  beside-runs (ended h) = none
+  beside-runs (last q v e) = none
+  beside-runs (small L t) = none
+  beside-runs {offset} (entire L t h) = beside-read (offset + 6) offset (t .six) (readAt (i .bytes) offset L)

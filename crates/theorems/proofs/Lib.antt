@@ -5,4 +5,5 @@ pub mod Runs
 pub mod Upids
 pub mod Items
 pub mod Sections
+pub mod Worked
 pub mod Theorems

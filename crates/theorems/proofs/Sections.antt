@@ -42,7 +42,7 @@ use Rattle.theorems.specs.Identifiers.{
   Unsplit,
 }
 use Rattle.theorems.proofs.Framed.{Laid, laid, private-in}
-use Rattle.theorems.proofs.Items.{Found, found, mid-of, eidr-of}
+use Rattle.theorems.proofs.Items.{Found, found, mid-of, eidr-of, beside-runs}
 use Rattle.theorems.proofs.Runs.{length-run, section-run, lent-run}
 
 -- ---- lists
@@ -89,7 +89,9 @@ module _ (s : List ℕ) (i : Identifier) (r : OneRun s i) (fits : length (i .byt
         let w : next ≤ length (i .bytes) = within (turn (i .bytes) o fits inside) in
         all-append
         (all-map (inLent (i .start) (i .bytes)) (all-into (λ v b. lent-run s i r v (omega (arith, n, w, b .1))) (views-between (clause (i .bytes) o))))
+        (all-append
         (all-each _ (λ u f. all-append (parts-run u f) (eidrs-run u f)) (found (clause (i .bytes) o)))
+        (beside-runs s i r (clause (i .bytes) o)))
 
   loop-identifiers : All (OneRun s) (each (identifiersOfItem (i .start) (i .bytes)) (itemsOf (i .bytes)))
   loop-identifiers = all-each (identifiersOfItem (i .start) (i .bytes)) (λ x h. h) (each-item item-runs (walked (i .bytes) fits))

@@ -92,15 +92,26 @@ eidrOf base loop x = record {
 abbrev pub eidrsOf : ℕ → List ℕ → Listed → SegmentationUpid → List Identifier
 eidrsOf base loop x u = cond (eqb (u .kind) 10) (eidrOf base loop x ∷ []) []
 
+-- "identifier of 4", which stands beside a reserved descriptor
+abbrev pub besidesOf : ℕ → ℕ → List ℕ → Item → List Identifier
+besidesOf base offset id Item.End = []
+besidesOf base offset id (Item.Refused r) = []
+besidesOf base offset id (Item.Is (Descriptor.Avail x)) = []
+besidesOf base offset id (Item.Is (Descriptor.Dtmf x)) = []
+besidesOf base offset id (Item.Is (Descriptor.Segmentation x)) = []
+besidesOf base offset id (Item.Is (Descriptor.Time x)) = []
+besidesOf base offset id (Item.Is (Descriptor.Reserved tag bytes)) = record { start = base + (offset + 2); len = 4; bytes = id } ∷ []
+
 abbrev pub each : {A B : Type 0} → (A → List B) → List A → List B
 each f [] = []
 each f (x ∷ xs) = f x ++ each f xs
 
--- DTMF characters, a UPID, private bytes, the text of refusal 24; every part of a MID; an EIDR
+-- DTMF characters, a UPID, private bytes, the text of refusal 24; every part of a MID; an EIDR; the identifier of a reserved descriptor
 abbrev pub identifiersOfItem : ℕ → List ℕ → Listed → List Identifier
 identifiersOfItem base loop x =
     map (inLent base loop) (viewsOf (x .step .item))
-    ++ each (λ (u : SegmentationUpid). partsOf base loop u ++ eidrsOf base loop x u) (upidsOf (x .step .item))
+    ++ (each (λ (u : SegmentationUpid). partsOf base loop u ++ eidrsOf base loop x u) (upidsOf (x .step .item))
+    ++ besidesOf base (x .offset) (x .step .identifier) (x .step .item))
 
 -- ---- of a section
 
