@@ -1,8 +1,7 @@
--- Every public function's contract fixes its answer (specs/FixedAnswers.antt), and asks nothing of the caller: a line for each. Assumes nothing.
--- A slice that is handed back is fixed in its bytes, and not in its address: `loop-of`, `private-bytes-of`, `bytes-of`, `view`. A store has no answer: its
--- target's later bytes are fixed, `put-byte`, `put-number`, `put-bytes`.
-use mathlib.Core.List.{[]}
-use mathlib.Core.Path.{_≡_, refl, ap, sym, _∙_}
+-- Every public function's contract fixes its answer, and asks nothing of the caller (specs/FixedAnswers.antt): a line for each of the 60. Assumes nothing.
+-- A slice that is handed back is fixed in its bytes, and not in its address: `view`, `bytes-of`, `loop-of`, `private-bytes-of`. A store has no answer: its
+-- target's later bytes are fixed, `put-byte`, `put-number`, `put-bytes`. The programs' `list_input` has no answer and no target, and no line: it prints.
+use mathlib.Core.Path.{_≡_, refl, sym, _∙_}
 use denote.Ref.{now}
 use Rattle.names.specs.Flags.{networkAnswer, returnAnswer, restrictionsAnswer}
 use Rattle.names.specs.declared.flags.NetworkRead.{NetworkRead}

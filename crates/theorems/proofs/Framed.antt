@@ -7,9 +7,9 @@ use mathlib.Core.List.{List}
 use mathlib.Core.Path.{_≡_, refl, ap, sym, _∙_}
 use native.Mathlib.Omega.{arith}
 use lib.Dec.{eqb}
-use lib.ListN.{length, drop, length-drop}
+use lib.ListN.{length, drop}
 use borrow.Author.Tests.{ltb-false}
-use Rattle.command.specs.Command.{private, read, empty, commandOf}
+use Rattle.command.specs.Command.{private, read, commandOf}
 use Rattle.command.specs.Insert.{insert}
 use Rattle.command.specs.declared.CommandRead.{CommandRead}
 use Rattle.command.specs.declared.Private.{Private}
@@ -25,7 +25,6 @@ use Rattle.table.proofs.Lists.{zero-one}
 use Rattle.table.proofs.Steps.{reads-number, reads-part, takes-remaining}
 use Rattle.table.specs.Bits.{pick, bitsOf, field}
 use Rattle.table.specs.Table.{Answer, got, short, parse}
-use Rattle.table.specs.declared.View.{View}
 
 pub record Laid (s : List ℕ) (x : Section) : Type 0 where
   pub short : length s ≤ 4096

@@ -11,8 +11,7 @@ use mathlib.Core.Path.{_≡_, refl, ap, sym, _∙_}
 use native.Mathlib.Omega.{arith}
 use lib.Dec.{eqb}
 use lib.ListN.{length, take, drop, getD, length-take, length-drop}
-use Rattle.table.proofs.Lists.{zero-one}
-use Rattle.table.specs.Bits.{pick, bitsOf}
+use Rattle.table.specs.Bits.{bitsOf}
 use Rattle.table.specs.Lent.{viewed}
 use Rattle.table.specs.Table.{parse}
 use Rattle.table.specs.declared.View.{View}

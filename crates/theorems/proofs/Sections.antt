@@ -2,10 +2,10 @@
 use Prim.Native.Nat.{ℕ, _+_, _≤_, _<_}
 use mathlib.Core.Bool.{Bool, true, false, cond}
 use mathlib.Core.List.{List, [], _∷_, _++_}
-use mathlib.Core.Path.{_≡_, refl, ap, sym, _∙_}
+use mathlib.Core.Path.{_≡_, refl, ap}
 use native.Mathlib.Omega.{arith}
 use lib.Dec.{eqb}
-use lib.ListN.{length, take, drop, length-take, length-drop}
+use lib.ListN.{length, drop, length-take, length-drop}
 use borrow.Author.Tests.{eqb-true, eqb-false}
 use Rattle.command.specs.Command.{commandOf}
 use Rattle.command.specs.declared.CommandRead.{CommandRead}
@@ -30,7 +30,6 @@ use Rattle.theorems.specs.Identifiers.{
   inSection,
   inLent,
   upidsOf,
-  partView,
   partsOf,
   eidrOf,
   eidrsOf,
@@ -39,9 +38,11 @@ use Rattle.theorems.specs.Identifiers.{
   loopIn,
   identifiersOfCommand,
   identifiersOf,
+  midOf,
+  midsOf,
   Unsplit,
 }
-use Rattle.theorems.proofs.Framed.{Laid, laid, private-in}
+use Rattle.theorems.proofs.Framed.{laid, private-in}
 use Rattle.theorems.proofs.Items.{Found, found, mid-of, eidr-of, beside-runs}
 use Rattle.theorems.proofs.Runs.{length-run, section-run, lent-run}
 
@@ -96,8 +97,17 @@ module _ (s : List ℕ) (i : Identifier) (r : OneRun s i) (fits : length (i .byt
   loop-identifiers : All (OneRun s) (each (identifiersOfItem (i .start) (i .bytes)) (itemsOf (i .bytes)))
   loop-identifiers = all-each (identifiersOfItem (i .start) (i .bytes)) (λ x h. h) (each-item item-runs (walked (i .bytes) fits))
 
-  loop-mids : All (λ (x : Listed). All (λ (u : SegmentationUpid). u .kind ≡ 13 → Unsplit s (inLent (i .start) (i .bytes) (u .bytes))) (upidsOf (x .step .item))) (itemsOf (i .bytes))
-  loop-mids = each-item (λ o inside. all-into (λ u f k. mid-of s i r o _ u f k) (found (clause (i .bytes) o))) (walked (i .bytes) fits)
+  one-mid : (o : ℕ) (u : SegmentationUpid) → Found (i .bytes) o (stepOf (i .bytes) o .next) u → All (Unsplit s) (midOf (i .start) (i .bytes) u)
+  one-mid o u f = go (eqb (u .kind) 13) refl
+    where
+      go : (t : Bool) → eqb (u .kind) 13 ≡ t → All (Unsplit s) (cond t (inLent (i .start) (i .bytes) (u .bytes) ∷ []) [])
+      go true t = more (mid-of s i r o _ u f (eqb-true _ _ t)) none
+      go false t = none
+
+  loop-mids : All (Unsplit s) (each (λ (y : Listed). each (midOf (i .start) (i .bytes)) (upidsOf (y .step .item))) (itemsOf (i .bytes)))
+  loop-mids =
+      all-each (λ (y : Listed). each (midOf (i .start) (i .bytes)) (upidsOf (y .step .item))) (λ y h. h)
+      (each-item (λ o inside. all-each (midOf (i .start) (i .bytes)) (one-mid o) (found (clause (i .bytes) o))) (walked (i .bytes) fits))
 
 -- ---- of a section
 
@@ -130,7 +140,8 @@ module _ (s : List ℕ) (x : Section) (e : sectionOf s ≡ SectionRead.Is x) whe
       all-append c
       (loop-identifiers s (inSection s (x .descriptors)) loop-run loop-short)
 
-  pub mids-unsplit : All (λ (y : Listed). All (λ (u : SegmentationUpid). u .kind ≡ 13 → Unsplit s (inLent (x .descriptors .at) (loopIn s x) (u .bytes))) (upidsOf (y .step .item))) (itemsOf (loopIn s x))
+  pub mids-unsplit : All (Unsplit s) (midsOf s x)
+  unfolding midsOf
   mids-unsplit = loop-mids s (inSection s (x .descriptors)) loop-run loop-short
 
   pub items-cover : Covered (loopIn s x) (itemsOf (loopIn s x))

@@ -4,16 +4,15 @@ use Prim.Native.Nat.{ℕ, _≤_}
 use mathlib.Core.List.{List, [], _∷_}
 use mathlib.Core.Path.{_≡_}
 use lib.ListN.{length}
-use Rattle.descriptor.specs.declared.segmentation.SegmentationUpid.{SegmentationUpid}
 use Rattle.items.specs.Cover.{Covered}
-use Rattle.items.specs.Items.{Listed, itemsOf}
+use Rattle.items.specs.Items.{itemsOf}
 use Rattle.section.proofs.Acceptance as acceptance
 use Rattle.section.proofs.Acceptance.{None}
 use Rattle.section.specs.Section.{commandType, loopLength, conditions, first, sectionOf, numberOf}
 use Rattle.section.specs.declared.Section.{Section}
 use Rattle.section.specs.declared.SectionRead.{SectionRead}
 use Rattle.upid.specs.Cover.{All}
-use Rattle.theorems.specs.Identifiers.{OneRun, inSection, inLent, upidsOf, loopIn, identifiersOf, Unsplit}
+use Rattle.theorems.specs.Identifiers.{OneRun, inSection, loopIn, identifiersOf, midsOf, Unsplit}
 use Rattle.theorems.specs.Rows.{Holds, rows}
 use Rattle.theorems.specs.Sections.{EmptyCommand, spliceNull, eight, twelve, both, eightAndTwelve, Identified}
 use Rattle.theorems.proofs.RowsHold as rows-hold
@@ -66,10 +65,9 @@ the-loop-is-one-run-of-the-section = sections.loop-run
 pub the-items-cover-the-loop-of-the-section : (s : List ℕ) (x : Section) → sectionOf s ≡ SectionRead.Is x → Covered (loopIn s x) (itemsOf (loopIn s x))
 the-items-cover-the-loop-of-the-section = sections.items-cover
 
--- The incident: no identifier of a MID is split or joined. In every item each UPID that is a MID is read as its own parts, each of them, at every level,
--- exactly the run of the section that the two bytes before it announce; and the direct parts of each MID cover it once, and in no other way.
-pub no-mid-of-the-section-is-split : (s : List ℕ) (x : Section) → sectionOf s ≡ SectionRead.Is x
-    → All (λ (item : Listed). All (λ (u : SegmentationUpid). u .kind ≡ 13 → Unsplit s (inLent (x .descriptors .at) (loopIn s x) (u .bytes))) (upidsOf (item .step .item))) (itemsOf (loopIn s x))
+-- The incident: no identifier of a MID is split. Each UPID of a section that is a MID is read as its parts, each of them, at every level, exactly the run of
+-- the section that the two bytes before it announce; and the direct parts of each MID cover it once.
+pub no-mid-of-the-section-is-split : (s : List ℕ) (x : Section) → sectionOf s ≡ SectionRead.Is x → All (Unsplit s) (midsOf s x)
 no-mid-of-the-section-is-split = sections.mids-unsplit
 
 -- such a section: its MID has a part of 8 bytes and one of 12, and is read as these two, whole

@@ -8,7 +8,7 @@ use mathlib.Core.List.{List, [], _∷_}
 use mathlib.Core.Path.{_≡_, refl, ap, sym, _∙_}
 use native.Mathlib.Omega.{arith}
 use lib.Dec.{eqb, ltb}
-use lib.ListN.{length, take, drop}
+use lib.ListN.{length, drop}
 use borrow.Author.Tests.{eqb-true, eqb-false}
 use Rattle.table.proofs.Lists.{zero-one}
 use Rattle.table.proofs.Steps.{takes-in}
@@ -22,7 +22,7 @@ use Rattle.upid.specs.Text.{textOf}
 use Rattle.upid.specs.Upid as upid
 use Rattle.upid.specs.Upid.{checkOf, readOf, walkOf, plainOf, _then_, lengthOf, isText, reportedOf}
 use Rattle.upid.specs.declared.Refusal.{Refusal}
-use Rattle.upid.specs.declared.Refusal.the-variants.{TooLong, Short, Mismatch, NotText, WrongLength}
+use Rattle.upid.specs.declared.Refusal.the-variants.{TooLong, Mismatch, NotText, WrongLength}
 use Rattle.upid.specs.declared.UpidRead.{UpidRead}
 use Rattle.upid.specs.declared.UpidRead.the-variants.{Fine, Refused}
 use Rattle.descriptor.specs.Descriptor.{_andThen_, reportedUpid, ifFine, availOf, dtmfOf, timeOf, reservedOf, inserted, insertOf, segmentationOf, isCuei, cueiOf, descriptorOf}

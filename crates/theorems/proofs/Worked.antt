@@ -1,12 +1,12 @@
 -- Sections that are worked out. Assumes nothing.
-use Prim.Native.Nat.{ℕ, _+_, _-_, _≤_, _<_}
+use Prim.Native.Nat.{ℕ, _+_, _-_, _≤_}
 use mathlib.Core.Bool.{false}
 use mathlib.Core.List.{List, [], _∷_}
-use mathlib.Core.Path.{_≡_, refl, ap, sym, _∙_}
+use mathlib.Core.Path.{_≡_, refl, _∙_}
 use native.Mathlib.Omega.{arith}
 use lib.Dec.{eqb}
-use lib.ListN.{length, getD, take, drop}
-use borrow.Author.Tests.{lt-ltb, le-ltb, eq-eqb, ne-eqb}
+use lib.ListN.{length, getD}
+use borrow.Author.Tests.{lt-ltb, le-ltb, eq-eqb}
 use Rattle.command.specs.Command as command
 use Rattle.command.specs.Command.{commandOf}
 use Rattle.command.specs.declared.CommandRead.{CommandRead}
@@ -29,7 +29,7 @@ use Rattle.table.specs.Lent.{viewed}
 use Rattle.table.specs.Table.{number, bit, reserved, part, remaining}
 use Rattle.upid.specs.Text.{textOf, done, step, within}
 use Rattle.upid.specs.Upid.{upidOf, checkOf, readOf, walkOf, _then_, plainOf, lengthOf, isText, reportedOf, listOf, partsOf, listed, unlessRefused}
-use Rattle.theorems.specs.Identifiers.{Identifier, identifiersOf}
+use Rattle.theorems.specs.Identifiers.{identifiersOf}
 use Rattle.theorems.specs.Sections.{EmptyCommand, spliceNull, eight, twelve, both, eightAndTwelve, Identified}
 
 module _ (s : List ℕ) (h : EmptyCommand s) where

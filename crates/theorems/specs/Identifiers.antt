@@ -128,7 +128,13 @@ identifiersOfCommand s SpliceCommand.BandwidthReservation = []
 unfoldable pub identifiersOf : List ℕ → Section → List Identifier
 identifiersOf s x = identifiersOfCommand s (x .command) ++ each (identifiersOfItem (x .descriptors .at) (loopIn s x)) (itemsOf (loopIn s x))
 
--- ---- a MID
+-- ---- the MIDs of a section
+
+abbrev pub midOf : ℕ → List ℕ → SegmentationUpid → List Identifier
+midOf base loop u = cond (eqb (u .kind) 13) (inLent base loop (u .bytes) ∷ []) []
+
+unfoldable pub midsOf : List ℕ → Section → List Identifier
+midsOf s x = each (λ (y : Listed). each (midOf (x .descriptors .at) (loopIn s x)) (upidsOf (y .step .item))) (itemsOf (loopIn s x))
 
 -- a part of a MID, in the section: it is one run, and the two bytes before it are its own head, its type and its length
 pub record Announced (s : List ℕ) (p : Part) (i : Identifier) : Type 0 where
@@ -137,8 +143,8 @@ pub record Announced (s : List ℕ) (p : Part) (i : Identifier) : Type 0 where
   pub kind : p .kind ≡ reportedOf (getD s (i .start - 2) 0)
   pub len : i .len ≡ getD s (i .start - 1) 0
 
--- A MID whose bytes start at `base` of the section: its bytes are one run; it is accepted; each of its parts, at every level, is what its own head announces;
--- and the direct parts of each MID in it, heads included, cover that MID once.
+-- A MID of the section: its bytes are one run; it is accepted; each of its parts, at every level, is what its own head announces; and the direct parts of
+-- each MID in it, heads included, cover that MID once, and no other cutting does.
 pub record Unsplit (s : List ℕ) (mid : Identifier) : Type 0 where
   pub unbroken : OneRun s mid
   pub accepted : upidOf 13 (mid .bytes) .read ≡ UpidRead.Fine 13

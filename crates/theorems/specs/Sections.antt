@@ -2,7 +2,7 @@
 use Prim.Native.Nat.{ℕ}
 use mathlib.Core.List.{List, [], _∷_, _++_}
 use mathlib.Core.Path.{_≡_}
-use lib.ListN.{length, getD}
+use lib.ListN.{getD}
 use Rattle.crc.specs.Crc.{crcOf}
 use Rattle.section.specs.Section.{commandLength, sectionOf}
 use Rattle.section.specs.declared.Section.{Section}
