@@ -1,0 +1,9 @@
+pub mod RowsHold
+pub mod FixedAnswers
+pub mod Framed
+pub mod Runs
+pub mod Upids
+pub mod Items
+pub mod Sections
+pub mod Worked
+pub mod Theorems

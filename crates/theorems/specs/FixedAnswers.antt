@@ -1,0 +1,18 @@
+-- What it means that a contract fixes the answer. Document 01, "Fixed answers": "Every public function's contract determines the answer and the target's later
+-- bytes on each input, refusals too; any pair of answers satisfying it is proved equal". These are definitions.
+--
+-- `Asked` and `Learnt` of a function are its contract: what its `requires` asks of the arguments, and what its `ensures` says of the arguments, the answer
+-- and the parameters at exit. The checker makes both of the clauses in the source, and a caller's proof rests on them.
+use mathlib.Core.Path.{_≡_}
+
+-- K are the lifetimes of a signature; A, R and E its arguments, its answer, and its parameters at exit.
+module _ {K : Type 0} {A R E : K → Type 0} (asked : (κ : K) → A κ → Type 0) (learnt : (κ : K) → A κ → R κ → E κ → Type 0) where
+  -- The function takes any arguments; and what is seen of the answer and of the parameters at exit is the same in any two that its contract allows.
+  pub record FixedIn {S : Type 0} (see : (κ : K) → R κ → E κ → S) : Type 0 where
+    pub takes-any : (κ : K) (a : A κ) → asked κ a
+    pub seen : (κ : K) (a : A κ) (x y : R κ) (e f : E κ) → learnt κ a x e → learnt κ a y f → see κ x e ≡ see κ y f
+
+  -- the same of the answer itself
+  pub record Fixed : Type 0 where
+    pub takes-any : (κ : K) (a : A κ) → asked κ a
+    pub one-answer : (κ : K) (a : A κ) (x y : R κ) (e f : E κ) → learnt κ a x e → learnt κ a y f → x ≡ y

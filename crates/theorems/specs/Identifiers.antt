@@ -1,0 +1,152 @@
+-- The identifiers of an accepted section, and what it means that each is one unbroken run of it. These are definitions.
+use Prim.Native.Nat.{ℕ, _+_, _-_, _≤_}
+use mathlib.Core.Bool.{cond}
+use mathlib.Core.List.{List, [], _∷_, _++_, map}
+use mathlib.Core.Path.{_≡_}
+use lib.Dec.{eqb}
+use lib.ListN.{length, take, drop, getD}
+use Rattle.command.specs.declared.SpliceCommand.{SpliceCommand}
+use Rattle.descriptor.specs.Segmentation as table
+use Rattle.descriptor.specs.Segmentation.{frontOf}
+use Rattle.descriptor.specs.Whole.{besideOf}
+use Rattle.descriptor.specs.declared.Descriptor.{Descriptor}
+use Rattle.descriptor.specs.declared.segmentation.SegmentationDetail.{SegmentationDetail}
+use Rattle.descriptor.specs.declared.segmentation.SegmentationUpid.{SegmentationUpid}
+use Rattle.items.specs.Items.{Listed, itemsOf}
+use Rattle.items.specs.Place.{viewsOf}
+use Rattle.items.specs.declared.Item.{Item}
+use Rattle.section.specs.declared.Section.{Section}
+use Rattle.table.specs.Bits.{bitsOf}
+use Rattle.table.specs.Lent.{viewed}
+use Rattle.table.specs.Table.{Answer, got, short, parse}
+use Rattle.table.specs.declared.View.{View}
+use Rattle.upid.specs.Cover.{All, Covered, whole}
+use Rattle.upid.specs.Upid.{upidOf, partsIn, reportedOf}
+use Rattle.upid.specs.declared.Part.{Part}
+use Rattle.upid.specs.declared.UpidRead.{UpidRead}
+
+-- ---- an identifier
+
+-- where it starts in the section, how many bytes it has, and the bytes that are handed back for it
+pub record Identifier : Type 0 where
+  pub start : ℕ
+  pub len : ℕ
+  pub bytes : List ℕ
+
+-- it lies in the section whole, and its bytes are those of the section from its start on
+pub record OneRun (s : List ℕ) (i : Identifier) : Type 0 where
+  pub inside : i .start + i .len ≤ length s
+  pub run : i .bytes ≡ take (i .len) (drop (i .start) s)
+
+-- what a view of the section hands back
+abbrev pub inSection : List ℕ → View → Identifier
+inSection s v = record { start = v .at; len = v .len; bytes = viewed s v }
+
+-- what a view of lent bytes hands back, where these start at byte `base` of the section
+abbrev pub inLent : ℕ → List ℕ → View → Identifier
+inLent base lent v = record { start = base + v .at; len = v .len; bytes = viewed lent v }
+
+-- ---- of an item: the loop is lent, and starts at byte `base` of the section
+
+-- a segmentation descriptor's UPID
+abbrev pub detailUpids : SegmentationDetail → List SegmentationUpid
+detailUpids SegmentationDetail.Cancel = []
+detailUpids (SegmentationDetail.Insert i) = i .«segmentation_upid» ∷ []
+
+abbrev pub descriptorUpids : Descriptor → List SegmentationUpid
+descriptorUpids (Descriptor.Avail x) = []
+descriptorUpids (Descriptor.Dtmf x) = []
+descriptorUpids (Descriptor.Segmentation x) = detailUpids (x .«descriptor_detail»)
+descriptorUpids (Descriptor.Time x) = []
+descriptorUpids (Descriptor.Reserved tag bytes) = []
+
+abbrev pub upidsOf : Item → List SegmentationUpid
+upidsOf Item.End = []
+upidsOf (Item.Refused r) = []
+upidsOf (Item.Is d) = descriptorUpids d
+
+-- the parts of a UPID, at every level: where it is no MID there are none
+abbrev pub partView : Part → View
+partView p = record { at = p .start; len = p .len }
+
+abbrev pub partsOf : ℕ → List ℕ → SegmentationUpid → List Identifier
+partsOf base loop u = map (λ (p : Part). inLent (base + u .bytes .at) (viewed loop (u .bytes)) (partView p)) (partsIn (upidOf (u .kind) (viewed loop (u .bytes))))
+
+-- the payload of an item behind its head and identifier, as it is handed to its reader
+abbrev pub payloadOf : List ℕ → Listed → List ℕ
+payloadOf loop x = take (x .used - 6) (drop (x .offset + 6) loop)
+
+-- where the UPID that is written in a segmentation descriptor's payload starts
+abbrev pub upidStart : Answer table.Segmentation → ℕ
+upidStart (got x at) = frontOf (x .descriptor .«descriptor_detail») .«segmentation_upid» .bytes .at
+upidStart (short expected actual) = 0
+
+-- "The EIDR identifier of 12 bytes is held by value"
+abbrev pub eidrOf : ℕ → List ℕ → Listed → Identifier
+eidrOf base loop x = record {
+  start = base + (x .offset + 6 + upidStart (parse table.segmentation (bitsOf (payloadOf loop x)) 0));
+  len = 12;
+  bytes = besideOf (payloadOf loop x) .eidr;
+}
+
+abbrev pub eidrsOf : ℕ → List ℕ → Listed → SegmentationUpid → List Identifier
+eidrsOf base loop x u = cond (eqb (u .kind) 10) (eidrOf base loop x ∷ []) []
+
+-- "identifier of 4", which stands beside a reserved descriptor
+abbrev pub besidesOf : ℕ → ℕ → List ℕ → Item → List Identifier
+besidesOf base offset id Item.End = []
+besidesOf base offset id (Item.Refused r) = []
+besidesOf base offset id (Item.Is (Descriptor.Avail x)) = []
+besidesOf base offset id (Item.Is (Descriptor.Dtmf x)) = []
+besidesOf base offset id (Item.Is (Descriptor.Segmentation x)) = []
+besidesOf base offset id (Item.Is (Descriptor.Time x)) = []
+besidesOf base offset id (Item.Is (Descriptor.Reserved tag bytes)) = record { start = base + (offset + 2); len = 4; bytes = id } ∷ []
+
+abbrev pub each : {A B : Type 0} → (A → List B) → List A → List B
+each f [] = []
+each f (x ∷ xs) = f x ++ each f xs
+
+-- DTMF characters, a UPID, private bytes, the text of refusal 24; every part of a MID; an EIDR; the identifier of a reserved descriptor
+abbrev pub identifiersOfItem : ℕ → List ℕ → Listed → List Identifier
+identifiersOfItem base loop x =
+    map (inLent base loop) (viewsOf (x .step .item))
+    ++ (each (λ (u : SegmentationUpid). partsOf base loop u ++ eidrsOf base loop x u) (upidsOf (x .step .item))
+    ++ besidesOf base (x .offset) (x .step .identifier) (x .step .item))
+
+-- ---- of a section
+
+abbrev pub loopIn : List ℕ → Section → List ℕ
+loopIn s x = viewed s (x .descriptors)
+
+abbrev pub identifiersOfCommand : List ℕ → SpliceCommand → List Identifier
+identifiersOfCommand s (SpliceCommand.PrivateCommand p) = inSection s (p .«private_bytes») ∷ []
+identifiersOfCommand s SpliceCommand.SpliceNull = []
+identifiersOfCommand s (SpliceCommand.SpliceInsert i) = []
+identifiersOfCommand s (SpliceCommand.TimeSignal t) = []
+identifiersOfCommand s SpliceCommand.BandwidthReservation = []
+
+unfoldable pub identifiersOf : List ℕ → Section → List Identifier
+identifiersOf s x = identifiersOfCommand s (x .command) ++ each (identifiersOfItem (x .descriptors .at) (loopIn s x)) (itemsOf (loopIn s x))
+
+-- ---- the MIDs of a section
+
+abbrev pub midOf : ℕ → List ℕ → SegmentationUpid → List Identifier
+midOf base loop u = cond (eqb (u .kind) 13) (inLent base loop (u .bytes) ∷ []) []
+
+unfoldable pub midsOf : List ℕ → Section → List Identifier
+midsOf s x = each (λ (y : Listed). each (midOf (x .descriptors .at) (loopIn s x)) (upidsOf (y .step .item))) (itemsOf (loopIn s x))
+
+-- a part of a MID, in the section: it is one run, and the two bytes before it are its own head, its type and its length
+pub record Announced (s : List ℕ) (p : Part) (i : Identifier) : Type 0 where
+  pub unbroken : OneRun s i
+  pub behind : 2 ≤ i .start
+  pub kind : p .kind ≡ reportedOf (getD s (i .start - 2) 0)
+  pub len : i .len ≡ getD s (i .start - 1) 0
+
+-- A MID of the section: its bytes are one run; it is accepted; each of its parts, at every level, is what its own head announces; and the direct parts of
+-- each MID in it, heads included, cover that MID once, and no other cutting does.
+pub record Unsplit (s : List ℕ) (mid : Identifier) : Type 0 where
+  pub unbroken : OneRun s mid
+  pub accepted : upidOf 13 (mid .bytes) .read ≡ UpidRead.Fine 13
+  pub parts : All (λ (p : Part). Announced s p (inLent (mid .start) (mid .bytes) (partView p))) (partsIn (upidOf 13 (mid .bytes)))
+  pub covered : All (λ (m : Part). m .kind ≡ 13 → Covered (mid .bytes) (partsIn (upidOf 13 (mid .bytes))) m) (whole (mid .bytes) ∷ partsIn (upidOf 13 (mid .bytes)))
