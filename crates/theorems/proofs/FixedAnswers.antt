@@ -1,4 +1,4 @@
--- Every public function's contract fixes its answer, and asks nothing of the caller (specs/FixedAnswers.antt): a line for each of the 60. Assumes nothing.
+-- Every public function's contract fixes its answer, and asks nothing of the caller (specs/FixedAnswers.antt): a line for each. Assumes nothing.
 -- A slice that is handed back is fixed in its bytes, and not in its address: `view`, `bytes-of`, `loop-of`, `private-bytes-of`. A store has no answer: its
 -- target's later bytes are fixed, `put-byte`, `put-number`, `put-bytes`. The programs' `list_input` has no answer and no target, and no line: it prints.
 use mathlib.Core.Path.{_≡_, refl, sym, _∙_}
@@ -58,16 +58,22 @@ use Rattle.descriptor.proofs.plain.read_reserved.Reads as read-reserved
 use Rattle.descriptor.proofs.segmentation.read_segmentation.Reads as read-segmentation
 use Rattle.descriptor.proofs.whole.read_beside.Reads as read-beside
 use Rattle.descriptor.proofs.whole.read_whole.Reads as read-whole
+use Rattle.descriptor.proofs.whole.blank_beside.Reads as blank-beside
+use Rattle.descriptor.proofs.whole.beside_of.Reads as beside-of
+use Rattle.descriptor.proofs.whole.identifier_of.Reads as identifier-of
 use Rattle.items.proofs.iteration.step.Reads as step
 use Rattle.items.proofs.iteration.count_items.Reads as count-items
 use Rattle.items.proofs.place.view_of.Reads as view-of
 use Rattle.items.proofs.place.bytes_of.Reads as bytes-of
+use Rattle.items.proofs.reading.read_item.Reads as read-item
 use Rattle.command.proofs.read_command.Reads as read-command
 use Rattle.command.proofs.insert.read_insert.Reads as read-insert
 use Rattle.command.proofs.components.read_components.Reads as read-components
+use Rattle.command.proofs.components.blanks.Reads as blank-components
 use Rattle.section.proofs.read_section.Reads as read-section
 use Rattle.section.proofs.loop_of.Reads as loop-of
 use Rattle.section.proofs.private_bytes_of.Reads as private-bytes-of
+use Rattle.section.proofs.whole.read_whole_section.Reads as read-whole-section
 use Rattle.theorems.specs.FixedAnswers.{Fixed, FixedIn}
 
 -- ---- an answer is known by what it tells
@@ -251,6 +257,15 @@ read-beside-is-fixed = record { takes-any = λ κ a. tt; one-answer = λ κ a x 
 pub read-whole-is-fixed : Fixed read-whole.Asked read-whole.Learnt
 read-whole-is-fixed = record { takes-any = λ κ a. tt; one-answer = λ κ a x y e f p q. p ∙ sym q }
 
+pub blank-beside-is-fixed : Fixed blank-beside.Asked blank-beside.Learnt
+blank-beside-is-fixed = record { takes-any = λ κ a. tt; one-answer = λ κ a x y e f p q. p ∙ sym q }
+
+pub beside-of-is-fixed : Fixed beside-of.Asked beside-of.Learnt
+beside-of-is-fixed = record { takes-any = λ κ a. tt; one-answer = λ κ a x y e f p q. p ∙ sym q }
+
+pub identifier-of-is-fixed : Fixed identifier-of.Asked identifier-of.Learnt
+identifier-of-is-fixed = record { takes-any = λ κ a. tt; one-answer = λ κ a x y e f p q. p ∙ sym q }
+
 -- ---- items
 
 pub step-is-fixed : Fixed step.Asked step.Learnt
@@ -265,6 +280,9 @@ view-of-is-fixed = record { takes-any = λ κ a. tt; one-answer = λ κ a x y e 
 pub bytes-of-is-fixed : FixedIn bytes-of.Asked bytes-of.Learnt (λ κ answer after. now answer)
 bytes-of-is-fixed = record { takes-any = λ κ a. tt; seen = λ κ a x y e f p q. p ∙ sym q }
 
+pub read-item-is-fixed : Fixed read-item.Asked read-item.Learnt
+read-item-is-fixed = record { takes-any = λ κ a. tt; one-answer = λ κ a x y e f p q. p ∙ sym q }
+
 -- ---- command
 
 pub read-command-is-fixed : Fixed read-command.Asked read-command.Learnt
@@ -276,6 +294,9 @@ read-insert-is-fixed = record { takes-any = λ κ a. tt; one-answer = λ κ a x 
 pub read-components-is-fixed : Fixed read-components.Asked read-components.Learnt
 read-components-is-fixed = record { takes-any = λ κ a. tt; one-answer = λ κ a x y e f p q. p ∙ sym q }
 
+pub blank-components-is-fixed : Fixed blank-components.Asked blank-components.Learnt
+blank-components-is-fixed = record { takes-any = λ κ a. tt; one-answer = λ κ a x y e f p q. p ∙ sym q }
+
 -- ---- section
 
 pub read-section-is-fixed : Fixed read-section.Asked read-section.Learnt
@@ -286,3 +307,6 @@ loop-of-is-fixed = record { takes-any = λ κ a. tt; seen = λ κ a x y e f p q.
 
 pub private-bytes-of-is-fixed : FixedIn private-bytes-of.Asked private-bytes-of.Learnt (λ κ answer after. now answer)
 private-bytes-of-is-fixed = record { takes-any = λ κ a. tt; seen = λ κ a x y e f p q. p ∙ sym q }
+
+pub read-whole-section-is-fixed : Fixed read-whole-section.Asked read-whole-section.Learnt
+read-whole-section-is-fixed = record { takes-any = λ κ a. tt; one-answer = λ κ a x y e f p q. p ∙ sym q }

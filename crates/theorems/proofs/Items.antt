@@ -24,14 +24,14 @@ use Rattle.upid.specs.declared.Part.{Part}
 use Rattle.upid.specs.declared.UpidRead.the-variants.{Fine}
 use Rattle.descriptor.specs.Descriptor.{reportedUpid}
 use Rattle.descriptor.specs.Segmentation.{segmentation}
-use Rattle.descriptor.specs.Whole.{besideOf}
+use Rattle.descriptor.specs.Whole.{besideOf, identifierRead}
 use Rattle.descriptor.specs.declared.Descriptor.{Descriptor}
 use Rattle.descriptor.specs.declared.DescriptorRead.{DescriptorRead}
 use Rattle.descriptor.specs.declared.segmentation.SegmentationDetail.{SegmentationDetail}
 use Rattle.descriptor.specs.declared.segmentation.SegmentationUpid.{SegmentationUpid}
 use Rattle.items.proofs.Places.{all-into, all-map}
 use Rattle.items.proofs.Steps.{Clause, long, ended, last, small, entire}
-use Rattle.items.specs.Items.{itemAt, identifierWith, readAt, wholeAt}
+use Rattle.items.specs.Items.{itemAt, readAt, wholeAt}
 use Rattle.items.specs.Place.{moved, movedUpid, movedDetail, movedDescriptor}
 use Rattle.items.specs.declared.Step.{Step}
 use Rattle.theorems.specs.Identifiers.{Identifier, OneRun, inLent, detailUpids, descriptorUpids, upidsOf, partView, upidStart, besidesOf, Announced, Unsplit}
@@ -193,7 +193,7 @@ module _ (s : List ℕ) (i : Identifier) (r : OneRun s i) where
   four offset = take 4 (drop (offset + 2) (i .bytes))
 
   beside-read : (base offset : ℕ) → offset + 6 ≤ length (i .bytes) → (d : DescriptorRead)
-      → All (OneRun s) (besidesOf (i .start) offset (identifierWith (four offset) d) (itemAt base d))
+      → All (OneRun s) (besidesOf (i .start) offset (identifierRead d (four offset)) (itemAt base d))
   beside-read base offset h (DescriptorRead.Is (Descriptor.Avail x)) = none
   beside-read base offset h (DescriptorRead.Is (Descriptor.Dtmf x)) = none
   beside-read base offset h (DescriptorRead.Is (Descriptor.Segmentation x)) = none
