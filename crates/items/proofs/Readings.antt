@@ -2,13 +2,13 @@
 --     payload-there    the payload of a descriptor lies in the loop
 --     reading-is       the answer
 --     reading-whole    it is the whole descriptor that tag, identifier and payload make
-use Prim.Native.Nat.{ℕ, _+_, _-_, _≤_, _<_}
-use mathlib.Core.Path.{_≡_, refl, sym, ap, subst, _∙_}
+use Prim.Native.Nat.{ℕ, _+_, _-_, _≤_}
+use mathlib.Core.Path.{_≡_, refl, sym, subst}
 use mathlib.Core.List.{List}
 use native.Mathlib.Omega.{arith}
 use lib.ListN.{length, take, drop, getD}
 use Rattle.table.proofs.Lists.{zero-one}
-use Rattle.descriptor.specs.Whole.{besideRead, identifierRead, wholeOf}
+use Rattle.descriptor.specs.Whole.{besideRead, wholeOf}
 use Rattle.descriptor.specs.declared.Descriptor.{Descriptor}
 use Rattle.descriptor.specs.declared.Descriptor.the-variants.{Avail, Dtmf, Segmentation, Time, Reserved}
 use Rattle.descriptor.specs.declared.DescriptorRead.{DescriptorRead}

@@ -1,8 +1,8 @@
 -- 01, "Worked rows": "Sections with right CRC and command length 0: 18 and 19 bytes give 8; 20 with loop length 0 and command type 0 is accepted."
 -- Stated of every such section, and of one of each length; then a full reading.
-use Prim.Native.Nat.{ℕ, _+_, _*_, _-_, _%_, _^_, _≤_}
+use Prim.Native.Nat.{ℕ, _%_, _^_, _≤_}
 use mathlib.Core.List.{List, [], _∷_}
-use mathlib.Core.Path.{_≡_, refl, ap, sym, _∙_}
+use mathlib.Core.Path.{_≡_, refl, ap, sym}
 use native.Mathlib.Omega.{arith}
 use lib.ListN.{length, getD, drop, replicate, length-drop}
 use Rattle.crc.specs.Crc.{crcOf, messageBits, bits, crcBits, crcBit}
