@@ -1,11 +1,13 @@
 -- The splice header: what the reader answers, and its laws as a structure.
-use Prim.Native.Nat.{ℕ, _+_, _*_, _%_, _^_, _<_, _≤_}
+use Prim.Native.Nat.{ℕ, _+_, _*_, _/_, _%_, _^_, _<_, _≤_}
 use mathlib.Core.Bool.{Bool, true, false, _&&_}
 use mathlib.Core.List.{List, [], _∷_, _++_}
 use mathlib.Core.Path.{_≡_, refl, ap, ap₂, sym, _∙_}
+use native.Mathlib.Nat.{add-zero}
 use native.Mathlib.Omega.{arith}
 use lib.Dec.{eqb}
-use lib.ListN.{length}
+use lib.ListN.{length, getD}
+use lib.Pow.{high, low}
 use Rattle.names.specs.Algorithm.{algorithmNumber, algorithmOf, fairAlgorithm}
 use Rattle.names.specs.Command.{commandNumber, commandOf}
 use Rattle.names.specs.declared.algorithm.EncryptionAlgorithm.{EncryptionAlgorithm}
@@ -15,10 +17,12 @@ use Rattle.names.proofs.Commands.{command-laws}
 use Rattle.table.specs.Bits.{bitsOf, field, AllBytes}
 use Rattle.table.specs.Table.{number, bit, Answer, got, short, parse, canonical}
 use Rattle.table.specs.Writing.{Same, made, make}
+use Rattle.table.proofs.Bits.{length-bits}
+use Rattle.table.proofs.Fields.{field-in, field-add}
 use Rattle.table.proofs.Laws.{Tells}
 use Rattle.table.proofs.Leading.{Leads, leads-done, leads-number, leads-flag}
 use Rattle.table.proofs.Lists.{and-true}
-use Rattle.table.proofs.Reading.{field-exact}
+use Rattle.table.proofs.Reading.{field-exact, field-lt}
 use Rattle.table.proofs.Steps.{takes-number, takes-flag, reads-number, reads-flag}
 use Rattle.table.proofs.Structure as laws
 use Rattle.table.proofs.Telling.{tells-number, tells-flag}
@@ -132,6 +136,27 @@ header-refused s h = refused (parse spliceHeader (bitsOf s) 0) (λ y m e. too-sh
 pub header-there : (s : List ℕ) → 11 ≤ length s → (x : SpliceInfoHeader) × (headerOf s ≡ Header x)
 unfolding headerOf headerRead
 header-there s h = (_, ap headerRead (header-got s h))
+
+-- the first bit of a byte, and the six after it
+module _ (s : List ℕ) (i x : ℕ) (there : i < length s) (is : x ≡ getD s i 0) (byte : x < 256) where
+  pub flag-of : x / 128 ≡ field (bitsOf s) (i * 8) 1
+  flag-of =
+      let e : getD s i 0 / 2 ^ 7 % 2 ^ 1 ≡ x / 128 = omega arith in
+      sym (ap (λ (p : ℕ). field (bitsOf s) p 1) (sym (add-zero (i * 8))) ∙ field-in s i there (rw (← is) byte) 0 1 7 refl ∙ e)
+
+  pub algorithm-of : x / 2 % 64 ≡ field (bitsOf s) (i * 8 + 1) 6
+  algorithm-of = ap (λ (y : ℕ). y / 2 % 64) is ∙ sym (field-in s i there (rw (← is) byte) 1 6 1 refl)
+
+-- the first m bits of a number of m + k, and the last k
+module _ (s : List ℕ) (at m k v : ℕ) (small : m + k ≤ 64) (there : at + m + k ≤ length s * 8) (is : v ≡ field (bitsOf s) at (m + k) % 2 ^ 64) where
+  parts : v ≡ field (bitsOf s) at m * 2 ^ k + field (bitsOf s) (at + m) k
+  parts = is ∙ field-exact s at (m + k) small ∙ field-add (bitsOf s) at m k (rw (length-bits s) there)
+
+  pub high-part : v / 2 ^ k ≡ field (bitsOf s) at m
+  high-part = ap (λ (x : ℕ). x / 2 ^ k) parts ∙ high (field (bitsOf s) at m) k (field-lt s (at + m) k)
+
+  pub low-part : v % 2 ^ k ≡ field (bitsOf s) (at + m) k
+  low-part = ap (λ (x : ℕ). x % 2 ^ k) parts ∙ low (field (bitsOf s) at m) k (field-lt s (at + m) k)
 
 -- what the reader's numbers say
 module _ (s : List ℕ) (v₁ v₂ v₃ v₄ v₅ v₆ v₇ v₈ : ℕ) (a : EncryptionAlgorithm) (t : SpliceCommandType) where

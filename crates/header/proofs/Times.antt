@@ -1,13 +1,14 @@
 -- splice_time(): what a reader answers, and its laws as a structure.
-use Prim.Native.Nat.{ℕ, _+_, _*_, _%_, _^_, _<_, _≤_}
+use Prim.Native.Nat.{ℕ, _+_, _*_, _-_, _/_, _%_, _^_, _<_, _≤_}
 use mathlib.Core.Bool.{Bool, true, false}
 use mathlib.Core.List.{List, [], _∷_, _++_}
 use mathlib.Core.Path.{_≡_, refl, ap, sym, _∙_}
-use native.Mathlib.Nat.{zero-add}
+use native.Mathlib.Nat.{zero-add, add-zero}
 use native.Mathlib.Omega.{arith}
-use lib.ListN.{length}
+use lib.Dec.{eqb}
+use lib.ListN.{length, getD}
 use borrow.Author.Tests.{lt-ltb, le-ltb}
-use Rattle.table.specs.Bits.{pick, bitsOf, AllBytes}
+use Rattle.table.specs.Bits.{pick, bitsOf, field, AllBytes}
 use Rattle.table.specs.Cursor.{place, cursorAt, takenOf, flaggedOf, skippedOf}
 use Rattle.table.specs.Table.{Table, done, number, bit, reserved, uimsbf, ones, Answer, got, short, parse, canonical}
 use Rattle.table.specs.Writing.{Same, made, make}
@@ -19,10 +20,12 @@ use Rattle.table.specs.declared.cursor.Short.{Short}
 use Rattle.table.specs.declared.cursor.Skipped.{Skipped}
 use Rattle.table.specs.declared.cursor.Taken.{Taken}
 use Rattle.table.proofs.Cursors.{goes-flag, stops-flag, goes-ones, stops-ones, goes-number, stops-number}
+use Rattle.table.proofs.Fields.{field-in}
 use Rattle.table.proofs.Laws.{Tells}
 use Rattle.table.proofs.Leading.{Leads, leads-done, leads-number, leads-flag, leads-ones}
 use Rattle.table.proofs.Lists.{zero-one}
 use Rattle.table.proofs.Steppings.{Settled, place-of, settled-at, taken-got, skipped-got}
+use Rattle.table.proofs.Steps.{takes-number, lacks-number, takes-flag, lacks-flag, takes-ones}
 use Rattle.table.proofs.Structure as laws
 use Rattle.table.proofs.Telling.{tells-number, tells-either, tells-ones}
 use Rattle.header.specs.Time.{spliceTime, specified, ticks, notImmediate, timeRead, adjustedOf}
@@ -86,6 +89,49 @@ module _ (s : List ℕ) (at : ℕ) where
       pub unspecified : (c : Cursor) → Skipped.Got c ≡ skippedOf (parse (reserved 7) (bitsOf s) (place (f .next)))
           → TimeRead.Got (record { time = Unspecified; next = c }) ≡ timeRead (parse spliceTime (bitsOf s) at)
       unspecified c e = time-got _ Unspecified c (skipped-got _ c e .1) (flagged false off ∙ goes-ones s _ 7 _ c e)
+
+-- ---- a time that starts with byte i
+pub at-byte : (s : List ℕ) (c : Cursor) (r : TimeRead) → c .bit ≡ 0 → r ≡ timeRead (parse spliceTime (bitsOf s) (c .byte * 8)) → r ≡ timeRead (parse spliceTime (bitsOf s) (place c))
+unfolding place
+at-byte s c r z e = rw (z, add-zero (c .byte * 8)) e
+
+module _ (s : List ℕ) (i : ℕ) where
+  pub none-left : length s ≤ i → TimeRead.Lacks (record { expected = 0; actual = 0 }) ≡ timeRead (parse spliceTime (bitsOf s) (i * 8))
+  unfolding spliceTime
+  none-left h =
+      let z : (length s * 8 - i * 8) / 8 ≡ 0 = omega arith in
+      time-lacks _ _ (lacks-flag s (i * 8) _ _ (omega arith) ∙ ap (short 0) z)
+
+  module _ (there : i < length s) (byte : getD s i 0 < 256) where
+    first : field (bitsOf s) (i * 8) 1 ≡ getD s i 0 / 128 % 2
+    first = ap (λ (p : ℕ). field (bitsOf s) p 1) (sym (add-zero (i * 8))) ∙ field-in s i there byte 0 1 7 refl
+
+    pub whole-unspecified : getD s i 0 < 128 → TimeRead.Got (record { time = Unspecified; next = record { byte = i + 1; bit = 0 } }) ≡ timeRead (parse spliceTime (bitsOf s) (i * 8))
+    unfolding spliceTime timeRead cursorAt
+    whole-unspecified h =
+        let z : getD s i 0 / 128 % 2 ≡ 0 = omega arith in
+        let b : (i * 8 + 1 + 7) / 8 ≡ i + 1 = omega arith in
+        let c : (i * 8 + 1 + 7) % 8 ≡ 0 = omega arith in
+        rw (takes-flag s (i * 8) false _ _ (omega arith) (ap (λ (x : ℕ). eqb x 1) (first ∙ z)), takes-ones s (i * 8 + 1) 7 (done Unspecified) (omega arith), b, c)
+
+    module _ (on : 128 ≤ getD s i 0) where
+      set : eqb (field (bitsOf s) (i * 8) 1) 1 ≡ true
+      set = let z : getD s i 0 / 128 % 2 ≡ 1 = omega arith in ap (λ (x : ℕ). eqb x 1) (first ∙ z)
+
+      pub whole-short : (n : ℕ) → n ≡ length s - i → n < 5 → TimeRead.Lacks (record { expected = 4; actual = n - 1 }) ≡ timeRead (parse spliceTime (bitsOf s) (i * 8))
+      unfolding spliceTime timeRead
+      whole-short n e h =
+          let z : (length s * 8 - (i * 8 + 1 + 6)) / 8 ≡ n - 1 = omega arith in
+          rw (takes-flag s (i * 8) true _ _ (omega arith) set, takes-ones s (i * 8 + 1) 6 _ (omega arith), lacks-number s (i * 8 + 1 + 6) 33 ticks (λ t. done (At t)) (omega arith), z)
+
+      pub whole-at : (v : ℕ) → v ≡ field (bitsOf s) (i * 8 + 7) 33 → i + 5 ≤ length s
+          → TimeRead.Got (record { time = At v; next = record { byte = i + 5; bit = 0 } }) ≡ timeRead (parse spliceTime (bitsOf s) (i * 8))
+      unfolding spliceTime timeRead cursorAt
+      whole-at v e h =
+          let p : i * 8 + 1 + 6 ≡ i * 8 + 7 = omega arith in
+          let b : (i * 8 + 1 + 6 + 33) / 8 ≡ i + 5 = omega arith in
+          let c : (i * 8 + 1 + 6 + 33) % 8 ≡ 0 = omega arith in
+          rw (takes-flag s (i * 8) true _ _ (omega arith) set, takes-ones s (i * 8 + 1) 6 _ (omega arith), takes-number s (i * 8 + 1 + 6) 33 v ticks (λ t. done (At t)) (omega arith) (e ∙ ap (λ (x : ℕ). field (bitsOf s) x 33) (sym p)), b, c)
 
 -- ---- the structure
 -- from any bit on, at which a byte begins

@@ -3,8 +3,9 @@ ghost use mathlib.Core.Path.{_≡_};
 ghost use Rattle.header.specs.Header.{headerOf};
 use names::algorithm::EncryptionAlgorithm;
 use names::command::SpliceCommandType;
-use table::numbers::bits;
+use table::numbers::big_endian;
 use table::numbers::time33;
+use table::numbers::wide;
 
 pub struct SpliceInfoHeader {
     pub protocol_version: u8,
@@ -30,14 +31,15 @@ pub fn read_header(s: &[u8]) -> HeaderRead
     if s.len() < 11 {
         return HeaderRead::TooShort;
     }
+    let flags = wide(s[1]);
     HeaderRead::Header(SpliceInfoHeader {
-        protocol_version: bits(s, 0, 0, 8) as u8,
-        encrypted_packet: bits(s, 1, 0, 1) == 1,
-        encryption_algorithm: EncryptionAlgorithm::from_id(bits(s, 1, 1, 6) as u8),
+        protocol_version: s[0],
+        encrypted_packet: flags / 128 == 1,
+        encryption_algorithm: EncryptionAlgorithm::from_id((flags / 2 % 64) as u8),
         pts_adjustment: time33(s, 1),
-        cw_index: bits(s, 6, 0, 8) as u8,
-        tier: bits(s, 7, 0, 12) as u16,
-        splice_command_length: bits(s, 8, 4, 12) as u16,
-        splice_command_type: SpliceCommandType::from_id(bits(s, 10, 0, 8) as u8),
+        cw_index: s[6],
+        tier: (big_endian(s, 7, 2) / 16) as u16,
+        splice_command_length: (big_endian(s, 8, 2) % 4096) as u16,
+        splice_command_type: SpliceCommandType::from_id(s[10]),
     })
 }

@@ -1,5 +1,6 @@
 // splice_time() and the adjusted time.
 ghost use mathlib.Core.Path.{_≡_};
+ghost use Prim.Native.Nat.{_*_};
 ghost use Rattle.header.specs.Time.{spliceTime, timeRead, adjustedOf};
 ghost use Rattle.table.specs.Bits.{bitsOf};
 ghost use Rattle.table.specs.Cursor.{place};
@@ -9,6 +10,7 @@ use table::cursor::Flagged;
 use table::cursor::Short;
 use table::cursor::Skipped;
 use table::cursor::Taken;
+use table::numbers::time33;
 
 // When a splice takes place: at once, at a time that is not specified, or at a time in ticks of 90 kHz.
 pub enum SpliceTime {
@@ -28,10 +30,48 @@ pub enum TimeRead {
     Lacks(Short),
 }
 
+// The splice_time() that starts with a byte, as all of the standard's do.
+fn read_whole_time(s: &[u8], at: usize) -> TimeRead
+    ensures { λ r. ⌜ r ≡ timeRead (parse spliceTime (bitsOf (now (s .entry))) (at * 8)) ⌝ }
+{
+    if s.len() <= at {
+        return TimeRead::Lacks(Short {
+            expected: 0,
+            actual: 0,
+        });
+    }
+    if s[at] < 128 {
+        return TimeRead::Got(Timed {
+            time: SpliceTime::Unspecified,
+            next: Cursor {
+                byte: at + 1,
+                bit: 0,
+            },
+        });
+    }
+    let left = s.len() - at;
+    if left < 5 {
+        return TimeRead::Lacks(Short {
+            expected: 4,
+            actual: left - 1,
+        });
+    }
+    TimeRead::Got(Timed {
+        time: SpliceTime::At(time33(s, at)),
+        next: Cursor {
+            byte: at + 5,
+            bit: 0,
+        },
+    })
+}
+
 // The splice_time() from a cursor on.
 pub fn read_splice_time(s: &[u8], c: Cursor) -> TimeRead
     ensures { λ r. ⌜ r ≡ timeRead (parse spliceTime (bitsOf (now (s .entry))) (place c)) ⌝ }
 {
+    if c.bit == 0 {
+        return read_whole_time(s, c.byte);
+    }
     let specified = match c.flag(s) {
         Flagged::Got(f) => f,
         Flagged::Lacks(e) => return TimeRead::Lacks(e),

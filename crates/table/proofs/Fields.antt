@@ -74,7 +74,7 @@ field-end bs a m k h =
 
 module _ (s : List ℕ) (q : ℕ) (inside : q < length s) (byte : getD s q 0 < 256) where
   -- a whole byte
-  byte-field : field (bitsOf s) (q * 8) 8 ≡ getD s q 0
+  pub byte-field : field (bitsOf s) (q * 8) 8 ≡ getD s q 0
   byte-field =
       ap (λ (l : List ℕ). num 0 (take 8 l)) (bits-from q s ∙ ap bitsOf (drop-cons s q 0 inside))
       ∙ num-byte 0 (getD s q 0) [] byte ∙ omega arith

@@ -53,22 +53,6 @@ field-none s at w h = sym (ap (field (bitsOf s) at) (sym (zero-add w)) ∙ field
 pub last-bit : (s : List ℕ) (i : ℕ) → i < length s → getD s i 0 < 256 → getD s i 0 % 2 ≡ field (bitsOf s) (i * 8 + 7) 1
 last-bit s i h b = sym (field-in s i h b 7 1 0 refl ∙ ap (λ (x : ℕ). x % 2) (div-one (getD s i 0)))
 
--- seven bits of a byte behind a number, and then the eighth
-pub seven-bits : (v x : ℕ) → (((((((v * 2 + x / 128) * 2 + x / 64 % 2) * 2 + x / 32 % 2) * 2 + x / 16 % 2) * 2 + x / 8 % 2) * 2 + x / 4 % 2) * 2 + x / 2 % 2) ≡ v * 128 + x / 2
-seven-bits v x =
-    let a : (v * 2 + x / 128) * 2 + x / 64 % 2 ≡ v * 4 + x / 64 = omega arith in
-    let b : (v * 4 + x / 64) * 2 + x / 32 % 2 ≡ v * 8 + x / 32 = omega arith in
-    let c : (v * 8 + x / 32) * 2 + x / 16 % 2 ≡ v * 16 + x / 16 = omega arith in
-    let d : (v * 16 + x / 16) * 2 + x / 8 % 2 ≡ v * 32 + x / 8 = omega arith in
-    let e : (v * 32 + x / 8) * 2 + x / 4 % 2 ≡ v * 64 + x / 4 = omega arith in
-    rw (a, b, c, d, e) (omega arith)
-
-pub eight-bits : (v w x : ℕ) → w ≡ v * 128 + x / 2 → w * 2 + x % 2 ≡ v * 256 + x
-eight-bits v w x e = omega arith
-
-pub bits-fit : (v w x : ℕ) → w ≡ v * 128 + x / 2 → v < 2 ^ 56 → x < 256 → (w * 2 < 2 ^ 64) × (w * 2 + x % 2 < 2 ^ 64)
-bits-fit v w x e h l = (omega arith, omega arith)
-
 -- a mask of n bits, as code works it out
 pub mask : (n : ℕ) → n ≤ 8 → 1 * 2 ^ n % 2 ^ 64 ≡ 2 ^ n
 mask n h =

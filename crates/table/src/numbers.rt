@@ -70,20 +70,12 @@ pub fn big_endian(s: &[u8], at: usize, n: usize) -> u64
     v
 }
 
-// A byte's bits behind those of v, one after the other.
+// A byte behind the bits of v.
 fn with_byte(v: u64, b: u8) -> u64
     requires { ⌜ v < 2 ^ 56 ⌝ }
     ensures { λ r. ⌜ r ≡ v * 256 + b ⌝ }
 {
-    let x = wide(b);
-    let v1 = v * 2 + x / 128;
-    let v2 = v1 * 2 + x / 64 % 2;
-    let v3 = v2 * 2 + x / 32 % 2;
-    let v4 = v3 * 2 + x / 16 % 2;
-    let v5 = v4 * 2 + x / 8 % 2;
-    let v6 = v5 * 2 + x / 4 % 2;
-    let v7 = v6 * 2 + x / 2 % 2;
-    v7 * 2 + x % 2
+    v * 256 + wide(b)
 }
 
 // The 33 bits that start in the last bit of a byte, as the standard's times do.
