@@ -1,0 +1,61 @@
+// A section: header, command, and the place of its descriptor loop.
+use crate::FlatView;
+use crate::commands::FlatCommand;
+use crate::commands::flat_command;
+use crate::commands::no_command;
+use crate::flat_view;
+use crate::headers::FlatHeader;
+use crate::headers::flat_header;
+use crate::headers::no_header;
+use section::Refusal;
+use section::Section;
+use section::SectionRead;
+
+#[repr(C)]
+pub struct FlatSection {
+    pub refusal: u64,
+    pub header: FlatHeader,
+    pub command: FlatCommand,
+    pub descriptors: FlatView,
+}
+
+// Document 01's number.
+fn number(r: Refusal) -> u64 {
+    match r {
+        Refusal::TooShort => 1,
+        Refusal::TooLong => 2,
+        Refusal::OtherTable => 3,
+        Refusal::WrongCrc => 4,
+        Refusal::NoHeader => 5,
+        Refusal::Encrypted => 6,
+        Refusal::CommandTooLong => 7,
+        Refusal::NoLoopLength => 8,
+        Refusal::LoopTooLong => 9,
+        Refusal::UnknownCommand => 10,
+        Refusal::MalformedCommand => 11,
+    }
+}
+
+pub fn flat_section(x: Section) -> FlatSection {
+    let header = x.header;
+    let command = x.command;
+    let descriptors = x.descriptors;
+    FlatSection {
+        refusal: 0,
+        header: flat_header(header),
+        command: flat_command(command),
+        descriptors: flat_view(descriptors),
+    }
+}
+
+pub fn flat_section_read(read: SectionRead) -> FlatSection {
+    match read {
+        SectionRead::Is(x) => flat_section(x),
+        SectionRead::Refused(r) => FlatSection {
+            refusal: number(r),
+            header: no_header(0),
+            command: no_command(0, 0),
+            descriptors: FlatView { at: 0, len: 0 },
+        },
+    }
+}
