@@ -19,6 +19,7 @@ fn upid_type(t: c::SegmentationUpidType) -> u8 {
     id_of(&t, c::SegmentationUpidType::from_type)
 }
 
+#[allow(dead_code)] // a header is read by the unchanged crate only
 pub fn header(h: &c::SpliceInfoHeader<'_>) -> Header {
     Header {
         protocol_version: h.protocol_version(),

@@ -213,7 +213,8 @@ pub fn segmentation(rng: &mut Rng) -> Vec<u8> {
     let mut bits = bits.flag(program).flag(lasts).put(6, rng.number(6));
     let mut room = 230;
     if !program {
-        let count = rng.below(if rng.one_in(8) { 39 } else { 5 });
+        let most = if rng.one_in(8) { 38 } else { 4 };
+        let count = rng.between(0, most);
         room -= 6 * count;
         bits = bits.put(8, count as u64);
         for _ in 0..count {
