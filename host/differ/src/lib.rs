@@ -6,5 +6,6 @@ pub mod make;
 pub mod ours;
 pub mod rng;
 pub mod run;
+pub mod say;
 pub mod smallest;
 pub mod theirs;

@@ -300,3 +300,18 @@ pub fn damaged(rng: &mut Rng, mut bytes: Vec<u8>) -> Vec<u8> {
     }
     bytes
 }
+
+/// A damaged copy with a right CRC: the lengths, the type and the encrypted bit more often than the rest.
+pub fn refitted(rng: &mut Rng, mut section: Vec<u8>) -> Vec<u8> {
+    let loop_at = 14 + (usize::from(section[11] & 15) << 8 | usize::from(section[12]));
+    match rng.below(8) {
+        0 => section[4] |= 0x80,
+        1 => section[12] = section[12].wrapping_add(rng.pick(&[1, 2, 255, 254])),
+        2 => section[loop_at + 1] = section[loop_at + 1].wrapping_add(rng.pick(&[1, 2, 255, 254])),
+        3 => section[13] = rng.byte(),
+        4 => section[11] ^= 1 << rng.below(4),
+        5 => section.truncate(rng.below(section.len() + 1)),
+        _ => section = damaged(rng, section),
+    }
+    closed_again(section)
+}
