@@ -98,20 +98,20 @@ impl Run {
             (Section::Accepted { header: h, command: c, items: x }, Section::Accepted { header: i, command: d, items: y })
                 if h == i && c == d && x.len() == y.len() =>
             {
-                self.items_of(descriptors, x, y, data);
+                self.items_of(descriptors, x, y, "section", data);
             }
             _ => self.judged(None, || format!("section {}", hex(data)), &mine, &their),
         }
     }
 
     /// The items of two lists that differ, each by itself.
-    fn items_of(&mut self, descriptors: &[u8], mine: &[Item], their: &[Item], data: &[u8]) {
+    fn items_of(&mut self, descriptors: &[u8], mine: &[Item], their: &[Item], what: &str, data: &[u8]) {
         let mut offset = 0;
         for (x, y) in mine.iter().zip(their) {
             let next = theirs::step(descriptors, offset, false).next;
             if x != y {
                 let entry = differences::of_item(&descriptors[offset..next], x, y);
-                self.judged(entry, || format!("item at {offset} of the loop of section {}", hex(data)), x, y);
+                self.judged(entry, || format!("item at {offset} of the loop of {what} {}", hex(data)), x, y);
             }
             offset = next;
         }
@@ -136,7 +136,7 @@ impl Run {
         if data.len() <= 4076 {
             let (mine, their) = (ours::items(data), theirs::items(data, false));
             if mine.len() == their.len() {
-                self.items_of(data, &mine, &their, data);
+                self.items_of(data, &mine, &their, "the null section around", data);
             } else {
                 self.judged(None, || format!("items of the loop {}", hex(data)), &mine, &their);
             }
