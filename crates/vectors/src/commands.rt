@@ -1,4 +1,8 @@
 // The header and the command of a section.
+use crate::say::bytes;
+use crate::say::flag;
+use crate::say::time;
+use crate::say::value;
 use command::SpliceCommand;
 use command::components::ComponentSplice;
 use command::components::read_components;
@@ -7,10 +11,6 @@ use command::insert::Insert;
 use command::insert::Insertion;
 use command::insert::SpliceInsert;
 use command::insert::SpliceMode;
-use crate::say::bytes;
-use crate::say::flag;
-use crate::say::time;
-use crate::say::value;
 use header::header::SpliceInfoHeader;
 use section::private_bytes_of;
 use table::View;

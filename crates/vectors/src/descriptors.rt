@@ -52,7 +52,12 @@ fn item(lent: &[u8], offset: usize, t: Step) {
         },
         Item::Is(d) => {
             let identifier = t.identifier;
-            descriptor(d, bytes_of(lent, it), payload(lent, offset, t.next), identifier);
+            descriptor(
+                d,
+                bytes_of(lent, it),
+                payload(lent, offset, t.next),
+                identifier,
+            );
         }
     }
 }

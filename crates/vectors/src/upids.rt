@@ -22,7 +22,10 @@ pub fn upid(kind: u8, lent: &[u8]) {
             }
         }
         UpidRead::Refused(r) => {
-            if let Refusal::NotText { kind: _, bytes: place } = r {
+            if let Refusal::NotText {
+                kind: _,
+                bytes: place,
+            } = r {
                 refused(r, view(lent, place));
             } else {
                 refused(r, lent);

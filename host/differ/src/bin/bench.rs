@@ -1,5 +1,5 @@
-//! bench SIDE HEX TURNS: one section, read that many times with all its items. SIDE: `here` (the C functions), `api` (the Rust interface over
-//! them), `section` (the C function of a section alone), `crate`. Prints nanoseconds a turn, the best of seven rounds. `host/bench` counts the
+//! bench SIDE HEX TURNS ROUNDS: one section, read that many times with all its items. SIDE: `here` (the C functions), `api` (the Rust interface
+//! over them), `section` (the C function of a section alone), `crate`. Prints nanoseconds a turn, of the best round. `host/bench` counts the
 //! instructions of the function `bench_SIDE` and of what it calls.
 use mpeg2ts_reader::psi::{SectionCommonHeader, WholeCompactSyntaxPayloadParser};
 use std::hint::black_box;
@@ -75,8 +75,9 @@ fn main() {
     };
     let section = differ::answer::unhex(&words[2]);
     let turns: u32 = words[3].parse().expect("a number of turns");
+    let rounds: u32 = words[4].parse().expect("a number of rounds");
     let mut best = f64::MAX;
-    for _ in 0..7 {
+    for _ in 0..rounds {
         let start = Instant::now();
         for _ in 0..turns {
             black_box(side)(black_box(&section));
