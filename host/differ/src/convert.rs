@@ -53,9 +53,7 @@ pub fn command(x: &c::SpliceCommand) -> Command {
     match x {
         c::SpliceCommand::SpliceNull {} => Command::Null,
         c::SpliceCommand::BandwidthReservation {} => Command::Bandwidth,
-        c::SpliceCommand::PrivateCommand { identifier, private_bytes } => {
-            Command::Private { identifier: *identifier, bytes: private_bytes.clone() }
-        }
+        c::SpliceCommand::PrivateCommand { identifier, private_bytes } => Command::Private { identifier: *identifier, bytes: private_bytes.clone() },
         c::SpliceCommand::TimeSignal { splice_time } => Command::TimeSignal(time(splice_time)),
         c::SpliceCommand::SpliceInsert { splice_event_id, reserved, splice_detail } => {
             Command::Insert { event: *splice_event_id, reserved: *reserved, detail: insert(splice_detail) }
@@ -72,9 +70,9 @@ fn insert(x: &c::SpliceInsert) -> Option<Insert> {
         out: matches!(network_indicator, c::NetworkIndicator::Out),
         mode: match splice_mode {
             c::SpliceMode::Program(t) => SpliceMode::Program(time(t)),
-            c::SpliceMode::Components(list) => SpliceMode::Components(
-                list.iter().map(|x| (number(x, "component_tag") as u8, time_value(&field(x, "splice_time")))).collect(),
-            ),
+            c::SpliceMode::Components(list) => {
+                SpliceMode::Components(list.iter().map(|x| (number(x, "component_tag") as u8, time_value(&field(x, "splice_time")))).collect())
+            }
         },
         duration: duration.as_ref().map(|d| (field(d, "return_mode") == "Automatic", number(d, "duration"))),
         program_id: *unique_program_id,
@@ -91,9 +89,7 @@ pub fn refusal(e: &c::SpliceDescriptorErr) -> Refusal {
         InvalidDescriptorLength(n) => unreachable!("an item refused for its length {n}"),
         SegmentationUpidLengthTypeMismatch(_) => Refusal::Untyped,
         InvalidUpidContent { upid_type: t, bytes } => Refusal::NotText { kind: upid_type(*t), bytes: bytes.clone() },
-        InvalidUpidLength { upid_type: t, expected, actual } => {
-            Refusal::WrongLength { kind: upid_type(*t), expected: *expected, actual: *actual }
-        }
+        InvalidUpidLength { upid_type: t, expected, actual } => Refusal::WrongLength { kind: upid_type(*t), expected: *expected, actual: *actual },
     }
 }
 
@@ -212,9 +208,7 @@ fn segmentation(x: &c::SegmentationDescriptor, mended: bool) -> Option<Segmentat
         type_id: id_of(segmentation_type_id, c::SegmentationTypeId::from_id),
         segment: *segment_num,
         expected: *segments_expected,
-        sub_segments: sub_segments
-            .as_ref()
-            .map(|s| (number(s, "sub_segment_num") as u8, number(s, "sub_segments_expected") as u8)),
+        sub_segments: sub_segments.as_ref().map(|s| (number(s, "sub_segment_num") as u8, number(s, "sub_segments_expected") as u8)),
     })
 }
 

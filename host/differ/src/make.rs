@@ -181,7 +181,8 @@ fn other(rng: &mut Rng, room: usize) -> (u8, Vec<u8>) {
 
 // A URL, one in the form that the URL parser gives it or in another.
 fn address(rng: &mut Rng, room: usize) -> Vec<u8> {
-    const ADDRESSES: [&str; 8] = ["HTTP://A", "http://a/", "urn:uuid:f81d4fae", "a:", "A:", "http://a/../b?c d#e", "x://[::0]:80/", "http://b\u{fc}cher/"];
+    const ADDRESSES: [&str; 8] =
+        ["HTTP://A", "http://a/", "urn:uuid:f81d4fae", "a:", "A:", "http://a/../b?c d#e", "x://[::0]:80/", "http://b\u{fc}cher/"];
     let chosen = rng.pick(&ADDRESSES).as_bytes();
     chosen[..if chosen.len() > room { 0 } else { chosen.len() }].to_vec()
 }

@@ -28,12 +28,8 @@ fn command_of(c: scte35::SpliceCommand<'_>) -> Command {
         scte35::SpliceCommand::SpliceNull => Command::Null,
         scte35::SpliceCommand::BandwidthReservation => Command::Bandwidth,
         scte35::SpliceCommand::TimeSignal(t) => Command::TimeSignal(time(t)),
-        scte35::SpliceCommand::PrivateCommand { identifier, private_bytes } => {
-            Command::Private { identifier, bytes: private_bytes.to_vec() }
-        }
-        scte35::SpliceCommand::SpliceInsert(i) => {
-            Command::Insert { event: i.splice_event_id, reserved: i.reserved, detail: i.detail.map(insert) }
-        }
+        scte35::SpliceCommand::PrivateCommand { identifier, private_bytes } => Command::Private { identifier, bytes: private_bytes.to_vec() },
+        scte35::SpliceCommand::SpliceInsert(i) => Command::Insert { event: i.splice_event_id, reserved: i.reserved, detail: i.detail.map(insert) },
     }
 }
 
@@ -42,9 +38,7 @@ fn insert(x: scte35::InsertDetail) -> Insert {
         out: x.network_indicator == scte35::NetworkIndicator::Out,
         mode: match x.splice_mode {
             scte35::SpliceMode::Program(t) => SpliceMode::Program(time(t)),
-            scte35::SpliceMode::Components(list) => {
-                SpliceMode::Components(list.iter().map(|c| (c.component_tag, time(c.splice_time))).collect())
-            }
+            scte35::SpliceMode::Components(list) => SpliceMode::Components(list.iter().map(|c| (c.component_tag, time(c.splice_time))).collect()),
         },
         duration: x.duration.map(|d| (d.return_mode == scte35::ReturnMode::Automatic, d.duration)),
         program_id: x.unique_program_id,
@@ -66,7 +60,9 @@ fn refusal(r: ItemRefusal<'_>) -> Refusal {
 
 fn upid_of(u: scte35::Upid<'_>) -> Upid {
     let parts = match &u {
-        scte35::Upid::Mid(mid) => mid.parts.iter().map(|p| Part { kind: p.kind.id(), level: p.level, start: p.start, length: p.bytes.len() }).collect(),
+        scte35::Upid::Mid(mid) => {
+            mid.parts.iter().map(|p| Part { kind: p.kind.id(), level: p.level, start: p.start, length: p.bytes.len() }).collect()
+        }
         _ => vec![],
     };
     Upid { kind: u.kind().id(), length: u.bytes().len(), bytes: u.bytes().to_vec(), parts }
@@ -80,9 +76,7 @@ fn item(x: Result<SpliceDescriptor<'_>, ItemRefusal<'_>>) -> Item {
         Ok(SpliceDescriptor::Time { tai_seconds, tai_nanoseconds, utc_offset }) => {
             Item::Time { seconds: tai_seconds, nanoseconds: tai_nanoseconds, offset: utc_offset }
         }
-        Ok(SpliceDescriptor::Reserved { tag, identifier, private_bytes }) => {
-            Item::Reserved { tag, identifier, bytes: private_bytes.to_vec() }
-        }
+        Ok(SpliceDescriptor::Reserved { tag, identifier, private_bytes }) => Item::Reserved { tag, identifier, bytes: private_bytes.to_vec() },
         Ok(SpliceDescriptor::Segmentation { segmentation_event_id, detail }) => {
             Item::Segmentation { event: segmentation_event_id, detail: detail.map(segmentation) }
         }

@@ -77,10 +77,18 @@ fn empty_sections() -> bool {
 pub fn rows() -> Vec<Row> {
     std::panic::set_hook(Box::new(|_| {}));
     let rows = vec![
-        (1, "type 9, 80: the crate refuses 24 (9, 80), here its one byte; no lesser byte", upid(1, 9, &[0x80], taken(9, &[0x80]), not_text(9, &[0x80])) && first_refused()),
+        (
+            1,
+            "type 9, 80: the crate refuses 24 (9, 80), here its one byte; no lesser byte",
+            upid(1, 9, &[0x80], taken(9, &[0x80]), not_text(9, &[0x80])) && first_refused(),
+        ),
         (2, "type 15, 00: the crate refuses 24 (15, 00), here its one byte", upid(2, 15, &[0], taken(15, &[0]), not_text(15, &[0]))),
         (2, "MID 0F 00: the crate refuses 24 (15, no bytes), here a part of no bytes", empty_uri_in_a_mid()),
-        (3, "type 15, \"A:\": the crate keeps \"a:\", and no shorter or lesser text is changed", upid(3, 15, b"A:", taken(15, b"A:"), taken(15, b"a:")) && first_changed()),
+        (
+            3,
+            "type 15, \"A:\": the crate keeps \"a:\", and no shorter or lesser text is changed",
+            upid(3, 15, b"A:", taken(15, b"A:"), taken(15, b"a:")) && first_changed(),
+        ),
         (3, "type 15, \"HTTP://A\": the crate keeps \"http://a/\"", upid(3, 15, b"HTTP://A", taken(15, b"HTTP://A"), taken(15, b"http://a/"))),
         (4, "type 6, 12 bytes of 0: the crate's length function says 8, here 12", isan()),
         (5, "a header of no bytes: the crate panics, here refusal 5", ours::header(&[]).is_none() && panics(|| theirs::header(&[]))),

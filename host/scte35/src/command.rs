@@ -92,10 +92,7 @@ fn mode(m: &raw::Mode, lent: &[u8], at: usize) -> SpliceMode {
         return SpliceMode::Components(vec![]);
     }
     let list = raw::insert_components(lent, at);
-    let component = |c: &raw::ComponentSplice| ComponentSplice {
-        component_tag: c.component_tag as u8,
-        splice_time: SpliceTime::of(&c.splice_time),
-    };
+    let component = |c: &raw::ComponentSplice| ComponentSplice { component_tag: c.component_tag as u8, splice_time: SpliceTime::of(&c.splice_time) };
     SpliceMode::Components(list.components[..list.count as usize].iter().map(component).collect())
 }
 

@@ -102,10 +102,8 @@ fn detail<'a>(s: &raw::Segmentation, bytes: &'a [u8], lent: &[u8], offset: usize
         archive_allowed: s.delivery_restrictions.archive_allowed_flag == 1,
         device_restrictions: DeviceRestrictions::ALL[s.delivery_restrictions.device_restrictions as usize],
     };
-    let sub_segments = || SubSegments {
-        sub_segment_num: s.sub_segments.sub_segment_num as u8,
-        sub_segments_expected: s.sub_segments.sub_segments_expected as u8,
-    };
+    let sub_segments =
+        || SubSegments { sub_segment_num: s.sub_segments.sub_segment_num as u8, sub_segments_expected: s.sub_segments.sub_segments_expected as u8 };
     SegmentationDetail {
         delivery_restrictions: (s.delivery_not_restricted_flag == 0).then(restrictions),
         components: (s.program_segmentation_flag == 0).then(|| components(s.component_count, lent, offset)),

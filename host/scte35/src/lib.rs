@@ -23,9 +23,7 @@ mod upid;
 pub use command::{read_command, ComponentSplice, InsertDetail, SpliceCommand, SpliceDuration, SpliceInsert, SpliceMode};
 pub use flags::{DeviceRestrictions, NetworkIndicator, ReturnMode};
 pub use header::{read_header, SpliceInfoHeader, SpliceTime};
-pub use items::{
-    step, DeliveryRestrictions, Items, ModeComponent, SegmentationDetail, SpliceDescriptor, SpliceDescriptors, Step, SubSegments,
-};
+pub use items::{step, DeliveryRestrictions, Items, ModeComponent, SegmentationDetail, SpliceDescriptor, SpliceDescriptors, Step, SubSegments};
 pub use names::{EncryptionAlgorithm, SegmentationTypeId, SegmentationUpidType, SpliceCommandType};
 pub use refusal::{HeaderTooShort, ItemRefusal, NotInField, SectionRefusal, TimeTooLarge};
 pub use upid::{read_upid, Mid, Part, Upid};

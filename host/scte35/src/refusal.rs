@@ -43,13 +43,23 @@ impl SectionRefusal {
 pub enum ItemRefusal<'a> {
     /// a loop over 4,076 bytes, a UPID over 255
     TooLong,
-    NotEnoughData { expected: usize, actual: usize },
+    NotEnoughData {
+        expected: usize,
+        actual: usize,
+    },
     /// 255, and it fits
     InvalidDescriptorLength,
     /// bytes that are said to be of type 0
     UntypedBytes,
-    NotText { kind: SegmentationUpidType, bytes: &'a [u8] },
-    WrongLength { kind: SegmentationUpidType, expected: usize, actual: usize },
+    NotText {
+        kind: SegmentationUpidType,
+        bytes: &'a [u8],
+    },
+    WrongLength {
+        kind: SegmentationUpidType,
+        expected: usize,
+        actual: usize,
+    },
 }
 
 impl ItemRefusal<'_> {

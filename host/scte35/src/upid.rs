@@ -7,11 +7,17 @@ use crate::refusal::ItemRefusal;
 pub enum Upid<'a> {
     None,
     /// ISCI, Ad-ID and TID
-    Text { kind: SegmentationUpidType, text: &'a str },
+    Text {
+        kind: SegmentationUpidType,
+        text: &'a str,
+    },
     Eidr([u8; 12]),
     Mid(Mid<'a>),
     /// all others; an ISAN has 8 bytes or 12
-    Bytes { kind: SegmentationUpidType, bytes: &'a [u8] },
+    Bytes {
+        kind: SegmentationUpidType,
+        bytes: &'a [u8],
+    },
 }
 
 /// Several identifiers in one: `parts` in byte order, each before those inside it.

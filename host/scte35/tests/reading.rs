@@ -173,3 +173,23 @@ fn numbers() {
     assert_eq!(NetworkIndicator::from_flag(2), Err(NotInField(2)));
     assert_eq!(ReturnMode::from_flag(1), Ok(ReturnMode::Automatic));
 }
+
+/// The C functions take an offset: what stands before it is not read, and views count from it.
+#[test]
+fn offsets() {
+    let sample = unhex("FC302F000000000000FFFFF014054800008F7FEFFE7369C02EFE0052CCF500000000000A0008435545490000013562DBA30A");
+    for before in [0, 1, 3, 5000] {
+        let long = [vec![0x55; before], sample.clone()].concat();
+        assert_eq!(raw::section(&long, before), raw::section(&sample, 0));
+        assert_eq!(raw::header(&long, before + 3), raw::header(&sample[3..], 0));
+        assert_eq!(raw::command(5, &long, before + 14), raw::command(5, &sample[14..], 0));
+        assert_eq!(raw::insert_components(&long, before + 14), raw::insert_components(&sample[14..], 0));
+        assert_eq!(raw::upid(13, &long, before + 40), raw::upid(13, &sample[40..], 0));
+        assert_eq!(raw::crc(&long, before), 0);
+        for past in [long.len(), long.len() + 1, usize::MAX] {
+            assert_eq!(raw::section(&long, past), raw::section(&[], 0));
+            assert_eq!(raw::upid(13, &long, past), raw::upid(13, &[], 0));
+            assert_eq!(raw::crc(&long, past), 0xFFFF_FFFF);
+        }
+    }
+}

@@ -41,7 +41,11 @@ fn main() {
     println!("levels of a MID: {}", run.levels);
     fine &= run.levels == 128;
     let inputs: u64 = run.inputs.values().sum();
-    println!("seed {seed}: {inputs} inputs, {} differences, {} of them named in docs/DIFFERENCES.md", run.unnamed + run.named.values().sum::<u64>(), run.named.values().sum::<u64>());
+    println!(
+        "seed {seed}: {inputs} inputs, {} differences, {} of them named in docs/DIFFERENCES.md",
+        run.unnamed + run.named.values().sum::<u64>(),
+        run.named.values().sum::<u64>()
+    );
     if !fine || run.unnamed > 0 {
         std::process::exit(1);
     }

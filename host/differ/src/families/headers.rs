@@ -71,7 +71,13 @@ fn classes(run: &mut Run, n: u8) {
 }
 
 /// A flag: the crate panics where the port refuses.
-fn flagged<T: Debug>(run: &mut Run, what: &'static str, n: u8, mine: Result<impl Debug, scte35::NotInField>, their: impl FnOnce() -> T + std::panic::UnwindSafe) {
+fn flagged<T: Debug>(
+    run: &mut Run,
+    what: &'static str,
+    n: u8,
+    mine: Result<impl Debug, scte35::NotInField>,
+    their: impl FnOnce() -> T + std::panic::UnwindSafe,
+) {
     let their = catch_unwind(their);
     let entry = (mine.is_err() && their.is_err()).then_some(6);
     let mine = mine.map_or_else(|_| "refused".to_string(), |x| format!("{x:?}"));
