@@ -1,7 +1,7 @@
 // What the readers say of the inputs of standard input, one to a line in hexadecimal: its first byte is 1 for a section, 2 for a loop,
 // 3 for a UPID (its type follows). The file `stdout` is what scte35-reader 0.16.0 says of them, every field of every answer, so that running this
 // program compares the two. `host/vectors` makes both files; every refusal of a reader and every kind of item is among the inputs, and
-// those are left out whose answers differ as docs/DIFFERENCES.md says in 1 to 3.
+// those are left out whose answers differ as docs/DIFFERENCES.md says in 1 to 3. Refusals 1 and 2, which the crate does not have, are as the rules say.
 ghost use Prim.Native.Nat.{_<_};
 use section::Refusal;
 use section::SectionRead;
