@@ -1,7 +1,6 @@
 // The C boundary: include/scte35.h declares these functions. Each takes bytes and an offset, reads what stands from there to the end (nothing where the
 // offset lies past it), and answers a struct of 64-bit words. Views count from the offset; those of a loop's items, from the loop's first byte.
 use command::components::read_components;
-use command::insert::read_insert;
 use command::read_command;
 use crc::crc32;
 use descriptor::Descriptor;
@@ -62,7 +61,7 @@ pub extern "C" fn scte35_command(kind: u8, s: &[u8], at: usize) -> FlatCommand {
 #[no_mangle]
 pub extern "C" fn scte35_insert_components(s: &[u8], at: usize) -> FlatSplices {
     let payload = rest(s, at);
-    flat_splices(read_insert(payload), read_components(payload))
+    flat_splices(read_command(5, payload), read_components(payload))
 }
 
 // The item at an offset of a loop.
