@@ -1,16 +1,12 @@
-use Rattle.flat.specs.FlatCommand.{bareInsert}
+-- `flat::commands::bare_insert` meets its contract. Assumes nothing.
 use borrow.Author.Needs.{needs}
+use Rattle.flat.specs.FlatCommand.{bareInsert}
 use Rattle.flat.proofs.commands.bare_insert.Statement.{statement}
 use Rattle.flat.proofs.commands.bare_insert.Tie as tie
-use Rattle.flat.proofs.commands.bare_insert.Reads as reads
-use Rattle.flat.proofs.commands.bare_insert.Lts as lts
-use Rattle.flat.proofs.commands.flat_break.Reads as flat-break-reads
 
--- src/commands.rt:107:25
 flat-break-requires : tie.Need-flat-break-requires
 flat-break-requires c κs = search needs
 
--- src/commands.rt:94:1
 returns : tie.Need-returns
 unfolding bareInsert
 returns c = cc

@@ -1,33 +1,25 @@
-use Rattle.flat.specs.FlatCommand.{flatBreak}
+-- `flat::commands::flat_break` meets its contract. Assumes nothing.
 use borrow.Author.Needs.{needs}
+use Rattle.flat.specs.FlatCommand.{flatBreak}
 use Rattle.flat.proofs.commands.flat_break.Statement.{statement}
 use Rattle.flat.proofs.commands.flat_break.Tie as tie
-use Rattle.flat.proofs.commands.flat_break.Reads as reads
-use Rattle.flat.proofs.commands.flat_break.Lts as lts
-use Rattle.names.proofs.flags.ReturnMode.flag.Reads as flag-reads
 
--- src/commands.rt:77:26
 enum-told : tie.Need-enum-told
 enum-told c = search needs
 
--- src/commands.rt:82:22
 enum-known-b : tie.Need-enum-known-b
 enum-known-b c = search needs
 
--- src/commands.rt:86:30
 flag-requires : tie.Need-flag-requires
 flag-requires c κs = search needs
 
--- src/commands.rt:86:30
 cast-t6 : tie.Need-cast-t6
 cast-t6 c = search needs
 
--- src/commands.rt:73:1
 returns : tie.Need-returns
 unfolding flatBreak
 returns c = cc
 
--- src/commands.rt:73:1
 returns-2 : tie.Need-returns-2
 unfolding flatBreak
 returns-2 c = cc

@@ -1,48 +1,36 @@
+-- `flat::commands::flat_command_read` meets its contract. Assumes nothing.
 use mathlib.Core.Path.{_≡_, ap, sym, _∙_}
-use Rattle.flat.specs.FlatCommand.{flatCommandRead}
 use borrow.Author.Needs.{needs}
+use Rattle.flat.specs.FlatCommand.{flatCommandRead}
 use Rattle.flat.proofs.commands.flat_command_read.Statement.{statement}
 use Rattle.flat.proofs.commands.flat_command_read.Tie as tie
-use Rattle.flat.proofs.commands.flat_command_read.Reads as reads
-use Rattle.flat.proofs.commands.flat_command_read.Lts as lts
-use Rattle.flat.proofs.commands.flat_command.Reads as flat-command-reads
-use Rattle.flat.proofs.commands.no_command.Reads as no-command-reads
 
--- src/commands.rt:196:25
 enum-known-read : tie.Need-enum-known-read
 enum-known-read c = search needs
 
--- src/commands.rt:196:31
 flat-command-requires : tie.Need-flat-command-requires
 flat-command-requires c κs = search needs
 
--- src/commands.rt:197:37
 enum-told : tie.Need-enum-told
 enum-told c = search needs
 
--- src/commands.rt:197:37
 no-command-requires : tie.Need-no-command-requires
 no-command-requires c κs = search needs
 
--- src/commands.rt:198:35
 enum-told-2 : tie.Need-enum-told-2
 enum-told-2 c = search needs
 
--- src/commands.rt:198:35
 no-command-requires-2 : tie.Need-no-command-requires-2
 no-command-requires-2 c κs = search needs
 
--- src/commands.rt:192:1
 returns : tie.Need-returns
 unfolding flatCommandRead
 returns c = c .flat-command .ensures ∙ ap flatCommandRead (sym (c .before .before .read .given .1))
 
--- src/commands.rt:192:1
 returns-2 : tie.Need-returns-2
 unfolding flatCommandRead
 returns-2 c = c .no-command .ensures ∙ ap flatCommandRead (sym (c .before .enum-told .given .1))
 
--- src/commands.rt:192:1
 returns-3 : tie.Need-returns-3
 unfolding flatCommandRead
 returns-3 c = c .no-command2 .ensures ∙ ap flatCommandRead (sym (c .before .enum-told2 .given .1))

@@ -1,20 +1,15 @@
-use Rattle.flat.specs.FlatCommand.{flatComponent}
+-- `flat::components::flat_component` meets its contract. Assumes nothing.
 use borrow.Author.Needs.{needs}
+use Rattle.flat.specs.FlatCommand.{flatComponent}
 use Rattle.flat.proofs.components.flat_component.Statement.{statement}
 use Rattle.flat.proofs.components.flat_component.Tie as tie
-use Rattle.flat.proofs.components.flat_component.Reads as reads
-use Rattle.flat.proofs.components.flat_component.Lts as lts
-use Rattle.flat.proofs.flat_time.Reads as flat-time-reads
 
--- src/components.rt:30:24
 cast-t3 : tie.Need-cast-t3
 cast-t3 c = search needs
 
--- src/components.rt:31:22
 flat-time-requires : tie.Need-flat-time-requires
 flat-time-requires c κs = search needs
 
--- src/components.rt:25:1
 returns : tie.Need-returns
 unfolding flatComponent
 returns c = cc

@@ -1,11 +1,9 @@
+-- `flat::components::no_components` meets its contract. Assumes nothing.
 use mathlib.Core.Path.{refl}
 use Rattle.flat.specs.FlatCommand.{noComponents}
 use Rattle.flat.proofs.components.no_components.Statement.{statement}
 use Rattle.flat.proofs.components.no_components.Tie as tie
-use Rattle.flat.proofs.components.no_components.Reads as reads
-use Rattle.flat.proofs.components.no_components.Lts as lts
 
--- src/components.rt:35:1
 returns : tie.Need-returns
 unfolding noComponents
 returns c = refl

@@ -1,5 +1,3 @@
-use Prim.Native.Nat.{_≤_, _-_}
-use borrow.Author.Needs.{needs}
 use Rattle.flat_items.proofs.beside.flat_components.Statement.{statement}
 use Rattle.flat_items.proofs.beside.flat_components.Tie as tie
 use Rattle.flat_items.proofs.beside.flat_components.Reads as reads
@@ -8,54 +6,54 @@ use Rattle.flat_items.proofs.beside.flat_component.Reads as flat-compon
 use Rattle.flat_items.proofs.beside.no_components.Reads as no-components-reads
 
 abbrev Inv-loop : tie.InvT-loop
-Inv-loop cs out₀ i₀ out i = i ≤ 255
+Inv-loop cs out₀ i₀ out i = ?
 
 abbrev μ-loop : tie.MeasureT-loop
-μ-loop cs out₀ i₀ out i = 255 - i
+μ-loop cs out₀ i₀ out i = ?
 
--- src/beside.rt:41:19
+-- src/beside.rt:50:19
 no-components-requires : tie.Need-no-components-requires Inv-loop μ-loop
-no-components-requires c κs = search needs
+no-components-requires c κs = ?
 
--- src/beside.rt:43:5
+-- src/beside.rt:52:5
 loop-holds : tie.Need-loop-holds Inv-loop μ-loop
-loop-holds c = search needs
+loop-holds c = ?
 
--- src/beside.rt:44:17
+-- src/beside.rt:53:17
 mul-c : tie.Need-mul-c Inv-loop μ-loop
-mul-c c = search needs
+mul-c c = ?
 
--- src/beside.rt:44:17
+-- src/beside.rt:53:17
 array-copy-out-c : tie.Need-array-copy-out-c Inv-loop μ-loop
-array-copy-out-c c = search needs
+array-copy-out-c c = ?
 
--- src/beside.rt:45:18
+-- src/beside.rt:54:18
 flat-component-requires : tie.Need-flat-component-requires Inv-loop μ-loop
-flat-component-requires c κs = search needs
+flat-component-requires c κs = ?
 
--- src/beside.rt:45:9
+-- src/beside.rt:54:9
 mul-out : tie.Need-mul-out Inv-loop μ-loop
-mul-out c = search needs
+mul-out c = ?
 
--- src/beside.rt:45:9
+-- src/beside.rt:54:9
 array-set-from-out : tie.Need-array-set-from-out Inv-loop μ-loop
-array-set-from-out c = search needs
+array-set-from-out c = ?
 
--- src/beside.rt:46:9
+-- src/beside.rt:55:9
 add-i : tie.Need-add-i Inv-loop μ-loop
-add-i c = search needs
+add-i c = ?
 
--- src/beside.rt:43:5
+-- src/beside.rt:52:5
 loop-less : tie.Need-loop-less Inv-loop μ-loop
-loop-less c = search needs
+loop-less c = ?
 
--- src/beside.rt:43:5
+-- src/beside.rt:52:5
 loop-again : tie.Need-loop-again Inv-loop μ-loop
-loop-again c = search needs
+loop-again c = ?
 
--- src/beside.rt:40:1
+-- src/beside.rt:47:1
 returns : tie.Need-returns Inv-loop μ-loop
-returns c = search needs
+returns c = ?
 
 pub flat-components-spec : {M : Type 1} → statement M
 flat-components-spec =

@@ -1,5 +1,3 @@
-use Prim.Native.Nat.{_≤_, _-_}
-use borrow.Author.Needs.{needs}
 use Rattle.flat_items.proofs.upids.flat_parts.Statement.{statement}
 use Rattle.flat_items.proofs.upids.flat_parts.Tie as tie
 use Rattle.flat_items.proofs.upids.flat_parts.Reads as reads
@@ -8,54 +6,54 @@ use Rattle.flat_items.proofs.upids.flat_part.Reads as flat-part-reads
 use Rattle.flat_items.proofs.upids.no_parts.Reads as no-parts-reads
 
 abbrev Inv-loop : tie.InvT-loop
-Inv-loop ps out₀ i₀ out i = i ≤ 127
+Inv-loop ps out₀ i₀ out i = ?
 
 abbrev μ-loop : tie.MeasureT-loop
-μ-loop ps out₀ i₀ out i = 127 - i
+μ-loop ps out₀ i₀ out i = ?
 
--- src/upids.rt:47:19
+-- src/upids.rt:56:19
 no-parts-requires : tie.Need-no-parts-requires Inv-loop μ-loop
-no-parts-requires c κs = search needs
+no-parts-requires c κs = ?
 
--- src/upids.rt:49:5
+-- src/upids.rt:58:5
 loop-holds : tie.Need-loop-holds Inv-loop μ-loop
-loop-holds c = search needs
+loop-holds c = ?
 
--- src/upids.rt:50:17
+-- src/upids.rt:59:17
 mul-p : tie.Need-mul-p Inv-loop μ-loop
-mul-p c = search needs
+mul-p c = ?
 
--- src/upids.rt:50:17
+-- src/upids.rt:59:17
 array-copy-out-p : tie.Need-array-copy-out-p Inv-loop μ-loop
-array-copy-out-p c = search needs
+array-copy-out-p c = ?
 
--- src/upids.rt:51:18
+-- src/upids.rt:60:18
 flat-part-requires : tie.Need-flat-part-requires Inv-loop μ-loop
-flat-part-requires c κs = search needs
+flat-part-requires c κs = ?
 
--- src/upids.rt:51:9
+-- src/upids.rt:60:9
 mul-out : tie.Need-mul-out Inv-loop μ-loop
-mul-out c = search needs
+mul-out c = ?
 
--- src/upids.rt:51:9
+-- src/upids.rt:60:9
 array-set-from-out : tie.Need-array-set-from-out Inv-loop μ-loop
-array-set-from-out c = search needs
+array-set-from-out c = ?
 
--- src/upids.rt:52:9
+-- src/upids.rt:61:9
 add-i : tie.Need-add-i Inv-loop μ-loop
-add-i c = search needs
+add-i c = ?
 
--- src/upids.rt:49:5
+-- src/upids.rt:58:5
 loop-less : tie.Need-loop-less Inv-loop μ-loop
-loop-less c = search needs
+loop-less c = ?
 
--- src/upids.rt:49:5
+-- src/upids.rt:58:5
 loop-again : tie.Need-loop-again Inv-loop μ-loop
-loop-again c = search needs
+loop-again c = ?
 
--- src/upids.rt:46:1
+-- src/upids.rt:53:1
 returns : tie.Need-returns Inv-loop μ-loop
-returns c = search needs
+returns c = ?
 
 pub flat-parts-spec : {M : Type 1} → statement M
 flat-parts-spec =
