@@ -1,36 +1,29 @@
+-- `flat_items::steps::flat_step` meets its contract. Assumes nothing.
+use native.Mathlib.Omega.{arith}
 use borrow.Author.Needs.{needs}
+use Rattle.flat_items.specs.FlatItem.{flatStep}
+use Rattle.table.proofs.Reading.{bits-are}
 use Rattle.flat_items.proofs.steps.flat_step.Statement.{statement}
 use Rattle.flat_items.proofs.steps.flat_step.Tie as tie
-use Rattle.flat_items.proofs.steps.flat_step.Reads as reads
-use Rattle.flat_items.proofs.steps.flat_step.Lts as lts
-use Rattle.flat_items.proofs.descriptors.flat_item.Reads as flat-item-reads
-use Rattle.flat_items.proofs.steps.refusal_number.Reads as refusal-number-reads
-use Rattle.flat_items.proofs.steps.refusal_values.Reads as refusal-values-reads
-use Rattle.table.proofs.numbers.big_endian.Reads as big-endian-reads
 
--- src/steps.rt:48:18
 refusal-number-requires : tie.Need-refusal-number-requires
 refusal-number-requires c κs = search needs
 
--- src/steps.rt:49:17
 refusal-values-requires : tie.Need-refusal-values-requires
 refusal-values-requires c κs = search needs
 
--- src/steps.rt:51:32
 slice-aggregate-big-endian : tie.Need-slice-aggregate-big-endian
 slice-aggregate-big-endian c = search needs
 
--- src/steps.rt:51:21
 big-endian-requires : tie.Need-big-endian-requires
 big-endian-requires c κs = search needs
 
--- src/steps.rt:52:15
 flat-item-requires : tie.Need-flat-item-requires
 flat-item-requires c κs = search needs
 
--- src/steps.rt:42:1
 returns : tie.Need-returns
-returns c = ?
+unfolding flatStep
+returns c = rw (c .before .before .before .before .refusal-number .ensures, c .before .before .before .refusal-values .ensures, bits-are (c .before .before .before .before .before .before .args .s .identifier) 0 32 _ (omega arith) (c .before .big-endian .ensures) .0, c .flat-item .ensures)
 
 pub flat-step-spec : {M : Type 1} → statement M
 flat-step-spec =
