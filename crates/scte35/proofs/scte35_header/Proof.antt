@@ -1,27 +1,22 @@
+-- `scte35::scte35_header` meets its contract. Assumes nothing.
+use mathlib.Core.Path.{_≡_, ap, sym, _∙_}
 use borrow.Author.Needs.{needs}
+use Rattle.header.specs.Header.{headerOf}
+use Rattle.flat.specs.Flat.{flatHeaderRead}
 use Rattle.scte35.proofs.scte35_header.Statement.{statement}
 use Rattle.scte35.proofs.scte35_header.Tie as tie
-use Rattle.scte35.proofs.scte35_header.Reads as reads
-use Rattle.scte35.proofs.scte35_header.Lts as lts
-use Rattle.flat.proofs.headers.flat_header_read.Reads as flat-header-read-reads
-use Rattle.header.proofs.header.read_header.Reads as read-header-reads
-use Rattle.scte35.proofs.rest.Reads as rest-reads
 
--- src/lib.rt:62:34
 rest-requires : tie.Need-rest-requires
 rest-requires c κs = search needs
 
--- src/lib.rt:62:22
 read-header-requires : tie.Need-read-header-requires
 read-header-requires c κs = search needs
 
--- src/lib.rt:62:5
 flat-header-read-requires : tie.Need-flat-header-read-requires
 flat-header-read-requires c κs = search needs
 
--- src/lib.rt:58:1
 returns : tie.Need-returns
-returns c = ?
+returns c = c .flat-header-read .ensures ∙ ap flatHeaderRead (c .before .read-header .ensures ∙ ap headerOf (c .before .before .rest .ensures))
 
 pub scte35-header-spec : {M : Type 1} → statement M
 scte35-header-spec =

@@ -1,44 +1,34 @@
+-- `scte35::numbers::scte35_device_restrictions` meets its contract. Assumes nothing.
+use mathlib.Core.Path.{_≡_, ap, sym, _∙_}
 use borrow.Author.Needs.{needs}
+use Rattle.names.specs.Flags.{restrictionsBits, restrictionsAnswer}
+use Rattle.scte35.proofs.Names.{of-gives, of-refuses}
 use Rattle.scte35.proofs.numbers.scte35_device_restrictions.Statement.{statement}
 use Rattle.scte35.proofs.numbers.scte35_device_restrictions.Tie as tie
-use Rattle.scte35.proofs.numbers.scte35_device_restrictions.Reads as reads
-use Rattle.scte35.proofs.numbers.scte35_device_restrictions.Lts as lts
-use Rattle.names.proofs.flags.DeviceRestrictions.bits.Reads as bits-reads
-use Rattle.names.proofs.flags.DeviceRestrictions.from_bits.Reads as from-bits-reads
-use Rattle.scte35.proofs.numbers.classed.Reads as classed-reads
-use Rattle.scte35.proofs.numbers.refused.Reads as refused-reads
 
--- src/numbers.rt:116:11
 from-bits-requires : tie.Need-from-bits-requires
 from-bits-requires c κs = search needs
 
--- src/numbers.rt:117:30
 enum-known-x : tie.Need-enum-known-x
 enum-known-x c = search needs
 
--- src/numbers.rt:117:47
 bits-requires : tie.Need-bits-requires
 bits-requires c κs = search needs
 
--- src/numbers.rt:117:36
 classed-requires : tie.Need-classed-requires
 classed-requires c κs = search needs
 
--- src/numbers.rt:118:38
 enum-told : tie.Need-enum-told
 enum-told c = search needs
 
--- src/numbers.rt:118:38
 refused-requires : tie.Need-refused-requires
 refused-requires c κs = search needs
 
--- src/numbers.rt:112:1
 returns : tie.Need-returns
-returns c = ?
+returns c = c .classed .ensures ∙ of-gives restrictionsBits _ _ _ (c .before .bits .ensures) (ap restrictionsAnswer (sym (c .before .before .before .x .given .1)) ∙ c .before .before .before .before .before .from-bits .ensures)
 
--- src/numbers.rt:112:1
 returns-2 : tie.Need-returns-2
-returns-2 c = ?
+returns-2 c = c .refused .ensures ∙ of-refuses restrictionsBits _ (ap restrictionsAnswer (sym (c .before .enum-told .given .1)) ∙ c .before .before .before .from-bits .ensures)
 
 pub scte35-device-restrictions-spec : {M : Type 1} → statement M
 scte35-device-restrictions-spec =

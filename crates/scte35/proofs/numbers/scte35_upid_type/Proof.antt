@@ -1,39 +1,37 @@
+-- `scte35::numbers::scte35_upid_type` meets its contract. Assumes nothing.
+use mathlib.Core.Path.{_≡_, ap, sym, _∙_}
+use denote.Enum.Declared.{tagOf}
 use borrow.Author.Needs.{needs}
+use Rattle.names.specs.declared.upid.SegmentationUpidType.the-variants.{Reserved}
+use Rattle.names.specs.Upid.{upidTypes, upidTypeOf}
+use Rattle.names.proofs.upid.SegmentationUpidType.{the-type}
+use Rattle.names.proofs.Upids.{sound}
+use Rattle.scte35.proofs.Names.{of-name, of-number}
 use Rattle.scte35.proofs.numbers.scte35_upid_type.Statement.{statement}
 use Rattle.scte35.proofs.numbers.scte35_upid_type.Tie as tie
-use Rattle.scte35.proofs.numbers.scte35_upid_type.Reads as reads
-use Rattle.scte35.proofs.numbers.scte35_upid_type.Lts as lts
-use Rattle.names.proofs.upid.SegmentationUpidType.from_type.Reads as from-type-reads
-use Rattle.names.proofs.upid.SegmentationUpidType.id.Reads as id-reads
-use Rattle.scte35.proofs.numbers.classed.Reads as classed-reads
 
--- src/numbers.rt:74:9
 from-type-requires : tie.Need-from-type-requires
 from-type-requires c κs = search needs
 
--- src/numbers.rt:76:40
 enum-known-x : tie.Need-enum-known-x
 enum-known-x c = search needs
 
--- src/numbers.rt:76:46
 classed-requires : tie.Need-classed-requires
 classed-requires c κs = search needs
 
--- src/numbers.rt:77:25
 id-requires : tie.Need-id-requires
 id-requires c κs = search needs
 
--- src/numbers.rt:77:14
 classed-requires-2 : tie.Need-classed-requires-2
 classed-requires-2 c κs = search needs
 
--- src/numbers.rt:70:1
 returns : tie.Need-returns
-returns c = ?
+unfolding upidTypeOf
+returns c = c .classed .ensures ∙ of-number upidTypes (c .before .before .before .before .before .args .n) _ (Reserved (c .before .before .x .given .0 .0)) (c .before .before .before .before .from-type .ensures) (c .before .before .x .given .1)
 
--- src/numbers.rt:70:1
 returns-2 : tie.Need-returns-2
-returns-2 c = ?
+unfolding upidTypeOf
+returns-2 c = c .classed2 .ensures ∙ of-name upidTypes (tagOf the-type) sound (c .before .before .before .before .args .n) _ (c .before .before .before .from-type .ensures) (c .before .before .match .keys2) _ (c .before .id .ensures)
 
 pub scte35-upid-type-spec : {M : Type 1} → statement M
 scte35-upid-type-spec =
