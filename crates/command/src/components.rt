@@ -86,7 +86,8 @@ pub(crate) fn skim(s: &[u8], c: Cursor, count: usize, immediate: bool) -> Skimme
     Skimmed::Got(at)
 }
 
-fn blanks() -> [ComponentSplice; 255]
+// No components: every place blank.
+pub fn blanks() -> [ComponentSplice; 255]
     ensures { λ r. ⌜ r ≡ array [] ⌝ }
 {
     [ComponentSplice {

@@ -275,9 +275,7 @@ module _ (s : List ℕ) where
               beside cs (ecs ∙ filled-is n (bitsOf s) 56 _ (t .0) (omega arith) (t .1))
 
 -- ---- beside any descriptor
-pub whole-is : (tag : ℕ) (id s : List ℕ) (r q : DescriptorRead) → r ≡ descriptorOf tag id s → r ≡ q → (i : List ℕ) → i ≡ identifierRead q id → (b : Beside) → b ≡ besideRead q s
+pub whole-is : (tag : ℕ) (id s : List ℕ) (r : DescriptorRead) → r ≡ descriptorOf tag id s → (i : List ℕ) → i ≡ identifierRead r id → (b : Beside) → b ≡ besideRead r s
     → record { read = r; identifier = i; beside = b } ≡ wholeOf tag id s
 unfolding wholeOf
-whole-is tag id s r q e f i ei b eb =
-    let z : descriptorOf tag id s ≡ q = sym e ∙ f in
-    rw (z, f, ei, eb)
+whole-is tag id s r e i ei b eb = rw (← e, ei, eb)

@@ -2,7 +2,7 @@
 ghost use mathlib.Core.Path.{_≡_};
 ghost use Rattle.descriptor.specs.Segmentation.{blankComponent, component};
 ghost use Rattle.descriptor.specs.Walk.{filling};
-ghost use Rattle.descriptor.specs.Whole.{blankBeside, blanks, besideOf, wholeOf};
+ghost use Rattle.descriptor.specs.Whole.{blankBeside, blanks, besideOf, besideRead, identifierRead, wholeOf};
 ghost use Rattle.table.specs.Bits.{bitsOf};
 ghost use Rattle.table.specs.Cursor.{place};
 ghost use Rattle.table.specs.Table.{list, parse};
@@ -47,7 +47,8 @@ fn no_components() -> [ModeComponent; 255]
     [none; 255]
 }
 
-fn nothing() -> Beside
+// Nothing beside: all components and the EIDR blank.
+pub fn blank_beside() -> Beside
     ensures { λ r. ⌜ r ≡ blankBeside ⌝ }
 {
     Beside {
@@ -84,20 +85,20 @@ pub fn read_beside(payload: &[u8]) -> Beside
 {
     let head = match read_head(payload) {
         HeadRead::Got(h) => h,
-        HeadRead::Lacks(_) => return nothing(),
+        HeadRead::Lacks(_) => return blank_beside(),
     };
     if head.cancel {
-        return nothing();
+        return blank_beside();
     }
     let next = head.next;
     let fronted = match read_front(payload, next) {
         FrontRead::Got(f) => f,
-        FrontRead::Lacks(_) => return nothing(),
+        FrontRead::Lacks(_) => return blank_beside(),
     };
     let next = fronted.next;
     match read_back(payload, next) {
         BackRead::Got(_) => {}
-        BackRead::Lacks(_) => return nothing(),
+        BackRead::Lacks(_) => return blank_beside(),
     }
     let front = fronted.front;
     let written = front.segmentation_upid;
@@ -117,47 +118,52 @@ pub fn read_beside(payload: &[u8]) -> Beside
     }
 }
 
+// What stands beside the reading of a payload.
+pub fn beside_of(read: DescriptorRead, payload: &[u8]) -> Beside
+    ensures { λ r. ⌜ r ≡ besideRead read (now (payload .entry)) ⌝ }
+{
+    match read {
+        DescriptorRead::Refused(_) => blank_beside(),
+        DescriptorRead::Is(d) => match d {
+            Descriptor::Avail(_) => blank_beside(),
+            Descriptor::Dtmf(_) => blank_beside(),
+            Descriptor::Segmentation(_) => read_beside(payload),
+            Descriptor::Time(_) => blank_beside(),
+            Descriptor::Reserved {
+                tag: _,
+                private_bytes: _,
+            } => blank_beside(),
+        },
+    }
+}
+
+// The identifier that stands beside a reading: all zero where the descriptor's kind implies it.
+pub fn identifier_of(read: DescriptorRead, identifier: [u8; 4]) -> [u8; 4]
+    ensures { λ r. ⌜ r ≡ identifierRead read identifier ⌝ }
+{
+    match read {
+        DescriptorRead::Refused(_) => [0; 4],
+        DescriptorRead::Is(d) => match d {
+            Descriptor::Avail(_) => [0; 4],
+            Descriptor::Dtmf(_) => [0; 4],
+            Descriptor::Segmentation(_) => [0; 4],
+            Descriptor::Time(_) => [0; 4],
+            Descriptor::Reserved {
+                tag: _,
+                private_bytes: _,
+            } => identifier,
+        },
+    }
+}
+
 // The descriptor that a tag, an identifier and a payload make, with all that stands beside it.
 pub fn read_whole(tag: u8, identifier: [u8; 4], payload: &[u8]) -> WholeDescriptor
     ensures { λ r. ⌜ r ≡ wholeOf tag identifier (now (payload .entry)) ⌝ }
 {
-    let none = [0u8; 4];
     let read = read_descriptor(tag, identifier, payload);
-    match read {
-        DescriptorRead::Refused(_) => WholeDescriptor {
-            read,
-            identifier: none,
-            beside: nothing(),
-        },
-        DescriptorRead::Is(d) => match d {
-            Descriptor::Avail(_) => WholeDescriptor {
-                read,
-                identifier: none,
-                beside: nothing(),
-            },
-            Descriptor::Dtmf(_) => WholeDescriptor {
-                read,
-                identifier: none,
-                beside: nothing(),
-            },
-            Descriptor::Segmentation(_) => WholeDescriptor {
-                read,
-                identifier: none,
-                beside: read_beside(payload),
-            },
-            Descriptor::Time(_) => WholeDescriptor {
-                read,
-                identifier: none,
-                beside: nothing(),
-            },
-            Descriptor::Reserved {
-                tag: _,
-                private_bytes: _,
-            } => WholeDescriptor {
-                read,
-                identifier,
-                beside: nothing(),
-            },
-        },
+    WholeDescriptor {
+        read,
+        identifier: identifier_of(read, identifier),
+        beside: beside_of(read, payload),
     }
 }

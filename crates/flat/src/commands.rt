@@ -1,4 +1,6 @@
 // A splice command.
+ghost use mathlib.Core.Path.{_≡_};
+ghost use Rattle.flat.specs.FlatCommand.{flatMode, flatBreak, bareInsert, wholeInsert, flatInsertion, noCommand, flatCommand, flatCommandRead};
 use crate::FlatTime;
 use crate::FlatView;
 use crate::flat_time;
@@ -51,7 +53,9 @@ pub struct FlatCommand {
     pub private_bytes: FlatView,
 }
 
-fn flat_mode(m: SpliceMode) -> FlatMode {
+fn flat_mode(m: SpliceMode) -> FlatMode
+    ensures { λ r. ⌜ r ≡ flatMode m ⌝ }
+{
     match m {
         SpliceMode::Program(t) => FlatMode {
             program_splice_flag: 1,
@@ -66,7 +70,9 @@ fn flat_mode(m: SpliceMode) -> FlatMode {
     }
 }
 
-fn flat_break(b: Break) -> FlatBreak {
+fn flat_break(b: Break) -> FlatBreak
+    ensures { λ r. ⌜ r ≡ flatBreak b ⌝ }
+{
     match b {
         Break::Absent => FlatBreak {
             duration_flag: 0,
@@ -85,7 +91,9 @@ fn flat_break(b: Break) -> FlatBreak {
 }
 
 // An insert without its detail.
-fn bare_insert(event: u64, cancel: u64, reserved: u64) -> FlatInsert {
+fn bare_insert(event: u64, cancel: u64, reserved: u64) -> FlatInsert
+    ensures { λ r. ⌜ r ≡ bareInsert event cancel reserved ⌝ }
+{
     FlatInsert {
         splice_event_id: event,
         splice_event_cancel_indicator: cancel,
@@ -103,7 +111,9 @@ fn bare_insert(event: u64, cancel: u64, reserved: u64) -> FlatInsert {
     }
 }
 
-fn whole_insert(event: u64, reserved: u64, i: Insert) -> FlatInsert {
+fn whole_insert(event: u64, reserved: u64, i: Insert) -> FlatInsert
+    ensures { λ r. ⌜ r ≡ wholeInsert event reserved i ⌝ }
+{
     let network = i.network_indicator;
     let mode = i.splice_mode;
     let duration = i.duration;
@@ -120,7 +130,9 @@ fn whole_insert(event: u64, reserved: u64, i: Insert) -> FlatInsert {
     }
 }
 
-pub(crate) fn flat_insert(x: Insertion) -> FlatInsert {
+fn flat_insert(x: Insertion) -> FlatInsert
+    ensures { λ r. ⌜ r ≡ flatInsertion x ⌝ }
+{
     let detail = x.splice_detail;
     match detail {
         SpliceInsert::Cancel => bare_insert(x.splice_event_id as u64, 1, x.reserved as u64),
@@ -128,7 +140,9 @@ pub(crate) fn flat_insert(x: Insertion) -> FlatInsert {
     }
 }
 
-pub fn no_command(refusal: u64, kind: u64) -> FlatCommand {
+pub fn no_command(refusal: u64, kind: u64) -> FlatCommand
+    ensures { λ r. ⌜ r ≡ noCommand refusal kind ⌝ }
+{
     FlatCommand {
         refusal,
         splice_command_type: kind,
@@ -139,7 +153,9 @@ pub fn no_command(refusal: u64, kind: u64) -> FlatCommand {
     }
 }
 
-pub fn flat_command(c: SpliceCommand) -> FlatCommand {
+pub fn flat_command(c: SpliceCommand) -> FlatCommand
+    ensures { λ r. ⌜ r ≡ flatCommand c ⌝ }
+{
     match c {
         SpliceCommand::SpliceNull => no_command(0, 0),
         SpliceCommand::SpliceInsert(i) => FlatCommand {
@@ -173,7 +189,9 @@ pub fn flat_command(c: SpliceCommand) -> FlatCommand {
     }
 }
 
-pub fn flat_command_read(read: CommandRead) -> FlatCommand {
+pub fn flat_command_read(read: CommandRead) -> FlatCommand
+    ensures { λ r. ⌜ r ≡ flatCommandRead read ⌝ }
+{
     match read {
         CommandRead::Is(c) => flat_command(c),
         CommandRead::UnknownType => no_command(10, 0),

@@ -1,9 +1,12 @@
 // The components of an insert.
+ghost use mathlib.Core.Path.{_≡_};
+ghost use mathlib.Core.List.{map};
+ghost use Rattle.flat.specs.FlatCommand.{flatComponent, noComponents, flatSplices};
 use crate::FlatTime;
-use crate::commands::flat_insert;
+use crate::commands::flat_command;
 use crate::flat_time;
+use command::CommandRead;
 use command::components::ComponentSplice;
-use command::insert::InsertRead;
 
 #[repr(C)]
 pub struct FlatComponentSplice {
@@ -19,7 +22,9 @@ pub struct FlatSplices {
     pub components: [FlatComponentSplice; 255],
 }
 
-fn flat_component(c: ComponentSplice) -> FlatComponentSplice {
+fn flat_component(c: ComponentSplice) -> FlatComponentSplice
+    ensures { λ r. ⌜ r ≡ flatComponent c ⌝ }
+{
     let time = c.splice_time;
     FlatComponentSplice {
         component_tag: c.component_tag as u64,
@@ -27,14 +32,18 @@ fn flat_component(c: ComponentSplice) -> FlatComponentSplice {
     }
 }
 
-fn no_components() -> [FlatComponentSplice; 255] {
+fn no_components() -> [FlatComponentSplice; 255]
+    ensures { λ r. ⌜ r ≡ noComponents ⌝ }
+{
     [FlatComponentSplice {
         component_tag: 0,
         splice_time: FlatTime { kind: 0, ticks: 0 },
     }; 255]
 }
 
-fn flat_components(cs: [ComponentSplice; 255]) -> [FlatComponentSplice; 255] {
+fn flat_components(cs: [ComponentSplice; 255]) -> [FlatComponentSplice; 255]
+    ensures { λ r. ⌜ r ≡ map flatComponent cs ⌝ }
+{
     let mut out = no_components();
     let mut i: usize = 0;
     while i < 255 {
@@ -45,10 +54,14 @@ fn flat_components(cs: [ComponentSplice; 255]) -> [FlatComponentSplice; 255] {
     out
 }
 
-pub fn flat_splices(read: InsertRead, cs: [ComponentSplice; 255]) -> FlatSplices {
+// Of the answer to an insert's payload, and its components.
+pub fn flat_splices(read: CommandRead, cs: [ComponentSplice; 255]) -> FlatSplices
+    ensures { λ r. ⌜ r ≡ flatSplices read cs ⌝ }
+{
     match read {
-        InsertRead::Got(x) => {
-            let insert = flat_insert(x);
+        CommandRead::Is(c) => {
+            let told = flat_command(c);
+            let insert = told.insert;
             let mode = insert.mode;
             FlatSplices {
                 refusal: 0,
@@ -56,7 +69,12 @@ pub fn flat_splices(read: InsertRead, cs: [ComponentSplice; 255]) -> FlatSplices
                 components: flat_components(cs),
             }
         }
-        InsertRead::Lacks(_) => FlatSplices {
+        CommandRead::UnknownType => FlatSplices {
+            refusal: 10,
+            count: 0,
+            components: no_components(),
+        },
+        CommandRead::Malformed => FlatSplices {
             refusal: 11,
             count: 0,
             components: no_components(),

@@ -1,4 +1,6 @@
 // A splice header, and an adjusted time.
+ghost use mathlib.Core.Path.{_≡_};
+ghost use Rattle.flat.specs.Flat.{noHeader, flatHeader, flatHeaderRead, flatAdjusted};
 use crate::flat_flag;
 use header::header::HeaderRead;
 use header::header::SpliceInfoHeader;
@@ -17,7 +19,9 @@ pub struct FlatHeader {
     pub splice_command_type: u64,
 }
 
-pub fn no_header(refusal: u64) -> FlatHeader {
+pub fn no_header(refusal: u64) -> FlatHeader
+    ensures { λ r. ⌜ r ≡ noHeader refusal ⌝ }
+{
     FlatHeader {
         refusal,
         protocol_version: 0,
@@ -31,7 +35,9 @@ pub fn no_header(refusal: u64) -> FlatHeader {
     }
 }
 
-pub fn flat_header(h: SpliceInfoHeader) -> FlatHeader {
+pub fn flat_header(h: SpliceInfoHeader) -> FlatHeader
+    ensures { λ r. ⌜ r ≡ flatHeader h ⌝ }
+{
     let algorithm = h.encryption_algorithm;
     let kind = h.splice_command_type;
     FlatHeader {
@@ -47,7 +53,9 @@ pub fn flat_header(h: SpliceInfoHeader) -> FlatHeader {
     }
 }
 
-pub fn flat_header_read(read: HeaderRead) -> FlatHeader {
+pub fn flat_header_read(read: HeaderRead) -> FlatHeader
+    ensures { λ r. ⌜ r ≡ flatHeaderRead read ⌝ }
+{
     match read {
         HeaderRead::Header(h) => flat_header(h),
         HeaderRead::TooShort => no_header(5),
@@ -62,7 +70,9 @@ pub struct FlatAdjusted {
     pub ticks: u64,
 }
 
-pub fn flat_adjusted(t: AdjustedTime) -> FlatAdjusted {
+pub fn flat_adjusted(t: AdjustedTime) -> FlatAdjusted
+    ensures { λ r. ⌜ r ≡ flatAdjusted t ⌝ }
+{
     match t {
         AdjustedTime::At(ticks) => FlatAdjusted {
             refusal: 0,

@@ -1,4 +1,8 @@
 // A section: header, command, and the place of its descriptor loop.
+ghost use mathlib.Core.Path.{_≡_};
+ghost use Rattle.section.specs.Section.{numberOf};
+ghost use Rattle.section.specs.declared.SectionRead.{SectionRead};
+ghost use Rattle.flat.specs.FlatSection.{flatSectionRead};
 use crate::FlatView;
 use crate::commands::FlatCommand;
 use crate::commands::flat_command;
@@ -8,7 +12,6 @@ use crate::headers::FlatHeader;
 use crate::headers::flat_header;
 use crate::headers::no_header;
 use section::Refusal;
-use section::Section;
 use section::SectionRead;
 
 #[repr(C)]
@@ -20,7 +23,9 @@ pub struct FlatSection {
 }
 
 // Document 01's number.
-fn number(r: Refusal) -> u64 {
+fn number(r: Refusal) -> u64
+    ensures { λ x. ⌜ x ≡ numberOf (SectionRead.Refused r) ⌝ }
+{
     match r {
         Refusal::TooShort => 1,
         Refusal::TooLong => 2,
@@ -36,21 +41,21 @@ fn number(r: Refusal) -> u64 {
     }
 }
 
-pub fn flat_section(x: Section) -> FlatSection {
-    let header = x.header;
-    let command = x.command;
-    let descriptors = x.descriptors;
-    FlatSection {
-        refusal: 0,
-        header: flat_header(header),
-        command: flat_command(command),
-        descriptors: flat_view(descriptors),
-    }
-}
-
-pub fn flat_section_read(read: SectionRead) -> FlatSection {
+pub fn flat_section_read(read: SectionRead) -> FlatSection
+    ensures { λ r. ⌜ r ≡ flatSectionRead read ⌝ }
+{
     match read {
-        SectionRead::Is(x) => flat_section(x),
+        SectionRead::Is(x) => {
+            let header = x.header;
+            let command = x.command;
+            let descriptors = x.descriptors;
+            FlatSection {
+                refusal: 0,
+                header: flat_header(header),
+                command: flat_command(command),
+                descriptors: flat_view(descriptors),
+            }
+        }
         SectionRead::Refused(r) => FlatSection {
             refusal: number(r),
             header: no_header(0),

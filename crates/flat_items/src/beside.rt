@@ -1,11 +1,14 @@
 // What stands beside an item: the components and the EIDR of a segmentation descriptor.
+ghost use mathlib.Core.Path.{_≡_};
+ghost use mathlib.Core.List.{map};
+ghost use Rattle.flat_items.specs.FlatItem.{flatComponent, flatBeside};
+ghost use Rattle.flat_items.specs.Walk.{noComponents};
 use crate::descriptors::flat_item;
 use crate::steps::refusal_number;
 use crate::steps::refusal_values;
 use crate::upids::flat_eidr;
 use descriptor::segmentation::ModeComponent;
-use descriptor::whole::Beside;
-use items::Item;
+use items::reading::Reading;
 
 #[repr(C)]
 pub struct FlatComponent {
@@ -23,21 +26,27 @@ pub struct FlatBeside {
     pub eidr: [u64; 12],
 }
 
-fn flat_component(c: ModeComponent) -> FlatComponent {
+fn flat_component(c: ModeComponent) -> FlatComponent
+    ensures { λ r. ⌜ r ≡ flatComponent c ⌝ }
+{
     FlatComponent {
         component_tag: c.component_tag as u64,
         pts_offset: c.pts_offset,
     }
 }
 
-fn no_components() -> [FlatComponent; 255] {
+fn no_components() -> [FlatComponent; 255]
+    ensures { λ r. ⌜ r ≡ noComponents ⌝ }
+{
     [FlatComponent {
         component_tag: 0,
         pts_offset: 0,
     }; 255]
 }
 
-fn flat_components(cs: [ModeComponent; 255]) -> [FlatComponent; 255] {
+fn flat_components(cs: [ModeComponent; 255]) -> [FlatComponent; 255]
+    ensures { λ r. ⌜ r ≡ map flatComponent cs ⌝ }
+{
     let mut out = no_components();
     let mut i: usize = 0;
     while i < 255 {
@@ -48,9 +57,14 @@ fn flat_components(cs: [ModeComponent; 255]) -> [FlatComponent; 255] {
     out
 }
 
-pub fn flat_beside(item: Item, beside: Beside) -> FlatBeside {
+pub fn flat_beside(reading: Reading) -> FlatBeside
+    ensures { λ r. ⌜ r ≡ flatBeside reading ⌝ }
+{
+    let step = reading.step;
+    let item = step.item;
     let told = flat_item(item);
     let segmentation = told.segmentation;
+    let beside = reading.beside;
     let components = beside.components;
     let eidr = beside.eidr;
     FlatBeside {

@@ -1,7 +1,8 @@
 // Segmentation descriptors.
+ghost use mathlib.Core.Path.{_≡_};
+ghost use Rattle.descriptor.specs.Segmentation.{countOf, ticks};
+ghost use Rattle.flat_items.specs.FlatItem.{flatRestrictions, flatSubSegments, bareSegmentation, wholeSegmentation};
 use descriptor::segmentation::DeliveryRestrictionFlags;
-use descriptor::segmentation::SegmentationDescriptor;
-use descriptor::segmentation::SegmentationDetail;
 use descriptor::segmentation::SegmentationDuration;
 use descriptor::segmentation::SegmentationInsert;
 use descriptor::segmentation::SegmentationMode;
@@ -41,7 +42,9 @@ pub struct FlatSegmentation {
     pub sub_segments: FlatSubSegments,
 }
 
-fn flat_restrictions(flags: DeliveryRestrictionFlags) -> FlatRestrictions {
+fn flat_restrictions(flags: DeliveryRestrictionFlags) -> FlatRestrictions
+    ensures { λ r. ⌜ r ≡ flatRestrictions flags ⌝ }
+{
     match flags {
         DeliveryRestrictionFlags::None => FlatRestrictions {
             web_delivery_allowed_flag: 0,
@@ -61,7 +64,9 @@ fn flat_restrictions(flags: DeliveryRestrictionFlags) -> FlatRestrictions {
     }
 }
 
-fn flat_sub_segments(s: SubSegments) -> FlatSubSegments {
+fn flat_sub_segments(s: SubSegments) -> FlatSubSegments
+    ensures { λ r. ⌜ r ≡ flatSubSegments s ⌝ }
+{
     match s {
         SubSegments::Absent => FlatSubSegments {
             present: 0,
@@ -76,14 +81,18 @@ fn flat_sub_segments(s: SubSegments) -> FlatSubSegments {
     }
 }
 
-fn duration(d: SegmentationDuration) -> u64 {
+fn duration(d: SegmentationDuration) -> u64
+    ensures { λ r. ⌜ r ≡ ticks d ⌝ }
+{
     match d {
         SegmentationDuration::Absent => 0,
         SegmentationDuration::Ticks(t) => t,
     }
 }
 
-fn component_count(m: SegmentationMode) -> u64 {
+fn component_count(m: SegmentationMode) -> u64
+    ensures { λ r. ⌜ r ≡ countOf m ⌝ }
+{
     match m {
         SegmentationMode::Program => 0,
         SegmentationMode::Component(n) => n as u64,
@@ -91,7 +100,9 @@ fn component_count(m: SegmentationMode) -> u64 {
 }
 
 // A descriptor without its detail.
-pub(crate) fn bare_segmentation(event: u64, cancel: u64) -> FlatSegmentation {
+pub(crate) fn bare_segmentation(event: u64, cancel: u64) -> FlatSegmentation
+    ensures { λ r. ⌜ r ≡ bareSegmentation event cancel ⌝ }
+{
     FlatSegmentation {
         segmentation_event_id: event,
         segmentation_event_cancel_indicator: cancel,
@@ -109,7 +120,9 @@ pub(crate) fn bare_segmentation(event: u64, cancel: u64) -> FlatSegmentation {
     }
 }
 
-fn whole_segmentation(event: u64, i: SegmentationInsert) -> FlatSegmentation {
+pub(crate) fn whole_segmentation(event: u64, i: SegmentationInsert) -> FlatSegmentation
+    ensures { λ r. ⌜ r ≡ wholeSegmentation event i ⌝ }
+{
     let restrictions = i.delivery_restrictions;
     let mode = i.segmentation_mode;
     let lasts = i.segmentation_duration;
@@ -130,13 +143,5 @@ fn whole_segmentation(event: u64, i: SegmentationInsert) -> FlatSegmentation {
         segment_num: i.segment_num as u64,
         segments_expected: i.segments_expected as u64,
         sub_segments: flat_sub_segments(sub_segments),
-    }
-}
-
-pub(crate) fn flat_segmentation(x: SegmentationDescriptor) -> FlatSegmentation {
-    let detail = x.descriptor_detail;
-    match detail {
-        SegmentationDetail::Cancel => bare_segmentation(x.segmentation_event_id as u64, 1),
-        SegmentationDetail::Insert(i) => whole_segmentation(x.segmentation_event_id as u64, i),
     }
 }

@@ -1,4 +1,6 @@
 // A step over a loop.
+ghost use mathlib.Core.Path.{_≡_};
+ghost use Rattle.flat_items.specs.FlatItem.{refusalIn, valuesIn, flatStep};
 use crate::descriptors::FlatItem;
 use crate::descriptors::flat_item;
 use crate::refusals::item_number;
@@ -17,7 +19,9 @@ pub struct FlatStep {
     pub item: FlatItem,
 }
 
-pub fn refusal_number(item: Item) -> u64 {
+pub fn refusal_number(item: Item) -> u64
+    ensures { λ r. ⌜ r ≡ refusalIn item ⌝ }
+{
     match item {
         Item::End => 0,
         Item::Refused(r) => item_number(r),
@@ -25,7 +29,9 @@ pub fn refusal_number(item: Item) -> u64 {
     }
 }
 
-pub fn refusal_values(item: Item) -> [u64; 3] {
+pub fn refusal_values(item: Item) -> [u64; 3]
+    ensures { λ r. ⌜ r ≡ valuesIn item ⌝ }
+{
     match item {
         Item::End => [0, 0, 0],
         Item::Refused(r) => item_values(r),
@@ -33,7 +39,9 @@ pub fn refusal_values(item: Item) -> [u64; 3] {
     }
 }
 
-pub fn flat_step(s: Step) -> FlatStep {
+pub fn flat_step(s: Step) -> FlatStep
+    ensures { λ r. ⌜ r ≡ flatStep s ⌝ }
+{
     let item = s.item;
     let identifier = s.identifier;
     FlatStep {

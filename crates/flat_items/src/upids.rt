@@ -1,4 +1,7 @@
 // UPIDs, and the parts of a MID.
+ghost use mathlib.Core.Path.{_≡_};
+ghost use mathlib.Core.List.{map};
+ghost use Rattle.flat_items.specs.FlatUpid.{flatPart, noParts, flatUpid};
 use crate::refusals::number;
 use crate::refusals::values;
 use upid::Part;
@@ -25,7 +28,9 @@ pub struct FlatUpid {
     pub parts: [FlatPart; 127],
 }
 
-fn flat_part(p: Part) -> FlatPart {
+fn flat_part(p: Part) -> FlatPart
+    ensures { λ r. ⌜ r ≡ flatPart p ⌝ }
+{
     FlatPart {
         kind: p.kind as u64,
         level: p.level as u64,
@@ -34,7 +39,9 @@ fn flat_part(p: Part) -> FlatPart {
     }
 }
 
-fn no_parts() -> [FlatPart; 127] {
+fn no_parts() -> [FlatPart; 127]
+    ensures { λ r. ⌜ r ≡ noParts ⌝ }
+{
     [FlatPart {
         kind: 0,
         level: 0,
@@ -43,7 +50,9 @@ fn no_parts() -> [FlatPart; 127] {
     }; 127]
 }
 
-fn flat_parts(ps: [Part; 127]) -> [FlatPart; 127] {
+fn flat_parts(ps: [Part; 127]) -> [FlatPart; 127]
+    ensures { λ r. ⌜ r ≡ map flatPart ps ⌝ }
+{
     let mut out = no_parts();
     let mut i: usize = 0;
     while i < 127 {
@@ -54,7 +63,9 @@ fn flat_parts(ps: [Part; 127]) -> [FlatPart; 127] {
     out
 }
 
-pub fn flat_eidr(e: [u8; 12]) -> [u64; 12] {
+pub fn flat_eidr(e: [u8; 12]) -> [u64; 12]
+    ensures { λ r. ⌜ r ≡ e ⌝ }
+{
     let mut out = [0u64; 12];
     let mut i: usize = 0;
     while i < 12 {
@@ -64,7 +75,9 @@ pub fn flat_eidr(e: [u8; 12]) -> [u64; 12] {
     out
 }
 
-pub fn flat_upid(u: Upid) -> FlatUpid {
+pub fn flat_upid(u: Upid) -> FlatUpid
+    ensures { λ r. ⌜ r ≡ flatUpid u ⌝ }
+{
     let read = u.read;
     match read {
         UpidRead::Fine(kind) => {

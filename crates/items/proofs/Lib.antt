@@ -1,7 +1,7 @@
-pub mod Inside
 pub mod Places
 pub mod Wholes
 pub mod Steps
+pub mod Readings
 pub mod Lists
 pub mod Cuttings
 pub mod Theorems

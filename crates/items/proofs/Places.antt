@@ -12,6 +12,7 @@ use Rattle.table.specs.declared.View.{View}
 use Rattle.upid.specs.Cover.{All, none, more}
 use Rattle.upid.specs.declared.Refusal.{Refusal}
 use Rattle.upid.specs.declared.Refusal.the-variants.{TooLong, Short, Mismatch, NotText, WrongLength}
+use Rattle.descriptor.specs.Views.{upidViews, detailViews, descriptorViews, refusalViews, readViews}
 use Rattle.descriptor.specs.declared.Descriptor.{Descriptor}
 use Rattle.descriptor.specs.declared.Descriptor.the-variants.{Avail, Dtmf, Segmentation, Time, Reserved}
 use Rattle.descriptor.specs.declared.DescriptorRead.{DescriptorRead}
@@ -22,7 +23,7 @@ use Rattle.descriptor.specs.declared.plain.DTMFDescriptor.{DTMFDescriptor}
 use Rattle.descriptor.specs.declared.segmentation.SegmentationDescriptor.{SegmentationDescriptor}
 use Rattle.descriptor.specs.declared.segmentation.SegmentationInsert.{SegmentationInsert}
 use Rattle.descriptor.specs.declared.segmentation.SegmentationUpid.{SegmentationUpid}
-use Rattle.items.specs.Place.{upidViews, detailViews, descriptorViews, refusalViews, readViews, viewsOf, moved, movedUpid, withUpid, movedInsert, movedDetail, movedDescriptor, movedRefusal}
+use Rattle.items.specs.Place.{viewsOf, moved, movedUpid, withUpid, movedInsert, movedDetail, movedDescriptor, movedRefusal}
 use Rattle.items.specs.Walk.{Movable}
 use Rattle.items.specs.Items.{itemAt}
 

@@ -15,6 +15,7 @@ use Rattle.upid.specs.Cover.{All, none}
 use Rattle.upid.specs.declared.Refusal.the-variants.{TooLong}
 use Rattle.descriptor.specs.declared.DescriptorRead.{DescriptorRead}
 use Rattle.descriptor.specs.declared.DescriptorRead.the-variants as read
+use Rattle.descriptor.proofs.Insides.{read-inside}
 use Rattle.items.specs.Cover.{Ends, few, over, full, TakesRest}
 use Rattle.items.specs.Items.{short, bare, itemAt, readAt, wholeAt, stepOf, unlessEnd, Listed}
 use Rattle.items.specs.Place.{viewsOf, moved}
@@ -22,7 +23,6 @@ use Rattle.items.specs.declared.Item.the-variants.{End, Refused, Is}
 use Rattle.items.specs.declared.ItemRefusal.{ItemRefusal}
 use Rattle.items.specs.declared.ItemRefusal.the-variants.{InvalidDescriptorLength, Other}
 use Rattle.items.specs.declared.Step.{Step}
-use Rattle.items.proofs.Inside.{read-inside}
 use Rattle.items.proofs.Places.{all-into, all-map, item-views}
 
 module _ (loop : List ℕ) (offset : ℕ) where

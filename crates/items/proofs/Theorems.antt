@@ -1,22 +1,25 @@
 -- What is proved of a loop's items, in the words of specs/Items.antt and specs/Cover.antt. `stepOf loop offset` is the answer of `step`, and `itemsOf
--- loop` are the items that it gives one after the other. The proofs stand in Steps.antt, Lists.antt and Cuttings.antt. Assumes nothing.
-use Prim.Native.Nat.{ℕ, _≤_, _<_}
+-- loop` are the items that it gives one after the other. The proofs stand in Steps.antt, Lists.antt, Cuttings.antt and Readings.antt. Assumes nothing.
+use Prim.Native.Nat.{ℕ, _+_, _-_, _≤_, _<_}
 use mathlib.Core.Path.{_≡_, sym, _∙_}
 use mathlib.Core.List.{List}
 use native.Mathlib.Omega.{arith}
-use lib.ListN.{length, drop}
+use lib.ListN.{length, take, drop, getD}
 use borrow.Author.Tests.{lt-ltb}
 use Rattle.upid.proofs.Laws.{by-cases}
 use Rattle.upid.specs.Cover.{All}
 use Rattle.upid.specs.declared.Refusal.the-variants.{TooLong}
+use Rattle.descriptor.specs.Whole.{wholeOf}
 use Rattle.items.specs.Cover.{Ends, Cutting, TakesRest, Covered, Run}
-use Rattle.items.specs.Items.{bare, stepOf, Listed, itemsOf, countOf}
+use Rattle.items.specs.Items.{bare, stepOf, readingOf, Listed, itemsOf, countOf}
 use Rattle.items.specs.Place.{viewsOf}
 use Rattle.items.specs.declared.Item.the-variants.{Refused}
 use Rattle.items.specs.declared.ItemRefusal.the-variants.{Other}
 use Rattle.items.specs.declared.iteration.Counted.the-variants.{Are}
 use Rattle.items.proofs.Cuttings as cuttings
 use Rattle.items.proofs.Lists as lists
+use Rattle.items.proofs.Readings as readings
+use Rattle.items.proofs.Readings.{placed}
 use Rattle.items.proofs.Steps as steps
 
 -- ---- no item is split
@@ -58,6 +61,15 @@ at-most-2037-items = lists.few-items
 -- A loop over 4,076 bytes is refused at any offset, also past its end.
 pub too-long-before-ended : (loop : List ℕ) (offset : ℕ) → 4076 < length loop → stepOf loop offset ≡ bare (Refused (Other TooLong)) (length loop)
 too-long-before-ended = steps.step-long
+
+-- ---- the full reading
+
+-- Where an item with an identifier stands (4 ≤ L ≤ 254, and it fits), its full reading is the whole descriptor that its tag, identifier and payload
+-- make: the same item with its views moved by the payload's place, the same identifier, and the same components and EIDR beside it.
+pub a-reading-is-the-whole-descriptor : (loop : List ℕ) (offset L : ℕ) → length loop ≤ 4076 → L ≡ getD loop (offset + 1) 0 → offset + (L + 2) ≤ length loop → 4 ≤ L → L ≤ 254
+    → readingOf loop offset ≡ placed (offset + 6) (offset + (L + 2)) (wholeOf (getD loop offset 0) (take 4 (drop (offset + 2) loop)) (take (L - 4) (drop (offset + 6) loop)))
+a-reading-is-the-whole-descriptor loop offset L fits is there h right =
+    readings.reading-whole loop offset L (record { fits = fits; is = is; six = omega arith; there = there; right = right }) h
 
 -- ---- for programs over a loop
 

@@ -10,17 +10,19 @@ use lib.ListN.{length, take, drop, getD, length-take, length-drop}
 use lib.Seq.{drop-cons}
 use Rattle.upid.specs.declared.Refusal.{Refusal}
 use Rattle.descriptor.specs.Descriptor.{descriptorOf}
+use Rattle.descriptor.specs.Views.{descriptorViews, refusalViews, readViews}
+use Rattle.descriptor.specs.Whole.{identifierRead}
 use Rattle.descriptor.specs.declared.Descriptor.{Descriptor}
 use Rattle.descriptor.specs.declared.DescriptorRead.{DescriptorRead}
 use Rattle.descriptor.specs.declared.DescriptorRead.the-variants as read
-use Rattle.items.specs.Items.{itemAt, identifierWith, readAt, wholeAt}
-use Rattle.items.specs.Place.{descriptorViews, refusalViews, readViews, movedDescriptor, movedRefusal}
+use Rattle.descriptor.proofs.Insides.{read-inside}
+use Rattle.items.specs.Items.{itemAt, readAt, wholeAt}
+use Rattle.items.specs.Place.{movedDescriptor, movedRefusal}
 use Rattle.items.specs.Walk.{Movable}
 use Rattle.items.specs.declared.Item.{Item}
 use Rattle.items.specs.declared.Item.the-variants.{Refused, Is}
 use Rattle.items.specs.declared.ItemRefusal.the-variants.{Other}
 use Rattle.items.specs.declared.Step.{Step}
-use Rattle.items.proofs.Inside.{read-inside}
 use Rattle.items.proofs.Places.{all-into}
 
 -- ---- a part of the loop and its reading
@@ -57,7 +59,7 @@ four-is s at h =
 
 module _ (loop : List ℕ) (offset L : ℕ) (h : 4 ≤ L) (there : offset + (L + 2) ≤ length loop) (r : DescriptorRead)
     (is : r ≡ descriptorOf (getD loop offset 0) (getD loop (offset + 2) 0 ∷ getD loop (offset + 3) 0 ∷ getD loop (offset + 4) 0 ∷ getD loop (offset + 5) 0 ∷ []) (take (offset + (L + 2) - (offset + 6)) (drop (offset + 6) loop)))
-    (id : List ℕ) (beside : id ≡ identifierWith (getD loop (offset + 2) 0 ∷ getD loop (offset + 3) 0 ∷ getD loop (offset + 4) 0 ∷ getD loop (offset + 5) 0 ∷ []) r) where
+    (id : List ℕ) (beside : id ≡ identifierRead r (getD loop (offset + 2) 0 ∷ getD loop (offset + 3) 0 ∷ getD loop (offset + 4) 0 ∷ getD loop (offset + 5) 0 ∷ [])) where
   reading : r ≡ readAt loop offset L
   unfolding readAt four
   reading =

@@ -7,9 +7,10 @@ use lib.ListN.{length, take, drop, getD, replicate}
 use Rattle.upid.specs.Upid as upid
 use Rattle.upid.specs.declared.Refusal.the-variants.{TooLong, Short}
 use Rattle.descriptor.specs.Descriptor.{descriptorOf}
-use Rattle.descriptor.specs.declared.Descriptor.the-variants.{Avail, Dtmf, Segmentation, Time, Reserved}
+use Rattle.descriptor.specs.Whole.{blankBeside, besideRead, identifierRead}
 use Rattle.descriptor.specs.declared.DescriptorRead.{DescriptorRead}
 use Rattle.descriptor.specs.declared.DescriptorRead.the-variants as read
+use Rattle.descriptor.specs.declared.whole.Beside.{Beside}
 use Rattle.items.specs.Place.{movedDescriptor, movedRefusal}
 use Rattle.items.specs.declared.Item.{Item}
 use Rattle.items.specs.declared.Item.the-variants.{End, Refused, Is}
@@ -18,6 +19,7 @@ use Rattle.items.specs.declared.ItemRefusal.the-variants.{InvalidDescrip
 use Rattle.items.specs.declared.Step.{Step}
 use Rattle.items.specs.declared.iteration.Counted.{Counted}
 use Rattle.items.specs.declared.iteration.Counted.the-variants as counted
+use Rattle.items.specs.declared.reading.Reading.{Reading}
 
 -- ---- document 01's number and values of each refusal
 
@@ -43,15 +45,6 @@ abbrev pub itemAt : ℕ → DescriptorRead → Item
 itemAt base (read.Is d) = Is (movedDescriptor base d)
 itemAt base (read.Refused r) = Refused (Other (movedRefusal base r))
 
--- the identifier stands beside a reserved descriptor; all zero beside any other item
-abbrev pub identifierWith : List ℕ → DescriptorRead → List ℕ
-identifierWith id (read.Is (Reserved tag bytes)) = id
-identifierWith id (read.Is (Avail x)) = replicate 4 0
-identifierWith id (read.Is (Dtmf x)) = replicate 4 0
-identifierWith id (read.Is (Segmentation x)) = replicate 4 0
-identifierWith id (read.Is (Time x)) = replicate 4 0
-identifierWith id (read.Refused r) = replicate 4 0
-
 -- "tag, L, identifier of 4; the descriptor's payload is handed to its reader as a part of L - 4 bytes"
 unfoldable pub readAt : List ℕ → ℕ → ℕ → DescriptorRead
 readAt loop offset L = descriptorOf (getD loop offset 0) (take 4 (drop (offset + 2) loop)) (take (L - 4) (drop (offset + 6) loop))
@@ -60,7 +53,7 @@ unfoldable pub wholeAt : List ℕ → ℕ → ℕ → Step
 wholeAt loop offset L =
     record {
       item = itemAt (offset + 6) (readAt loop offset L);
-      identifier = identifierWith (take 4 (drop (offset + 2) loop)) (readAt loop offset L);
+      identifier = identifierRead (readAt loop offset L) (take 4 (drop (offset + 2) loop));
       next = offset + (L + 2);
     }
 
@@ -82,6 +75,20 @@ stepOf loop offset =
     (cond (ltb L 4) (bare (short 6 (L + 2)) (offset + (L + 2)))
     -- "Else tag, L, identifier of 4", and the payload
     (wholeAt loop offset L))))))
+
+-- ---- the full reading of an item: "arrays stand beside enums, not in them"
+
+-- beside an item with this payload
+abbrev pub besideItem : Item → List ℕ → Beside
+besideItem End payload = blankBeside
+besideItem (Refused r) payload = blankBeside
+besideItem (Is d) payload = besideRead (read.Is d) payload
+
+-- the payload lies behind the head and the identifier, and ends where the next item starts
+unfoldable pub readingOf : List ℕ → ℕ → Reading
+readingOf loop offset =
+    let s : Step = stepOf loop offset in
+    record { step = s; beside = besideItem (s .item) (take (s .next - (offset + 6)) (drop (offset + 6) loop)) }
 
 -- ---- the list of a loop's items
 

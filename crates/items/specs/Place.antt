@@ -5,12 +5,10 @@ use mathlib.Core.List.{List, [], _∷_}
 use lib.Dec.{eqb}
 use Rattle.table.specs.declared.View.{View}
 use Rattle.upid.specs.declared.Refusal.{Refusal}
-use Rattle.upid.specs.declared.Refusal.the-variants.{TooLong, Short, Mismatch, NotText, WrongLength}
 use Rattle.descriptor.specs.Descriptor as descriptor
+use Rattle.descriptor.specs.Views.{descriptorViews, refusalViews}
 use Rattle.descriptor.specs.declared.Descriptor.{Descriptor}
 use Rattle.descriptor.specs.declared.Descriptor.the-variants.{Avail, Dtmf, Segmentation, Time, Reserved}
-use Rattle.descriptor.specs.declared.DescriptorRead.{DescriptorRead}
-use Rattle.descriptor.specs.declared.DescriptorRead.the-variants as read
 use Rattle.descriptor.specs.declared.segmentation.SegmentationDetail.{SegmentationDetail}
 use Rattle.descriptor.specs.declared.segmentation.SegmentationDetail.the-variants.{Cancel, Insert}
 use Rattle.descriptor.specs.declared.segmentation.SegmentationInsert.{SegmentationInsert}
@@ -19,35 +17,7 @@ use Rattle.items.specs.declared.Item.{Item}
 use Rattle.items.specs.declared.Item.the-variants.{End, Refused, Is}
 use Rattle.items.specs.declared.ItemRefusal.the-variants.{InvalidDescriptorLength, Other}
 
--- ---- the views that there are
-
--- None (type 0) and EIDR (type 10) have none
-abbrev pub upidViews : SegmentationUpid → List View
-upidViews u = cond (eqb (u .kind) 0 || eqb (u .kind) 10) [] (u .bytes ∷ [])
-
-abbrev pub detailViews : SegmentationDetail → List View
-detailViews Cancel = []
-detailViews (Insert i) = upidViews (i .«segmentation_upid»)
-
--- DTMF characters, a UPID, private bytes
-abbrev pub descriptorViews : Descriptor → List View
-descriptorViews (Avail x) = []
-descriptorViews (Dtmf x) = x .«dtmf_chars» ∷ []
-descriptorViews (Segmentation x) = detailViews (x .«descriptor_detail»)
-descriptorViews (Time x) = []
-descriptorViews (Reserved tag bytes) = bytes ∷ []
-
--- the text of refusal 24
-abbrev pub refusalViews : Refusal → List View
-refusalViews TooLong = []
-refusalViews (Short expected actual) = []
-refusalViews Mismatch = []
-refusalViews (NotText kind bytes) = bytes ∷ []
-refusalViews (WrongLength kind expected actual) = []
-
-abbrev pub readViews : DescriptorRead → List View
-readViews (read.Is d) = descriptorViews d
-readViews (read.Refused r) = refusalViews r
+-- ---- the view that an item has: that of its descriptor or of its refusal
 
 abbrev pub viewsOf : Item → List View
 viewsOf End = []

@@ -2,15 +2,15 @@
 ghost use mathlib.Core.Path.{_≡_};
 ghost use Prim.Native.Nat.{_+_, _≤_, _<_};
 ghost use lib.ListN.{length};
-ghost use Rattle.items.specs.Items.{bare, short, identifierWith, wholeAt, stepOf, countOf};
+ghost use Rattle.items.specs.Items.{bare, short, wholeAt, stepOf, countOf};
 use crate::Item;
 use crate::ItemRefusal;
 use crate::Step;
 use crate::place::move_descriptor;
 use crate::place::move_refusal;
-use descriptor::Descriptor;
 use descriptor::DescriptorRead;
 use descriptor::read_descriptor;
+use descriptor::whole::identifier_of;
 use upid::Refusal;
 
 fn wide(b: u8) -> usize
@@ -37,25 +37,6 @@ fn lacks(expected: usize, actual: usize) -> Item
     Item::Refused(ItemRefusal::Other(Refusal::Short { expected, actual }))
 }
 
-// The identifier that stands beside a descriptor.
-fn beside(identifier: [u8; 4], read: DescriptorRead) -> [u8; 4]
-    ensures { λ r. ⌜ r ≡ identifierWith identifier read ⌝ }
-{
-    match read {
-        DescriptorRead::Refused(_) => [0; 4],
-        DescriptorRead::Is(d) => match d {
-            Descriptor::Avail(_) => [0; 4],
-            Descriptor::Dtmf(_) => [0; 4],
-            Descriptor::Segmentation(_) => [0; 4],
-            Descriptor::Time(_) => [0; 4],
-            Descriptor::Reserved {
-                tag: _,
-                private_bytes: _,
-            } => identifier,
-        },
-    }
-}
-
 // An item of `len` bytes after its head, of which four are the identifier.
 fn whole(bytes: &[u8], offset: usize, len: usize) -> Step
     requires { ⌜ (4 ≤ len) × (offset + (len + 2) ≤ length (now bytes)) × (length (now bytes) ≤ 4076) ⌝ }
@@ -71,7 +52,7 @@ fn whole(bytes: &[u8], offset: usize, len: usize) -> Step
     let start = offset + 6;
     let next = offset + (len + 2);
     let read = read_descriptor(tag, id, &bytes[start..next]);
-    let identifier = beside(id, read);
+    let identifier = identifier_of(read, id);
     let item = match read {
         DescriptorRead::Is(d) => Item::Is(move_descriptor(d, start)),
         DescriptorRead::Refused(r) => Item::Refused(ItemRefusal::Other(move_refusal(r, start))),

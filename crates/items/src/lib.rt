@@ -4,6 +4,7 @@ use upid::Refusal;
 
 pub mod iteration;
 pub mod place;
+pub mod reading;
 
 // Refusals 2 and 21 to 25: 22, and those that a UPID has too.
 pub enum ItemRefusal {

@@ -2,7 +2,8 @@
 ghost use mathlib.Core.Path.{_≡_};
 ghost use Prim.Native.Nat.{_+_, _^_, _<_};
 ghost use Rattle.table.specs.Lent.{viewed};
-ghost use Rattle.items.specs.Place.{firstView, refusalViews, descriptorViews, viewOf, moved, movedUpid, movedInsert, movedDescriptor, movedRefusal, upidViews};
+ghost use Rattle.descriptor.specs.Views.{upidViews, descriptorViews, refusalViews};
+ghost use Rattle.items.specs.Place.{firstView, viewOf, moved, movedUpid, movedInsert, movedDescriptor, movedRefusal};
 ghost use Rattle.items.specs.Walk.{Movable};
 use crate::Item;
 use crate::ItemRefusal;

@@ -21,6 +21,8 @@ use table::lent::view;
 use table::numbers::big_endian;
 use table::numbers::bits;
 
+pub mod whole;
+
 // What a section says. Views count from its first byte; the items of the loop are read one step at a time.
 pub struct Section {
     pub header: SpliceInfoHeader,

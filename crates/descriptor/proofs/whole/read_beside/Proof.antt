@@ -15,18 +15,18 @@ enum-known-h c = search needs
 enum-told : tie.Need-enum-told
 enum-told c = search needs
 
-nothing-requires : tie.Need-nothing-requires
-nothing-requires c κs = search needs
+blank-beside-requires : tie.Need-blank-beside-requires
+blank-beside-requires c κs = search needs
 
 returns : tie.Need-returns
 returns c =
     let enum-told = c .before in
     let read-head = enum-told .before .before in
     let a = read-head .before .before .args in
-    c .nothing .ensures ∙ beside-no-head (a .payload .now) _ (sym (enum-told .enum-told .given .1) ∙ read-head .read-head .ensures)
+    c .blank-beside .ensures ∙ beside-no-head (a .payload .now) _ (sym (enum-told .enum-told .given .1) ∙ read-head .read-head .ensures)
 
-nothing-requires-2 : tie.Need-nothing-requires-2
-nothing-requires-2 c κs = search needs
+blank-beside-requires-2 : tie.Need-blank-beside-requires-2
+blank-beside-requires-2 c κs = search needs
 
 returns-2 : tie.Need-returns-2
 returns-2 c =
@@ -34,7 +34,7 @@ returns-2 c =
     let h = if1 .before .before in
     let read-head = h .before .before in
     let a = read-head .before .before .args in
-    c .nothing2 .ensures ∙ beside-cancelled (a .payload .now) _ (sym (h .h .given .1) ∙ read-head .read-head .ensures) (if1 .if1 .taken)
+    c .blank-beside2 .ensures ∙ beside-cancelled (a .payload .now) _ (sym (h .h .given .1) ∙ read-head .read-head .ensures) (if1 .if1 .taken)
 
 read-front-requires : tie.Need-read-front-requires
 read-front-requires c κs = search needs
@@ -45,8 +45,8 @@ enum-known-f c = search needs
 enum-told-2 : tie.Need-enum-told-2
 enum-told-2 c = search needs
 
-nothing-requires-3 : tie.Need-nothing-requires-3
-nothing-requires-3 c κs = search needs
+blank-beside-requires-3 : tie.Need-blank-beside-requires-3
+blank-beside-requires-3 c κs = search needs
 
 returns-3 : tie.Need-returns-3
 returns-3 c =
@@ -56,7 +56,7 @@ returns-3 c =
     let h = if1 .before .before in
     let read-head = h .before .before in
     let a = read-head .before .before .args in
-    c .nothing3 .ensures ∙ beside-no-front (a .payload .now) _ (sym (h .h .given .1) ∙ read-head .read-head .ensures) (if1 .if1 .left) _ (sym (enum-told2 .enum-told2 .given .1) ∙ read-front .read-front .ensures)
+    c .blank-beside3 .ensures ∙ beside-no-front (a .payload .now) _ (sym (h .h .given .1) ∙ read-head .read-head .ensures) (if1 .if1 .left) _ (sym (enum-told2 .enum-told2 .given .1) ∙ read-front .read-front .ensures)
 
 read-back-requires : tie.Need-read-back-requires
 read-back-requires c κs = search needs
@@ -67,8 +67,8 @@ enum-told-3 c = search needs
 enum-told-4 : tie.Need-enum-told-4
 enum-told-4 c = search needs
 
-nothing-requires-4 : tie.Need-nothing-requires-4
-nothing-requires-4 c κs = search needs
+blank-beside-requires-4 : tie.Need-blank-beside-requires-4
+blank-beside-requires-4 c κs = search needs
 
 returns-4 : tie.Need-returns-4
 returns-4 c =
@@ -80,7 +80,7 @@ returns-4 c =
     let h = if1 .before .before in
     let read-head = h .before .before in
     let a = read-head .before .before .args in
-    c .nothing4 .ensures ∙ beside-no-back (a .payload .now) _ (sym (h .h .given .1) ∙ read-head .read-head .ensures) (if1 .if1 .left) _ (sym (f .f .given .1) ∙ read-front .read-front .ensures) _ (sym (enum-told4 .enum-told4 .given .1) ∙ read-back .read-back .ensures)
+    c .blank-beside4 .ensures ∙ beside-no-back (a .payload .now) _ (sym (h .h .given .1) ∙ read-head .read-head .ensures) (if1 .if1 .left) _ (sym (f .f .given .1) ∙ read-front .read-front .ensures) _ (sym (enum-told4 .enum-told4 .given .1) ∙ read-back .read-back .ensures)
 
 view-requires : tie.Need-view-requires
 view-requires c κs = search needs
@@ -137,19 +137,19 @@ read-beside-spec =
     read-head-requires
     enum-known-h
     enum-told
-    nothing-requires
+    blank-beside-requires
     returns
-    nothing-requires-2
+    blank-beside-requires-2
     returns-2
     read-front-requires
     enum-known-f
     enum-told-2
-    nothing-requires-3
+    blank-beside-requires-3
     returns-3
     read-back-requires
     enum-told-3
     enum-told-4
-    nothing-requires-4
+    blank-beside-requires-4
     returns-4
     view-requires
     eidr-requires

@@ -1,61 +1,63 @@
+-- `flat_items::beside::flat_components` meets its contract. Assumes nothing.
 use Prim.Native.Nat.{_≤_, _-_}
+use mathlib.Core.List.{map}
+use mathlib.Core.Path.{_≡_, refl, ap, sym, _∙_}
+use native.Mathlib.Omega.{arith}
+use lib.Seq.{paste, paste-zero}
+use lib.ListN.{length}
 use borrow.Author.Needs.{needs}
+use Rattle.flat_items.specs.FlatItem.{flatComponent}
+use Rattle.flat_items.specs.Walk.{noComponents}
+use Rattle.flat.proofs.Arrays.{mapped-turn, mapped-all}
 use Rattle.flat_items.proofs.beside.flat_components.Statement.{statement}
 use Rattle.flat_items.proofs.beside.flat_components.Tie as tie
-use Rattle.flat_items.proofs.beside.flat_components.Reads as reads
-use Rattle.flat_items.proofs.beside.flat_components.Lts as lts
-use Rattle.flat_items.proofs.beside.flat_component.Reads as flat-component-reads
-use Rattle.flat_items.proofs.beside.no_components.Reads as no-components-reads
+
+empty-length : length noComponents ≡ 255
+unfolding noComponents
+empty-length = refl
 
 abbrev Inv-loop : tie.InvT-loop
-Inv-loop cs out₀ i₀ out i = i ≤ 255
+Inv-loop cs out₀ i₀ out i = (i ≤ 255) × (length cs ≡ 255) × (out ≡ paste noComponents 0 (map flatComponent cs) i)
 
 abbrev μ-loop : tie.MeasureT-loop
 μ-loop cs out₀ i₀ out i = 255 - i
 
--- src/beside.rt:41:19
 no-components-requires : tie.Need-no-components-requires Inv-loop μ-loop
 no-components-requires c κs = search needs
 
--- src/beside.rt:43:5
 loop-holds : tie.Need-loop-holds Inv-loop μ-loop
-loop-holds c = search needs
+loop-holds c = (omega arith, search needs, c .no-components .ensures ∙ paste-zero noComponents 0 (map flatComponent (c .before .args .t1)))
 
--- src/beside.rt:44:17
 mul-c : tie.Need-mul-c Inv-loop μ-loop
 mul-c c = search needs
 
--- src/beside.rt:44:17
 array-copy-out-c : tie.Need-array-copy-out-c Inv-loop μ-loop
 array-copy-out-c c = search needs
 
--- src/beside.rt:45:18
 flat-component-requires : tie.Need-flat-component-requires Inv-loop μ-loop
 flat-component-requires c κs = search needs
 
--- src/beside.rt:45:9
 mul-out : tie.Need-mul-out Inv-loop μ-loop
 mul-out c = search needs
 
--- src/beside.rt:45:9
 array-set-from-out : tie.Need-array-set-from-out Inv-loop μ-loop
 array-set-from-out c = search needs
 
--- src/beside.rt:46:9
 add-i : tie.Need-add-i Inv-loop μ-loop
 add-i c = search needs
 
--- src/beside.rt:43:5
 loop-less : tie.Need-loop-less Inv-loop μ-loop
 loop-less c = search needs
 
--- src/beside.rt:43:5
 loop-again : tie.Need-loop-again Inv-loop μ-loop
-loop-again c = search needs
+loop-again c =
+    let l = c .before .before .before in
+    (omega arith, l .loop .inv .1, mapped-turn 255 flatComponent noComponents (l .loop .out) (l .before .before .args .t1) (l .loop .i) _ _ empty-length (l .loop .inv .1) (omega arith) (c .flat-component .ensures) (l .loop .inv .2))
 
--- src/beside.rt:40:1
 returns : tie.Need-returns Inv-loop μ-loop
-returns c = search needs
+returns c =
+    let l = c .before in
+    mapped-all 255 flatComponent noComponents (l .loop .out) (l .before .before .args .t1) (l .loop .i) empty-length (l .loop .inv .1) (omega arith) (l .loop .inv .2)
 
 pub flat-components-spec : {M : Type 1} → statement M
 flat-components-spec =

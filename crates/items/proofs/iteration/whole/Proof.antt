@@ -54,8 +54,8 @@ part-read-descriptor-end c = search needs
 read-descriptor-requires : tie.Need-read-descriptor-requires
 read-descriptor-requires c κs = search needs
 
-beside-requires : tie.Need-beside-requires
-beside-requires c κs = search needs
+identifier-of-requires : tie.Need-identifier-of-requires
+identifier-of-requires c κs = search needs
 
 enum-known-read : tie.Need-enum-known-read
 enum-known-read c = search needs
@@ -76,12 +76,12 @@ move-refusal-requires c κs =
 returns : tie.Need-returns
 returns c =
     let s = c .before .before .before .before .before .before .before .before .before .before .before .before .before in
-    whole-is (s .args .bytes .now) (s .args .offset) (s .args .len) (omega arith) (omega arith) _ (c .before .before .before .before .before .read-descriptor .ensures) _ (c .before .before .before .before .beside .ensures) _ _ (c .before .before .read .given .1) (c .move-descriptor .ensures)
+    whole-is (s .args .bytes .now) (s .args .offset) (s .args .len) (omega arith) (omega arith) _ (c .before .before .before .before .before .read-descriptor .ensures) _ (c .before .before .before .before .identifier-of .ensures) _ _ (c .before .before .read .given .1) (c .move-descriptor .ensures)
 
 returns-2 : tie.Need-returns-2
 returns-2 c =
     let s = c .before .before .before .before .before .before .before .before .before .before .before .before .before in
-    whole-refused (s .args .bytes .now) (s .args .offset) (s .args .len) (omega arith) (omega arith) _ (c .before .before .before .before .before .read-descriptor .ensures) _ (c .before .before .before .before .beside .ensures) _ _ (c .before .before .read2 .given .1) (c .move-refusal .ensures)
+    whole-refused (s .args .bytes .now) (s .args .offset) (s .args .len) (omega arith) (omega arith) _ (c .before .before .before .before .before .read-descriptor .ensures) _ (c .before .before .before .before .identifier-of .ensures) _ _ (c .before .before .read2 .given .1) (c .move-refusal .ensures)
 
 pub whole-spec : {M : Type 1} → statement M
 whole-spec =
@@ -103,7 +103,7 @@ whole-spec =
     part-read-descriptor-start
     part-read-descriptor-end
     read-descriptor-requires
-    beside-requires
+    identifier-of-requires
     enum-known-read
     move-descriptor-requires
     enum-known-read-2

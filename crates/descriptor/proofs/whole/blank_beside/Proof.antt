@@ -1,11 +1,11 @@
--- `descriptor::whole::nothing`, by definition.
+-- `descriptor::whole::blank_beside`, by definition.
 use mathlib.Core.Path.{_≡_, ap}
 use mathlib.Core.List.{List}
 use Rattle.descriptor.specs.declared.segmentation.ModeComponent.{ModeComponent}
 use Rattle.descriptor.specs.Whole.{blankBeside}
 use borrow.Author.Needs.{needs}
-use Rattle.descriptor.proofs.whole.nothing.Statement.{statement}
-use Rattle.descriptor.proofs.whole.nothing.Tie as tie
+use Rattle.descriptor.proofs.whole.blank_beside.Statement.{statement}
+use Rattle.descriptor.proofs.whole.blank_beside.Tie as tie
 
 no-components-requires : tie.Need-no-components-requires
 no-components-requires c κs = search needs
@@ -14,5 +14,5 @@ returns : tie.Need-returns
 unfolding blankBeside
 returns c = rw (c .no-components .ensures)
 
-pub nothing-spec : {M : Type 1} → statement M
-nothing-spec = tie.close (tie.spec no-components-requires returns)
+pub blank-beside-spec : {M : Type 1} → statement M
+blank-beside-spec = tie.close (tie.spec no-components-requires returns)

@@ -1,0 +1,24 @@
+-- The full reading of a section. 01, "What must change shape": "arrays stand beside enums, not in them". These are definitions.
+use Prim.Native.Nat.{ℕ}
+use mathlib.Core.List.{List, []}
+use Rattle.command.specs.Command.{array, componentsOf}
+use Rattle.command.specs.declared.SpliceCommand.{SpliceCommand}
+use Rattle.command.specs.declared.components.ComponentSplice.{ComponentSplice}
+use Rattle.section.specs.Section.{commandBytes, sectionOf}
+use Rattle.section.specs.declared.SectionRead.{SectionRead}
+use Rattle.section.specs.declared.whole.WholeSection.{WholeSection}
+
+-- beside a command with this payload: an insert's components; "blank .. past" their count, and beside any other command
+abbrev pub besideCommand : SpliceCommand → List ℕ → List ComponentSplice
+besideCommand SpliceCommand.SpliceNull payload = array []
+besideCommand (SpliceCommand.SpliceInsert i) payload = componentsOf payload
+besideCommand (SpliceCommand.TimeSignal t) payload = array []
+besideCommand SpliceCommand.BandwidthReservation payload = array []
+besideCommand (SpliceCommand.PrivateCommand p) payload = array []
+
+abbrev pub besideSection : SectionRead → List ℕ → List ComponentSplice
+besideSection (SectionRead.Is x) payload = besideCommand (x .command) payload
+besideSection (SectionRead.Refused r) payload = array []
+
+unfoldable pub wholeSectionOf : List ℕ → WholeSection
+wholeSectionOf s = record { read = sectionOf s; components = besideSection (sectionOf s) (commandBytes s) }

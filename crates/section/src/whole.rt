@@ -1,0 +1,51 @@
+// The full reading of a section, for those who ask: the components of an insert beside what the section says.
+ghost use mathlib.Core.Path.{_≡_};
+ghost use Rattle.section.specs.Whole.{besideCommand, wholeSectionOf};
+use crate::SectionRead;
+use crate::read_section;
+use command::SpliceCommand;
+use command::components::ComponentSplice;
+use command::components::blanks;
+use command::components::read_components;
+use table::numbers::bits;
+
+// The components are blank past their count, and all of them where the command is no insert by components.
+pub struct WholeSection {
+    pub read: SectionRead,
+    pub components: [ComponentSplice; 255],
+}
+
+// What stands beside a command with this payload.
+fn beside_command(c: SpliceCommand, payload: &[u8]) -> [ComponentSplice; 255]
+    ensures { λ r. ⌜ r ≡ besideCommand c (now (payload .entry)) ⌝ }
+{
+    match c {
+        SpliceCommand::SpliceNull => blanks(),
+        SpliceCommand::SpliceInsert(_) => read_components(payload),
+        SpliceCommand::TimeSignal(_) => blanks(),
+        SpliceCommand::BandwidthReservation => blanks(),
+        SpliceCommand::PrivateCommand(_) => blanks(),
+    }
+}
+
+// The section in these bytes, with its insert's components. The command's bytes are a part of the section, so their length is read once more.
+pub fn read_whole_section(s: &[u8]) -> WholeSection
+    ensures { λ r. ⌜ r ≡ wholeSectionOf (now (s .entry)) ⌝ }
+{
+    let read = read_section(s);
+    match read {
+        SectionRead::Refused(_) => WholeSection {
+            read,
+            components: blanks(),
+        },
+        SectionRead::Is(x) => {
+            let command = x.command;
+            let size = bits(s, 11, 4, 12) as usize;
+            let end = 14 + size;
+            WholeSection {
+                read,
+                components: beside_command(command, &s[14..end]),
+            }
+        }
+    }
+}
