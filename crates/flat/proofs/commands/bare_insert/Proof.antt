@@ -1,0 +1,15 @@
+-- `flat::commands::bare_insert` meets its contract. Assumes nothing.
+use borrow.Author.Needs.{needs}
+use Rattle.flat.specs.FlatCommand.{bareInsert}
+use Rattle.flat.proofs.commands.bare_insert.Statement.{statement}
+use Rattle.flat.proofs.commands.bare_insert.Tie as tie
+
+flat-break-requires : tie.Need-flat-break-requires
+flat-break-requires c κs = search needs
+
+returns : tie.Need-returns
+unfolding bareInsert
+returns c = cc
+
+pub bare-insert-spec : {M : Type 1} → statement M
+bare-insert-spec = tie.close (tie.spec flat-break-requires returns)

@@ -1,0 +1,29 @@
+-- `flat::commands::flat_break` meets its contract. Assumes nothing.
+use borrow.Author.Needs.{needs}
+use Rattle.flat.specs.FlatCommand.{flatBreak}
+use Rattle.flat.proofs.commands.flat_break.Statement.{statement}
+use Rattle.flat.proofs.commands.flat_break.Tie as tie
+
+enum-told : tie.Need-enum-told
+enum-told c = search needs
+
+enum-known-b : tie.Need-enum-known-b
+enum-known-b c = search needs
+
+flag-requires : tie.Need-flag-requires
+flag-requires c κs = search needs
+
+cast-t6 : tie.Need-cast-t6
+cast-t6 c = search needs
+
+returns : tie.Need-returns
+unfolding flatBreak
+returns c = cc
+
+returns-2 : tie.Need-returns-2
+unfolding flatBreak
+returns-2 c = cc
+
+pub flat-break-spec : {M : Type 1} → statement M
+flat-break-spec =
+    tie.close (tie.spec enum-told enum-known-b flag-requires cast-t6 returns returns-2)

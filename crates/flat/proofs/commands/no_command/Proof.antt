@@ -1,0 +1,15 @@
+-- `flat::commands::no_command` meets its contract. Assumes nothing.
+use borrow.Author.Needs.{needs}
+use Rattle.flat.specs.FlatCommand.{noCommand}
+use Rattle.flat.proofs.commands.no_command.Statement.{statement}
+use Rattle.flat.proofs.commands.no_command.Tie as tie
+
+bare-insert-requires : tie.Need-bare-insert-requires
+bare-insert-requires c κs = search needs
+
+returns : tie.Need-returns
+unfolding noCommand
+returns c = cc
+
+pub no-command-spec : {M : Type 1} → statement M
+no-command-spec = tie.close (tie.spec bare-insert-requires returns)

@@ -1,0 +1,18 @@
+-- `flat::components::flat_component` meets its contract. Assumes nothing.
+use borrow.Author.Needs.{needs}
+use Rattle.flat.specs.FlatCommand.{flatComponent}
+use Rattle.flat.proofs.components.flat_component.Statement.{statement}
+use Rattle.flat.proofs.components.flat_component.Tie as tie
+
+cast-t3 : tie.Need-cast-t3
+cast-t3 c = search needs
+
+flat-time-requires : tie.Need-flat-time-requires
+flat-time-requires c κs = search needs
+
+returns : tie.Need-returns
+unfolding flatComponent
+returns c = cc
+
+pub flat-component-spec : {M : Type 1} → statement M
+flat-component-spec = tie.close (tie.spec cast-t3 flat-time-requires returns)

@@ -1,0 +1,53 @@
+-- `flat::components::flat_splices` meets its contract. Assumes nothing.
+use borrow.Author.Needs.{needs}
+use Rattle.flat.specs.FlatCommand.{flatSplices}
+use Rattle.flat.proofs.components.flat_splices.Statement.{statement}
+use Rattle.flat.proofs.components.flat_splices.Tie as tie
+
+enum-known-read : tie.Need-enum-known-read
+enum-known-read c = search needs
+
+flat-command-requires : tie.Need-flat-command-requires
+flat-command-requires c κs = search needs
+
+flat-components-requires : tie.Need-flat-components-requires
+flat-components-requires c κs = search needs
+
+enum-told : tie.Need-enum-told
+enum-told c = search needs
+
+no-components-requires : tie.Need-no-components-requires
+no-components-requires c κs = search needs
+
+enum-told-2 : tie.Need-enum-told-2
+enum-told-2 c = search needs
+
+no-components-requires-2 : tie.Need-no-components-requires-2
+no-components-requires-2 c κs = search needs
+
+returns : tie.Need-returns
+unfolding flatSplices
+returns c = rw (c .before .before .before .before .before .read .given .1, c .before .before .before .flat-command .ensures, c .flat-components .ensures)
+
+returns-2 : tie.Need-returns-2
+unfolding flatSplices
+returns-2 c = rw (c .before .enum-told .given .1, c .no-components .ensures)
+
+returns-3 : tie.Need-returns-3
+unfolding flatSplices
+returns-3 c = rw (c .before .enum-told2 .given .1, c .no-components2 .ensures)
+
+pub flat-splices-spec : {M : Type 1} → statement M
+flat-splices-spec =
+    tie.close
+    (tie.spec
+    enum-known-read
+    flat-command-requires
+    flat-components-requires
+    enum-told
+    no-components-requires
+    enum-told-2
+    no-components-requires-2
+    returns
+    returns-2
+    returns-3)

@@ -1,0 +1,12 @@
+-- `flat::components::no_components` meets its contract. Assumes nothing.
+use mathlib.Core.Path.{refl}
+use Rattle.flat.specs.FlatCommand.{noComponents}
+use Rattle.flat.proofs.components.no_components.Statement.{statement}
+use Rattle.flat.proofs.components.no_components.Tie as tie
+
+returns : tie.Need-returns
+unfolding noComponents
+returns c = refl
+
+pub no-components-spec : {M : Type 1} → statement M
+no-components-spec = tie.close (tie.spec returns)

@@ -1,0 +1,93 @@
+// A splice header, and an adjusted time.
+ghost use mathlib.Core.Path.{_≡_};
+ghost use Rattle.flat.specs.Flat.{noHeader, flatHeader, flatHeaderRead, flatAdjusted};
+use crate::flat_flag;
+use header::header::HeaderRead;
+use header::header::SpliceInfoHeader;
+use header::time::AdjustedTime;
+
+#[repr(C)]
+pub struct FlatHeader {
+    pub refusal: u64,
+    pub protocol_version: u64,
+    pub encrypted_packet: u64,
+    pub encryption_algorithm: u64,
+    pub pts_adjustment: u64,
+    pub cw_index: u64,
+    pub tier: u64,
+    pub splice_command_length: u64,
+    pub splice_command_type: u64,
+}
+
+pub fn no_header(refusal: u64) -> FlatHeader
+    ensures { λ r. ⌜ r ≡ noHeader refusal ⌝ }
+{
+    FlatHeader {
+        refusal,
+        protocol_version: 0,
+        encrypted_packet: 0,
+        encryption_algorithm: 0,
+        pts_adjustment: 0,
+        cw_index: 0,
+        tier: 0,
+        splice_command_length: 0,
+        splice_command_type: 0,
+    }
+}
+
+pub fn flat_header(h: SpliceInfoHeader) -> FlatHeader
+    ensures { λ r. ⌜ r ≡ flatHeader h ⌝ }
+{
+    let algorithm = h.encryption_algorithm;
+    let kind = h.splice_command_type;
+    FlatHeader {
+        refusal: 0,
+        protocol_version: h.protocol_version as u64,
+        encrypted_packet: flat_flag(h.encrypted_packet),
+        encryption_algorithm: algorithm.id() as u64,
+        pts_adjustment: h.pts_adjustment,
+        cw_index: h.cw_index as u64,
+        tier: h.tier as u64,
+        splice_command_length: h.splice_command_length as u64,
+        splice_command_type: kind.id() as u64,
+    }
+}
+
+pub fn flat_header_read(read: HeaderRead) -> FlatHeader
+    ensures { λ r. ⌜ r ≡ flatHeaderRead read ⌝ }
+{
+    match read {
+        HeaderRead::Header(h) => flat_header(h),
+        HeaderRead::TooShort => no_header(5),
+    }
+}
+
+// An adjusted time: kind 0 where there is none, 3 at so many ticks.
+#[repr(C)]
+pub struct FlatAdjusted {
+    pub refusal: u64,
+    pub kind: u64,
+    pub ticks: u64,
+}
+
+pub fn flat_adjusted(t: AdjustedTime) -> FlatAdjusted
+    ensures { λ r. ⌜ r ≡ flatAdjusted t ⌝ }
+{
+    match t {
+        AdjustedTime::At(ticks) => FlatAdjusted {
+            refusal: 0,
+            kind: 3,
+            ticks,
+        },
+        AdjustedTime::Nothing => FlatAdjusted {
+            refusal: 0,
+            kind: 0,
+            ticks: 0,
+        },
+        AdjustedTime::TooLarge => FlatAdjusted {
+            refusal: 32,
+            kind: 0,
+            ticks: 0,
+        },
+    }
+}

@@ -1,0 +1,66 @@
+// A section: header, command, and the place of its descriptor loop.
+ghost use mathlib.Core.Path.{_≡_};
+ghost use Rattle.section.specs.Section.{numberOf};
+ghost use Rattle.section.specs.declared.SectionRead.{SectionRead};
+ghost use Rattle.flat.specs.FlatSection.{flatSectionRead};
+use crate::FlatView;
+use crate::commands::FlatCommand;
+use crate::commands::flat_command;
+use crate::commands::no_command;
+use crate::flat_view;
+use crate::headers::FlatHeader;
+use crate::headers::flat_header;
+use crate::headers::no_header;
+use section::Refusal;
+use section::SectionRead;
+
+#[repr(C)]
+pub struct FlatSection {
+    pub refusal: u64,
+    pub header: FlatHeader,
+    pub command: FlatCommand,
+    pub descriptors: FlatView,
+}
+
+// Document 01's number.
+fn number(r: Refusal) -> u64
+    ensures { λ x. ⌜ x ≡ numberOf (SectionRead.Refused r) ⌝ }
+{
+    match r {
+        Refusal::TooShort => 1,
+        Refusal::TooLong => 2,
+        Refusal::OtherTable => 3,
+        Refusal::WrongCrc => 4,
+        Refusal::NoHeader => 5,
+        Refusal::Encrypted => 6,
+        Refusal::CommandTooLong => 7,
+        Refusal::NoLoopLength => 8,
+        Refusal::LoopTooLong => 9,
+        Refusal::UnknownCommand => 10,
+        Refusal::MalformedCommand => 11,
+    }
+}
+
+pub fn flat_section_read(read: SectionRead) -> FlatSection
+    ensures { λ r. ⌜ r ≡ flatSectionRead read ⌝ }
+{
+    match read {
+        SectionRead::Is(x) => {
+            let header = x.header;
+            let command = x.command;
+            let descriptors = x.descriptors;
+            FlatSection {
+                refusal: 0,
+                header: flat_header(header),
+                command: flat_command(command),
+                descriptors: flat_view(descriptors),
+            }
+        }
+        SectionRead::Refused(r) => FlatSection {
+            refusal: number(r),
+            header: no_header(0),
+            command: no_command(0, 0),
+            descriptors: FlatView { at: 0, len: 0 },
+        },
+    }
+}

@@ -1,0 +1,60 @@
+// The refusals of items and UPIDs: document 01's number, and its values in 01's order, 0 where there is none.
+ghost use mathlib.Core.Path.{_≡_};
+ghost use Rattle.upid.specs.Upid as upid;
+ghost use Rattle.items.specs.Items.{numberOf, valuesOf};
+ghost use Rattle.flat_items.specs.FlatUpid.{three};
+use items::ItemRefusal;
+use upid::Refusal;
+
+pub fn number(r: Refusal) -> u64
+    ensures { λ x. ⌜ x ≡ upid.numberOf r ⌝ }
+{
+    match r {
+        Refusal::TooLong => 2,
+        Refusal::Short {
+            expected: _,
+            actual: _,
+        } => 21,
+        Refusal::Mismatch => 23,
+        Refusal::NotText { kind: _, bytes: _ } => 24,
+        Refusal::WrongLength {
+            kind: _,
+            expected: _,
+            actual: _,
+        } => 25,
+    }
+}
+
+pub fn values(r: Refusal) -> [u64; 3]
+    ensures { λ x. ⌜ x ≡ three (upid.valuesOf r) ⌝ }
+{
+    match r {
+        Refusal::TooLong => [0, 0, 0],
+        Refusal::Short { expected, actual } => [expected as u64, actual as u64, 0],
+        Refusal::Mismatch => [0, 0, 0],
+        Refusal::NotText { kind, bytes } => [kind as u64, bytes.at as u64, bytes.len as u64],
+        Refusal::WrongLength {
+            kind,
+            expected,
+            actual,
+        } => [kind as u64, expected as u64, actual as u64],
+    }
+}
+
+pub fn item_number(r: ItemRefusal) -> u64
+    ensures { λ x. ⌜ x ≡ numberOf r ⌝ }
+{
+    match r {
+        ItemRefusal::InvalidDescriptorLength => 22,
+        ItemRefusal::Other(r) => number(r),
+    }
+}
+
+pub fn item_values(r: ItemRefusal) -> [u64; 3]
+    ensures { λ x. ⌜ x ≡ three (valuesOf r) ⌝ }
+{
+    match r {
+        ItemRefusal::InvalidDescriptorLength => [0, 0, 0],
+        ItemRefusal::Other(r) => values(r),
+    }
+}

@@ -1,0 +1,37 @@
+-- The flat form of a named number, by the case that a `match` finds. Assumes nothing.
+use Prim.Native.Nat.{ℕ}
+use mathlib.Core.List.{[]}
+use mathlib.Core.Path.{_≡_, ap, sym, _∙_}
+use lib.ListN.{length}
+use borrow.Author.Tests.{eqb-true}
+use types.Run.{OneOf}
+use Rattle.names.specs.Flags.{Answer, gives, refuses}
+use Rattle.names.specs.Numbering.{Table, named, valueOf, fair}
+use Rattle.names.proofs.Laws.{Sound, inverse, own-name, upto}
+use Rattle.scte35.specs.FlatNumber.{flatName, flatAnswer}
+use Rattle.scte35.specs.declared.numbers.FlatNumber.{FlatNumber}
+
+-- of a number without a refusal
+abbrev pub flat : ℕ → ℕ → FlatNumber
+flat class number = record { refusal = 0; class = class; number = number }
+
+module _ {A : Type 0} (T : Table A) (tag : A → ℕ) (s : Sound T tag) (n : ℕ) (x : A) (e : x ≡ valueOf T n) where
+  is-named : OneOf (upto 0 (length (T .names))) (tag x) → T .class x ≡ named
+  is-named o =
+      let m : T .number x ≡ n = ap (T .number) e ∙ inverse T tag s .there n in
+      sym (eqb-true named (T .class x) (own-name T tag s x x (e ∙ ap (valueOf T) (sym m)) o ∙ ap (fair T) e ∙ inverse T tag s .is-fair n))
+
+  -- a name
+  pub of-name : OneOf (upto 0 (length (T .names))) (tag x) → (k : ℕ) → k ≡ T .number x → flat named k ≡ flatName T (valueOf T n)
+  of-name o k h = ap (flat named) h ∙ ap (λ j. flat j (T .number x)) (sym (is-named o)) ∙ ap (flatName T) e
+
+-- a value that carries its number
+pub of-number : {A : Type 0} (T : Table A) (n : ℕ) (x v : A) → x ≡ valueOf T n → x ≡ v → flat (T .class v) (T .number v) ≡ flatName T (valueOf T n)
+of-number T n x v e h = ap (flatName T) (sym h ∙ e)
+
+-- a value, or refusal 12
+pub of-gives : {A : Type 0} (number : A → ℕ) (x : A) (a : Answer A) (k : ℕ) → k ≡ number x → gives x ≡ a → flat named k ≡ flatAnswer number a
+of-gives number x a k h e = ap (flat named) h ∙ ap (flatAnswer number) e
+
+pub of-refuses : {A : Type 0} (number : A → ℕ) (a : Answer A) → refuses 12 [] ≡ a → record { refusal = 12; class = 0; number = 0 } ≡ flatAnswer number a
+of-refuses number a e = ap (flatAnswer number) e

@@ -1,0 +1,22 @@
+-- The flat forms of named numbers, and the time that is handed in. These are definitions.
+use Prim.Native.Nat.{ℕ}
+use lib.Dec.{eqb}
+use Rattle.header.specs.declared.time.SpliceTime.{SpliceTime}
+use Rattle.header.specs.declared.time.SpliceTime.the-variants.{Unspecified, At}
+use Rattle.names.specs.Flags.{Answer, gives, refuses}
+use Rattle.names.specs.Numbering.{Table, named}
+use Rattle.table.specs.Bits.{pick}
+use Rattle.scte35.specs.declared.numbers.FlatNumber.{FlatNumber}
+
+-- the class (0 named, 1 reserved, 2 private) and the number of a value
+abbrev pub flatName : {A : Type 0} → Table A → A → FlatNumber
+flatName T x = record { refusal = 0; class = T .class x; number = T .number x }
+
+-- the number of a value that has a name, or refusal 12
+abbrev pub flatAnswer : {A : Type 0} → (A → ℕ) → Answer A → FlatNumber
+flatAnswer number (gives x) = record { refusal = 0; class = named; number = number x }
+flatAnswer number (refuses refusal values) = record { refusal = refusal; class = 0; number = 0 }
+
+-- a time of kind 3; any other kind is no time
+abbrev pub timeFrom : ℕ → ℕ → SpliceTime
+timeFrom kind ticks = pick (eqb kind 3) (At ticks) Unspecified

@@ -1,0 +1,129 @@
+// The C boundary: include/scte35.h declares these functions. Each takes bytes and an offset, reads what stands from there to the end (nothing where the
+// offset lies past it), and answers a struct of 64-bit words. Views count from the offset; those of a loop's items, from the loop's first byte.
+ghost use mathlib.Core.Path.{_≡_};
+ghost use lib.ListN.{drop};
+ghost use Rattle.command.specs.Command.{commandOf, componentsOf};
+ghost use Rattle.crc.specs.Crc.{crcOf};
+ghost use Rattle.flat.specs.Flat.{flatHeaderRead, flatAdjusted};
+ghost use Rattle.flat.specs.FlatCommand.{flatCommandRead, flatSplices};
+ghost use Rattle.flat.specs.FlatSection.{flatSectionRead};
+ghost use Rattle.flat_items.specs.FlatItem.{flatStep, flatBeside};
+ghost use Rattle.flat_items.specs.FlatUpid.{flatUpid};
+ghost use Rattle.header.specs.Header.{headerOf};
+ghost use Rattle.header.specs.Time.{adjustedOf};
+ghost use Rattle.items.specs.Items.{stepOf, readingOf};
+ghost use Rattle.section.specs.Section.{sectionOf};
+ghost use Rattle.upid.specs.Upid.{upidOf};
+ghost use Rattle.scte35.specs.FlatNumber.{timeFrom};
+use command::components::read_components;
+use command::read_command;
+use crc::crc32;
+use flat::commands::FlatCommand;
+use flat::commands::flat_command_read;
+use flat::components::FlatSplices;
+use flat::components::flat_splices;
+use flat::headers::FlatAdjusted;
+use flat::headers::FlatHeader;
+use flat::headers::flat_adjusted;
+use flat::headers::flat_header_read;
+use flat::sections::FlatSection;
+use flat::sections::flat_section_read;
+use flat_items::beside::FlatBeside;
+use flat_items::beside::flat_beside;
+use flat_items::steps::FlatStep;
+use flat_items::steps::flat_step;
+use flat_items::upids::FlatUpid;
+use flat_items::upids::flat_upid;
+use header::header::read_header;
+use header::time::SpliceTime;
+use header::time::adjusted_time;
+use items::iteration::step;
+use items::reading::read_item;
+use section::read_section;
+use upid::read_upid;
+
+mod numbers;
+
+// The bytes from an offset on.
+fn rest(s: &[u8], at: usize) -> &[u8]
+    ensures { λ r. ⌜ now r ≡ drop at (now (s .entry)) ⌝ }
+{
+    let end = s.len();
+    if end < at {
+        return &s[end..];
+    }
+    &s[at..]
+}
+
+#[no_mangle]
+pub extern "C" fn scte35_header(s: &[u8], at: usize) -> FlatHeader
+    ensures { λ r. ⌜ r ≡ flatHeaderRead (headerOf (drop at (now (s .entry)))) ⌝ }
+{
+    flat_header_read(read_header(rest(s, at)))
+}
+
+#[no_mangle]
+pub extern "C" fn scte35_section(s: &[u8], at: usize) -> FlatSection
+    ensures { λ r. ⌜ r ≡ flatSectionRead (sectionOf (drop at (now (s .entry)))) ⌝ }
+{
+    flat_section_read(read_section(rest(s, at)))
+}
+
+// The command of a type, in its payload.
+#[no_mangle]
+pub extern "C" fn scte35_command(kind: u8, s: &[u8], at: usize) -> FlatCommand
+    ensures { λ r. ⌜ r ≡ flatCommandRead (commandOf kind (drop at (now (s .entry)))) ⌝ }
+{
+    flat_command_read(read_command(kind, rest(s, at)))
+}
+
+// The components of an insert, in its payload.
+#[no_mangle]
+pub extern "C" fn scte35_insert_components(s: &[u8], at: usize) -> FlatSplices
+    ensures { λ r. ⌜ r ≡ flatSplices (commandOf 0x05 (drop at (now (s .entry)))) (componentsOf (drop at (now (s .entry)))) ⌝ }
+{
+    let payload = rest(s, at);
+    flat_splices(read_command(5, payload), read_components(payload))
+}
+
+// The item at an offset of a loop.
+#[no_mangle]
+pub extern "C" fn scte35_step(s: &[u8], offset: usize) -> FlatStep
+    ensures { λ r. ⌜ r ≡ flatStep (stepOf (now (s .entry)) offset) ⌝ }
+{
+    flat_step(step(s, offset))
+}
+
+// What stands beside that item.
+#[no_mangle]
+pub extern "C" fn scte35_item_components(s: &[u8], offset: usize) -> FlatBeside
+    ensures { λ r. ⌜ r ≡ flatBeside (readingOf (now (s .entry)) offset) ⌝ }
+{
+    flat_beside(read_item(s, offset))
+}
+
+// The UPID of a type, in all bytes from the offset on.
+#[no_mangle]
+pub extern "C" fn scte35_upid(kind: u8, s: &[u8], at: usize) -> FlatUpid
+    ensures { λ r. ⌜ r ≡ flatUpid (upidOf kind (drop at (now (s .entry)))) ⌝ }
+{
+    flat_upid(read_upid(kind, rest(s, at)))
+}
+
+#[no_mangle]
+pub extern "C" fn scte35_crc(s: &[u8], at: usize) -> u32
+    ensures { λ r. ⌜ r ≡ crcOf (drop at (now (s .entry))) ⌝ }
+{
+    crc32(rest(s, at))
+}
+
+// A time of kind 3 with its adjustment; any other kind is no time.
+#[no_mangle]
+pub extern "C" fn scte35_adjusted_time(kind: u64, ticks: u64, pts_adjustment: u64) -> FlatAdjusted
+    ensures { λ r. ⌜ r ≡ flatAdjusted (adjustedOf (timeFrom kind ticks) «pts_adjustment») ⌝ }
+{
+    if kind == 3 {
+        return flat_adjusted(adjusted_time(SpliceTime::At(ticks), pts_adjustment));
+    }
+    flat_adjusted(adjusted_time(SpliceTime::Unspecified, pts_adjustment))
+}

@@ -1,0 +1,176 @@
+//! The C functions, as `include/scte35.h` declares them. Every struct is words of 64 bits; a slice is its address and length. For those
+//! who count instructions or want the bare words: everybody else uses the functions of the crate itself.
+
+macro_rules! words {
+    ($($(#[$doc:meta])* $name:ident { $($field:ident: $type:ty),* $(,)? })*) => {
+        $($(#[$doc])* #[repr(C)] #[derive(Debug, Clone, Copy, PartialEq, Eq)] pub struct $name { $(pub $field: $type),* })*
+    };
+}
+
+words! {
+    View { at: u64, len: u64 }
+    Time { kind: u64, ticks: u64 }
+    Header {
+        refusal: u64,
+        protocol_version: u64,
+        encrypted_packet: u64,
+        encryption_algorithm: u64,
+        pts_adjustment: u64,
+        cw_index: u64,
+        tier: u64,
+        splice_command_length: u64,
+        splice_command_type: u64,
+    }
+    Mode { program_splice_flag: u64, splice_time: Time, component_count: u64 }
+    Break { duration_flag: u64, auto_return: u64, duration: u64 }
+    Insert {
+        splice_event_id: u64,
+        splice_event_cancel_indicator: u64,
+        reserved: u64,
+        out_of_network_indicator: u64,
+        mode: Mode,
+        break_duration: Break,
+        unique_program_id: u64,
+        avail_num: u64,
+        avails_expected: u64,
+    }
+    Command {
+        refusal: u64,
+        splice_command_type: u64,
+        insert: Insert,
+        splice_time: Time,
+        identifier: u64,
+        private_bytes: View,
+    }
+    ComponentSplice { component_tag: u64, splice_time: Time }
+    InsertComponents { refusal: u64, count: u64, components: [ComponentSplice; 255] }
+    Section { refusal: u64, header: Header, command: Command, descriptors: View }
+    Restrictions {
+        web_delivery_allowed_flag: u64,
+        no_regional_blackout_flag: u64,
+        archive_allowed_flag: u64,
+        device_restrictions: u64,
+    }
+    SubSegments { present: u64, sub_segment_num: u64, sub_segments_expected: u64 }
+    Segmentation {
+        segmentation_event_id: u64,
+        segmentation_event_cancel_indicator: u64,
+        program_segmentation_flag: u64,
+        segmentation_duration_flag: u64,
+        delivery_not_restricted_flag: u64,
+        delivery_restrictions: Restrictions,
+        component_count: u64,
+        segmentation_duration: u64,
+        segmentation_upid_type: u64,
+        segmentation_type_id: u64,
+        segment_num: u64,
+        segments_expected: u64,
+        sub_segments: SubSegments,
+    }
+    TimeDescriptor { tai_seconds: u64, tai_nanoseconds: u64, utc_offset: u64 }
+    Item {
+        kind: u64,
+        provider_avail_id: u64,
+        preroll: u64,
+        segmentation: Segmentation,
+        time: TimeDescriptor,
+        splice_descriptor_tag: u64,
+        bytes: View,
+    }
+    Step { refusal: u64, values: [u64; 3], next: u64, identifier: u64, item: Item }
+    Component { component_tag: u64, pts_offset: u64 }
+    ItemComponents { refusal: u64, values: [u64; 3], count: u64, components: [Component; 255], eidr: [u64; 12] }
+    Part { kind: u64, level: u64, start: u64, len: u64 }
+    Upid { refusal: u64, values: [u64; 3], kind: u64, eidr: [u64; 12], count: u64, parts: [Part; 127] }
+    AdjustedTime { refusal: u64, kind: u64, ticks: u64 }
+    Number { refusal: u64, class: u64, number: u64 }
+}
+
+extern "C" {
+    fn scte35_header(s: *const u8, n: usize, at: usize) -> Header;
+    fn scte35_section(s: *const u8, n: usize, at: usize) -> Section;
+    fn scte35_command(kind: u8, s: *const u8, n: usize, at: usize) -> Command;
+    fn scte35_insert_components(s: *const u8, n: usize, at: usize) -> InsertComponents;
+    fn scte35_step(s: *const u8, n: usize, offset: usize) -> Step;
+    fn scte35_item_components(s: *const u8, n: usize, offset: usize) -> ItemComponents;
+    fn scte35_upid(kind: u8, s: *const u8, n: usize, at: usize) -> Upid;
+    fn scte35_crc(s: *const u8, n: usize, at: usize) -> u32;
+    fn scte35_adjusted_time(kind: u64, ticks: u64, pts_adjustment: u64) -> AdjustedTime;
+    fn scte35_algorithm(n: u8) -> Number;
+    fn scte35_command_type(n: u8) -> Number;
+    fn scte35_upid_type(n: u8) -> Number;
+    fn scte35_segmentation_type(n: u8) -> Number;
+    fn scte35_network_indicator(n: u8) -> Number;
+    fn scte35_return_mode(n: u8) -> Number;
+    fn scte35_device_restrictions(n: u8) -> Number;
+}
+
+// Each of these functions takes any bytes and any numbers, reads nothing but the bytes lent, keeps nothing, and returns: that is
+// proved of it. So each call below is safe for every argument.
+
+macro_rules! over_bytes {
+    ($($name:ident = $function:ident -> $answer:ty;)*) => {
+        $(pub fn $name(s: &[u8], at: usize) -> $answer {
+            unsafe { $function(s.as_ptr(), s.len(), at) }
+        })*
+    };
+}
+
+macro_rules! of_numbers {
+    ($($name:ident = $function:ident;)*) => {
+        $(pub fn $name(n: u8) -> Number {
+            unsafe { $function(n) }
+        })*
+    };
+}
+
+over_bytes! {
+    header = scte35_header -> Header;
+    section = scte35_section -> Section;
+    insert_components = scte35_insert_components -> InsertComponents;
+    step = scte35_step -> Step;
+    item_components = scte35_item_components -> ItemComponents;
+    crc = scte35_crc -> u32;
+}
+
+of_numbers! {
+    algorithm = scte35_algorithm;
+    command_type = scte35_command_type;
+    upid_type = scte35_upid_type;
+    segmentation_type = scte35_segmentation_type;
+    network_indicator = scte35_network_indicator;
+    return_mode = scte35_return_mode;
+    device_restrictions = scte35_device_restrictions;
+}
+
+pub fn command(kind: u8, s: &[u8], at: usize) -> Command {
+    unsafe { scte35_command(kind, s.as_ptr(), s.len(), at) }
+}
+
+pub fn upid(kind: u8, s: &[u8], at: usize) -> Upid {
+    unsafe { scte35_upid(kind, s.as_ptr(), s.len(), at) }
+}
+
+pub fn adjusted_time(kind: u64, ticks: u64, pts_adjustment: u64) -> AdjustedTime {
+    unsafe { scte35_adjusted_time(kind, ticks, pts_adjustment) }
+}
+
+const fn words<T>() -> usize {
+    std::mem::size_of::<T>() / 8
+}
+
+/// The sizes that the header file states.
+const _: () = {
+    assert!(words::<Header>() == 9);
+    assert!(words::<Insert>() == 14);
+    assert!(words::<Command>() == 21);
+    assert!(words::<InsertComponents>() == 2 + 255 * 3);
+    assert!(words::<Section>() == 1 + 9 + 21 + 2);
+    assert!(words::<Segmentation>() == 18);
+    assert!(words::<Item>() == 27);
+    assert!(words::<Step>() == 6 + 27);
+    assert!(words::<ItemComponents>() == 5 + 255 * 2 + 12);
+    assert!(words::<Upid>() == 18 + 127 * 4);
+    assert!(words::<AdjustedTime>() == 3);
+    assert!(words::<Number>() == 3);
+};

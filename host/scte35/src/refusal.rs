@@ -1,0 +1,124 @@
+//! What a reader refuses, and why. `number` is the number of the rules (docs, "Refusal numbers").
+use crate::names::SegmentationUpidType;
+use std::fmt;
+
+/// Why a section is refused: the first of these that applies.
+#[derive(Debug, Clone, Copy, PartialEq, Eq, Hash)]
+pub enum SectionRefusal {
+    /// under 3 bytes
+    TooShort,
+    /// over 4,096 bytes
+    TooLong,
+    /// the first byte is not 0xFC
+    OtherTable,
+    /// the CRC over all bytes is not 0
+    WrongCrc,
+    /// under 18 bytes
+    NoHeader,
+    Encrypted,
+    /// the command's length exceeds the bytes after the header
+    CommandTooLong,
+    /// fewer than 2 bytes follow the command
+    NoLoopLength,
+    /// the loop's length exceeds what is left
+    LoopTooLong,
+    /// none of splice_null, splice_insert, time_signal, bandwidth_reservation and private_command
+    UnknownCommand,
+    MalformedCommand,
+}
+
+impl SectionRefusal {
+    pub(crate) const ALL: [SectionRefusal; 11] = {
+        use SectionRefusal::*;
+        [TooShort, TooLong, OtherTable, WrongCrc, NoHeader, Encrypted, CommandTooLong, NoLoopLength, LoopTooLong, UnknownCommand, MalformedCommand]
+    };
+
+    pub fn number(self) -> u8 {
+        1 + Self::ALL.iter().position(|r| *r == self).expect("all are listed") as u8
+    }
+}
+
+/// Why an item of a loop or a UPID is refused: the first fault in layout order.
+#[derive(Debug, Clone, Copy, PartialEq, Eq, Hash)]
+pub enum ItemRefusal<'a> {
+    /// a loop over 4,076 bytes, a UPID over 255
+    TooLong,
+    NotEnoughData {
+        expected: usize,
+        actual: usize,
+    },
+    /// 255, and it fits
+    InvalidDescriptorLength,
+    /// bytes that are said to be of type 0
+    UntypedBytes,
+    NotText {
+        kind: SegmentationUpidType,
+        bytes: &'a [u8],
+    },
+    WrongLength {
+        kind: SegmentationUpidType,
+        expected: usize,
+        actual: usize,
+    },
+}
+
+impl ItemRefusal<'_> {
+    pub fn number(&self) -> u8 {
+        match self {
+            ItemRefusal::TooLong => 2,
+            ItemRefusal::NotEnoughData { .. } => 21,
+            ItemRefusal::InvalidDescriptorLength => 22,
+            ItemRefusal::UntypedBytes => 23,
+            ItemRefusal::NotText { .. } => 24,
+            ItemRefusal::WrongLength { .. } => 25,
+        }
+    }
+}
+
+/// A header alone of under 11 bytes (refusal 5).
+#[derive(Debug, Clone, Copy, PartialEq, Eq, Hash)]
+pub struct HeaderTooShort;
+
+/// A flag over 1, or a restriction over 3 (refusal 12).
+#[derive(Debug, Clone, Copy, PartialEq, Eq, Hash)]
+pub struct NotInField(pub u8);
+
+/// A time or an adjustment of more than 33 bits (refusal 32).
+#[derive(Debug, Clone, Copy, PartialEq, Eq, Hash)]
+pub struct TimeTooLarge;
+
+impl fmt::Display for SectionRefusal {
+    fn fmt(&self, f: &mut fmt::Formatter<'_>) -> fmt::Result {
+        write!(f, "section refused, {}: {self:?}", self.number())
+    }
+}
+
+impl fmt::Display for ItemRefusal<'_> {
+    fn fmt(&self, f: &mut fmt::Formatter<'_>) -> fmt::Result {
+        write!(f, "refused, {}: {self:?}", self.number())
+    }
+}
+
+impl fmt::Display for HeaderTooShort {
+    fn fmt(&self, f: &mut fmt::Formatter<'_>) -> fmt::Result {
+        f.write_str("a splice header has 11 bytes")
+    }
+}
+
+impl fmt::Display for NotInField {
+    fn fmt(&self, f: &mut fmt::Formatter<'_>) -> fmt::Result {
+        write!(f, "{} does not fit its field", self.0)
+    }
+}
+
+impl fmt::Display for TimeTooLarge {
+    fn fmt(&self, f: &mut fmt::Formatter<'_>) -> fmt::Result {
+        f.write_str("more than 33 bits")
+    }
+}
+
+impl std::error::Error for SectionRefusal {}
+impl std::error::Error for ItemRefusal<'_> {}
+impl std::error::Error for HeaderTooShort {}
+impl std::error::Error for NotInField {}
+impl std::error::Error for TimeTooLarge {}
