@@ -110,7 +110,8 @@ extern "C" {
 
 macro_rules! over_bytes {
     ($($name:ident = $function:ident -> $answer:ty;)*) => {
-        $(pub fn $name(s: &[u8], at: usize) -> $answer {
+        $(#[inline]
+        pub fn $name(s: &[u8], at: usize) -> $answer {
             unsafe { $function(s.as_ptr(), s.len(), at) }
         })*
     };
@@ -118,7 +119,8 @@ macro_rules! over_bytes {
 
 macro_rules! of_numbers {
     ($($name:ident = $function:ident;)*) => {
-        $(pub fn $name(n: u8) -> Number {
+        $(#[inline]
+        pub fn $name(n: u8) -> Number {
             unsafe { $function(n) }
         })*
     };
@@ -143,14 +145,17 @@ of_numbers! {
     device_restrictions = scte35_device_restrictions;
 }
 
+#[inline]
 pub fn command(kind: u8, s: &[u8], at: usize) -> Command {
     unsafe { scte35_command(kind, s.as_ptr(), s.len(), at) }
 }
 
+#[inline]
 pub fn upid(kind: u8, s: &[u8], at: usize) -> Upid {
     unsafe { scte35_upid(kind, s.as_ptr(), s.len(), at) }
 }
 
+#[inline]
 pub fn adjusted_time(kind: u64, ticks: u64, pts_adjustment: u64) -> AdjustedTime {
     unsafe { scte35_adjusted_time(kind, ticks, pts_adjustment) }
 }
