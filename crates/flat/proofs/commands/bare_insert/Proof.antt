@@ -9,7 +9,7 @@ flat-break-requires c κs = search needs
 
 returns : tie.Need-returns
 unfolding bareInsert
-returns c = cc
+returns c = rw (c .flat-break .ensures)
 
 pub bare-insert-spec : {M : Type 1} → statement M
 bare-insert-spec = tie.close (tie.spec flat-break-requires returns)

@@ -18,11 +18,11 @@ cast-t6 c = search needs
 
 returns : tie.Need-returns
 unfolding flatBreak
-returns c = cc
+returns c = rw (c .enum-told .given .1)
 
 returns-2 : tie.Need-returns-2
 unfolding flatBreak
-returns-2 c = cc
+returns-2 c = rw (c .before .before .b .given .1, c .flag .ensures)
 
 pub flat-break-spec : {M : Type 1} → statement M
 flat-break-spec =

@@ -30,7 +30,7 @@ whole-insert-requires c κs = search needs
 
 returns : tie.Need-returns
 unfolding flatInsertion
-returns c = cc
+returns c = rw (c .before .before .before .enum-told .given .1) (c .bare-insert .ensures)
 
 returns-2 : tie.Need-returns-2
 unfolding flatInsertion

@@ -18,11 +18,11 @@ cast-t7 c = search needs
 
 returns : tie.Need-returns
 unfolding flatMode
-returns c = cc
+returns c = rw (c .before .before .m .given .1, c .flat-time .ensures)
 
 returns-2 : tie.Need-returns-2
 unfolding flatMode
-returns-2 c = cc
+returns-2 c = rw (c .before .m2 .given .1)
 
 pub flat-mode-spec : {M : Type 1} → statement M
 flat-mode-spec =

@@ -9,7 +9,7 @@ bare-insert-requires c κs = search needs
 
 returns : tie.Need-returns
 unfolding noCommand
-returns c = cc
+returns c = rw (c .bare-insert .ensures)
 
 pub no-command-spec : {M : Type 1} → statement M
 no-command-spec = tie.close (tie.spec bare-insert-requires returns)

@@ -27,7 +27,7 @@ cast-t13 c = search needs
 
 returns : tie.Need-returns
 unfolding wholeInsert
-returns c = cc
+returns c = rw (c .before .before .before .before .before .flag .ensures, c .before .before .before .before .flat-mode .ensures, c .before .before .before .flat-break .ensures)
 
 pub whole-insert-spec : {M : Type 1} → statement M
 whole-insert-spec =

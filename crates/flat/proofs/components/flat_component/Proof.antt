@@ -12,7 +12,7 @@ flat-time-requires c κs = search needs
 
 returns : tie.Need-returns
 unfolding flatComponent
-returns c = cc
+returns c = rw (c .flat-time .ensures)
 
 pub flat-component-spec : {M : Type 1} → statement M
 flat-component-spec = tie.close (tie.spec cast-t3 flat-time-requires returns)

@@ -35,7 +35,7 @@ cast-t12 c = search needs
 
 returns : tie.Need-returns
 unfolding flatHeader
-returns c = cc
+returns c = rw (c .before .before .before .before .before .flat-flag .ensures, c .before .before .before .before .id .ensures, c .id2 .ensures)
 
 pub flat-header-spec : {M : Type 1} → statement M
 flat-header-spec =

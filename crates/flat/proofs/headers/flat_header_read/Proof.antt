@@ -18,11 +18,11 @@ no-header-requires c κs = search needs
 
 returns : tie.Need-returns
 unfolding flatHeaderRead
-returns c = cc
+returns c = rw (c .before .before .read .given .1) (c .flat-header .ensures)
 
 returns-2 : tie.Need-returns-2
 unfolding flatHeaderRead
-returns-2 c = cc
+returns-2 c = rw (c .before .enum-told .given .1) (c .no-header .ensures)
 
 pub flat-header-read-spec : {M : Type 1} → statement M
 flat-header-read-spec =

@@ -39,47 +39,47 @@ enum-told-11 c = search needs
 
 returns : tie.Need-returns
 unfolding numberOf
-returns c = cc
+returns c = rw (c .enum-told .given .1)
 
 returns-2 : tie.Need-returns-2
 unfolding numberOf
-returns-2 c = cc
+returns-2 c = rw (c .enum-told2 .given .1)
 
 returns-3 : tie.Need-returns-3
 unfolding numberOf
-returns-3 c = cc
+returns-3 c = rw (c .enum-told3 .given .1)
 
 returns-4 : tie.Need-returns-4
 unfolding numberOf
-returns-4 c = cc
+returns-4 c = rw (c .enum-told4 .given .1)
 
 returns-5 : tie.Need-returns-5
 unfolding numberOf
-returns-5 c = cc
+returns-5 c = rw (c .enum-told5 .given .1)
 
 returns-6 : tie.Need-returns-6
 unfolding numberOf
-returns-6 c = cc
+returns-6 c = rw (c .enum-told6 .given .1)
 
 returns-7 : tie.Need-returns-7
 unfolding numberOf
-returns-7 c = cc
+returns-7 c = rw (c .enum-told7 .given .1)
 
 returns-8 : tie.Need-returns-8
 unfolding numberOf
-returns-8 c = cc
+returns-8 c = rw (c .enum-told8 .given .1)
 
 returns-9 : tie.Need-returns-9
 unfolding numberOf
-returns-9 c = cc
+returns-9 c = rw (c .enum-told9 .given .1)
 
 returns-10 : tie.Need-returns-10
 unfolding numberOf
-returns-10 c = cc
+returns-10 c = rw (c .enum-told10 .given .1)
 
 returns-11 : tie.Need-returns-11
 unfolding numberOf
-returns-11 c = cc
+returns-11 c = rw (c .enum-told11 .given .1)
 
 pub number-spec : {M : Type 1} → statement M
 number-spec =

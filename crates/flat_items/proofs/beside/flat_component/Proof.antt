@@ -1,4 +1,5 @@
 -- `flat_items::beside::flat_component` meets its contract. Assumes nothing.
+use mathlib.Core.Path.{refl}
 use borrow.Author.Needs.{needs}
 use Rattle.flat_items.specs.FlatItem.{flatComponent}
 use Rattle.flat_items.proofs.beside.flat_component.Statement.{statement}
@@ -9,7 +10,7 @@ cast-t2 c = search needs
 
 returns : tie.Need-returns
 unfolding flatComponent
-returns c = cc
+returns c = refl
 
 pub flat-component-spec : {M : Type 1} → statement M
 flat-component-spec = tie.close (tie.spec cast-t2 returns)

@@ -15,7 +15,7 @@ number-requires c κs = search needs
 
 returns : tie.Need-returns
 unfolding numberOf
-returns c = cc
+returns c = rw (c .enum-told .given .1)
 
 returns-2 : tie.Need-returns-2
 unfolding numberOf

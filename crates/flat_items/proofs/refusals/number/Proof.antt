@@ -21,23 +21,23 @@ enum-told-5 c = search needs
 
 returns : tie.Need-returns
 unfolding numberOf
-returns c = cc
+returns c = rw (c .enum-told .given .1)
 
 returns-2 : tie.Need-returns-2
 unfolding numberOf
-returns-2 c = cc
+returns-2 c = rw (c .enum-told2 .given .1)
 
 returns-3 : tie.Need-returns-3
 unfolding numberOf
-returns-3 c = cc
+returns-3 c = rw (c .enum-told3 .given .1)
 
 returns-4 : tie.Need-returns-4
 unfolding numberOf
-returns-4 c = cc
+returns-4 c = rw (c .enum-told4 .given .1)
 
 returns-5 : tie.Need-returns-5
 unfolding numberOf
-returns-5 c = cc
+returns-5 c = rw (c .enum-told5 .given .1)
 
 pub number-spec : {M : Type 1} → statement M
 number-spec =

@@ -27,7 +27,7 @@ cast-t9 c = search needs
 
 returns : tie.Need-returns
 unfolding flatRestrictions
-returns c = cc
+returns c = rw (c .enum-told .given .1)
 
 returns-2 : tie.Need-returns-2
 unfolding flatRestrictions

@@ -18,11 +18,11 @@ cast-t5 c = search needs
 
 returns : tie.Need-returns
 unfolding flatSubSegments
-returns c = cc
+returns c = rw (c .enum-told .given .1)
 
 returns-2 : tie.Need-returns-2
 unfolding flatSubSegments
-returns-2 c = cc
+returns-2 c = rw (c .before .before .before .s .given .1)
 
 pub flat-sub-segments-spec : {M : Type 1} → statement M
 flat-sub-segments-spec =

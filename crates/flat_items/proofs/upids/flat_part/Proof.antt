@@ -1,4 +1,5 @@
 -- `flat_items::upids::flat_part` meets its contract. Assumes nothing.
+use mathlib.Core.Path.{refl}
 use borrow.Author.Needs.{needs}
 use Rattle.flat_items.specs.FlatUpid.{flatPart}
 use Rattle.flat_items.proofs.upids.flat_part.Statement.{statement}
@@ -18,7 +19,7 @@ cast-t5 c = search needs
 
 returns : tie.Need-returns
 unfolding flatPart
-returns c = cc
+returns c = refl
 
 pub flat-part-spec : {M : Type 1} → statement M
 flat-part-spec = tie.close (tie.spec cast-t2 cast-t3 cast-t4 cast-t5 returns)
