@@ -42,7 +42,7 @@ use items::reading::read_item;
 use section::read_section;
 use upid::read_upid;
 
-mod numbers;
+pub mod numbers;
 
 // The bytes from an offset on.
 fn rest(s: &[u8], at: usize) -> &[u8]

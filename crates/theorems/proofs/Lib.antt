@@ -1,5 +1,6 @@
 pub mod RowsHold
 pub mod FixedAnswers
+pub mod FixedAtBoundary
 pub mod Framed
 pub mod Runs
 pub mod Upids
