@@ -140,7 +140,7 @@ fn flat_insert(x: Insertion) -> FlatInsert
     }
 }
 
-pub fn no_command(refusal: u64, kind: u64) -> FlatCommand
+pub(crate) fn no_command(refusal: u64, kind: u64) -> FlatCommand
     ensures { λ r. ⌜ r ≡ noCommand refusal kind ⌝ }
 {
     FlatCommand {
@@ -153,7 +153,7 @@ pub fn no_command(refusal: u64, kind: u64) -> FlatCommand
     }
 }
 
-pub fn flat_command(c: SpliceCommand) -> FlatCommand
+pub(crate) fn flat_command(c: SpliceCommand) -> FlatCommand
     ensures { λ r. ⌜ r ≡ flatCommand c ⌝ }
 {
     match c {

@@ -19,7 +19,7 @@ pub struct FlatHeader {
     pub splice_command_type: u64,
 }
 
-pub fn no_header(refusal: u64) -> FlatHeader
+pub(crate) fn no_header(refusal: u64) -> FlatHeader
     ensures { λ r. ⌜ r ≡ noHeader refusal ⌝ }
 {
     FlatHeader {
@@ -35,7 +35,7 @@ pub fn no_header(refusal: u64) -> FlatHeader
     }
 }
 
-pub fn flat_header(h: SpliceInfoHeader) -> FlatHeader
+pub(crate) fn flat_header(h: SpliceInfoHeader) -> FlatHeader
     ensures { λ r. ⌜ r ≡ flatHeader h ⌝ }
 {
     let algorithm = h.encryption_algorithm;

@@ -38,7 +38,7 @@ pub fn flat_view(v: View) -> FlatView
     }
 }
 
-pub fn flat_time(t: SpliceTime) -> FlatTime
+pub(crate) fn flat_time(t: SpliceTime) -> FlatTime
     ensures { λ r. ⌜ r ≡ flatTime t ⌝ }
 {
     match t {

@@ -1,7 +1,7 @@
 // The flat forms of the items of a loop and of UPIDs: structs of 64-bit words alone, which is what crosses to C.
 pub mod beside;
 pub mod descriptors;
-pub mod refusals;
+mod refusals;
 pub mod segmentations;
 pub mod steps;
 pub mod upids;

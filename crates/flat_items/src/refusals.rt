@@ -6,7 +6,7 @@ ghost use Rattle.flat_items.specs.FlatUpid.{three};
 use items::ItemRefusal;
 use upid::Refusal;
 
-pub fn number(r: Refusal) -> u64
+pub(crate) fn number(r: Refusal) -> u64
     ensures { λ x. ⌜ x ≡ upid.numberOf r ⌝ }
 {
     match r {
@@ -25,7 +25,7 @@ pub fn number(r: Refusal) -> u64
     }
 }
 
-pub fn values(r: Refusal) -> [u64; 3]
+pub(crate) fn values(r: Refusal) -> [u64; 3]
     ensures { λ x. ⌜ x ≡ three (upid.valuesOf r) ⌝ }
 {
     match r {
@@ -41,7 +41,7 @@ pub fn values(r: Refusal) -> [u64; 3]
     }
 }
 
-pub fn item_number(r: ItemRefusal) -> u64
+pub(crate) fn item_number(r: ItemRefusal) -> u64
     ensures { λ x. ⌜ x ≡ numberOf r ⌝ }
 {
     match r {
@@ -50,7 +50,7 @@ pub fn item_number(r: ItemRefusal) -> u64
     }
 }
 
-pub fn item_values(r: ItemRefusal) -> [u64; 3]
+pub(crate) fn item_values(r: ItemRefusal) -> [u64; 3]
     ensures { λ x. ⌜ x ≡ three (valuesOf r) ⌝ }
 {
     match r {

@@ -19,7 +19,7 @@ pub struct FlatStep {
     pub item: FlatItem,
 }
 
-pub fn refusal_number(item: Item) -> u64
+pub(crate) fn refusal_number(item: Item) -> u64
     ensures { λ r. ⌜ r ≡ refusalIn item ⌝ }
 {
     match item {
@@ -29,7 +29,7 @@ pub fn refusal_number(item: Item) -> u64
     }
 }
 
-pub fn refusal_values(item: Item) -> [u64; 3]
+pub(crate) fn refusal_values(item: Item) -> [u64; 3]
     ensures { λ r. ⌜ r ≡ valuesIn item ⌝ }
 {
     match item {

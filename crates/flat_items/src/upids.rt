@@ -63,7 +63,7 @@ fn flat_parts(ps: [Part; 127]) -> [FlatPart; 127]
     out
 }
 
-pub fn flat_eidr(e: [u8; 12]) -> [u64; 12]
+pub(crate) fn flat_eidr(e: [u8; 12]) -> [u64; 12]
     ensures { λ r. ⌜ r ≡ e ⌝ }
 {
     let mut out = [0u64; 12];
