@@ -2,25 +2,13 @@
 use mathlib.Core.Path.{_≡_, sym, _∙_}
 use Rattle.flat.proofs.flat_flag.Reads as flat-flag
 use Rattle.flat.proofs.flat_view.Reads as flat-view
-use Rattle.flat.proofs.flat_time.Reads as flat-time
-use Rattle.flat.proofs.commands.no_command.Reads as no-command
-use Rattle.flat.proofs.commands.flat_command.Reads as flat-command
 use Rattle.flat.proofs.commands.flat_command_read.Reads as flat-command-read
-use Rattle.flat.proofs.headers.no_header.Reads as no-header
-use Rattle.flat.proofs.headers.flat_header.Reads as flat-header
 use Rattle.flat.proofs.headers.flat_header_read.Reads as flat-header-read
 use Rattle.flat.proofs.headers.flat_adjusted.Reads as flat-adjusted
 use Rattle.flat.proofs.components.flat_splices.Reads as flat-splices
 use Rattle.flat.proofs.sections.flat_section_read.Reads as flat-section-read
-use Rattle.flat_items.proofs.refusals.number.Reads as upid-refusal-number
-use Rattle.flat_items.proofs.refusals.values.Reads as upid-refusal-values
-use Rattle.flat_items.proofs.refusals.item_number.Reads as item-number
-use Rattle.flat_items.proofs.refusals.item_values.Reads as item-values
 use Rattle.flat_items.proofs.beside.flat_beside.Reads as flat-beside
-use Rattle.flat_items.proofs.upids.flat_eidr.Reads as flat-eidr
 use Rattle.flat_items.proofs.upids.flat_upid.Reads as flat-upid
-use Rattle.flat_items.proofs.steps.refusal_number.Reads as refusal-number
-use Rattle.flat_items.proofs.steps.refusal_values.Reads as refusal-values
 use Rattle.flat_items.proofs.steps.flat_step.Reads as flat-step
 use Rattle.scte35.proofs.scte35_header.Reads as scte35-header
 use Rattle.scte35.proofs.scte35_section.Reads as scte35-section
@@ -48,23 +36,8 @@ flat-flag-is-fixed = record { takes-any = λ κ a. tt; one-answer = λ κ a x y 
 pub flat-view-is-fixed : Fixed flat-view.Asked flat-view.Learnt
 flat-view-is-fixed = record { takes-any = λ κ a. tt; one-answer = λ κ a x y e f p q. p ∙ sym q }
 
-pub flat-time-is-fixed : Fixed flat-time.Asked flat-time.Learnt
-flat-time-is-fixed = record { takes-any = λ κ a. tt; one-answer = λ κ a x y e f p q. p ∙ sym q }
-
-pub no-command-is-fixed : Fixed no-command.Asked no-command.Learnt
-no-command-is-fixed = record { takes-any = λ κ a. tt; one-answer = λ κ a x y e f p q. p ∙ sym q }
-
-pub flat-command-is-fixed : Fixed flat-command.Asked flat-command.Learnt
-flat-command-is-fixed = record { takes-any = λ κ a. tt; one-answer = λ κ a x y e f p q. p ∙ sym q }
-
 pub flat-command-read-is-fixed : Fixed flat-command-read.Asked flat-command-read.Learnt
 flat-command-read-is-fixed = record { takes-any = λ κ a. tt; one-answer = λ κ a x y e f p q. p ∙ sym q }
-
-pub no-header-is-fixed : Fixed no-header.Asked no-header.Learnt
-no-header-is-fixed = record { takes-any = λ κ a. tt; one-answer = λ κ a x y e f p q. p ∙ sym q }
-
-pub flat-header-is-fixed : Fixed flat-header.Asked flat-header.Learnt
-flat-header-is-fixed = record { takes-any = λ κ a. tt; one-answer = λ κ a x y e f p q. p ∙ sym q }
 
 pub flat-header-read-is-fixed : Fixed flat-header-read.Asked flat-header-read.Learnt
 flat-header-read-is-fixed = record { takes-any = λ κ a. tt; one-answer = λ κ a x y e f p q. p ∙ sym q }
@@ -80,32 +53,11 @@ flat-section-read-is-fixed = record { takes-any = λ κ a. tt; one-answer = λ �
 
 -- ---- flat_items: those of items and UPIDs
 
-pub upid-refusal-number-is-fixed : Fixed upid-refusal-number.Asked upid-refusal-number.Learnt
-upid-refusal-number-is-fixed = record { takes-any = λ κ a. tt; one-answer = λ κ a x y e f p q. p ∙ sym q }
-
-pub upid-refusal-values-is-fixed : Fixed upid-refusal-values.Asked upid-refusal-values.Learnt
-upid-refusal-values-is-fixed = record { takes-any = λ κ a. tt; one-answer = λ κ a x y e f p q. p ∙ sym q }
-
-pub item-number-is-fixed : Fixed item-number.Asked item-number.Learnt
-item-number-is-fixed = record { takes-any = λ κ a. tt; one-answer = λ κ a x y e f p q. p ∙ sym q }
-
-pub item-values-is-fixed : Fixed item-values.Asked item-values.Learnt
-item-values-is-fixed = record { takes-any = λ κ a. tt; one-answer = λ κ a x y e f p q. p ∙ sym q }
-
 pub flat-beside-is-fixed : Fixed flat-beside.Asked flat-beside.Learnt
 flat-beside-is-fixed = record { takes-any = λ κ a. tt; one-answer = λ κ a x y e f p q. p ∙ sym q }
 
-pub flat-eidr-is-fixed : Fixed flat-eidr.Asked flat-eidr.Learnt
-flat-eidr-is-fixed = record { takes-any = λ κ a. tt; one-answer = λ κ a x y e f p q. p ∙ sym q }
-
 pub flat-upid-is-fixed : Fixed flat-upid.Asked flat-upid.Learnt
 flat-upid-is-fixed = record { takes-any = λ κ a. tt; one-answer = λ κ a x y e f p q. p ∙ sym q }
-
-pub refusal-number-is-fixed : Fixed refusal-number.Asked refusal-number.Learnt
-refusal-number-is-fixed = record { takes-any = λ κ a. tt; one-answer = λ κ a x y e f p q. p ∙ sym q }
-
-pub refusal-values-is-fixed : Fixed refusal-values.Asked refusal-values.Learnt
-refusal-values-is-fixed = record { takes-any = λ κ a. tt; one-answer = λ κ a x y e f p q. p ∙ sym q }
 
 pub flat-step-is-fixed : Fixed flat-step.Asked flat-step.Learnt
 flat-step-is-fixed = record { takes-any = λ κ a. tt; one-answer = λ κ a x y e f p q. p ∙ sym q }
