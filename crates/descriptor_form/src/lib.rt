@@ -8,7 +8,7 @@ use descriptor::is_cuei;
 use table::View;
 
 pub mod segment;
-mod upids;
+pub mod upids;
 
 // Refusal 31: whether a view lies in the lent bytes. Its offset and length are summed without wrapping.
 pub fn lies_in(lent: &[u8], v: View) -> bool

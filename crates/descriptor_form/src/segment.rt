@@ -5,8 +5,8 @@ ghost use lib.ListN.{take};
 ghost use Rattle.descriptor.specs.Segmentation.{agrees, byProgram, countOf, fairDetail, lasting, unrestricted, subBytes};
 ghost use Rattle.descriptor.specs.declared.segmentation.SegmentationDetail.the-variants.{Insert};
 ghost use Rattle.table.specs.Writing.{within};
-ghost use Rattle.descriptor_form.specs.Parts.{componentsFields, modeFields, durationFields, subFields, numbersFit, modeSize, durationSize, payloadSize, numberIn};
-ghost use Rattle.descriptor_form.specs.Writing.{segmentationMade, writtenUpid};
+ghost use Rattle.descriptor_form.specs.Parts.{componentsFields, modeFields, durationFields, subFields, numbersFit, modeSize, durationSize, numberIn};
+ghost use Rattle.descriptor_form.specs.Writing.{segmentationMade};
 use crate::is_zero;
 use crate::lies_in;
 use crate::upids::is_fair_upid;
@@ -17,7 +17,6 @@ use descriptor::segmentation::SegmentationDetail;
 use descriptor::segmentation::SegmentationDuration;
 use descriptor::segmentation::SegmentationInsert;
 use descriptor::segmentation::SegmentationMode;
-use descriptor::segmentation::SegmentationUpid;
 use descriptor::segmentation::SubSegments;
 use table::numbers::wide;
 
@@ -208,8 +207,8 @@ pub fn refusal_of_segmentation(
 
 // ---- the bytes of a payload
 
-fn mode_size(mode: SegmentationMode) -> usize
-    ensures { λ r. ⌜ r ≡ modeSize mode ⌝ }
+pub fn mode_size(mode: SegmentationMode) -> usize
+    ensures { λ r. ⌜ (r ≡ modeSize mode) × (r < 2000) ⌝ }
 {
     match mode {
         SegmentationMode::Program => 0,
@@ -217,8 +216,8 @@ fn mode_size(mode: SegmentationMode) -> usize
     }
 }
 
-fn duration_size(duration: SegmentationDuration) -> usize
-    ensures { λ r. ⌜ r ≡ durationSize duration ⌝ }
+pub fn duration_size(duration: SegmentationDuration) -> usize
+    ensures { λ r. ⌜ (r ≡ durationSize duration) × (r < 6) ⌝ }
 {
     match duration {
         SegmentationDuration::Absent => 0,
@@ -226,8 +225,8 @@ fn duration_size(duration: SegmentationDuration) -> usize
     }
 }
 
-fn sub_size(sub_segments: SubSegments) -> usize
-    ensures { λ r. ⌜ r ≡ subBytes «sub_segments» ⌝ }
+pub fn sub_size(sub_segments: SubSegments) -> usize
+    ensures { λ r. ⌜ (r ≡ subBytes «sub_segments») × (r < 3) ⌝ }
 {
     match sub_segments {
         SubSegments::Absent => 0,

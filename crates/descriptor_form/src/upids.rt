@@ -1,6 +1,6 @@
 // A UPID that is written.
 ghost use mathlib.Core.Path.{_≡_};
-ghost use Rattle.descriptor_form.specs.Writing.{writtenKind, fairUpid};
+ghost use Rattle.descriptor_form.specs.Writing.{writtenKind, writtenUpid, fairUpid};
 use crate::is_zero;
 use descriptor::segmentation::SegmentationUpid;
 use table::lent::view;
@@ -45,4 +45,15 @@ pub(crate) fn is_fair_upid(u: SegmentationUpid, eidr: [u8; 12], lent: &[u8]) -> 
         UpidRead::Fine(_) => true,
         UpidRead::Refused(_) => false,
     }
+}
+
+// How many bytes of it are written: twelve of an EIDR.
+pub fn upid_size(u: SegmentationUpid) -> usize
+    ensures { λ r. ⌜ r ≡ writtenUpid u .bytes .len ⌝ }
+{
+    let bytes = u.bytes;
+    if u.kind == 10 {
+        return 12;
+    }
+    bytes.len
 }

@@ -1,4 +1,6 @@
 -- `descriptor_form::segment::mode_size`, by cases.
+use Prim.Native.Nat.{_+_, _*_, _<_}
+use native.Mathlib.Omega.{arith}
 use borrow.Author.Needs.{needs}
 use Rattle.descriptor_form.proofs.segment.mode_size.Statement.{statement}
 use Rattle.descriptor_form.proofs.segment.mode_size.Tie as tie
@@ -22,7 +24,7 @@ returns : tie.Need-returns
 returns c = search needs
 
 returns-2 : tie.Need-returns-2
-returns-2 c = rw (c .before .mode .given .1)
+returns-2 c = (rw (c .before .mode .given .1), (let z : 1 + c .before .mode .given .0 .0 * 6 < 2000 = omega arith in z))
 
 pub mode-size-spec : {M : Type 1} → statement M
 mode-size-spec =
