@@ -1,7 +1,7 @@
 -- What is made of a segmentation descriptor: its bytes, by the table.
 --     made-zero     no refusal: the bytes of its fields
 --     by-table      what is made is what the table's structure makes, so that its laws hold
---     made-size     as many bytes as `payloadSize` says
+--     made-size     as many bytes as `payloadSize` says; made-bits: and as many bits
 use Prim.Native.Nat.{ℕ, _+_, _*_, _<_, _≤_}
 use mathlib.Core.Bool.{Bool, true, false, _&&_}
 use mathlib.Core.List.{List, [], _∷_}
@@ -15,6 +15,7 @@ use Rattle.table.specs.Bits.{pick, bytesOf}
 use Rattle.table.specs.Writing.{Field, walk, seen, within, contents, print, Made, made, refused, makeOf, make}
 use Rattle.table.proofs.Lists.{zero-one, and-true}
 use Rattle.table.proofs.Structure.{Wrote, wrote, write-size}
+use Rattle.table.proofs.Walks.{print-length}
 use Rattle.descriptor.specs.Segmentation.{agrees, byProgram, countOf, fairDetail, fairFront, frontOf, lasting, segmentation, unrestricted}
 use Rattle.descriptor.specs.declared.segmentation.ModeComponent.{ModeComponent}
 use Rattle.descriptor.specs.declared.segmentation.SegmentationDescriptor.{SegmentationDescriptor}
@@ -24,7 +25,7 @@ use Rattle.descriptor.specs.declared.segmentation.SegmentationDuration.{Segment
 use Rattle.descriptor.specs.declared.segmentation.SegmentationMode.{SegmentationMode}
 use Rattle.descriptor.specs.declared.segmentation.SegmentationUpid.{SegmentationUpid}
 use Rattle.descriptor.specs.declared.whole.Beside.{Beside}
-use Rattle.descriptor.proofs.SegmentationLaws.{modeBytes, durationBytes, detailBytes, segmentationStructure}
+use Rattle.descriptor.proofs.SegmentationLaws.{modeBytes, durationBytes, detailBytes, segmentation-ends, segmentationStructure}
 use Rattle.descriptor_form.specs.Parts.{segmentFields, modeSize, durationSize, payloadSize, numberIn}
 use Rattle.descriptor_form.specs.Writing.{allZero, fairUpid, fairSegment, segmentationMade, upidIn, upidSource, written, writtenDetail}
 use Rattle.descriptor_form.proofs.Fields.{fields-are}
@@ -74,6 +75,15 @@ unfolding payloadSize
 size-is Cancel = refl
 size-is (Insert i) = rw (mode-size (i .«segmentation_mode»), duration-size (i .«segmentation_duration»))
 
+-- no refusal: a UPID's view in the lent bytes, and not too long
+pub zero-view : (x : SegmentationDescriptor) (id : List ℕ) (beside : Beside) (lent : List ℕ) → numberIn (segmentationMade x id beside lent) ≡ 0
+    → (upidIn x .bytes .len ≤ 255) × (upidIn x .bytes .at + upidIn x .bytes .len ≤ length lent)
+unfolding segmentationMade
+zero-view x id beside lent e =
+    let i = if-zero (leb (upidIn x .bytes .at + upidIn x .bytes .len) (length lent)) _ 31 (omega arith) e in
+    let j = if-zero (leb (upidIn x .bytes .len) 255) _ 32 (omega arith) (i .1) in
+    (leb-true (upidIn x .bytes .len) 255 (j .0), leb-true (upidIn x .bytes .at + upidIn x .bytes .len) (length lent) (i .0))
+
 module _ (x : SegmentationDescriptor) (id : List ℕ) (beside : Beside) (lent : List ℕ) (all : countOf (frontOf (x .«descriptor_detail») .«segmentation_mode») ≤ length (beside .components)) where
   abbrev source : List ℕ
   source = upidSource (upidIn x) (beside .eidr) lent
@@ -85,19 +95,13 @@ module _ (x : SegmentationDescriptor) (id : List ℕ) (beside : Beside) (lent : 
   counted = length-take-le (countOf (frontOf (x .«descriptor_detail») .«segmentation_mode»)) (beside .components) all
 
   pub made-zero : numberIn (segmentationMade x id beside lent) ≡ 0
-      → (upidIn x .bytes .len ≤ 255)
-      × (leb (upidIn x .bytes .at + upidIn x .bytes .len) (length lent) ≡ true)
-      × (segmentationMade x id beside lent ≡ made (bytesOf (print (contents source (segmentFields (x .«segmentation_event_id») (x .«descriptor_detail») cs)))))
+      → segmentationMade x id beside lent ≡ made (bytesOf (print (contents source (segmentFields (x .«segmentation_event_id») (x .«descriptor_detail») cs))))
   unfolding segmentationMade
   made-zero e =
       let i = if-zero (leb (upidIn x .bytes .at + upidIn x .bytes .len) (length lent)) _ 31 (omega arith) e in
       let j = if-zero (leb (upidIn x .bytes .len) 255) _ 32 (omega arith) (i .1) in
       let k = makes (fairSegment x id (beside .eidr) lent) source (walk segmentation (written x (beside .components)) 0 .fields) (j .1) in
-      (
-        leb-true (upidIn x .bytes .len) 255 (j .0),
-        i .0,
-        rw (i .0, j .0) (k ∙ ap (λ (l : List Field). made (bytesOf (print (contents source l)))) (fields-are (x .«segmentation_event_id») (x .«descriptor_detail») cs counted)),
-      )
+      rw (i .0, j .0) (k ∙ ap (λ (l : List Field). made (bytesOf (print (contents source l)))) (fields-are (x .«segmentation_event_id») (x .«descriptor_detail») cs counted))
 
   module _ (b : List ℕ) (e : segmentationMade x id beside lent ≡ made b) where
     undone : (leb (upidIn x .bytes .at + upidIn x .bytes .len) (length lent) ≡ true)
@@ -129,3 +133,12 @@ module _ (x : SegmentationDescriptor) (id : List ℕ) (beside : Beside) (lent : 
     made-size =
         write-size segmentation segmentationStructure source (written x (beside .components)) b (counted ∙ sym (count-written (x .«descriptor_detail»))) by-table
         ∙ size-is (x .«descriptor_detail»)
+
+    -- and as many bits
+    pub made-bits : length (print (contents source (segmentFields (x .«segmentation_event_id») (x .«descriptor_detail») cs))) ≡ payloadSize (x .«descriptor_detail») * 8
+    made-bits =
+        let fs = walk segmentation (written x (beside .components)) 0 .fields in
+        let l = segmentation-ends (written x (beside .components)) 0 (counted ∙ sym (count-written (x .«descriptor_detail»))) (fair-written (x .«descriptor_detail») (all-fair .1)) refl in
+        let p : length (print (contents source fs)) ≡ payloadSize (x .«descriptor_detail») * 8 =
+        omega (arith, print-length source fs 0 (told .views), l .2, size-is (x .«descriptor_detail»)) in
+        rw (fields-are (x .«segmentation_event_id») (x .«descriptor_detail») cs counted) at p

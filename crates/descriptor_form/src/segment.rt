@@ -208,7 +208,7 @@ pub fn refusal_of_segmentation(
 // ---- the bytes of a payload
 
 pub fn mode_size(mode: SegmentationMode) -> usize
-    ensures { λ r. ⌜ (r ≡ modeSize mode) × (r < 2000) ⌝ }
+    ensures { λ r. ⌜ (r ≡ modeSize mode) × (r < 1532) ⌝ }
 {
     match mode {
         SegmentationMode::Program => 0,

@@ -1,5 +1,6 @@
 -- A frame and a payload stored: what a writer answers and leaves.
 use Prim.Native.Nat.{ℕ, _+_, _*_, _/_, _<_, _≤_}
+use mathlib.Core.Bool.{true, false}
 use mathlib.Core.List.{List, [], _∷_, _++_, append-assoc}
 use mathlib.Core.Path.{_≡_, refl, ap, ap₂, sym, _∙_}
 use native.Mathlib.Omega.{arith}
@@ -43,13 +44,16 @@ module _ (tag : ℕ) (id payload t : List ℕ) (k : ℕ) (size : length payload 
 
   pub writes-short : k ≤ 250 → length id ≡ 4 → length t < k + 6 → Writes (framedMade tag id (made payload)) t t (Written.Refused 36)
   unfolding answerOf laterOf
-  writes-short h f l = rw (framed-so h, lt-leb (length (framed tag id payload)) (length t) (omega (arith, framed-length f))) (record { answer = refl; target-later = refl })
+  writes-short h f l =
+      let z : leb (length (framed tag id payload)) (length t) ≡ false = lt-leb (length (framed tag id payload)) (length t) (omega (arith, framed-length f)) in
+      record { answer = rw (framed-so h, z); target-later = rw (framed-so h, z) }
 
   wrote-so : (v : List ℕ) → k ≤ 250 → length id ≡ 4 → k + 6 ≤ length t → v ≡ framed tag id payload ++ drop (k + 6) t → Writes (framedMade tag id (made payload)) t v (Written.Wrote (k + 6))
   unfolding answerOf laterOf
   wrote-so v h f l e =
-      let n = framed-length f in
-      rw (framed-so h, le-leb (length (framed tag id payload)) (length t) (omega arith), n) (record { answer = refl; target-later = e })
+      let n : length (framed tag id payload) ≡ k + 6 = framed-length f in
+      let z : leb (length (framed tag id payload)) (length t) ≡ true = le-leb (length (framed tag id payload)) (length t) (omega arith) in
+      record { answer = rw (framed-so h, z, n); target-later = rw (framed-so h, z, n) e }
 
 module _ (tag : ℕ) (id t : List ℕ) (k : ℕ) (cs : List Content) (bits : length (print cs) ≡ k * 8) (four : length id ≡ 4) (room : k + 6 ≤ length t)
     (all : AllBytes (tag ∷ ((k + 4) ∷ id))) (target : AllBytes t) where
@@ -72,7 +76,9 @@ module _ (tag : ℕ) (id t : List ℕ) (k : ℕ) (cs : List Content) (bits : len
       → Writes (framedMade tag id (made (bytesOf (print cs)))) t v (Written.Wrote (k + 6))
   writes-stored v d h s =
       let n : length (bitsOf F ++ print cs) ≡ (k + 6) * 8 = length-append (bitsOf F) (print cs) ∙ omega (arith, length-bits F) in
-      let p = s .stores (rw (whole-bits, place-start) (omega arith)) in
+      let l : length (print (frameContents tag (k + 4) id ++ cs)) ≡ (k + 6) * 8 = ap length whole-bits ∙ n in
+      let f : place start + length (print (frameContents tag (k + 4) id ++ cs)) ≤ length t * 8 = rw (l, place-start) (omega arith) in
+      let p = s .stores f in
       let e : v ≡ penned t 0 (bitsOf F ++ print cs) = p .bytes ∙ ap₂ (λ (a : ℕ) (b : List ℕ). penned t a b) place-start whole-bits in
       let w : penned t 0 (bitsOf F ++ print cs) ≡ bytesOf (bitsOf F ++ print cs) ++ drop (k + 6) t =
       penned-whole t (bitsOf F ++ print cs) (k + 6) target (all-append (bitsOf F) (print cs) (all-bits F) (print-bits cs)) n room in

@@ -66,15 +66,19 @@ pub count-then : (t : List ℕ) (c : Cursor) (u : List ℕ) (d : Cursor) (n : �
 count-then t c u d n cs s = record { stores = s .stores }
 
 -- ---- components, one behind the other
-components-append : (as bs : List ModeComponent) → componentsFields (as ++ bs) ≡ componentsFields as ++ componentsFields bs
-components-append [] bs = refl
-components-append (a ∷ as) bs = ap (λ (l : List Field). componentFields a ++ l) (components-append as bs)
+components-append : (xs ys : List ModeComponent) → componentsFields (xs ++ ys) ≡ componentsFields xs ++ componentsFields ys
+components-append [] ys = refl
+components-append (x ∷ xs) ys = ap (λ (l : List Field). componentFields x ++ l) (components-append xs ys)
 
 pub component-next : (l t : List ℕ) (c : Cursor) (cs : List ModeComponent) (i : ℕ) (u : List ℕ) (d : Cursor) (v : List ℕ) (e : Cursor) → i < length cs
     → Stores t c (contents l (componentsFields (take i cs))) u d → Stores u d (contents l (componentsFields (getD cs i blankComponent ∷ []))) v e
     → Stores t c (contents l (componentsFields (take (i + 1) cs))) v e
 component-next l t c cs i u d v e h p q =
     let m = getD cs i blankComponent in
-    let z : componentsFields (take (i + 1) cs) ≡ componentsFields (take i cs) ++ componentsFields (m ∷ []) =
-    ap componentsFields (rw (add-one i) (take-suc cs i blankComponent h)) ∙ components-append (take i cs) (m ∷ []) in
+    let y : take (i + 1) cs ≡ take i cs ++ (m ∷ []) = rw (add-one i) (take-suc cs i blankComponent h) in
+    let z : componentsFields (take (i + 1) cs) ≡ componentsFields (take i cs) ++ componentsFields (m ∷ []) = ap componentsFields y ∙ components-append (take i cs) (m ∷ []) in
     rw z (then-fields l t c (componentsFields (take i cs)) (componentsFields (m ∷ [])) u d v e p q)
+
+pub components-all : (l t : List ℕ) (c : Cursor) (cs : List ModeComponent) (i n : ℕ) (u : List ℕ) (d : Cursor) → n ≤ i → i ≤ n → Stores t c (contents l (componentsFields (take i cs))) u d
+    → Stores t c (contents l (componentsFields (take n cs))) u d
+components-all l t c cs i n u d h k s = let z : i ≡ n = omega arith in rw z at s

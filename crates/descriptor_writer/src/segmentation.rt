@@ -39,7 +39,7 @@ use table::lent::view;
 
 fn size_of_insert(i: SegmentationInsert) -> usize
     requires { ⌜ i .«segmentation_upid» .bytes .len ≤ 255 ⌝ }
-    ensures { λ r. ⌜ r ≡ payloadSize (Insert i) ⌝ }
+    ensures { λ r. ⌜ (r ≡ payloadSize (Insert i)) × (countOf (i .«segmentation_mode») ≤ 255) ⌝ }
 {
     let mode = i.segmentation_mode;
     let duration = i.segmentation_duration;
@@ -50,7 +50,7 @@ fn size_of_insert(i: SegmentationInsert) -> usize
 
 fn size_of(x: SegmentationDescriptor) -> usize
     requires { ⌜ upidIn x .bytes .len ≤ 255 ⌝ }
-    ensures { λ r. ⌜ r ≡ payloadSize (x .«descriptor_detail») ⌝ }
+    ensures { λ r. ⌜ (r ≡ payloadSize (x .«descriptor_detail»)) × (countOf (frontOf (x .«descriptor_detail») .«segmentation_mode») ≤ 255) ⌝ }
 {
     let detail = x.descriptor_detail;
     match detail {

@@ -24,7 +24,7 @@ returns : tie.Need-returns
 returns c = search needs
 
 returns-2 : tie.Need-returns-2
-returns-2 c = (rw (c .before .mode .given .1), (let z : 1 + c .before .mode .given .0 .0 * 6 < 2000 = omega arith in z))
+returns-2 c = (rw (c .before .mode .given .1), (let z : 1 + c .before .mode .given .0 .0 * 6 < 1532 = omega arith in z))
 
 pub mode-size-spec : {M : Type 1} → statement M
 mode-size-spec =

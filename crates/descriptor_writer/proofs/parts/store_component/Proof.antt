@@ -1,34 +1,30 @@
+-- `descriptor_writer::parts::store_component`, field by field.
+use Rattle.descriptor_writer.proofs.Storing.{number-then, put-same}
+use mathlib.Core.Path.{refl, _∙_}
 use borrow.Author.Needs.{needs}
 use Rattle.descriptor_writer.proofs.parts.store_component.Statement.{statement}
 use Rattle.descriptor_writer.proofs.parts.store_component.Tie as tie
-use Rattle.descriptor_writer.proofs.parts.store_component.Reads as reads
-use Rattle.descriptor_writer.proofs.parts.store_component.Lts as lts
-use Rattle.pen.proofs.put_bits.Reads as put-bits-reads
-use Rattle.table.proofs.numbers.wide.Reads as wide-reads
 
--- src/parts.rt:56:38
 wide-requires : tie.Need-wide-requires
 wide-requires c κs = search needs
 
--- src/parts.rt:56:9
 put-bits-requires : tie.Need-put-bits-requires
 put-bits-requires c κs = search needs
 
--- src/parts.rt:57:9
 put-bits-requires-2 : tie.Need-put-bits-requires-2
 put-bits-requires-2 c κs = search needs
 
--- src/parts.rt:58:5
 put-bits-requires-3 : tie.Need-put-bits-requires-3
 put-bits-requires-3 c κs = search needs
 
--- src/parts.rt:53:1
 same-length : tie.Need-same-length
 same-length c = search needs
 
--- src/parts.rt:53:1
 returns : tie.Need-returns
-returns c = ?
+returns c =
+    λ from. number-then _ _ _ _ _ _ _ 8 _ _ (c .before .before .before .before .before .before .before .before .before .before .before .wide .ensures .0) (c .before .before .before .before .before .before .before .before .before .before .put-bits .ensures)
+    (number-then _ _ _ _ _ _ _ 7 _ _ refl (c .before .before .before .before .before .before .put-bits2 .ensures)
+    (put-same _ _ _ _ 33 _ _ refl (c .before .before .put-bits3 .ensures)))
 
 pub store-component-spec : {M : Type 1} → statement M
 store-component-spec =

@@ -1,35 +1,30 @@
+-- `descriptor_writer::parts::store_upid`, field by field.
+use Rattle.descriptor_writer.proofs.Storing.{number-then, put-same, put-bytes}
+use mathlib.Core.Path.{refl, _∙_}
 use borrow.Author.Needs.{needs}
 use Rattle.descriptor_writer.proofs.parts.store_upid.Statement.{statement}
 use Rattle.descriptor_writer.proofs.parts.store_upid.Tie as tie
-use Rattle.descriptor_writer.proofs.parts.store_upid.Reads as reads
-use Rattle.descriptor_writer.proofs.parts.store_upid.Lts as lts
-use Rattle.pen.proofs.put_bits.Reads as put-bits-reads
-use Rattle.pen.proofs.put_run.Reads as put-run-reads
-use Rattle.table.proofs.numbers.wide.Reads as wide-reads
 
--- src/parts.rt:105:38
 wide-requires : tie.Need-wide-requires
 wide-requires c κs = search needs
 
--- src/parts.rt:105:9
 put-bits-requires : tie.Need-put-bits-requires
 put-bits-requires c κs = search needs
 
--- src/parts.rt:106:9
 put-bits-requires-2 : tie.Need-put-bits-requires-2
 put-bits-requires-2 c κs = search needs
 
--- src/parts.rt:107:5
 put-run-requires : tie.Need-put-run-requires
 put-run-requires c κs = search needs
 
--- src/parts.rt:102:1
 same-length : tie.Need-same-length
 same-length c = search needs
 
--- src/parts.rt:102:1
 returns : tie.Need-returns
-returns c = ?
+returns c =
+    number-then _ _ _ _ _ _ _ 8 _ _ (c .before .before .before .before .before .before .before .before .before .before .before .wide .ensures .0) (c .before .before .before .before .before .before .before .before .before .before .put-bits .ensures)
+    (number-then _ _ _ _ _ _ _ 8 _ _ refl (c .before .before .before .before .before .before .put-bits2 .ensures)
+    (put-bytes _ _ _ _ _ (c .before .before .put-run .ensures)))
 
 pub store-upid-spec : {M : Type 1} → statement M
 store-upid-spec =
