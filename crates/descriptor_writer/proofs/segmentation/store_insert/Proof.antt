@@ -1,5 +1,6 @@
 -- `descriptor_writer::segmentation::store_insert`, part by part.
 use borrow.Author.Needs.{needs}
+use Rattle.descriptor_form.specs.Writing.{upidSource}
 use Rattle.descriptor_writer.proofs.Segmenting.{insert-stores}
 use Rattle.descriptor_writer.proofs.segmentation.store_insert.Statement.{statement}
 use Rattle.descriptor_writer.proofs.segmentation.store_insert.Tie as tie
@@ -37,7 +38,8 @@ same-length c = search needs
 returns : tie.Need-returns
 returns c =
     let a = c .before .before .before .before .before .before .before .before .before .before .before .before .before .before .before .before .before .before .before .before .before .before .before .before .before .before .before .before .before .before .args in
-    insert-stores (a .i) _ _ _ _ _ (c .before .before .before .before .before .before .before .before .before .before .before .before .before .before .before .before .before .before .before .before .before .before .before .before .before .by-program .ensures) (c .before .before .before .before .before .before .before .before .before .before .before .before .before .before .before .before .before .before .before .before .before .before .before .before .lasts .ensures) (c .before .before .before .before .before .before .before .before .before .before .before .before .before .before .before .before .before .before .before .before .before .before .before .is-free .ensures) _ _ _ _ _ _ _ _ _ _ _ _ _ _ (c .before .before .before .before .before .before .before .before .before .before .before .before .before .before .before .before .before .before .before .before .before .before .store-flags .ensures _) (c .before .before .before .before .before .before .before .before .before .before .before .before .before .before .before .before .before .before .store-delivery .ensures _) (c .before .before .before .before .before .before .before .before .before .before .before .before .before .before .store-mode .ensures _) (c .before .before .before .before .before .before .before .before .before .before .store-duration .ensures _) (c .before .before .before .before .before .before .store-written-upid .ensures) (c .before .before .store-back .ensures _)
+    let src = upidSource (a .i .«segmentation_upid») (a .eidr) (a .lent .now) in
+    insert-stores (a .i) _ src _ _ _ (c .before .before .before .before .before .before .before .before .before .before .before .before .before .before .before .before .before .before .before .before .before .before .before .before .before .by-program .ensures) (c .before .before .before .before .before .before .before .before .before .before .before .before .before .before .before .before .before .before .before .before .before .before .before .before .lasts .ensures) (c .before .before .before .before .before .before .before .before .before .before .before .before .before .before .before .before .before .before .before .before .before .before .before .is-free .ensures) _ _ _ _ _ _ _ _ _ _ _ _ _ _ (c .before .before .before .before .before .before .before .before .before .before .before .before .before .before .before .before .before .before .before .before .before .before .store-flags .ensures src) (c .before .before .before .before .before .before .before .before .before .before .before .before .before .before .before .before .before .before .store-delivery .ensures src) (c .before .before .before .before .before .before .before .before .before .before .before .before .before .before .store-mode .ensures src) (c .before .before .before .before .before .before .before .before .before .before .store-duration .ensures src) (c .before .before .before .before .before .before .store-written-upid .ensures) (c .before .before .store-back .ensures src)
 
 pub store-insert-spec : {M : Type 1} → statement M
 store-insert-spec =
