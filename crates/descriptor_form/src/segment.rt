@@ -200,7 +200,14 @@ pub fn refusal_of_segmentation(
             0
         }
         SegmentationDetail::Insert(i) => {
-            refusal_of_insert(x.segmentation_event_id, i, identifier, components, eidr, lent)
+            refusal_of_insert(
+                x.segmentation_event_id,
+                i,
+                identifier,
+                components,
+                eidr,
+                lent,
+            )
         }
     }
 }

@@ -84,8 +84,7 @@ module _ (fair : Bool) (lent : List ℕ) (b : List ℕ) where
       let s : Same dtmf b (dtmfMoved x) lent x = laws.write-same dtmf dtmfStructure lent x b a tt f in
       let w = laws.wrote fair lent (walk dtmf x 0 .fields) b e .views in
       let i = and-true (leb (at + len) (length lent)) true w in
-      let same : take len (drop 2 b) ≡ take len (drop at lent) = cc in
-      (
+      let same : take len (drop 2 b) ≡ take len (drop at lent) = cc in (
         rw (table-write-read dtmf dtmfStructure (λ x. refl) fair lent x b e tt .0),
         viewed-at b 2 len (omega arith) ∙ same ∙ sym (viewed-at lent at len (leb-true (at + len) (length lent) (i .0))),
       )
@@ -99,8 +98,7 @@ module _ (fair : Bool) (lent : List ℕ) (b : List ℕ) where
       let s : Same privateBytes b (record { at = 0; len = v .len }) lent v = laws.write-same privateBytes privateStructure lent v b a tt f in
       let w = laws.wrote fair lent (walk privateBytes v 0 .fields) b e .views in
       let i = and-true (leb (v .at + v .len) (length lent)) true w in
-      let same : take (v .len) (drop 0 b) ≡ take (v .len) (drop (v .at) lent) = cc in
-      (
+      let same : take (v .len) (drop 0 b) ≡ take (v .len) (drop (v .at) lent) = cc in (
         rw (table-write-read privateBytes privateStructure (λ x. refl) fair lent v b e tt .0),
         viewed-at b 0 (v .len) (omega arith) ∙ same ∙ sym (viewed-at lent (v .at) (v .len) (leb-true (v .at + v .len) (length lent) (i .0))),
       )

@@ -28,7 +28,13 @@ pub(crate) fn store_head(out: &mut [u8], c: Cursor, event: u32, cancel: bool) ->
     put_bits(out, third, 7, 127)
 }
 
-pub(crate) fn store_flags(out: &mut [u8], c: Cursor, program: bool, lasts: bool, free: bool) -> Cursor
+pub(crate) fn store_flags(
+    out: &mut [u8],
+    c: Cursor,
+    program: bool,
+    lasts: bool,
+    free: bool,
+) -> Cursor
     ensures { λ r. ⌜ ((from : List ℕ) → Stores (now (out .entry)) c (contents from (flagFields program lasts free)) (now (out .exit)) r) ⌝ }
 {
     let second = put_bits(out, c, 1, number_of(program));
@@ -36,7 +42,11 @@ pub(crate) fn store_flags(out: &mut [u8], c: Cursor, program: bool, lasts: bool,
     put_bits(out, third, 1, number_of(free))
 }
 
-pub(crate) fn store_delivery(out: &mut [u8], c: Cursor, delivery: DeliveryRestrictionFlags) -> Cursor
+pub(crate) fn store_delivery(
+    out: &mut [u8],
+    c: Cursor,
+    delivery: DeliveryRestrictionFlags,
+) -> Cursor
     ensures { λ r. ⌜ ((from : List ℕ) → Stores (now (out .entry)) c (contents from (deliveryFields delivery)) (now (out .exit)) r) ⌝ }
 {
     match delivery {

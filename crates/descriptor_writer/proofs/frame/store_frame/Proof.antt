@@ -23,14 +23,13 @@ same-length : tie.Need-same-length
 same-length c = search needs
 
 returns : tie.Need-returns
-returns c =
-    (
-    number-then _ _ _ _ _ _ _ 8 _ _ (c .before .before .before .before .before .before .before .before .before .before .before .wide .ensures .0) (c .before .before .before .before .before .before .before .before .before .before .put-bits .ensures)
-    (number-then _ _ _ _ _ _ _ 8 _ _ refl (c .before .before .before .before .before .before .put-bits2 .ensures)
-    (put-bytes _ _ _ _ _ (c .before .before .put-run .ensures))),
-    (omega (arith, c .before .before .before .before .before .before .before .before .before .before .before .wide .ensures .1), (omega arith, bytes-all (c .before .before .before .before .before .before .before .before .before .before .before .before .before .before .before .args .identifier .now) (λ k. c .before .before .before .before .before .before .before .before .before .before .before .before .before .shared-slice-known .given k .fits))),
-    bytes-all (c .before .before .before .before .before .before .before .before .before .before .before .before .before .before .before .args .out .now) (λ k. c .before .before .before .before .before .before .before .before .before .before .before .before .before .before .slice-known .given k .fits),
-    )
+returns c = (
+  number-then _ _ _ _ _ _ _ 8 _ _ (c .before .before .before .before .before .before .before .before .before .before .before .wide .ensures .0) (c .before .before .before .before .before .before .before .before .before .before .put-bits .ensures)
+      (number-then _ _ _ _ _ _ _ 8 _ _ refl (c .before .before .before .before .before .before .put-bits2 .ensures)
+      (put-bytes _ _ _ _ _ (c .before .before .put-run .ensures))),
+  (omega (arith, c .before .before .before .before .before .before .before .before .before .before .before .wide .ensures .1), (omega arith, bytes-all (c .before .before .before .before .before .before .before .before .before .before .before .before .before .before .before .args .identifier .now) (λ k. c .before .before .before .before .before .before .before .before .before .before .before .before .before .shared-slice-known .given k .fits))),
+  bytes-all (c .before .before .before .before .before .before .before .before .before .before .before .before .before .before .before .args .out .now) (λ k. c .before .before .before .before .before .before .before .before .before .before .before .before .before .before .slice-known .given k .fits),
+)
 
 pub store-frame-spec : {M : Type 1} → statement M
 store-frame-spec =
