@@ -1,0 +1,5 @@
+pub mod PlainLaws
+pub mod PlainTrips
+pub mod PlainCanon
+pub mod SegmentRead
+pub mod SegmentTrips

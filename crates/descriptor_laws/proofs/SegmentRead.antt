@@ -1,0 +1,64 @@
+-- What a segmentation descriptor's payload is read as, from what its table reads: the UPID's own rules come between.
+use Prim.Native.Nat.{ℕ}
+use mathlib.Core.Bool.{Bool, true, false}
+use mathlib.Core.List.{List, []}
+use mathlib.Core.Path.{_≡_, refl, ap, sym, _∙_}
+use Rattle.table.specs.Bits.{pick, bitsOf}
+use Rattle.table.specs.Lent.{viewed}
+use Rattle.table.specs.Table.{Table, done, inside, Answer, got, short, parse}
+use Rattle.upid.specs.Upid.{checkOf}
+use Rattle.descriptor.specs.Descriptor.{ifFine, inserted, insertOf, segmentationOf}
+use Rattle.descriptor.specs.Segmentation as table
+use Rattle.descriptor.specs.Segmentation.{Fore, Head, head, headOf, front, frontOf, back, backOf, insertFrom, segmentation}
+use Rattle.descriptor.specs.declared.Descriptor.the-variants.{Segmentation}
+use Rattle.descriptor.specs.declared.DescriptorRead.{DescriptorRead}
+use Rattle.descriptor.specs.declared.DescriptorRead.the-variants.{Is}
+use Rattle.descriptor.specs.declared.segmentation.SegmentationDetail.{SegmentationDetail}
+use Rattle.descriptor.specs.declared.segmentation.SegmentationDetail.the-variants.{Cancel, Insert}
+use Rattle.descriptor.specs.declared.segmentation.SegmentationUpid.{SegmentationUpid}
+use Rattle.descriptor.proofs.Insides.{reads-in}
+
+-- a detail as the table reads it, whose UPID is as written: with the UPID as its rules report it
+abbrev pub reportedDetail : SegmentationDetail → SegmentationUpid → SegmentationDetail
+reportedDetail Cancel u = Cancel
+reportedDetail (Insert i) u = Insert (insertFrom (frontOf (Insert i)) u (backOf (Insert i)))
+
+abbrev pub detailRead : List ℕ → ℕ → SegmentationDetail → DescriptorRead
+detailRead s event Cancel = Is (Segmentation (record { «segmentation_event_id» = event; «descriptor_detail» = Cancel }))
+detailRead s event (Insert i) =
+    ifFine (checkOf (i .«segmentation_upid» .kind) (viewed s (i .«segmentation_upid» .bytes))) (i .«segmentation_upid» .bytes) λ u.
+    Is (Segmentation (record { «segmentation_event_id» = event; «descriptor_detail» = reportedDetail (Insert i) u }))
+
+abbrev after : Head → Table table.Segmentation
+after h =
+    pick (h .cancel)
+    (done (record { descriptor = record { «segmentation_event_id» = h .event; «descriptor_detail» = Cancel }; components = [] }))
+    (inside front (λ x. record { front = frontOf (x .descriptor .«descriptor_detail»); components = x .components }) λ f.
+    inside back (λ x. backOf (x .descriptor .«descriptor_detail»)) λ b.
+    done (record {
+      descriptor = record { «segmentation_event_id» = h .event; «descriptor_detail» = Insert (insertFrom (f .front) (f .front .«segmentation_upid») b) };
+      components = f .components;
+    }))
+
+value : Answer table.Segmentation → table.Segmentation
+value (got x m) = x
+value (short e a) = record { descriptor = record { «segmentation_event_id» = 0; «descriptor_detail» = Cancel }; components = [] }
+
+module _ (s : List ℕ) (x : table.Segmentation) (m : ℕ) where
+  headed : (h : Head) (at : ℕ) (b : Bool) → h .cancel ≡ b → parse head (bitsOf s) 0 ≡ got h at → parse (after h) (bitsOf s) at ≡ got x m
+      → segmentationOf s ≡ detailRead s (x .descriptor .«segmentation_event_id») (x .descriptor .«descriptor_detail»)
+  unfolding segmentationOf insertOf inserted value
+  headed h at true on eh e =
+      let g : got (record { descriptor = record { «segmentation_event_id» = h .event; «descriptor_detail» = Cancel }; components = [] }) at ≡ got x m = rw on at e in
+      rw (← (ap value g), eh, on)
+  headed h at false off eh e =
+      let g = rw off at e in
+      let j = reads-in front _ _ (bitsOf s) at x m g in
+      let k = reads-in back _ _ (bitsOf s) (j .1) x m (j .3) in
+      rw (← (ap value (k .3)), eh, off, j .2, k .2)
+
+  pub segmentation-read : parse segmentation (bitsOf s) 0 ≡ got x m → segmentationOf s ≡ detailRead s (x .descriptor .«segmentation_event_id») (x .descriptor .«descriptor_detail»)
+  unfolding segmentation
+  segmentation-read e =
+      let i = reads-in head _ after (bitsOf s) 0 x m e in
+      headed (i .0) (i .1) (i .0 .cancel) refl (i .2) (i .3)

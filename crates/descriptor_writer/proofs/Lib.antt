@@ -1,0 +1,5 @@
+pub mod Storing
+pub mod Framing
+pub mod Plainly
+pub mod Segmenting
+pub mod Describing

@@ -1,0 +1,160 @@
+-- A segmentation descriptor: its parts stored one behind the other, and what is made of it written.
+use Prim.Native.Nat.{ℕ, _+_, _*_, _<_, _≤_}
+use mathlib.Core.Bool.{Bool, true, false}
+use mathlib.Core.List.{List, [], _∷_, _++_}
+use mathlib.Core.Path.{_≡_, refl, ap, sym, subst, _∙_}
+use native.Mathlib.Omega.{arith}
+use lib.Dec.{leb, eqb}
+use lib.ListN.{length, take, drop}
+use lib.Seq.{take-all}
+use borrow.Author.Tests.{eq-eqb, ne-eqb, leb-true, le-leb}
+use Rattle.table.specs.Bits.{pick, bytesOf, AllBytes}
+use Rattle.table.specs.Lent.{viewed}
+use Rattle.table.specs.Writing.{Field, Content, number, bytes, contents, print, Made, made, refused}
+use Rattle.table.specs.declared.View.{View}
+use Rattle.table.specs.declared.cursor.Cursor.{Cursor}
+use Rattle.descriptor.specs.Segmentation.{byProgram, countOf, frontOf, lasting, subBytes, unrestricted}
+use Rattle.descriptor.specs.declared.segmentation.ModeComponent.{ModeComponent}
+use Rattle.descriptor.specs.declared.segmentation.SegmentationDescriptor.{SegmentationDescriptor}
+use Rattle.descriptor.specs.declared.segmentation.SegmentationDetail.{SegmentationDetail}
+use Rattle.descriptor.specs.declared.segmentation.SegmentationDetail.the-variants.{Cancel, Insert}
+use Rattle.descriptor.specs.declared.segmentation.SegmentationInsert.{SegmentationInsert}
+use Rattle.descriptor.specs.declared.segmentation.SegmentationMode.{SegmentationMode}
+use Rattle.descriptor.specs.declared.segmentation.SegmentationUpid.{SegmentationUpid}
+use Rattle.descriptor.specs.declared.whole.Beside.{Beside}
+use Rattle.descriptor_form.specs.Parts.{headFields, flagFields, deliveryFields, modeFields, durationFields, upidFields, backFields, insertFields, segmentFields, modeSize, durationSize, payloadSize, numberIn}
+use Rattle.descriptor_form.specs.Writing.{cuei, framedMade, segmentationMade, upidIn, upidSource, writtenKind, writtenUpid}
+use Rattle.descriptor_form.proofs.Making.{zero-view, made-zero, made-size, made-bits}
+use Rattle.pen.specs.declared.Written.{Written}
+use Rattle.descriptor_writer.specs.Stores.{Stores, Writes, start, frameContents}
+use Rattle.descriptor_writer.proofs.Storing.{then, then-fields}
+use Rattle.descriptor_writer.proofs.Framing.{writes-refused, writes-long, writes-short, writes-stored}
+use Rattle.descriptor_writer.proofs.Plainly.{Framed, refuses}
+
+-- ---- sizes
+pub written-len : (u : SegmentationUpid) → u .bytes .len ≤ 255 → writtenUpid u .bytes .len ≤ 255
+unfolding writtenUpid
+written-len u h = go (eqb (u .kind) 10)
+  where
+    go : (b : Bool) → pick {A = SegmentationUpid} b (record { kind = 10; bytes = record { at = 0; len = 12 } }) (record { kind = writtenKind u; bytes = u .bytes }) .bytes .len ≤ 255
+    go true = omega arith
+    go false = h
+
+pub size-sum : (i : SegmentationInsert) (m d u s : ℕ) → m ≡ modeSize (i .«segmentation_mode») → d ≡ durationSize (i .«segmentation_duration») → u ≡ writtenUpid (i .«segmentation_upid») .bytes .len
+    → s ≡ subBytes (i .«sub_segments») → 8 + m + d + u + (3 + s) ≡ payloadSize (Insert i)
+unfolding payloadSize
+size-sum i m d u s em ed eu es = rw (em, ed, eu, es)
+
+-- a count is a byte
+pub count-small : (k : SegmentationMode) (m : ℕ) → m ≡ modeSize k → m < 1532 → countOf k ≤ 255
+count-small SegmentationMode.Program m e h = omega arith
+count-small (SegmentationMode.Component n) m e h = omega arith
+
+pub size-cancel : (d : SegmentationDetail) → d ≡ Cancel → (5 ≡ payloadSize d) × (countOf (frontOf d .«segmentation_mode») ≤ 255)
+unfolding payloadSize
+size-cancel d e = rw e (refl, (let z : 0 ≤ 255 = omega arith in z))
+
+pub size-insert : (d : SegmentationDetail) (i : SegmentationInsert) (r : ℕ) → d ≡ Insert i → (r ≡ payloadSize (Insert i)) × (countOf (i .«segmentation_mode») ≤ 255)
+    → (r ≡ payloadSize d) × (countOf (frontOf d .«segmentation_mode») ≤ 255)
+size-insert d i r e h = rw e h
+
+pub insert-short : (d : SegmentationDetail) (i : SegmentationInsert) → d ≡ Insert i → frontOf d .«segmentation_upid» .bytes .len ≤ 255 → i .«segmentation_upid» .bytes .len ≤ 255
+insert-short d i e h = rw e at h
+
+pub insert-seen : (d : SegmentationDetail) (i : SegmentationInsert) (n : ℕ) → d ≡ Insert i → frontOf d .«segmentation_upid» .bytes .at + frontOf d .«segmentation_upid» .bytes .len ≤ n
+    → i .«segmentation_upid» .bytes .at + i .«segmentation_upid» .bytes .len ≤ n
+insert-seen d i n e h = rw e at h
+
+-- ---- a UPID
+module _ (u : SegmentationUpid) (eidr lent t : List ℕ) (c : Cursor) (v : List ℕ) (d : Cursor) where
+  pub upid-of-eidr : u .kind ≡ 10 → length eidr ≡ 12 → Stores t c (number 8 10 ∷ (number 8 (length eidr) ∷ (bytes eidr ∷ []))) v d
+      → Stores t c (contents (upidSource u eidr lent) (upidFields (writtenUpid u))) v d
+  unfolding upidSource writtenUpid
+  upid-of-eidr k n s =
+      let z : take 12 eidr ≡ eidr = take-all 12 eidr (omega arith) in
+      rw (eq-eqb (u .kind) 10 k, z) (rw n at s)
+
+  pub upid-of-view : (u .kind ≡ 10 → ⊥) → u .bytes .at + u .bytes .len ≤ length lent → (part : List ℕ) (w : ℕ) → part ≡ viewed lent (u .bytes) → w ≡ writtenKind u
+      → length (take (u .bytes .len) (drop (u .bytes .at) lent)) ≡ u .bytes .len
+      → Stores t c (number 8 w ∷ (number 8 (length part) ∷ (bytes part ∷ []))) v d → Stores t c (contents (upidSource u eidr lent) (upidFields (writtenUpid u))) v d
+  unfolding upidSource writtenUpid viewed
+  upid-of-view k h part w ep ew n s =
+      let z : part ≡ take (u .bytes .len) (drop (u .bytes .at) lent) = ep ∙ rw (le-leb (u .bytes .at + u .bytes .len) (length lent) h) in
+      rw (ne-eqb (u .kind) 10 k) (rw (ew, z, n) at s)
+
+-- ---- an insert
+pub insert-stores : (i : SegmentationInsert) (cs : List ModeComponent) (src : List ℕ) (p l f : Bool) → p ≡ byProgram (i .«segmentation_mode») → l ≡ lasting (i .«segmentation_duration»)
+    → f ≡ unrestricted (i .«delivery_restrictions») → (t₀ t₁ t₂ t₃ t₄ t₅ t₆ : List ℕ) (c₀ c₁ c₂ c₃ c₄ c₅ c₆ : Cursor) → Stores t₀ c₀ (contents src (flagFields p l f)) t₁ c₁
+    → Stores t₁ c₁ (contents src (deliveryFields (i .«delivery_restrictions»))) t₂ c₂ → Stores t₂ c₂ (contents src (modeFields (i .«segmentation_mode») cs)) t₃ c₃
+    → Stores t₃ c₃ (contents src (durationFields (i .«segmentation_duration»))) t₄ c₄ → Stores t₄ c₄ (contents src (upidFields (writtenUpid (i .«segmentation_upid»)))) t₅ c₅
+    → Stores t₅ c₅ (contents src (backFields i)) t₆ c₆ → Stores t₀ c₀ (contents src (insertFields i cs)) t₆ c₆
+insert-stores i cs src p l f ep el ef t₀ t₁ t₂ t₃ t₄ t₅ t₆ c₀ c₁ c₂ c₃ c₄ c₅ c₆ s₁ s₂ s₃ s₄ s₅ s₆ =
+    let ups = upidFields (writtenUpid (i .«segmentation_upid»)) in
+    let r₅ = ups ++ backFields i in
+    let r₄ = durationFields (i .«segmentation_duration») ++ r₅ in
+    let r₃ = modeFields (i .«segmentation_mode») cs ++ r₄ in
+    let r₂ = deliveryFields (i .«delivery_restrictions») ++ r₃ in
+    then-fields src t₀ c₀ (flagFields (byProgram (i .«segmentation_mode»)) (lasting (i .«segmentation_duration»)) (unrestricted (i .«delivery_restrictions»))) r₂ t₁ c₁ t₆ c₆ (rw (ep, el, ef) at s₁)
+    (then-fields src t₁ c₁ (deliveryFields (i .«delivery_restrictions»)) r₃ t₂ c₂ t₆ c₆ s₂
+    (then-fields src t₂ c₂ (modeFields (i .«segmentation_mode») cs) r₄ t₃ c₃ t₆ c₆ s₃
+    (then-fields src t₃ c₃ (durationFields (i .«segmentation_duration»)) r₅ t₄ c₄ t₆ c₆ s₄
+    (then-fields src t₄ c₄ ups (backFields i) t₅ c₅ t₆ c₆ s₅ s₆))))
+
+-- ---- a payload
+module _ (x : SegmentationDescriptor) (comps : List ModeComponent) (eidr lent t : List ℕ) (c : Cursor) where
+  abbrev All : List ℕ → Cursor → Type 0
+  All v e = Stores t c (contents (upidSource (upidIn x) eidr lent)
+      (segmentFields (x .«segmentation_event_id») (x .«descriptor_detail») (take (countOf (frontOf (x .«descriptor_detail») .«segmentation_mode»)) comps))) v e
+
+  pub cancel-stores : (v : List ℕ) (e : Cursor) → x .«descriptor_detail» ≡ Cancel → ((from : List ℕ) → Stores t c (contents from (headFields (x .«segmentation_event_id») true)) v e) → All v e
+  unfolding segmentFields
+  cancel-stores v e is s = rw is (s [])
+
+  pub payload-stores : (i : SegmentationInsert) (u v : List ℕ) (d e : Cursor) → x .«descriptor_detail» ≡ Insert i
+      → ((from : List ℕ) → Stores t c (contents from (headFields (x .«segmentation_event_id») false)) u d)
+      → Stores u d (contents (upidSource (i .«segmentation_upid») eidr lent) (insertFields i (take (countOf (i .«segmentation_mode»)) comps))) v e → All v e
+  unfolding segmentFields
+  payload-stores i u v d e is s q =
+      let src = upidSource (i .«segmentation_upid») eidr lent in
+      rw is (then-fields src t c (headFields (x .«segmentation_event_id») false) (insertFields i (take (countOf (i .«segmentation_mode»)) comps)) u d v e (s src) q)
+
+-- ---- the whole
+number-refused : (m : Made) (n : ℕ) → n ≡ numberIn m → (n ≡ 0 → ⊥) → m ≡ refused n
+number-refused (made b) n e h = absurd (h e)
+number-refused (refused k) n e h = ap refused (sym e)
+
+module _ (x : SegmentationDescriptor) (id : List ℕ) (beside : Beside) (lent t : List ℕ) (n : ℕ) (en : n ≡ numberIn (segmentationMade x id beside lent)) where
+  abbrev M : Made
+  M = segmentationMade x id beside lent
+
+  pub segment-refused : (n ≡ 0 → ⊥) → Writes (framedMade 2 cuei M) t t (Written.Refused n)
+  segment-refused h = refuses 2 cuei t M n (number-refused M n en h)
+
+  pub segment-view : n ≡ 0 → (upidIn x .bytes .len ≤ 255) × (upidIn x .bytes .at + upidIn x .bytes .len ≤ length lent)
+  segment-view z = zero-view x id beside lent (sym en ∙ z)
+
+  module _ (zero : n ≡ 0) (all : countOf (frontOf (x .«descriptor_detail») .«segmentation_mode») ≤ length (beside .components)) where
+    abbrev cs : List Content
+    cs = contents (upidSource (upidIn x) (beside .eidr) lent)
+        (segmentFields (x .«segmentation_event_id») (x .«descriptor_detail») (take (countOf (frontOf (x .«descriptor_detail») .«segmentation_mode»)) (beside .components)))
+
+    segment-made : M ≡ made (bytesOf (print cs))
+    segment-made = made-zero x id beside lent all (sym en ∙ zero)
+
+    module _ (k : ℕ) (ek : k ≡ payloadSize (x .«descriptor_detail»)) where
+      size : length (bytesOf (print cs)) ≡ k
+      size = made-size x id beside lent all (bytesOf (print cs)) (segment-made) ∙ sym ek
+
+      pub segment-long : 250 < k → Writes (framedMade 2 cuei M) t t (Written.Refused 34)
+      segment-long h = rw (segment-made) (writes-long 2 cuei (bytesOf (print cs)) t k size h)
+
+      module _ (few : k ≤ 250) where
+        pub segment-short : length t < k + 6 → Writes (framedMade 2 cuei M) t t (Written.Refused 36)
+        segment-short h = rw (segment-made) (writes-short 2 cuei (bytesOf (print cs)) t k size few refl h)
+
+        pub segment-writes : (i u v : List ℕ) (e d : Cursor) → k + 6 ≤ length t → i ≡ cuei → Framed t 2 (k + 4) i u e → Stores u e cs v d
+            → Writes (framedMade 2 cuei M) t v (Written.Wrote (k + 6))
+        segment-writes i u v e d room ei f s =
+            let g : Framed t 2 (k + 4) cuei u e = subst (λ (j : List ℕ). Framed t 2 (k + 4) j u e) ei f in
+            let b : length (print cs) ≡ k * 8 = made-bits x id beside lent all (bytesOf (print cs)) (segment-made) ∙ ap (λ (m : ℕ). m * 8) (sym ek) in
+            rw (segment-made) (writes-stored 2 cuei t k cs b refl room (g .1) (g .2) v d few (then t start (frameContents 2 (k + 4) cuei) cs u e v d (g .0) s))

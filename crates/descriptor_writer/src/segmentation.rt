@@ -1,0 +1,154 @@
+// Segmentation descriptors.
+ghost use mathlib.Core.Path.{_≡_};
+ghost use Prim.Native.Nat.{_+_, _≤_};
+ghost use lib.ListN.{length, take};
+ghost use Rattle.descriptor.specs.Segmentation.{countOf, frontOf};
+ghost use Rattle.descriptor.specs.declared.segmentation.SegmentationDetail.the-variants.{Insert};
+ghost use Rattle.descriptor_form.specs.Parts.{upidFields, insertFields, segmentFields, payloadSize};
+ghost use Rattle.descriptor_form.specs.Writing.{cuei, framedMade, segmentationMade, upidIn, upidSource, writtenUpid};
+ghost use Rattle.table.specs.Writing.{contents};
+ghost use Rattle.descriptor_writer.specs.Stores.{Stores, Writes};
+use crate::frame::cuei;
+use crate::frame::store_frame;
+use crate::parts::store_back;
+use crate::parts::store_delivery;
+use crate::parts::store_duration;
+use crate::parts::store_flags;
+use crate::parts::store_head;
+use crate::parts::store_mode;
+use crate::parts::store_upid;
+use descriptor::segmentation::ModeComponent;
+use descriptor::segmentation::SegmentationDescriptor;
+use descriptor::segmentation::SegmentationDetail;
+use descriptor::segmentation::SegmentationInsert;
+use descriptor::segmentation::SegmentationUpid;
+use descriptor_form::segment::by_program;
+use descriptor_form::segment::duration_size;
+use descriptor_form::segment::is_free;
+use descriptor_form::segment::lasts;
+use descriptor_form::segment::mode_size;
+use descriptor_form::segment::refusal_of_segmentation;
+use descriptor_form::segment::sub_size;
+use descriptor_form::upids::upid_size;
+use descriptor_form::upids::written_kind;
+use pen::Written;
+use table::cursor::Cursor;
+use table::lent::view;
+
+// ---- the bytes of a payload
+
+fn size_of_insert(i: SegmentationInsert) -> usize
+    requires { ⌜ i .«segmentation_upid» .bytes .len ≤ 255 ⌝ }
+    ensures { λ r. ⌜ (r ≡ payloadSize (Insert i)) × (countOf (i .«segmentation_mode») ≤ 255) ⌝ }
+{
+    let mode = i.segmentation_mode;
+    let duration = i.segmentation_duration;
+    let upid = i.segmentation_upid;
+    let sub_segments = i.sub_segments;
+    8 + mode_size(mode) + duration_size(duration) + upid_size(upid) + (3 + sub_size(sub_segments))
+}
+
+fn size_of(x: SegmentationDescriptor) -> usize
+    requires { ⌜ upidIn x .bytes .len ≤ 255 ⌝ }
+    ensures { λ r. ⌜ (r ≡ payloadSize (x .«descriptor_detail»)) × (countOf (frontOf (x .«descriptor_detail») .«segmentation_mode») ≤ 255) ⌝ }
+{
+    let detail = x.descriptor_detail;
+    match detail {
+        SegmentationDetail::Cancel => 5,
+        SegmentationDetail::Insert(i) => size_of_insert(i),
+    }
+}
+
+// ---- the stores of a payload
+
+// A UPID as it is written: an EIDR's bytes stand beside the descriptor.
+fn store_written_upid(
+    out: &mut [u8],
+    c: Cursor,
+    u: SegmentationUpid,
+    eidr: [u8; 12],
+    lent: &[u8],
+) -> Cursor
+    requires { ⌜ u .bytes .at + u .bytes .len ≤ length (now lent) ⌝ }
+    ensures { λ r. ⌜ Stores (now (out .entry)) c (contents (upidSource u eidr (now (lent .entry))) (upidFields (writtenUpid u))) (now (out .exit)) r ⌝ }
+{
+    if u.kind == 10 {
+        return store_upid(out, c, 10, &eidr[..]);
+    }
+    let bytes = u.bytes;
+    let part = view(lent, bytes);
+    store_upid(out, c, written_kind(u), part)
+}
+
+fn store_insert(
+    out: &mut [u8],
+    c: Cursor,
+    i: SegmentationInsert,
+    components: [ModeComponent; 255],
+    eidr: [u8; 12],
+    lent: &[u8],
+) -> Cursor
+    requires { ⌜ i .«segmentation_upid» .bytes .at + i .«segmentation_upid» .bytes .len ≤ length (now lent) ⌝ }
+    ensures { λ r. ⌜ Stores (now (out .entry)) c (contents (upidSource (i .«segmentation_upid») eidr (now (lent .entry))) (insertFields i (take (countOf (i .«segmentation_mode»)) components))) (now (out .exit)) r ⌝ }
+{
+    let mode = i.segmentation_mode;
+    let duration = i.segmentation_duration;
+    let delivery = i.delivery_restrictions;
+    let upid = i.segmentation_upid;
+    let second = store_flags(out, c, by_program(mode), lasts(duration), is_free(delivery));
+    let third = store_delivery(out, second, delivery);
+    let fourth = store_mode(out, third, mode, components);
+    let fifth = store_duration(out, fourth, duration);
+    let sixth = store_written_upid(out, fifth, upid, eidr, lent);
+    store_back(out, sixth, i)
+}
+
+fn store_segmentation(
+    out: &mut [u8],
+    c: Cursor,
+    x: SegmentationDescriptor,
+    components: [ModeComponent; 255],
+    eidr: [u8; 12],
+    lent: &[u8],
+) -> Cursor
+    requires { ⌜ upidIn x .bytes .at + upidIn x .bytes .len ≤ length (now lent) ⌝ }
+    ensures { λ r. ⌜ Stores (now (out .entry)) c (contents (upidSource (upidIn x) eidr (now (lent .entry))) (segmentFields (x .«segmentation_event_id») (x .«descriptor_detail») (take (countOf (frontOf (x .«descriptor_detail») .«segmentation_mode»)) components))) (now (out .exit)) r ⌝ }
+{
+    let detail = x.descriptor_detail;
+    match detail {
+        SegmentationDetail::Cancel => store_head(out, c, x.segmentation_event_id, true),
+        SegmentationDetail::Insert(i) => {
+            let second = store_head(out, c, x.segmentation_event_id, false);
+            store_insert(out, second, i, components, eidr, lent)
+        }
+    }
+}
+
+// ---- the descriptor
+
+pub(crate) fn write_segmentation(
+    x: SegmentationDescriptor,
+    identifier: [u8; 4],
+    components: [ModeComponent; 255],
+    eidr: [u8; 12],
+    lent: &[u8],
+    target: &mut [u8],
+) -> Written
+    ensures { λ r. ⌜ Writes (framedMade 2 cuei (segmentationMade x identifier (record { components = components; eidr = eidr }) (now (lent .entry)))) (now (target .entry)) (now (target .exit)) r ⌝ }
+{
+    let refusal = refusal_of_segmentation(x, identifier, components, eidr, lent);
+    if refusal != 0 {
+        return Written::Refused(refusal);
+    }
+    let size = size_of(x);
+    if 250 < size {
+        return Written::Refused(34);
+    }
+    if target.len() < size + 6 {
+        return Written::Refused(36);
+    }
+    let id = cuei();
+    let c = store_frame(target, 2, size + 4, &id[..]);
+    let _last = store_segmentation(target, c, x, components, eidr, lent);
+    Written::Wrote(size + 6)
+}
