@@ -1,0 +1,83 @@
+-- Every public function of the writer fixes its answer and its target's later bytes, and asks nothing of the caller, as FixedAnswers.antt has it of the readers. Assumes nothing.
+use mathlib.Core.Path.{_≡_, sym, _∙_}
+use denote.Ref.{now}
+use Rattle.pen.proofs.put_bits.Reads as put-bits
+use Rattle.pen.proofs.put_run.Reads as put-run
+use Rattle.descriptor_form.proofs.lies_in.Reads as lies-in
+use Rattle.descriptor_form.proofs.is_zero.Reads as is-zero
+use Rattle.descriptor_form.proofs.is_alone.Reads as is-alone
+use Rattle.descriptor_form.proofs.is_fair_reserved.Reads as is-fair-reserved
+use Rattle.descriptor_form.proofs.upids.written_kind.Reads as written-kind
+use Rattle.descriptor_form.proofs.upids.upid_size.Reads as upid-size
+use Rattle.descriptor_form.proofs.segment.by_program.Reads as by-program
+use Rattle.descriptor_form.proofs.segment.lasts.Reads as lasts
+use Rattle.descriptor_form.proofs.segment.is_free.Reads as is-free
+use Rattle.descriptor_form.proofs.segment.refusal_of_segmentation.Reads as refusal-of-segmentation
+use Rattle.descriptor_form.proofs.segment.mode_size.Reads as mode-size
+use Rattle.descriptor_form.proofs.segment.duration_size.Reads as duration-size
+use Rattle.descriptor_form.proofs.segment.sub_size.Reads as sub-size
+use Rattle.descriptor_writer.proofs.write_descriptor.Reads as write-descriptor
+use Rattle.theorems.specs.FixedAnswers.{Fixed, FixedIn}
+
+-- ---- pen: stores at any bit
+
+pub put-bits-is-fixed : Fixed put-bits.Asked put-bits.Learnt
+put-bits-is-fixed = record { takes-any = λ κ a. tt; one-answer = λ κ a x y e f p q. p .cursor ∙ sym (q .cursor) }
+
+pub put-bits-fixes-the-target : FixedIn put-bits.Asked put-bits.Learnt (λ κ answer after. now (after .0))
+put-bits-fixes-the-target = record { takes-any = λ κ a. tt; seen = λ κ a x y e f p q. p .bytes ∙ sym (q .bytes) }
+
+pub put-run-is-fixed : Fixed put-run.Asked put-run.Learnt
+put-run-is-fixed = record { takes-any = λ κ a. tt; one-answer = λ κ a x y e f p q. p .cursor ∙ sym (q .cursor) }
+
+pub put-run-fixes-the-target : FixedIn put-run.Asked put-run.Learnt (λ κ answer after. now (after .0))
+put-run-fixes-the-target = record { takes-any = λ κ a. tt; seen = λ κ a x y e f p q. p .bytes ∙ sym (q .bytes) }
+
+-- ---- descriptor_form: the tests of the descriptor writer
+
+pub lies-in-is-fixed : Fixed lies-in.Asked lies-in.Learnt
+lies-in-is-fixed = record { takes-any = λ κ a. tt; one-answer = λ κ a x y e f p q. p ∙ sym q }
+
+pub is-zero-is-fixed : Fixed is-zero.Asked is-zero.Learnt
+is-zero-is-fixed = record { takes-any = λ κ a. tt; one-answer = λ κ a x y e f p q. p ∙ sym q }
+
+pub is-alone-is-fixed : Fixed is-alone.Asked is-alone.Learnt
+is-alone-is-fixed = record { takes-any = λ κ a. tt; one-answer = λ κ a x y e f p q. p ∙ sym q }
+
+pub is-fair-reserved-is-fixed : Fixed is-fair-reserved.Asked is-fair-reserved.Learnt
+is-fair-reserved-is-fixed = record { takes-any = λ κ a. tt; one-answer = λ κ a x y e f p q. p ∙ sym q }
+
+pub written-kind-is-fixed : Fixed written-kind.Asked written-kind.Learnt
+written-kind-is-fixed = record { takes-any = λ κ a. tt; one-answer = λ κ a x y e f p q. p ∙ sym q }
+
+pub upid-size-is-fixed : Fixed upid-size.Asked upid-size.Learnt
+upid-size-is-fixed = record { takes-any = λ κ a. tt; one-answer = λ κ a x y e f p q. p ∙ sym q }
+
+pub by-program-is-fixed : Fixed by-program.Asked by-program.Learnt
+by-program-is-fixed = record { takes-any = λ κ a. tt; one-answer = λ κ a x y e f p q. p ∙ sym q }
+
+pub lasts-is-fixed : Fixed lasts.Asked lasts.Learnt
+lasts-is-fixed = record { takes-any = λ κ a. tt; one-answer = λ κ a x y e f p q. p ∙ sym q }
+
+pub is-free-is-fixed : Fixed is-free.Asked is-free.Learnt
+is-free-is-fixed = record { takes-any = λ κ a. tt; one-answer = λ κ a x y e f p q. p ∙ sym q }
+
+pub refusal-of-segmentation-is-fixed : Fixed refusal-of-segmentation.Asked refusal-of-segmentation.Learnt
+refusal-of-segmentation-is-fixed = record { takes-any = λ κ a. tt; one-answer = λ κ a x y e f p q. p ∙ sym q }
+
+pub mode-size-is-fixed : Fixed mode-size.Asked mode-size.Learnt
+mode-size-is-fixed = record { takes-any = λ κ a. tt; one-answer = λ κ a x y e f p q. p .0 ∙ sym (q .0) }
+
+pub duration-size-is-fixed : Fixed duration-size.Asked duration-size.Learnt
+duration-size-is-fixed = record { takes-any = λ κ a. tt; one-answer = λ κ a x y e f p q. p .0 ∙ sym (q .0) }
+
+pub sub-size-is-fixed : Fixed sub-size.Asked sub-size.Learnt
+sub-size-is-fixed = record { takes-any = λ κ a. tt; one-answer = λ κ a x y e f p q. p .0 ∙ sym (q .0) }
+
+-- ---- descriptor_writer
+
+pub write-descriptor-is-fixed : Fixed write-descriptor.Asked write-descriptor.Learnt
+write-descriptor-is-fixed = record { takes-any = λ κ a. tt; one-answer = λ κ a x y e f p q. p .answer ∙ sym (q .answer) }
+
+pub write-descriptor-fixes-the-target : FixedIn write-descriptor.Asked write-descriptor.Learnt (λ κ answer after. now (after .1 .1 .1 .1 .0))
+write-descriptor-fixes-the-target = record { takes-any = λ κ a. tt; seen = λ κ a x y e f p q. p .target-later ∙ sym (q .target-later) }
