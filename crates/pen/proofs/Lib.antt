@@ -1,0 +1,3 @@
+pub mod Penned
+pub mod Tables
+pub mod Writes
