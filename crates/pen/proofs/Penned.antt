@@ -113,7 +113,7 @@ pub beside-lt : (n k x y : ℕ) → x < 2 ^ n → y < 2 ^ k → x * 2 ^ k + y < 
 beside-lt n k x y h l = rw (pow-add 2 n k) (div-lt-iff-lt-mul {k = 2 ^ k} {x = x * 2 ^ k + y} {y = 2 ^ n} (pow-pos k) .0 (rw (high x k l) h))
 
 -- the low bits of a number are those of its remainder
-low-bits : (k b : ℕ) → bitsOfNum k (b % 2 ^ k) ≡ bitsOfNum k b
+pub low-bits : (k b : ℕ) → bitsOfNum k (b % 2 ^ k) ≡ bitsOfNum k b
 low-bits k b = bits-join 0 k (b / 2 ^ k) (b % 2 ^ k) (mod-lt b (pow-pos k)) ∙ rw (zero-add k, split b k)
 
 module _ (b j n k x : ℕ) (byte : b < 256) (eight : j + (n + k) ≡ 8) (narrow : x < 2 ^ n) where
@@ -126,10 +126,10 @@ module _ (b j n k x : ℕ) (byte : b < 256) (eight : j + (n + k) ≡ 8) (narrow 
     mixed-bits : bitsOfNum 8 y ≡ bitsOfNum j (b / 2 ^ (n + k)) ++ (bitsOfNum n x ++ bitsOfNum k b)
     mixed-bits =
         let l : b % 2 ^ k < 2 ^ k = mod-lt b (pow-pos k) in
-        rw (← eight, is)
-        (sym (ap (λ (l : List ℕ). bitsOfNum j (b / 2 ^ (n + k)) ++ (bitsOfNum n x ++ l)) (sym (low-bits k b))
+        ap₂ (λ (w v : ℕ). bitsOfNum w v) (sym eight) is
+        ∙ sym (ap (λ (l : List ℕ). bitsOfNum j (b / 2 ^ (n + k)) ++ (bitsOfNum n x ++ l)) (sym (low-bits k b))
         ∙ ap (λ (l : List ℕ). bitsOfNum j (b / 2 ^ (n + k)) ++ l) (bits-join n k x (b % 2 ^ k) l)
-        ∙ bits-join j (n + k) (b / 2 ^ (n + k)) (x * 2 ^ k + b % 2 ^ k) (beside-lt n k x (b % 2 ^ k) narrow l)))
+        ∙ bits-join j (n + k) (b / 2 ^ (n + k)) (x * 2 ^ k + b % 2 ^ k) (beside-lt n k x (b % 2 ^ k) narrow l))
 
   old-bits : bitsOfNum 8 b ≡ bitsOfNum j (b / 2 ^ (n + k)) ++ (bitsOfNum n (b / 2 ^ k) ++ bitsOfNum k b)
   old-bits =
@@ -179,11 +179,11 @@ penned-stored t at b a k h =
     let parts = all-cut at t a in
     let more = all-cut (at + length b) t a in
     let s = take at t ++ b ++ drop (at + length b) t in
-    let as : AllBytes s = all-joined (take at t ++ b) (drop (at + length b) t) (all-joined (take at t) b (parts .0) k) (more .1) in
+    let ay : AllBytes s = all-joined (take at t ++ b) (drop (at + length b) t) (all-joined (take at t) b (parts .0) k) (more .1) in
     let e : bitsOf s ≡ bitsOf (take at t) ++ bitsOf b ++ bitsOf (drop (at + length b) t) =
     bits-append (take at t ++ b) (drop (at + length b) t) ∙ ap (λ (l : List ℕ). l ++ bitsOf (drop (at + length b) t)) (bits-append (take at t) b) in
     penned-fits t (at * 8) (bitsOf b) (omega arith)
-    ∙ rw (n, bits-from (at + length b) t, bits-cut at t (omega arith)) (ap bytesOf (sym e) ∙ bytes-bits s as)
+    ∙ rw (n, bits-from (at + length b) t, bits-cut at t (omega arith)) (ap bytesOf (sym e) ∙ bytes-bits s ay)
     ∙ sym (stored-fits t at b h)
 
 -- whole bytes from the target's first on

@@ -1,27 +1,29 @@
 -- Stores one behind the other, as a table's fields stand.
---     pens-append, pens-last                    a store, and what is stored behind it
+--     pens-append, pens-last, pens-nil, ..       a store, and what is stored behind it
 --     fields-..                                 what a value has in a table that begins with a number, a flag, ..
 --     goes-..                                   so that field stored, and then the rest of the table, is the table stored
-use Prim.Native.Nat.{ℕ, _+_, _*_, _-_, _/_, _^_, _≤_}
+use Prim.Native.Nat.{ℕ, _+_, _*_, _-_, _/_, _^_, _<_, _≤_}
 use mathlib.Core.Bool.{Bool, true, false}
 use mathlib.Core.List.{List, [], _∷_, _++_, append-assoc}
 use mathlib.Core.Path.{_≡_, refl, ap, ap₂, sym, _∙_}
+use native.Mathlib.Numerals.{add-one}
 use native.Mathlib.Omega.{arith}
 use lib.Dec.{eqb}
-use lib.ListN.{length, take, drop, length-append}
+use lib.ListN.{length, take, drop, getD, length-append}
 use borrow.Author.Tests.{le-leb}
-use Rattle.table.specs.Bits.{bitsOfNum, bitsOf}
+use lib.Seq.{length-take-le, take-suc}
+use Rattle.table.specs.Bits.{bitsOfNum, bitsOf, AllBytes}
 use Rattle.table.specs.Cursor.{place, cursorAt}
 use Rattle.table.specs.Table.{Table, inside, number, bit, flagNumber, reserved, part, remaining, uimsbf, flag, ones}
 use Rattle.table.specs.Writing.{Field, bits, run, rest, walk, contents, print}
 use Rattle.table.specs.declared.View.{View}
 use Rattle.table.specs.declared.cursor.Cursor.{Cursor}
-use Rattle.table.proofs.Bits.{AllBits, all-num, all-bits}
+use Rattle.table.proofs.Bits.{AllBits, all-num, all-bits, bits-append, length-bits}
 use Rattle.table.proofs.Lists.{append-nil}
-use Rattle.table.proofs.Steppings.{place-of}
+use Rattle.table.proofs.Steppings.{Settled, place-of}
 use Rattle.table.proofs.Walks.{past, print-bits, walk-inside}
 use Rattle.pen.specs.Pen.{penned, penAfter, Pens, Fits, inked}
-use Rattle.pen.proofs.Penned.{length-penned, penned-append}
+use Rattle.pen.proofs.Penned.{length-penned, penned-append, penned-nil}
 
 -- ---- the cursor
 after-fits : (t : List ℕ) (c : Cursor) (n : ℕ) → place c + n ≤ length t * 8 → penAfter t c n ≡ cursorAt (place c + n)
@@ -56,6 +58,23 @@ pens-append t c b u d r k h p =
 
 pub pens-last : (t : List ℕ) (c : Cursor) (b : List ℕ) (u : List ℕ) (d : Cursor) → Pens t c b u d → Pens t c (b ++ []) u d
 pens-last t c b u d p = rw (append-nil b) p
+
+-- nothing is stored
+pub pens-nil : (t : List ℕ) (c : Cursor) → AllBytes t → Settled c → place c ≤ length t * 8 → Pens t c [] t c
+pens-nil t c a s h =
+    let z : place c + 0 ≡ place c = omega arith in
+    record { bytes = sym (penned-nil t (place c) a); cursor = sym (after-fits t c 0 (omega arith) ∙ ap cursorAt z ∙ s) }
+
+-- one byte more of a run
+pub pens-byte : (t : List ℕ) (c : Cursor) (s : List ℕ) (i x : ℕ) (u : List ℕ) (d : Cursor) (v : List ℕ) (e : Cursor) → i < length s → x ≡ getD s i 0 → Fits t c (bitsOf s)
+    → Pens t c (bitsOf (take i s)) u d → Pens u d (bitsOfNum 8 x) v e → Pens t c (bitsOf (take (i + 1) s)) v e
+pens-byte t c s i x u d v e h is f p q =
+    let b = bitsOf (take i s) in
+    let k : bitsOf (take (i + 1) s) ≡ b ++ bitsOfNum 8 x =
+    ap bitsOf (ap (λ (n : ℕ). take n s) (add-one i) ∙ take-suc s i 0 h) ∙ bits-append (take i s) (getD s i 0 ∷ []) ∙ ap (λ (y : ℕ). b ++ bitsOfNum 8 y) (sym is) in
+    let l : length (b ++ bitsOfNum 8 x) ≡ i * 8 + 8 =
+    length-append b (bitsOfNum 8 x) ∙ omega (arith, length-bits (take i s), length-take-le i s (omega arith)) in
+    rw k (pens-append t c b u d (bitsOfNum 8 x) (all-bits (take i s)) (omega (arith, length-bits s)) p .whole v e q)
 
 -- the same bits
 pub pens-same : (t : List ℕ) (c : Cursor) (b r : List ℕ) (u : List ℕ) (d : Cursor) → b ≡ r → Pens t c b u d → Pens t c r u d

@@ -1,7 +1,8 @@
 // The writer's pen: fields stored at any bit of a lent target, and what a writer answers.
 ghost use mathlib.Core.Path.{_≡_};
 ghost use Prim.Native.Nat.{_+_, _-_, _*_, _/_, _%_, _^_, _<_, _≤_};
-ghost use Rattle.table.specs.Bits.{bitsOfNum, bitsOf};
+ghost use Rattle.table.specs.Bits.{bitsOfNum, bitsOf, AllBytes};
+ghost use Rattle.table.proofs.Steppings.{Settled};
 ghost use Rattle.pen.specs.Pen.{Fits, Pens, withBits};
 use table::cursor::Cursor;
 use table::numbers::wide;
@@ -35,9 +36,10 @@ fn with_bits(b: u8, j: usize, n: usize, x: u64) -> u8
     requires { ⌜ (j + n ≤ 8) × (x < 2 ^ n) ⌝ }
     ensures { λ r. ⌜ r ≡ withBits b j n x ⌝ }
 {
+    let byte = wide(b);
     let k = 8 - j - n;
-    let high = (wide(b) >> (8 - j)) << (8 - j);
-    let low = wide(b) % (1u64 << k);
+    let high = (byte >> (8 - j)) << (8 - j);
+    let low = byte % (1u64 << k);
     (high + ((x << k) + low)) as u8
 }
 
@@ -75,7 +77,7 @@ pub fn put_bits(out: &mut [u8], c: Cursor, w: usize, v: u64) -> Cursor
 
 // Lent bytes from a cursor on at which no byte begins.
 fn put_shifted(out: &mut [u8], c: Cursor, src: &[u8]) -> Cursor
-    requires { ⌜ Fits (now (out .entry)) c (bitsOf (now (src .entry))) ⌝ }
+    requires { ⌜ AllBytes (now out) × Settled c × Fits (now out) c (bitsOf (now src)) ⌝ }
     ensures { λ r. ⌜ Pens (now (out .entry)) c (bitsOf (now (src .entry))) (now (out .exit)) r ⌝ }
 {
     let mut next = c;
@@ -103,10 +105,18 @@ pub fn put_run(out: &mut [u8], c: Cursor, src: &[u8]) -> Cursor
     if room - src.len() < bit / 8 + (bit % 8 + 7) / 8 {
         return c;
     }
-    if bit % 8 != 0 {
-        return put_shifted(out, c, src);
-    }
     let at = byte + bit / 8;
+    let behind = bit % 8;
+    if 0 < behind {
+        return put_shifted(
+            out,
+            Cursor {
+                byte: at,
+                bit: behind,
+            },
+            src,
+        );
+    }
     put_bytes(out, at, src);
     Cursor {
         byte: at + src.len(),
