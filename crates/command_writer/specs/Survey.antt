@@ -1,5 +1,5 @@
 -- What a writer asks of an insert's components in one pass. No public contract cites this.
-use Prim.Native.Nat.{ℕ, _+_, _^_}
+use Prim.Native.Nat.{ℕ, _+_, _^_, _<_}
 use mathlib.Core.Bool.{Bool, true, false, not, _&&_}
 use mathlib.Core.List.{List, [], _∷_}
 use lib.Dec.{ltb, eqb}
@@ -31,15 +31,17 @@ unfoldable pub surveyed : Bool → List ComponentSplice → Survey
 surveyed b [] = record { fits = true; alike = true; bytes = 0 }
 surveyed b (c ∷ cs) = adding b (c .«splice_time») (surveyed b cs)
 
+-- each tag is a byte
+abbrev pub Tags : List ComponentSplice → Type 0
+Tags [] = Unit {0}
+Tags (c ∷ cs) = (c .«component_tag» < 256) × Tags cs
+
 -- by how many components, and whether all is immediate, as the first component says
 unfoldable pub shapeOf : SpliceMode → SpliceTime → Shape
 shapeOf (SpliceMode.Program t) first = record { count = 0; now = immediate t }
 shapeOf (SpliceMode.Components n) first = record { count = n; now = ltb 0 n && immediate first }
 
 -- ---- of a whole insert, what its components' survey says being s
-abbrev pub lastingTicks : Break → ℕ
-lastingTicks d = insert.ticks d
-
 abbrev pub modeBytes : SpliceMode → ℕ → ℕ
 modeBytes (SpliceMode.Program t) n = timeBytes (immediate t) t
 modeBytes (SpliceMode.Components k) n = 1 + n
@@ -56,7 +58,7 @@ measured fits fair size =
     (record { refusal = 33; size = 0 }))
     (record { refusal = 32; size = 0 })
 
-unfoldable pub cancelMeasured : ℕ → Measured
+abbrev pub cancelMeasured : ℕ → Measured
 cancelMeasured reserved = measured (ltb reserved 128) (eqb reserved 127) 5
 
 unfoldable pub activeMeasured : ℕ → SpliceMode → Break → Survey → Measured

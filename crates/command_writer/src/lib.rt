@@ -13,7 +13,7 @@ ghost use Rattle.table.specs.Lent.{stored};
 ghost use Rattle.table.specs.Writing.{make};
 use crate::insert::store_insert;
 use crate::measure::measure_insert;
-use crate::time::measure_time;
+use crate::measure::measure_time;
 use crate::time::store_time;
 use command::Private;
 use command::SpliceCommand;

@@ -1,14 +1,18 @@
-// What a splice_insert() is refused for, and how many bytes it has.
+// What a splice_insert() and a splice_time() are refused for, and how many bytes they have.
 ghost use mathlib.Core.Path.{_≡_};
-ghost use Prim.Native.Nat.{_^_, _≤_};
+ghost use mathlib.Core.Bool.{not, _&&_};
+ghost use mathlib.Core.List.{[]};
+ghost use Prim.Native.Nat.{_^_, _<_, _≤_};
 ghost use lib.Dec.{ltb};
 ghost use lib.ListN.{take};
+ghost use Rattle.command.specs.Insert as insert;
 ghost use Rattle.command.specs.Insert.{immediate, programTime};
 ghost use Rattle.command_writer.specs.Made.{counted, insertMade, measuredOf};
-ghost use Rattle.command_writer.specs.Survey.{adding, surveyed, shapeOf, lastingTicks, modeBytes, breakBytes, cancelMeasured, activeMeasured};
-ghost use Rattle.header.specs.Time.{ticks};
+ghost use Rattle.command_writer.specs.Survey.{timeBytes, adding, surveyed, Tags, shapeOf, modeBytes, breakBytes, measured, cancelMeasured, activeMeasured};
+ghost use Rattle.header.specs.Time.{spliceTime, ticks, notImmediate};
+ghost use Rattle.table.specs.Bits.{pick};
+ghost use Rattle.table.specs.Writing.{make};
 use crate::Measured;
-use crate::refuse;
 use command::components::ComponentSplice;
 use command::insert::Break;
 use command::insert::Insertion;
@@ -16,11 +20,35 @@ use command::insert::SpliceInsert;
 use command::insert::SpliceMode;
 use header::time::SpliceTime;
 
-// Of components: do their times fit their fields, are all immediate or all timed, and how many bytes do they take?
-struct Survey {
-    pub fits: bool,
-    pub alike: bool,
-    pub bytes: usize,
+fn both(a: bool, b: bool) -> bool
+    ensures { λ r. ⌜ r ≡ a && b ⌝ }
+{
+    if a {
+        return b;
+    }
+    false
+}
+
+// By what 32 and 33 ask.
+fn verdict(fits: bool, fair: bool, size: usize) -> Measured
+    ensures { λ r. ⌜ r ≡ measured fits fair size ⌝ }
+{
+    if !fits {
+        return Measured {
+            refusal: 32,
+            size: 0,
+        };
+    }
+    if !fair {
+        return Measured {
+            refusal: 33,
+            size: 0,
+        };
+    }
+    Measured {
+        refusal: 0,
+        size,
+    }
 }
 
 fn is_immediate(time: SpliceTime) -> bool
@@ -33,65 +61,80 @@ fn is_immediate(time: SpliceTime) -> bool
     }
 }
 
-// With one component more before them; `now` says whether all are to be immediate.
-fn add_component(s: Survey, now: bool, time: SpliceTime) -> Survey
-    requires { ⌜ s .bytes ≤ 1530 ⌝ }
-    ensures { λ r. ⌜ r ≡ adding now time s ⌝ }
+fn time_fits(time: SpliceTime) -> bool
+    ensures { λ r. ⌜ r ≡ ltb (ticks time) (2 ^ 33) ⌝ }
 {
-    let fits = s.fits;
-    let alike = s.alike;
-    let bytes = s.bytes;
     match time {
-        SpliceTime::Immediate => {
-            if now {
-                return Survey {
-                    fits,
-                    alike,
-                    bytes: bytes + 1,
-                };
-            }
-            Survey {
-                fits,
-                alike: false,
-                bytes: bytes + 2,
-            }
-        }
-        SpliceTime::Unspecified => {
-            if now {
-                return Survey {
-                    fits,
-                    alike: false,
-                    bytes: bytes + 1,
-                };
-            }
-            Survey {
-                fits,
-                alike,
-                bytes: bytes + 2,
-            }
-        }
-        SpliceTime::At(ticks) => {
-            let fits = ticks <= 0x1_FFFF_FFFF && fits;
-            if now {
-                return Survey {
-                    fits,
-                    alike: false,
-                    bytes: bytes + 1,
-                };
-            }
-            Survey {
-                fits,
-                alike,
-                bytes: bytes + 6,
-            }
-        }
+        SpliceTime::Immediate => true,
+        SpliceTime::Unspecified => true,
+        SpliceTime::At(ticks) => ticks < 0x2_0000_0000,
+    }
+}
+
+// The bytes of a time, none where the insert is immediate.
+fn time_size(time: SpliceTime, at_once: bool) -> usize
+    ensures { λ r. ⌜ (r ≡ timeBytes «at_once» time) × (r ≤ 5) ⌝ }
+{
+    if at_once {
+        return 0;
+    }
+    match time {
+        SpliceTime::Immediate => 1,
+        SpliceTime::Unspecified => 1,
+        SpliceTime::At(_) => 5,
+    }
+}
+
+// A time signal's payload.
+pub(crate) fn measure_time(time: SpliceTime) -> Measured
+    ensures { λ r. ⌜ r ≡ measuredOf (make spliceTime (notImmediate time) [] time) ⌝ }
+{
+    let fits = time_fits(time);
+    let at_once = is_immediate(time);
+    let size = time_size(time, false);
+    verdict(fits, !at_once, size)
+}
+
+// Of components: do their times fit their fields, are all immediate or all timed, and how many bytes do they take?
+struct Survey {
+    pub fits: bool,
+    pub alike: bool,
+    pub bytes: usize,
+}
+
+// Is a time immediate where all are to be, and timed where none is to be?
+fn agrees(time: SpliceTime, at_once: bool) -> bool
+    ensures { λ r. ⌜ r ≡ pick «at_once» (immediate time) (not (immediate time)) ⌝ }
+{
+    if at_once {
+        return is_immediate(time);
+    }
+    !is_immediate(time)
+}
+
+// With one component more before them.
+fn add_component(s: Survey, at_once: bool, component: ComponentSplice) -> Survey
+    requires { ⌜ s .bytes ≤ 1530 ⌝ }
+    ensures { λ r. ⌜ (r ≡ adding «at_once» (component .«splice_time») s) × (component .«component_tag» < 256) ⌝ }
+{
+    let time = component.splice_time;
+    let this_fits = time_fits(time);
+    let agreeing = agrees(time, at_once);
+    let size = time_size(time, at_once);
+    let fits = both(this_fits, s.fits);
+    let alike = both(agreeing, s.alike);
+    let bytes = s.bytes;
+    Survey {
+        fits,
+        alike,
+        bytes: 1 + size + bytes,
     }
 }
 
 // The first `count` components, from the last of them on.
-fn look(components: [ComponentSplice; 255], count: usize, now: bool) -> Survey
+fn look(components: [ComponentSplice; 255], count: usize, at_once: bool) -> Survey
     requires { ⌜ count ≤ 255 ⌝ }
-    ensures { λ r. ⌜ r ≡ surveyed now (take count components) ⌝ }
+    ensures { λ r. ⌜ (r ≡ surveyed «at_once» (take count components)) × Tags (take count components) ⌝ }
 {
     let mut s = Survey {
         fits: true,
@@ -102,8 +145,7 @@ fn look(components: [ComponentSplice; 255], count: usize, now: bool) -> Survey
     while 0 < i {
         i -= 1;
         let component = components[i];
-        let time = component.splice_time;
-        s = add_component(s, now, time);
+        s = add_component(s, at_once, component);
     }
     s
 }
@@ -118,20 +160,16 @@ pub(crate) fn shape_of(mode: SpliceMode, first: SpliceTime) -> Shape
     ensures { λ r. ⌜ (r ≡ shapeOf mode first) × (r .count ≤ 255) ⌝ }
 {
     match mode {
-        SpliceMode::Program(t) => Shape {
-            count: 0,
-            now: is_immediate(t),
-        },
+        SpliceMode::Program(t) => {
+            let now = is_immediate(t);
+            Shape { count: 0, now }
+        }
         SpliceMode::Components(n) => {
-            if n == 0 {
-                return Shape {
-                    count: 0,
-                    now: false,
-                };
-            }
+            let at_once = is_immediate(first);
+            let now = both(0 < n, at_once);
             Shape {
                 count: n as usize,
-                now: is_immediate(first),
+                now,
             }
         }
     }
@@ -142,21 +180,17 @@ fn mode_fits(mode: SpliceMode) -> bool
     ensures { λ r. ⌜ r ≡ ltb (ticks (programTime mode)) (2 ^ 33) ⌝ }
 {
     match mode {
-        SpliceMode::Program(t) => match t {
-            SpliceTime::Immediate => true,
-            SpliceTime::Unspecified => true,
-            SpliceTime::At(ticks) => ticks <= 0x1_FFFF_FFFF,
-        },
+        SpliceMode::Program(t) => time_fits(t),
         SpliceMode::Components(_) => true,
     }
 }
 
 fn break_fits(duration: Break) -> bool
-    ensures { λ r. ⌜ r ≡ ltb (lastingTicks duration) (2 ^ 33) ⌝ }
+    ensures { λ r. ⌜ r ≡ ltb (insert.ticks duration) (2 ^ 33) ⌝ }
 {
     match duration {
         Break::Absent => true,
-        Break::Lasts(d) => d.duration <= 0x1_FFFF_FFFF,
+        Break::Lasts(d) => d.duration < 0x2_0000_0000,
     }
 }
 
@@ -166,11 +200,10 @@ fn mode_size(mode: SpliceMode, bytes: usize) -> usize
     ensures { λ r. ⌜ (r ≡ modeBytes mode bytes) × (r ≤ 1531) ⌝ }
 {
     match mode {
-        SpliceMode::Program(t) => match t {
-            SpliceTime::Immediate => 0,
-            SpliceTime::Unspecified => 1,
-            SpliceTime::At(_) => 5,
-        },
+        SpliceMode::Program(t) => {
+            let at_once = is_immediate(t);
+            time_size(t, at_once)
+        }
         SpliceMode::Components(_) => 1 + bytes,
     }
 }
@@ -184,51 +217,18 @@ fn break_size(duration: Break) -> usize
     }
 }
 
-fn measure_cancelled(reserved: u8) -> Measured
-    ensures { λ r. ⌜ r ≡ cancelMeasured reserved ⌝ }
-{
-    if 127 < reserved {
-        return refuse(32);
-    }
-    if reserved < 127 {
-        return refuse(33);
-    }
-    Measured {
-        refusal: 0,
-        size: 5,
-    }
-}
-
 // What is not cancelled, of whose components s is said.
 fn measure_active(reserved: u8, mode: SpliceMode, duration: Break, s: Survey) -> Measured
     requires { ⌜ s .bytes ≤ 1530 ⌝ }
     ensures { λ r. ⌜ r ≡ activeMeasured reserved mode duration s ⌝ }
 {
-    let fits = s.fits;
-    let alike = s.alike;
-    let bytes = s.bytes;
-    if !fits {
-        return refuse(32);
-    }
-    if 127 < reserved {
-        return refuse(32);
-    }
-    if !mode_fits(mode) {
-        return refuse(32);
-    }
-    if !break_fits(duration) {
-        return refuse(32);
-    }
-    if reserved < 127 {
-        return refuse(33);
-    }
-    if !alike {
-        return refuse(33);
-    }
-    Measured {
-        refusal: 0,
-        size: 10 + mode_size(mode, bytes) + break_size(duration),
-    }
+    let times = both(mode_fits(mode), break_fits(duration));
+    let numbers = both(reserved < 128, times);
+    let fits = both(s.fits, numbers);
+    let fair = both(reserved == 127, s.alike);
+    let first = mode_size(mode, s.bytes);
+    let second = break_size(duration);
+    verdict(fits, fair, 10 + first + second)
 }
 
 pub(crate) fn measure_insert(i: Insertion, components: [ComponentSplice; 255]) -> Measured
@@ -238,7 +238,7 @@ pub(crate) fn measure_insert(i: Insertion, components: [ComponentSplice; 255]) -
     let detail = i.splice_detail;
     let insert = match detail {
         SpliceInsert::Insert(x) => x,
-        SpliceInsert::Cancel => return measure_cancelled(reserved),
+        SpliceInsert::Cancel => return verdict(reserved < 128, reserved == 127, 5),
     };
     let mode = insert.splice_mode;
     let duration = insert.duration;
