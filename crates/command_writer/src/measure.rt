@@ -33,21 +33,21 @@ fn both(a: bool, b: bool) -> bool
 fn verdict(fits: bool, fair: bool, size: usize) -> Measured
     ensures { λ r. ⌜ r ≡ measured fits fair size ⌝ }
 {
-    if !fits {
-        return Measured {
-            refusal: 32,
-            size: 0,
-        };
-    }
-    if !fair {
+    if fits {
+        if fair {
+            return Measured {
+                refusal: 0,
+                size,
+            };
+        }
         return Measured {
             refusal: 33,
             size: 0,
         };
     }
     Measured {
-        refusal: 0,
-        size,
+        refusal: 32,
+        size: 0,
     }
 }
 

@@ -1,39 +1,47 @@
+-- `command_writer::insert::store_component`: the tag, then the time unless all is immediate.
+use mathlib.Core.Path.{_≡_, refl, ap, sym, _∙_}
+use native.Mathlib.Omega.{arith}
+use Rattle.pen.proofs.Tables.{Goes}
+use Rattle.command_writer.specs.Fields.{ink, timeFields, componentFields}
+use Rattle.command_writer.proofs.Storing.{component-now, component-timed}
 use borrow.Author.Needs.{needs}
 use Rattle.command_writer.proofs.insert.store_component.Statement.{statement}
 use Rattle.command_writer.proofs.insert.store_component.Tie as tie
-use Rattle.command_writer.proofs.insert.store_component.Reads as reads
-use Rattle.command_writer.proofs.insert.store_component.Lts as lts
-use Rattle.command_writer.proofs.time.store_time.Reads as store-time-reads
-use Rattle.pen.proofs.put_bits.Reads as put-bits-reads
-use Rattle.table.proofs.numbers.wide.Reads as wide-reads
 
--- src/insert.rt:34:33
+next : (c : tie.Else1) →
+    let p = c .before .before .before in
+    let a = p .before .before .before .before .args in
+    Goes (a .out .now) (a .c) (ink (componentFields (a .at-once) (a .component))) (p .put-bits .last .0) (p .put-bits .result) (ink (timeFields (a .component .«splice_time»)))
+next c =
+    let p = c .before .before .before in
+    let s = p .before .before .before .before in
+    component-timed (s .args .out .now) (s .args .c) _ _ (s .args .at-once) (s .args .component) _ (c .if1 .left) (p .before .wide .ensures .0) (s .pre) (p .put-bits .ensures)
+
 wide-requires : tie.Need-wide-requires
 wide-requires c κs = search needs
 
--- src/insert.rt:34:9
 put-bits-requires : tie.Need-put-bits-requires
 put-bits-requires c κs = search needs
 
--- src/insert.rt:36:9
 same-length : tie.Need-same-length
 same-length c = search needs
 
--- src/insert.rt:36:9
 returns : tie.Need-returns
-returns c = ?
+returns c = 
+    let p = c .before .before .before in
+    let a = p .before .before .before .before .args in
+    component-now (a .out .now) (a .c) _ _ (a .at-once) (a .component) _ (c .if1 .taken) (p .before .wide .ensures .0) (p .put-bits .ensures)
 
--- src/insert.rt:38:5
 store-time-requires : tie.Need-store-time-requires
-store-time-requires c κs = ?
+store-time-requires c κs = next (c .before) .room
 
--- src/insert.rt:28:1
 same-length-2 : tie.Need-same-length-2
 same-length-2 c = search needs
 
--- src/insert.rt:28:1
 returns-2 : tie.Need-returns-2
-returns-2 c = ?
+returns-2 c = 
+    let q = c .before .before in
+    next (q .before .before) .whole _ _ (q .store-time .ensures)
 
 pub store-component-spec : {M : Type 1} → statement M
 store-component-spec =

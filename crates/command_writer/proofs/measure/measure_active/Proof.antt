@@ -1,62 +1,62 @@
+-- `command_writer::measure::measure_active`: the tests as the definition has them.
+use mathlib.Core.Path.{_≡_, refl, ap, ap₂, sym, _∙_}
+use native.Mathlib.Omega.{arith}
+use Prim.Native.Nat.{ℕ, _+_, _^_}
+use mathlib.Core.Bool.{Bool, _&&_}
+use Rattle.command_writer.specs.Survey.{measured, activeMeasured}
 use borrow.Author.Needs.{needs}
 use Rattle.command_writer.proofs.measure.measure_active.Statement.{statement}
 use Rattle.command_writer.proofs.measure.measure_active.Tie as tie
-use Rattle.command_writer.proofs.measure.measure_active.Reads as reads
-use Rattle.command_writer.proofs.measure.measure_active.Lts as lts
-use Rattle.command_writer.proofs.measure.both.Reads as both-reads
-use Rattle.command_writer.proofs.measure.break_fits.Reads as break-fits-reads
-use Rattle.command_writer.proofs.measure.break_size.Reads as break-size-reads
-use Rattle.command_writer.proofs.measure.mode_fits.Reads as mode-fits-reads
-use Rattle.command_writer.proofs.measure.mode_size.Reads as mode-size-reads
-use Rattle.command_writer.proofs.measure.verdict.Reads as verdict-reads
 
--- src/measure.rt:225:22
 mode-fits-requires : tie.Need-mode-fits-requires
 mode-fits-requires c κs = search needs
 
--- src/measure.rt:225:39
 break-fits-requires : tie.Need-break-fits-requires
 break-fits-requires c κs = search needs
 
--- src/measure.rt:225:9
 both-requires : tie.Need-both-requires
 both-requires c κs = search needs
 
--- src/measure.rt:226:9
 both-requires-2 : tie.Need-both-requires-2
 both-requires-2 c κs = search needs
 
--- src/measure.rt:227:9
 both-requires-3 : tie.Need-both-requires-3
 both-requires-3 c κs = search needs
 
--- src/measure.rt:228:9
 both-requires-4 : tie.Need-both-requires-4
 both-requires-4 c κs = search needs
 
--- src/measure.rt:229:9
 mode-size-requires : tie.Need-mode-size-requires
 mode-size-requires c κs = search needs
 
--- src/measure.rt:230:9
 break-size-requires : tie.Need-break-size-requires
 break-size-requires c κs = search needs
 
--- src/measure.rt:231:25
 add-verdict : tie.Need-add-verdict
 add-verdict c = search needs
 
--- src/measure.rt:231:25
 add-verdict-2 : tie.Need-add-verdict-2
 add-verdict-2 c = search needs
 
--- src/measure.rt:231:5
 verdict-requires : tie.Need-verdict-requires
 verdict-requires c κs = search needs
 
--- src/measure.rt:221:1
 returns : tie.Need-returns
-returns c = ?
+unfolding activeMeasured
+returns c = 
+    let size = c .before .before in
+    let fair = size .before in
+    let fits = fair .before in
+    let numbers = fits .before in
+    let times = numbers .before in
+    let long = times .before in
+    let late = long .before in
+    let a = late .before .args in
+    let t = times .both .ensures ∙ ap₂ (λ (u v : Bool). u && v) (late .mode-fits .ensures) (long .break-fits .ensures) in
+    let n = numbers .both2 .ensures ∙ ap (λ (u : Bool). _ && u) t in
+    let f = fits .both3 .ensures ∙ ap (λ (u : Bool). a .s .fits && u) n in
+    let z = ap₂ (λ (u v : ℕ). 10 + u + v) (size .mode-size .ensures .0) (c .before .break-size .ensures .0) in
+    c .verdict .ensures ∙ ap₂ (λ (u v : Bool). measured u v _) f (fair .both4 .ensures) ∙ ap (λ (k : ℕ). measured _ _ k) z
 
 pub measure-active-spec : {M : Type 1} → statement M
 measure-active-spec =

@@ -1,42 +1,37 @@
+-- `command_writer::measure::shape_of`, by the mode.
+use mathlib.Core.Path.{_≡_, refl, ap, ap₂, sym, _∙_}
+use native.Mathlib.Omega.{arith}
+use Prim.Native.Nat.{_≤_}
+use Rattle.command_writer.specs.Survey.{shapeOf}
 use borrow.Author.Needs.{needs}
 use Rattle.command_writer.proofs.measure.shape_of.Statement.{statement}
 use Rattle.command_writer.proofs.measure.shape_of.Tie as tie
-use Rattle.command_writer.proofs.measure.shape_of.Reads as reads
-use Rattle.command_writer.proofs.measure.shape_of.Lts as lts
-use Rattle.command_writer.proofs.measure.both.Reads as both-reads
-use Rattle.command_writer.proofs.measure.is_immediate.Reads as is-immediate-reads
 
--- src/measure.rt:163:29
 enum-known-mode : tie.Need-enum-known-mode
 enum-known-mode c = search needs
 
--- src/measure.rt:164:17
 is-immediate-requires : tie.Need-is-immediate-requires
 is-immediate-requires c κs = search needs
 
--- src/measure.rt:167:32
 enum-known-mode-2 : tie.Need-enum-known-mode-2
 enum-known-mode-2 c = search needs
 
--- src/measure.rt:168:17
 is-immediate-requires-2 : tie.Need-is-immediate-requires-2
 is-immediate-requires-2 c κs = search needs
 
--- src/measure.rt:169:17
 both-requires : tie.Need-both-requires
 both-requires c κs = search needs
 
--- src/measure.rt:171:24
 cast-t10 : tie.Need-cast-t10
 cast-t10 c = search needs
 
--- src/measure.rt:159:1
 returns : tie.Need-returns
-returns c = ?
+unfolding shapeOf
+returns c = (rw (c .before .before .mode .given .1, c .is-immediate .ensures), omega arith)
 
--- src/measure.rt:159:1
 returns-2 : tie.Need-returns-2
-returns-2 c = ?
+unfolding shapeOf
+returns-2 c = (rw (c .before .before .before .mode2 .given .1, c .both .ensures, c .before .is-immediate2 .ensures), omega arith)
 
 pub shape-of-spec : {M : Type 1} → statement M
 shape-of-spec =

@@ -1,32 +1,25 @@
+-- `command_writer::measure::time_fits`, by the kind of the time.
 use borrow.Author.Needs.{needs}
 use Rattle.command_writer.proofs.measure.time_fits.Statement.{statement}
 use Rattle.command_writer.proofs.measure.time_fits.Tie as tie
-use Rattle.command_writer.proofs.measure.time_fits.Reads as reads
-use Rattle.command_writer.proofs.measure.time_fits.Lts as lts
 
--- src/measure.rt:68:34
 enum-told : tie.Need-enum-told
 enum-told c = search needs
 
--- src/measure.rt:69:36
 enum-told-2 : tie.Need-enum-told-2
 enum-told-2 c = search needs
 
--- src/measure.rt:70:24
 enum-known-time : tie.Need-enum-known-time
 enum-known-time c = search needs
 
--- src/measure.rt:64:1
 returns : tie.Need-returns
-returns c = ?
+returns c = rw (c .enum-told .given .1)
 
--- src/measure.rt:64:1
 returns-2 : tie.Need-returns-2
-returns-2 c = ?
+returns-2 c = rw (c .enum-told2 .given .1)
 
--- src/measure.rt:64:1
 returns-3 : tie.Need-returns-3
-returns-3 c = ?
+returns-3 c = rw (c .before .time .given .1)
 
 pub time-fits-spec : {M : Type 1} → statement M
 time-fits-spec =

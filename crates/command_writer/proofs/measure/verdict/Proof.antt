@@ -1,19 +1,15 @@
+-- `command_writer::measure::verdict`, test by test.
 use Rattle.command_writer.proofs.measure.verdict.Statement.{statement}
 use Rattle.command_writer.proofs.measure.verdict.Tie as tie
-use Rattle.command_writer.proofs.measure.verdict.Reads as reads
-use Rattle.command_writer.proofs.measure.verdict.Lts as lts
 
--- src/measure.rt:37:9
 returns : tie.Need-returns
-returns c = ?
+returns c = rw (c .before .if1 .taken, c .if2 .taken)
 
--- src/measure.rt:43:9
 returns-2 : tie.Need-returns-2
-returns-2 c = ?
+returns-2 c = rw (c .before .if1 .taken, c .if2 .left)
 
--- src/measure.rt:33:1
 returns-3 : tie.Need-returns-3
-returns-3 c = ?
+returns-3 c = rw (c .if1 .left)
 
 pub verdict-spec : {M : Type 1} → statement M
 verdict-spec = tie.close (tie.spec returns returns-2 returns-3)
