@@ -14,6 +14,7 @@ use Rattle.command.specs.Fair.{alike, unmixed, fairInsert}
 use Rattle.command.specs.Insert as insert
 use Rattle.command.specs.Insert.{WithComponents, immediate, blank, byProgram, programTime, count, lasting, outOfNetwork, insertOf}
 use Rattle.command.specs.declared.Private.{Private}
+use Rattle.command.specs.declared.SpliceCommand.{SpliceCommand}
 use Rattle.command.specs.declared.components.ComponentSplice.{ComponentSplice}
 use Rattle.command.specs.declared.insert.Break.{Break}
 use Rattle.command.specs.declared.insert.Insert.{Insert}
@@ -31,7 +32,7 @@ use Rattle.table.proofs.Bits.{length-bytesN}
 use Rattle.table.proofs.Lists.{and-assoc, and-true}
 use Rattle.table.proofs.Walks.{past, past-append, print-length}
 use Rattle.command_writer.specs.Fields.{ink, timeFields, unlessFields, componentFields, listFields, modeFields, breakFields, automatic, tailFields, endFields, immediateIn, flagFields, insertFlags, activeFields, insertFields}
-use Rattle.command_writer.specs.Made.{timesFit, insertMade, measuredOf}
+use Rattle.command_writer.specs.Made.{counted, timesFit, insertMade, commandMade, measuredOf}
 use Rattle.command_writer.specs.Survey.{timeBytes, adding, surveyed, Tags, shapeOf, modeBytes, breakBytes, measured, activeMeasured}
 use Rattle.command_writer.specs.declared.Measured.{Measured}
 use Rattle.command_writer.proofs.Surveys.{survey-fits, survey-alike}
@@ -52,6 +53,9 @@ measured-pick false f p n e = refl
 
 measured-make : (fair : Bool) (lent : List ℕ) (fs : List Field) (n : ℕ) → seen lent fs ≡ true → length (print (contents lent fs)) ≡ n * 8 → measuredOf (makeOf fair lent fs) ≡ measured (within fs) fair n
 measured-make fair lent fs n s e = rw s (measured-pick (within fs) fair (print (contents lent fs)) n e)
+
+pub measured-same : {u v a b : Bool} {n k : ℕ} → u ≡ v → a ≡ b → n ≡ k → measured u a n ≡ measured v b k
+measured-same {u} {v} {a} {b} {n} {k} e f g = rw (e, f, g)
 
 -- no view
 abbrev Plain : List Field → Type 0
@@ -276,3 +280,44 @@ module _ (p : Private) (lent : List ℕ) where
       sym (zero-add (length (print (contents lent fs)))) ∙ print-length lent fs 0 s ∙ omega arith in
       sym (ap (λ (fs : List Field). measuredOf (makeOf true lent fs)) private-fields ∙ measured-make true lent fs (4 + p .«private_bytes» .len) s l
       ∙ ap (λ (a : Bool). measured a true (4 + p .«private_bytes» .len)) w)
+
+-- ---- as they are handed in
+pub insert-cancelled : (i : Insertion) (places : List ComponentSplice) → i .«splice_detail» ≡ SpliceInsert.Cancel → i .«splice_event_id» < 2 ^ 32
+    → measured (ltb (i .reserved) 128) (eqb (i .reserved) 127) 5 ≡ measuredOf (insertMade (counted i places))
+insert-cancelled i places e h = go (i .«splice_event_id») (i .reserved) (i .«splice_detail») e h
+  where
+    go : (event kept : ℕ) (d : SpliceInsert) → d ≡ SpliceInsert.Cancel → event < 2 ^ 32
+        → measured (ltb kept 128) (eqb kept 127) 5 ≡ measuredOf (insertMade (counted (record { «splice_event_id» = event; reserved = kept; «splice_detail» = d }) places))
+    go event kept d e h = rw e (measured-cancel event kept h)
+
+module _ (i : Insertion) (x : Insert) (places : List ComponentSplice) (is : i .«splice_detail» ≡ SpliceInsert.Insert x) (there : count (x .«splice_mode») ≤ length places) where
+  pub insert-active : i .«splice_event_id» < 2 ^ 32 → count (x .«splice_mode») < 256 → x .«unique_program_id» < 2 ^ 16 → x .«avail_num» < 256 → x .«avails_expected» < 256
+      → (let cs = take (count (x .«splice_mode»)) places in
+      Tags cs → activeMeasured (i .reserved) (x .«splice_mode») (x .duration) (surveyed (immediateIn x cs) cs) ≡ measuredOf (insertMade (counted i places)))
+  insert-active ev n p a e h = go (i .«splice_event_id») (i .reserved) (i .«splice_detail») is ev
+    where
+      go : (event kept : ℕ) (d : SpliceInsert) → d ≡ SpliceInsert.Insert x → event < 2 ^ 32
+          → (let cs = take (count (x .«splice_mode»)) places in
+          activeMeasured kept (x .«splice_mode») (x .duration) (surveyed (immediateIn x cs) cs) ≡ measuredOf (insertMade (counted (record { «splice_event_id» = event; reserved = kept; «splice_detail» = d }) places)))
+      go event kept d is ev = rw is (measured-active event kept x (take (count (x .«splice_mode»)) places) (length-take-le (count (x .«splice_mode»)) places there) ev n p a e h)
+
+module _ (c : SpliceCommand) (places : List ComponentSplice) (lent : List ℕ) where
+  pub command-null : c ≡ SpliceCommand.SpliceNull → record { refusal = 0; size = 0 } ≡ measuredOf (commandMade c places lent)
+  unfolding commandMade measuredOf refusalIn bytesIn
+  command-null e = rw e
+
+  pub command-bandwidth : c ≡ SpliceCommand.BandwidthReservation → record { refusal = 0; size = 0 } ≡ measuredOf (commandMade c places lent)
+  unfolding commandMade measuredOf refusalIn bytesIn
+  command-bandwidth e = rw e
+
+  pub command-insert : (i : Insertion) → c ≡ SpliceCommand.SpliceInsert i → measuredOf (insertMade (counted i places)) ≡ measuredOf (commandMade c places lent)
+  unfolding commandMade
+  command-insert i e = rw e
+
+  pub command-time : (t : SpliceTime) → c ≡ SpliceCommand.TimeSignal t → measuredOf (make spliceTime (notImmediate t) [] t) ≡ measuredOf (commandMade c places lent)
+  unfolding commandMade
+  command-time t e = rw e
+
+  pub command-private : (p : Private) → c ≡ SpliceCommand.PrivateCommand p → measuredOf (make private true lent p) ≡ measuredOf (commandMade c places lent)
+  unfolding commandMade
+  command-private p e = rw e

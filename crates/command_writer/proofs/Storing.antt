@@ -9,17 +9,19 @@ use lib.ListN.{length, take, getD, length-append}
 use lib.Seq.{take-suc}
 use Rattle.command.specs.declared.components.ComponentSplice.{ComponentSplice}
 use Rattle.command.specs.declared.insert.Break.{Break}
+use Rattle.command.specs.declared.insert.SpliceDuration.{SpliceDuration}
 use Rattle.header.specs.declared.time.SpliceTime.{SpliceTime}
 use Rattle.header.specs.declared.time.SpliceTime.the-variants.{Immediate, Unspecified, At}
 use Rattle.pen.specs.Pen.{Pens, Fits}
 use Rattle.pen.proofs.Penned.{length-penned}
-use Rattle.pen.proofs.Tables.{Goes, pens-append, pens-last, pens-same, ink-append}
+use Rattle.pen.proofs.Tables.{Goes, pens-place, pens-append, pens-last, pens-same, ink-append}
 use Rattle.table.specs.Bits.{bitsOfNum}
 use Rattle.table.specs.Cursor.{place}
 use Rattle.table.specs.Writing.{Field, bits, contents}
 use Rattle.table.specs.declared.cursor.Cursor.{Cursor}
 use Rattle.table.proofs.Bits.{all-num}
 use Rattle.table.proofs.Lists.{append-nil}
+use Rattle.table.proofs.Steppings.{Settled, settled-at}
 use Rattle.table.proofs.Walks.{print-bits}
 use Rattle.command_writer.specs.Fields.{ink, timeFields, componentFields, listFields, breakFields}
 
@@ -82,12 +84,31 @@ module _ (t : List ℕ) (c : Cursor) (u : List ℕ) (d : Cursor) where
   pub break-none : (x : Break) (fs : List Field) → x ≡ Break.Absent → Pens t c (ink fs) u d → Pens t c (ink (breakFields x ++ fs)) u d
   break-none x fs e p = rw e p
 
+  pub break-goes : (x : Break) (k : SpliceDuration) (fs : List Field) → x ≡ Break.Lasts k → Fits t c (ink (breakFields x ++ fs)) → Pens t c (ink (breakFields (Break.Lasts k))) u d
+      → Goes t c (ink (breakFields x ++ fs)) u d (ink fs)
+  break-goes x k fs e h p =
+      let f : Fits t c (ink (breakFields (Break.Lasts k) ++ fs)) = rw e at h in
+      rw e (pens-fields (breakFields (Break.Lasts k)) fs f p)
+
+  -- what follows, said otherwise
+  pub goes-same : (all : List ℕ) (fs gs : List Field) → fs ≡ gs → Goes t c all u d (ink fs) → Goes t c all u d (ink gs)
+  goes-same all fs gs e g = rw (← e) g
+
+  pub pens-settled : (b : List ℕ) → Fits t c b → Pens t c b u d → Settled d
+  pens-settled b h p = let e = pens-place t c b u d h p .0 in rw e (settled-at (place c + length b))
+
 -- there is room for the first of two
 pub fits-front : (t : List ℕ) (c : Cursor) (fs gs : List Field) → Fits t c (ink (fs ++ gs)) → Fits t c (ink fs)
 fits-front t c fs gs h = omega (arith, length-append (ink fs) (ink gs), ap length (ink-append [] fs gs))
 
 pub fits-same : (t : List ℕ) (c : Cursor) (fs gs : List Field) → fs ≡ gs → Fits t c (ink fs) → Fits t c (ink gs)
 fits-same t c fs gs e h = rw (← e) h
+
+pub break-fits : (t : List ℕ) (c : Cursor) (x : Break) (k : SpliceDuration) (fs : List Field) → x ≡ Break.Lasts k → Fits t c (ink (breakFields x ++ fs)) → Fits t c (ink (breakFields (Break.Lasts k)))
+break-fits t c x k fs e h = fits-front t c (breakFields (Break.Lasts k)) fs (rw e at h)
+
+pub tail-fits : (t : List ℕ) (c : Cursor) (x : Break) (fs : List Field) → x ≡ Break.Absent → Fits t c (ink (breakFields x ++ fs)) → Fits t c (ink fs)
+tail-fits t c x fs e h = rw e at h
 
 -- there is room for fewer components
 pub fits-fewer : (t : List ℕ) (c : Cursor) (b : Bool) (cs : List ComponentSplice) (i : ℕ) → Fits t c (ink (listFields b cs)) → Fits t c (ink (listFields b (take i cs)))

@@ -1,13 +1,14 @@
 -- `command_writer::measure::look`: the survey of the components from i on.
 use Prim.Native.Nat.{ℕ, suc, _+_, _*_, _-_, _<_, _≤_}
 use mathlib.Core.List.{List, []}
-use mathlib.Core.Path.{_≡_, refl, ap, sym, _∙_}
+use mathlib.Core.Path.{_≡_, refl, ap, ap₂, sym, _∙_}
 use native.Mathlib.Omega.{arith}
 use lib.ListN.{length, take, drop, getD, length-drop, drop-of-length-le}
 use lib.Seq.{length-take-le, getD-take}
 use Rattle.command.specs.declared.components.ComponentSplice.{ComponentSplice}
 use Rattle.header.specs.declared.time.SpliceTime.the-variants.{Immediate}
 use Rattle.command_writer.specs.Survey.{adding, surveyed, Tags}
+use Rattle.command_writer.specs.declared.measure.Survey.{Survey}
 use Rattle.command_writer.proofs.Surveys.{surveyed-nil, surveyed-at, tags-at, survey-bytes}
 use borrow.Author.Needs.{needs}
 use Rattle.command_writer.proofs.measure.look.Statement.{statement}
@@ -62,7 +63,9 @@ loop-again c =
     let same : getD cs j d ≡ getD (a .t1) j d = getD-take (a .count) (a .t1) j d (omega arith) in
     let one = c .add-component .ensures in
     let s : c .add-component .result ≡ surveyed (a .at-once) (drop j cs) =
-    one .0 ∙ rw (l .loop .inv .1, ← same, ← z) (surveyed-at (a .at-once) cs j d h) in
+    one .0
+    ∙ ap₂ (λ (x : ComponentSplice) (y : Survey). adding (a .at-once) (x .«splice_time») y) (sym same) (l .loop .inv .1 ∙ ap (λ (k : ℕ). surveyed (a .at-once) (drop k cs)) (sym z))
+    ∙ surveyed-at (a .at-once) cs j d h in
     (omega arith, s, tags-at cs j d h (rw same (one .1)) (rw z (l .loop .inv .2)))
 
 returns : tie.Need-returns Inv-loop μ-loop

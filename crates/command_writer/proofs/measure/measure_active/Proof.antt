@@ -1,5 +1,7 @@
 -- `command_writer::measure::measure_active`: the tests as the definition has them.
 use mathlib.Core.Path.{_≡_, refl, ap, ap₂, sym, _∙_}
+use lib.Dec.{ltb}
+use Rattle.command_writer.proofs.Making.{measured-same}
 use native.Mathlib.Omega.{arith}
 use Prim.Native.Nat.{ℕ, _+_, _^_}
 use mathlib.Core.Bool.{Bool, _&&_}
@@ -53,10 +55,10 @@ returns c =
     let late = long .before in
     let a = late .before .args in
     let t = times .both .ensures ∙ ap₂ (λ (u v : Bool). u && v) (late .mode-fits .ensures) (long .break-fits .ensures) in
-    let n = numbers .both2 .ensures ∙ ap (λ (u : Bool). _ && u) t in
+    let n = numbers .both2 .ensures ∙ ap (λ (u : Bool). ltb (a .reserved) 128 && u) t in
     let f = fits .both3 .ensures ∙ ap (λ (u : Bool). a .s .fits && u) n in
     let z = ap₂ (λ (u v : ℕ). 10 + u + v) (size .mode-size .ensures .0) (c .before .break-size .ensures .0) in
-    c .verdict .ensures ∙ ap₂ (λ (u v : Bool). measured u v _) f (fair .both4 .ensures) ∙ ap (λ (k : ℕ). measured _ _ k) z
+    c .verdict .ensures ∙ measured-same f (fair .both4 .ensures) z
 
 pub measure-active-spec : {M : Type 1} → statement M
 measure-active-spec =
