@@ -321,3 +321,18 @@ module _ (c : SpliceCommand) (places : List ComponentSplice) (lent : List ℕ) w
   pub command-private : (p : Private) → c ≡ SpliceCommand.PrivateCommand p → measuredOf (make private true lent p) ≡ measuredOf (commandMade c places lent)
   unfolding commandMade
   command-private p e = rw e
+
+-- ---- whole bytes
+pub time-whole : (t : SpliceTime) → (n : ℕ) × (length (ink (timeFields t)) ≡ n * 8)
+time-whole Immediate = (1, refl)
+time-whole Unspecified = (1, refl)
+time-whole (At t) = (5, refl)
+
+pub insert-whole : (event kept : ℕ) (d : SpliceInsert) (cs : List ComponentSplice)
+    → (let x : WithComponents Insertion = record { value = record { «splice_event_id» = event; reserved = kept; «splice_detail» = d }; components = cs } in
+    (n : ℕ) × (length (ink (insertFields x)) ≡ n * 8))
+insert-whole event kept SpliceInsert.Cancel cs = (5, refl)
+insert-whole event kept (SpliceInsert.Insert i) cs =
+    let x : WithComponents Insertion = record { value = record { «splice_event_id» = event; reserved = kept; «splice_detail» = SpliceInsert.Insert i }; components = cs } in
+    let n = 10 + modeBytes (i .«splice_mode») (surveyed (immediateIn i cs) cs .bytes) + breakBytes (i .duration) in
+    (n, sym (zero-add (length (ink (insertFields x)))) ∙ print-length [] (insertFields x) 0 (plain-seen [] (insertFields x) (plain-active i cs)) ∙ past-active i cs 40 ∙ omega arith)

@@ -9,7 +9,11 @@ use lib.ListN.{length, take, getD, length-append}
 use lib.Seq.{take-suc}
 use Rattle.command.specs.declared.components.ComponentSplice.{ComponentSplice}
 use Rattle.command.specs.declared.insert.Break.{Break}
+use Rattle.command.specs.declared.insert.Insert.{Insert}
+use Rattle.command.specs.declared.insert.Insertion.{Insertion}
 use Rattle.command.specs.declared.insert.SpliceDuration.{SpliceDuration}
+use Rattle.command.specs.declared.insert.SpliceInsert.{SpliceInsert}
+use Rattle.command.specs.declared.insert.SpliceMode.{SpliceMode}
 use Rattle.header.specs.declared.time.SpliceTime.{SpliceTime}
 use Rattle.header.specs.declared.time.SpliceTime.the-variants.{Immediate, Unspecified, At}
 use Rattle.pen.specs.Pen.{Pens, Fits}
@@ -23,7 +27,8 @@ use Rattle.table.proofs.Bits.{all-num}
 use Rattle.table.proofs.Lists.{append-nil}
 use Rattle.table.proofs.Steppings.{Settled, settled-at}
 use Rattle.table.proofs.Walks.{print-bits}
-use Rattle.command_writer.specs.Fields.{ink, timeFields, componentFields, listFields, breakFields}
+use Rattle.command_writer.specs.Fields.{ink, timeFields, componentFields, listFields, modeFields, breakFields, placesOf, activeFields, insertFields}
+use Rattle.command_writer.specs.Made.{counted}
 
 module _ (t : List ℕ) (c : Cursor) (u : List ℕ) (d : Cursor) where
   -- one number, and what stands behind it
@@ -125,3 +130,30 @@ fits-fewer t c b cs i h = omega (arith, go cs i)
       ap length (ink-append [] (componentFields b c) (listFields b cs)),
       ap length (ink-append [] (componentFields b c) (listFields b (take i cs))),
     )
+
+-- ---- what the mode and the cancel bit decide
+module _ (b : Bool) (k : SpliceMode) (cs : List ComponentSplice) where
+  pub mode-now : (x : SpliceTime) → k ≡ SpliceMode.Program x → b ≡ true → modeFields b k cs ≡ []
+  mode-now x e h = rw (e, h)
+
+  pub mode-timed : (x : SpliceTime) → k ≡ SpliceMode.Program x → b ≡ false → modeFields b k cs ≡ timeFields x
+  mode-timed x e h = rw (e, h)
+
+  pub mode-list : (n : ℕ) → k ≡ SpliceMode.Components n → modeFields b k cs ≡ bits 8 n ∷ listFields b cs
+  mode-list n e = rw e
+
+pub cancel-fields : (i : Insertion) (places : List ComponentSplice) → i .«splice_detail» ≡ SpliceInsert.Cancel
+    → insertFields (counted i places) ≡ bits 32 (i .«splice_event_id») ∷ bits 1 1 ∷ bits 7 (i .reserved) ∷ []
+cancel-fields i places e = go (i .«splice_event_id») (i .reserved) (i .«splice_detail») e
+  where
+    go : (event kept : ℕ) (d : SpliceInsert) → d ≡ SpliceInsert.Cancel
+        → insertFields (counted (record { «splice_event_id» = event; reserved = kept; «splice_detail» = d }) places) ≡ bits 32 event ∷ bits 1 1 ∷ bits 7 kept ∷ []
+    go event kept d e = rw e
+
+pub active-insert : (i : Insertion) (x : Insert) (places : List ComponentSplice) → i .«splice_detail» ≡ SpliceInsert.Insert x
+    → insertFields (counted i places) ≡ bits 32 (i .«splice_event_id») ∷ bits 1 0 ∷ bits 7 (i .reserved) ∷ activeFields x (placesOf x places)
+active-insert i x places e = go (i .«splice_event_id») (i .reserved) (i .«splice_detail») e
+  where
+    go : (event kept : ℕ) (d : SpliceInsert) → d ≡ SpliceInsert.Insert x
+        → insertFields (counted (record { «splice_event_id» = event; reserved = kept; «splice_detail» = d }) places) ≡ bits 32 event ∷ bits 1 0 ∷ bits 7 kept ∷ activeFields x (placesOf x places)
+    go event kept d e = rw e

@@ -15,6 +15,7 @@ ghost use Rattle.table.specs.Writing.{make};
 use crate::Measured;
 use command::components::ComponentSplice;
 use command::insert::Break;
+use command::insert::Insert;
 use command::insert::Insertion;
 use command::insert::SpliceInsert;
 use command::insert::SpliceMode;
@@ -218,10 +219,12 @@ fn break_size(duration: Break) -> usize
 }
 
 // What is not cancelled, of whose components s is said.
-fn measure_active(reserved: u8, mode: SpliceMode, duration: Break, s: Survey) -> Measured
+fn measure_active(reserved: u8, insert: Insert, s: Survey) -> Measured
     requires { ⌜ s .bytes ≤ 1530 ⌝ }
-    ensures { λ r. ⌜ r ≡ activeMeasured reserved mode duration s ⌝ }
+    ensures { λ r. ⌜ (r ≡ activeMeasured reserved (insert .«splice_mode») (insert .duration) s) × (insert .«unique_program_id» < 2 ^ 16) × (insert .«avail_num» < 256) × (insert .«avails_expected» < 256) ⌝ }
 {
+    let mode = insert.splice_mode;
+    let duration = insert.duration;
     let times = both(mode_fits(mode), break_fits(duration));
     let numbers = both(reserved < 128, times);
     let fits = both(s.fits, numbers);
@@ -241,10 +244,9 @@ pub(crate) fn measure_insert(i: Insertion, components: [ComponentSplice; 255]) -
         SpliceInsert::Cancel => return verdict(reserved < 128, reserved == 127, 5),
     };
     let mode = insert.splice_mode;
-    let duration = insert.duration;
     let place = components[0];
     let first = place.splice_time;
     let shape = shape_of(mode, first);
     let s = look(components, shape.count, shape.now);
-    measure_active(reserved, mode, duration, s)
+    measure_active(reserved, insert, s)
 }

@@ -1,5 +1,7 @@
 -- `command_writer::measure::measure_active`: the tests as the definition has them.
 use mathlib.Core.Path.{_≡_, refl, ap, ap₂, sym, _∙_}
+use mir.Syntax.{w8, w16}
+use mir.Val.{Fits}
 use lib.Dec.{ltb}
 use Rattle.command_writer.proofs.Making.{measured-same}
 use native.Mathlib.Omega.{arith}
@@ -9,6 +11,15 @@ use Rattle.command_writer.specs.Survey.{measured, activeMeasured}
 use borrow.Author.Needs.{needs}
 use Rattle.command_writer.proofs.measure.measure_active.Statement.{statement}
 use Rattle.command_writer.proofs.measure.measure_active.Tie as tie
+
+id : (c : tie.Start) → Fits w16 (c .args .insert .«unique_program_id»)
+id c = search needs
+
+avail : (c : tie.Start) → Fits w8 (c .args .insert .«avail_num»)
+avail c = search needs
+
+expected : (c : tie.Start) → Fits w8 (c .args .insert .«avails_expected»)
+expected c = search needs
 
 mode-fits-requires : tie.Need-mode-fits-requires
 mode-fits-requires c κs = search needs
@@ -58,7 +69,7 @@ returns c =
     let n = numbers .both2 .ensures ∙ ap (λ (u : Bool). ltb (a .reserved) 128 && u) t in
     let f = fits .both3 .ensures ∙ ap (λ (u : Bool). a .s .fits && u) n in
     let z = ap₂ (λ (u v : ℕ). 10 + u + v) (size .mode-size .ensures .0) (c .before .break-size .ensures .0) in
-    c .verdict .ensures ∙ measured-same f (fair .both4 .ensures) z
+    (c .verdict .ensures ∙ measured-same f (fair .both4 .ensures) z, id (late .before) .fits, avail (late .before) .fits, expected (late .before) .fits)
 
 pub measure-active-spec : {M : Type 1} → statement M
 measure-active-spec =

@@ -68,11 +68,9 @@ returns-2 c =
     let most : count mode ≤ 255 = omega (arith, k .shape-of .ensures .1, n) in
     let y = c .before .look .ensures .0 ∙ ap₂ (λ (b : Bool) (n : ℕ). surveyed b (take n (a .t2))) b n in
     let event : a .i .«splice_event_id» < 2 ^ 32 = omega arith in
-    let id : insert .«unique_program_id» < 2 ^ 16 = omega arith in
-    let avail : insert .«avail_num» < 256 = omega arith in
-    let expected : insert .«avails_expected» < 256 = omega arith in
-    c .measure-active .ensures ∙ ap (λ (y : Survey). activeMeasured (a .i .reserved) mode (insert .duration) y) y
-    ∙ insert-active (a .i) insert (a .t2) (x .detail .given .1) (omega (arith, full s)) event (omega arith) id avail expected (rw n at (c .before .look .ensures .1))
+    let bounds = c .measure-active .ensures in
+    bounds .0 ∙ ap (λ (y : Survey). activeMeasured (a .i .reserved) mode (insert .duration) y) y
+    ∙ insert-active (a .i) insert (a .t2) (x .detail .given .1) (omega (arith, full s)) event (omega arith) (bounds .1) (bounds .2) (bounds .3) (rw n at (c .before .look .ensures .1))
 
 pub measure-insert-spec : {M : Type 1} → statement M
 measure-insert-spec =
