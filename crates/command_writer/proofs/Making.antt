@@ -33,7 +33,7 @@ use Rattle.table.proofs.Lists.{and-assoc, and-true}
 use Rattle.table.proofs.Walks.{past, past-append, print-length}
 use Rattle.command_writer.specs.Fields.{ink, timeFields, unlessFields, componentFields, listFields, modeFields, breakFields, automatic, tailFields, endFields, immediateIn, flagFields, insertFlags, activeFields, insertFields}
 use Rattle.command_writer.specs.Made.{counted, timesFit, insertMade, commandMade, measuredOf}
-use Rattle.command_writer.specs.Survey.{timeBytes, adding, surveyed, Tags, shapeOf, modeBytes, breakBytes, measured, activeMeasured}
+use Rattle.command_writer.specs.Survey.{Countable, timeBytes, adding, surveyed, Tags, shapeOf, modeBytes, breakBytes, measured, activeMeasured}
 use Rattle.command_writer.specs.declared.Measured.{Measured}
 use Rattle.command_writer.proofs.Surveys.{survey-fits, survey-alike}
 use Rattle.command_writer.proofs.Ties.{time-fields, insert-fields}
@@ -263,7 +263,7 @@ shape-says (SpliceMode.Components (suc n)) places d h =
 
 -- ---- a private command
 module _ (p : Private) (lent : List ℕ) where
-  private-fields : walk private p 0 .fields ≡ bits 32 (p .identifier) ∷ rest (p .«private_bytes» .len) ∷ run (p .«private_bytes» .len) (p .«private_bytes» .at) ∷ []
+  pub private-fields : walk private p 0 .fields ≡ bits 32 (p .identifier) ∷ rest (p .«private_bytes» .len) ∷ run (p .«private_bytes» .len) (p .«private_bytes» .at) ∷ []
   unfolding private number part remaining
   private-fields = refl
 
@@ -282,6 +282,19 @@ module _ (p : Private) (lent : List ℕ) where
       ∙ ap (λ (a : Bool). measured a true (4 + p .«private_bytes» .len)) w)
 
 -- ---- as they are handed in
+pub cancel-count : (d : SpliceInsert) → d ≡ SpliceInsert.Cancel → count (insertOf d .«splice_mode») ≤ 255
+cancel-count d e = rw e (omega arith)
+
+pub active-count : (d : SpliceInsert) (x : Insert) → d ≡ SpliceInsert.Insert x → count (x .«splice_mode») ≤ 255 → count (insertOf d .«splice_mode») ≤ 255
+active-count d x e h = rw e h
+
+pub measured-parts : (r : Measured) (m : Made) → r ≡ measuredOf m → (r .refusal ≡ refusalIn m) × (r .size ≡ length (bytesIn m))
+unfolding measuredOf
+measured-parts r m e = rw e (refl, refl)
+
+pub countable : (c d : SpliceCommand) → c ≡ d → Countable d → Countable c
+countable c d e h = rw e h
+
 pub insert-cancelled : (i : Insertion) (places : List ComponentSplice) → i .«splice_detail» ≡ SpliceInsert.Cancel → i .«splice_event_id» < 2 ^ 32
     → measured (ltb (i .reserved) 128) (eqb (i .reserved) 127) 5 ≡ measuredOf (insertMade (counted i places))
 insert-cancelled i places e h = go (i .«splice_event_id») (i .reserved) (i .«splice_detail») e h

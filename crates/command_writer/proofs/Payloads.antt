@@ -28,6 +28,7 @@ use Rattle.table.specs.Cursor.{place}
 use Rattle.table.specs.Lent.{stored, viewed}
 use Rattle.table.specs.Table.{number, part, remaining}
 use Rattle.table.specs.Writing.{Field, bits, run, rest, walk, seen, within, contents, print, Made, made, refused, makeOf, make}
+use Rattle.table.specs.declared.View.{View}
 use Rattle.table.specs.declared.cursor.Cursor.{Cursor}
 use Rattle.table.proofs.Bits.{AllBits, all-append, all-num, all-bits, all-bytesN, length-num, length-bits, length-bytesN}
 use Rattle.table.proofs.Fields.{bits-bytes}
@@ -36,18 +37,23 @@ use Rattle.table.proofs.Stores.{stored-nil, stored-none}
 use Rattle.table.proofs.Walks.{print-bits, print-length}
 use Rattle.command_writer.specs.Fields.{ink, timeFields, insertFields, privateInk}
 use Rattle.command_writer.specs.Made.{counted, timesFit, insertMade, commandMade}
-use Rattle.command_writer.proofs.Making.{time-whole, insert-whole}
+use Rattle.command_writer.specs.Survey.{Countable}
+use Rattle.command_writer.proofs.Making.{time-whole, insert-whole, private-fields}
 use Rattle.command_writer.proofs.Ties.{time-fields, insert-fields}
 
 pub record Payload (m : Made) (p : List ℕ) : Type 0 where
   pub bytes : bytesIn m ≡ bytesOf p
   pub whole : length p ≡ length (bytesIn m) * 8
+  pub is : m ≡ made (bytesIn m)
+
+zero-31 : {A : Type 0} → _≡_ {A = ℕ} 31 0 → A
+zero-31 e = absurd (omega arith)
 
 pick-payload : (s w f : Bool) (p : List ℕ) (n : ℕ) → length p ≡ n * 8
     → refusalIn (pick s (pick w (pick f (made (bytesOf p)) (refused 33)) (refused 32)) (refused 31)) ≡ 0
     → Payload (pick s (pick w (pick f (made (bytesOf p)) (refused 33)) (refused 32)) (refused 31)) p
 unfolding refusalIn bytesIn
-pick-payload true true true p n e z = record { bytes = refl; whole = omega (arith, length-bytesN (length p / 8) p) }
+pick-payload true true true p n e z = record { bytes = refl; whole = omega (arith, length-bytesN (length p / 8) p); is = refl }
 pick-payload true true false p n e z = absurd (omega arith)
 pick-payload true false f p n e z = absurd (omega arith)
 pick-payload false w f p n e z = absurd (omega arith)
@@ -70,15 +76,32 @@ insert-payload event kept d cs e z =
     let w = insert-whole event kept d cs in
     late-payload (timesFit cs) (makeOf (fairInsert x) [] (walk insert x 0 .fields)) (ink (insertFields x)) (rw f (make-payload (fairInsert x) [] (insertFields x) (w .0) (w .1))) z
 
-private-payload : (p : Private) (lent : List ℕ) → refusalIn (make private true lent p) ≡ 0 → Payload (make private true lent p) (privateInk p lent)
-unfolding private number part remaining viewed
-private-payload p lent z = go (leb (p .«private_bytes» .at + p .«private_bytes» .len) (length lent)) refl z
-  where
-    v : List ℕ
-    v = take (p .«private_bytes» .len) (drop (p .«private_bytes» .at) lent)
+seen-bytes : (lent : List ℕ) (v : View) → leb (v .at + v .len) (length lent) ≡ true → take (v .len) (drop (v .at) lent) ≡ viewed lent v
+unfolding viewed
+seen-bytes lent v e = rw e
 
-    go : (b : Bool) → leb (p .«private_bytes» .at + p .«private_bytes» .len) (length lent) ≡ b → refusalIn (make private true lent p) ≡ 0 → Payload (make private true lent p) (privateInk p lent)
-    go b e z = ?
+private-payload : (p : Private) (lent : List ℕ) → refusalIn (make private true lent p) ≡ 0 → Payload (make private true lent p) (privateInk p lent)
+private-payload p lent z = rw (private-fields p lent) (go (leb (at + n) (length lent)) refl (rw (private-fields p lent) at z))
+  where
+    at : ℕ
+    at = p .«private_bytes» .at
+
+    n : ℕ
+    n = p .«private_bytes» .len
+
+    fs : List Field
+    fs = bits 32 (p .identifier) ∷ rest n ∷ run n at ∷ []
+
+    go : (b : Bool) → leb (at + n) (length lent) ≡ b → refusalIn (makeOf true lent fs) ≡ 0 → Payload (makeOf true lent fs) (privateInk p lent)
+    unfolding refusalIn
+    go false e z = zero-31 (rw e at z)
+    go true e z =
+        let v = take n (drop at lent) in
+        let w : print (contents lent fs) ≡ privateInk p lent =
+        ap (λ (l : List ℕ). bitsOfNum 32 (p .identifier) ++ l) (append-nil (bitsOf v) ∙ ap bitsOf (seen-bytes lent (p .«private_bytes») e)) in
+        let l : length (print (contents lent fs)) ≡ (4 + length v) * 8 =
+        length-append (bitsOfNum 32 (p .identifier)) (bitsOf v ++ []) ∙ omega (arith, length-append (bitsOf v) [], length-bits v) in
+        rw w at (make-payload true lent fs (4 + length v) l z)
 
 module _ (c : SpliceCommand) (places : List ComponentSplice) (lent : List ℕ) where
   pub command-insert-payload : (i : Insertion) → c ≡ SpliceCommand.SpliceInsert i → length places ≡ 255 → count (insertOf (i .«splice_detail») .«splice_mode») ≤ 255 → refusalIn (commandMade c places lent) ≡ 0
@@ -125,7 +148,12 @@ unfolding refusalIn bytesIn
 refused-bytes (made b) h = absurd (omega arith)
 refused-bytes (refused n) h = refl
 
-pub made-bytes : (m : Made) → refusalIn m ≡ 0 → m ≡ made (bytesIn m)
-unfolding refusalIn bytesIn
-made-bytes (made b) h = refl
-made-bytes (refused n) h = ?
+-- a command that is not refused is made
+pub command-made : (c : SpliceCommand) (places : List ComponentSplice) (lent : List ℕ) → length places ≡ 255 → Countable c → refusalIn (commandMade c places lent) ≡ 0
+    → commandMade c places lent ≡ made (bytesIn (commandMade c places lent))
+unfolding commandMade bytesIn
+command-made SpliceCommand.SpliceNull places lent n k z = refl
+command-made (SpliceCommand.SpliceInsert i) places lent n k z = command-insert-payload (SpliceCommand.SpliceInsert i) places lent i refl n k z .is
+command-made (SpliceCommand.TimeSignal t) places lent n k z = command-time-payload (SpliceCommand.TimeSignal t) places lent t refl z .is
+command-made SpliceCommand.BandwidthReservation places lent n k z = refl
+command-made (SpliceCommand.PrivateCommand p) places lent n k z = command-private-payload (SpliceCommand.PrivateCommand p) places lent p refl z .is

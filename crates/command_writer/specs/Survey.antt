@@ -1,10 +1,11 @@
 -- What a writer asks of an insert's components in one pass. No public contract cites this.
-use Prim.Native.Nat.{ℕ, _+_, _^_, _<_}
+use Prim.Native.Nat.{ℕ, _+_, _^_, _<_, _≤_}
 use mathlib.Core.Bool.{Bool, true, false, not, _&&_}
 use mathlib.Core.List.{List, [], _∷_}
 use lib.Dec.{ltb, eqb}
 use Rattle.command.specs.Insert as insert
 use Rattle.command.specs.Insert.{immediate, programTime}
+use Rattle.command.specs.declared.SpliceCommand.{SpliceCommand}
 use Rattle.command.specs.declared.components.ComponentSplice.{ComponentSplice}
 use Rattle.command.specs.declared.insert.Break.{Break}
 use Rattle.command.specs.declared.insert.SpliceMode.{SpliceMode}
@@ -65,3 +66,11 @@ unfoldable pub activeMeasured : ℕ → SpliceMode → Break → Survey → Meas
 activeMeasured reserved mode duration s =
     measured (s .fits && (ltb reserved 128 && (ltb (ticks (programTime mode)) (2 ^ 33) && ltb (insert.ticks duration) (2 ^ 33)))) (eqb reserved 127 && s .alike)
     (10 + modeBytes mode (s .bytes) + breakBytes duration)
+
+-- a count is a byte
+abbrev pub Countable : SpliceCommand → Type 0
+Countable SpliceCommand.SpliceNull = Unit {0}
+Countable (SpliceCommand.SpliceInsert i) = insert.count (insert.insertOf (i .«splice_detail») .«splice_mode») ≤ 255
+Countable (SpliceCommand.TimeSignal t) = Unit {0}
+Countable SpliceCommand.BandwidthReservation = Unit {0}
+Countable (SpliceCommand.PrivateCommand p) = Unit {0}

@@ -6,6 +6,7 @@ ghost use lib.ListN.{length};
 ghost use Rattle.command_writer.specs.Made.{commandMade, measuredOf};
 ghost use Rattle.command.specs.Command.{private};
 ghost use Rattle.command_writer.specs.Fields.{privateInk};
+ghost use Rattle.command_writer.specs.Survey.{Countable};
 ghost use Rattle.pen.specs.Pen.{Fits, Pens};
 ghost use Rattle.pen.specs.Written.{answerOf, laterOf, refusalIn, bytesIn};
 ghost use Rattle.table.specs.Bits.{AllBytes};
@@ -64,7 +65,7 @@ fn measure_private(p: Private, lent: &[u8]) -> Measured
 
 // Which refusal a command has, 31 to 33, and how many bytes its payload has.
 pub fn measure_command(command: SpliceCommand, components: [ComponentSplice; 255], lent: &[u8]) -> Measured
-    ensures { λ r. ⌜ r ≡ measuredOf (commandMade command components (now (lent .entry))) ⌝ }
+    ensures { λ r. ⌜ (r ≡ measuredOf (commandMade command components (now (lent .entry)))) × Countable command ⌝ }
 {
     match command {
         SpliceCommand::SpliceNull => Measured {
@@ -92,7 +93,7 @@ fn store_private(out: &mut [u8], c: Cursor, p: Private, lent: &[u8]) -> Cursor
 
 // A payload for which there is room, and no refusal.
 fn store_command(out: &mut [u8], at: usize, command: SpliceCommand, components: [ComponentSplice; 255], lent: &[u8])
-    requires { ⌜ AllBytes (now out) × (refusalIn (commandMade command components (now lent)) ≡ 0) × (at + length (bytesIn (commandMade command components (now lent))) ≤ length (now out)) ⌝ }
+    requires { ⌜ AllBytes (now out) × (refusalIn (commandMade command components (now lent)) ≡ 0) × (at + length (bytesIn (commandMade command components (now lent))) ≤ length (now out)) × Countable command ⌝ }
     ensures { λ _. ⌜ now (out .exit) ≡ stored (now (out .entry)) at (bytesIn (commandMade command components (now (lent .entry)))) ⌝ }
 {
     let c = Cursor { byte: at, bit: 0 };

@@ -235,7 +235,7 @@ fn measure_active(reserved: u8, insert: Insert, s: Survey) -> Measured
 }
 
 pub(crate) fn measure_insert(i: Insertion, components: [ComponentSplice; 255]) -> Measured
-    ensures { λ r. ⌜ r ≡ measuredOf (insertMade (counted i components)) ⌝ }
+    ensures { λ r. ⌜ (r ≡ measuredOf (insertMade (counted i components))) × (insert.count (insert.insertOf (i .«splice_detail») .«splice_mode») ≤ 255) ⌝ }
 {
     let reserved = i.reserved;
     let detail = i.splice_detail;

@@ -11,6 +11,8 @@ use Rattle.table.proofs.Walks.{print-bits}
 use Rattle.command.specs.Insert.{count, insertOf}
 use Rattle.command_writer.specs.Fields.{ink, timeFields, insertFields, privateInk}
 use Rattle.command_writer.specs.Made.{counted, commandMade}
+use Rattle.command.specs.declared.SpliceCommand.{SpliceCommand}
+use Rattle.command_writer.proofs.Making.{countable}
 use Rattle.command_writer.proofs.Payloads.{Payload, command-insert-payload, command-time-payload, command-private-payload, null-bytes, bandwidth-bytes, store-room, store-whole, private-bits}
 use borrow.Author.Needs.{needs}
 use Rattle.command_writer.proofs.store_command.Statement.{statement}
@@ -25,7 +27,7 @@ inserted : (c : tie.After-command) →
 inserted c =
     let s = c .before .before .before .before in
     let a = s .args in
-    command-insert-payload (a .command) (a .components) (a .lent .now) (c .command .given .0 .0) (c .command .given .1) (full s) ? (s .pre .1)
+    command-insert-payload (a .command) (a .components) (a .lent .now) (c .command .given .0 .0) (c .command .given .1) (full s) (countable (SpliceCommand.SpliceInsert (c .command .given .0 .0)) (a .command) (sym (c .command .given .1)) (s .pre .3)) (s .pre .1)
 
 timed : (c : tie.After-command2) →
     let a = c .before .before .before .before .args in

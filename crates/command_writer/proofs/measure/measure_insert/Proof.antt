@@ -12,7 +12,7 @@ use Rattle.command_writer.specs.Fields.{immediateIn}
 use Rattle.command_writer.specs.Survey.{surveyed, activeMeasured}
 use Rattle.command_writer.specs.declared.measure.Shape.{Shape}
 use Rattle.command_writer.specs.declared.measure.Survey.{Survey}
-use Rattle.command_writer.proofs.Making.{insert-cancelled, insert-active, shape-says}
+use Rattle.command_writer.proofs.Making.{cancel-count, active-count, insert-cancelled, insert-active, shape-says}
 use Rattle.command_writer.proofs.Surveys.{survey-bytes}
 use borrow.Author.Needs.{needs}
 use Rattle.command_writer.proofs.measure.measure_insert.Statement.{statement}
@@ -34,7 +34,7 @@ returns : tie.Need-returns
 returns c = 
     let s = c .before .before .before in
     let e : s .args .i .«splice_event_id» < 2 ^ 32 = omega arith in
-    c .verdict .ensures ∙ insert-cancelled (s .args .i) (s .args .t2) (c .before .enum-told .given .1) e
+    (c .verdict .ensures ∙ insert-cancelled (s .args .i) (s .args .t2) (c .before .enum-told .given .1) e, cancel-count (s .args .i .«splice_detail») (c .before .enum-told .given .1))
 
 array-copy-out-place : tie.Need-array-copy-out-place
 array-copy-out-place c = search needs
@@ -69,8 +69,11 @@ returns-2 c =
     let y = c .before .look .ensures .0 ∙ ap₂ (λ (b : Bool) (n : ℕ). surveyed b (take n (a .t2))) b n in
     let event : a .i .«splice_event_id» < 2 ^ 32 = omega arith in
     let bounds = c .measure-active .ensures in
-    bounds .0 ∙ ap (λ (y : Survey). activeMeasured (a .i .reserved) mode (insert .duration) y) y
-    ∙ insert-active (a .i) insert (a .t2) (x .detail .given .1) (omega (arith, full s)) event (omega arith) (bounds .1) (bounds .2) (bounds .3) (rw n at (c .before .look .ensures .1))
+    (
+      bounds .0 ∙ ap (λ (y : Survey). activeMeasured (a .i .reserved) mode (insert .duration) y) y
+    ∙ insert-active (a .i) insert (a .t2) (x .detail .given .1) (omega (arith, full s)) event (omega arith) (bounds .1) (bounds .2) (bounds .3) (rw n at (c .before .look .ensures .1)),
+      active-count (a .i .«splice_detail») insert (x .detail .given .1) most,
+    )
 
 pub measure-insert-spec : {M : Type 1} → statement M
 measure-insert-spec =
