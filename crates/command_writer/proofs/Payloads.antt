@@ -46,6 +46,9 @@ pub record Payload (m : Made) (p : List ℕ) : Type 0 where
   pub whole : length p ≡ length (bytesIn m) * 8
   pub is : m ≡ made (bytesIn m)
 
+payload-same : (m : Made) (p q : List ℕ) → p ≡ q → Payload m p → Payload m q
+payload-same m p q e h = rw (← e) h
+
 zero-31 : {A : Type 0} → _≡_ {A = ℕ} 31 0 → A
 zero-31 e = absurd (omega arith)
 
@@ -81,6 +84,7 @@ unfolding viewed
 seen-bytes lent v e = rw e
 
 private-payload : (p : Private) (lent : List ℕ) → refusalIn (make private true lent p) ≡ 0 → Payload (make private true lent p) (privateInk p lent)
+unfolding refusalIn
 private-payload p lent z = rw (private-fields p lent) (go (leb (at + n) (length lent)) refl (rw (private-fields p lent) at z))
   where
     at : ℕ
@@ -93,7 +97,6 @@ private-payload p lent z = rw (private-fields p lent) (go (leb (at + n) (length 
     fs = bits 32 (p .identifier) ∷ rest n ∷ run n at ∷ []
 
     go : (b : Bool) → leb (at + n) (length lent) ≡ b → refusalIn (makeOf true lent fs) ≡ 0 → Payload (makeOf true lent fs) (privateInk p lent)
-    unfolding refusalIn
     go false e z = zero-31 (rw e at z)
     go true e z =
         let v = take n (drop at lent) in
@@ -101,7 +104,7 @@ private-payload p lent z = rw (private-fields p lent) (go (leb (at + n) (length 
         ap (λ (l : List ℕ). bitsOfNum 32 (p .identifier) ++ l) (append-nil (bitsOf v) ∙ ap bitsOf (seen-bytes lent (p .«private_bytes») e)) in
         let l : length (print (contents lent fs)) ≡ (4 + length v) * 8 =
         length-append (bitsOfNum 32 (p .identifier)) (bitsOf v ++ []) ∙ omega (arith, length-append (bitsOf v) [], length-bits v) in
-        rw w at (make-payload true lent fs (4 + length v) l z)
+        payload-same (makeOf true lent fs) (print (contents lent fs)) (privateInk p lent) w (make-payload true lent fs (4 + length v) l z)
 
 module _ (c : SpliceCommand) (places : List ComponentSplice) (lent : List ℕ) where
   pub command-insert-payload : (i : Insertion) → c ≡ SpliceCommand.SpliceInsert i → length places ≡ 255 → count (insertOf (i .«splice_detail») .«splice_mode») ≤ 255 → refusalIn (commandMade c places lent) ≡ 0

@@ -39,7 +39,13 @@ fn store_component(out: &mut [u8], c: Cursor, component: ComponentSplice, at_onc
 }
 
 // The first `count` components.
-fn store_components(out: &mut [u8], c: Cursor, components: [ComponentSplice; 255], count: usize, at_once: bool) -> Cursor
+fn store_components(
+    out: &mut [u8],
+    c: Cursor,
+    components: [ComponentSplice; 255],
+    count: usize,
+    at_once: bool,
+) -> Cursor
     requires { ⌜ (count ≤ 255) × AllBytes (now out) × Settled c × Fits (now out) c (ink (listFields «at_once» (take count components))) ⌝ }
     ensures { λ r. ⌜ Pens (now (out .entry)) c (ink (listFields «at_once» (take count components))) (now (out .exit)) r ⌝ }
 {
@@ -162,7 +168,12 @@ fn store_end(out: &mut [u8], c: Cursor, insert: Insert) -> Cursor
 }
 
 // What is not cancelled.
-fn store_active(out: &mut [u8], c: Cursor, insert: Insert, components: [ComponentSplice; 255]) -> Cursor
+fn store_active(
+    out: &mut [u8],
+    c: Cursor,
+    insert: Insert,
+    components: [ComponentSplice; 255],
+) -> Cursor
     requires { ⌜ Fits (now out) c (ink (activeFields insert (placesOf insert components))) ⌝ }
     ensures { λ r. ⌜ Pens (now (out .entry)) c (ink (activeFields insert (placesOf insert components))) (now (out .exit)) r ⌝ }
 {
@@ -187,7 +198,12 @@ fn store_active(out: &mut [u8], c: Cursor, insert: Insert, components: [Componen
     }
 }
 
-pub(crate) fn store_insert(out: &mut [u8], c: Cursor, i: Insertion, components: [ComponentSplice; 255]) -> Cursor
+pub(crate) fn store_insert(
+    out: &mut [u8],
+    c: Cursor,
+    i: Insertion,
+    components: [ComponentSplice; 255],
+) -> Cursor
     requires { ⌜ Fits (now out) c (ink (insertFields (counted i components))) ⌝ }
     ensures { λ r. ⌜ Pens (now (out .entry)) c (ink (insertFields (counted i components))) (now (out .exit)) r ⌝ }
 {

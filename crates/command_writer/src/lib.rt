@@ -64,7 +64,11 @@ fn measure_private(p: Private, lent: &[u8]) -> Measured
 }
 
 // Which refusal a command has, 31 to 33, and how many bytes its payload has.
-pub fn measure_command(command: SpliceCommand, components: [ComponentSplice; 255], lent: &[u8]) -> Measured
+pub fn measure_command(
+    command: SpliceCommand,
+    components: [ComponentSplice; 255],
+    lent: &[u8],
+) -> Measured
     ensures { λ r. ⌜ (r ≡ measuredOf (commandMade command components (now (lent .entry)))) × Countable command ⌝ }
 {
     match command {
@@ -92,7 +96,13 @@ fn store_private(out: &mut [u8], c: Cursor, p: Private, lent: &[u8]) -> Cursor
 }
 
 // A payload for which there is room, and no refusal.
-fn store_command(out: &mut [u8], at: usize, command: SpliceCommand, components: [ComponentSplice; 255], lent: &[u8])
+fn store_command(
+    out: &mut [u8],
+    at: usize,
+    command: SpliceCommand,
+    components: [ComponentSplice; 255],
+    lent: &[u8],
+)
     requires { ⌜ AllBytes (now out) × (refusalIn (commandMade command components (now lent)) ≡ 0) × (at + length (bytesIn (commandMade command components (now lent))) ≤ length (now out)) × Countable command ⌝ }
     ensures { λ _. ⌜ now (out .exit) ≡ stored (now (out .entry)) at (bytesIn (commandMade command components (now (lent .entry)))) ⌝ }
 {
@@ -113,7 +123,13 @@ fn store_command(out: &mut [u8], at: usize, command: SpliceCommand, components: 
 }
 
 // The payload from a byte of the target on; nothing where it is refused or does not fit.
-pub fn put_command(out: &mut [u8], at: usize, command: SpliceCommand, components: [ComponentSplice; 255], lent: &[u8])
+pub fn put_command(
+    out: &mut [u8],
+    at: usize,
+    command: SpliceCommand,
+    components: [ComponentSplice; 255],
+    lent: &[u8],
+)
     ensures { λ _. ⌜ now (out .exit) ≡ stored (now (out .entry)) at (bytesIn (commandMade command components (now (lent .entry)))) ⌝ }
 {
     let measured = measure_command(command, components, lent);
@@ -130,7 +146,12 @@ pub fn put_command(out: &mut [u8], at: usize, command: SpliceCommand, components
 }
 
 // The payload from the target's first byte on, or a refusal: 31, 32, 33 or 36.
-pub fn write_command(command: SpliceCommand, components: [ComponentSplice; 255], lent: &[u8], target: &mut [u8]) -> Written
+pub fn write_command(
+    command: SpliceCommand,
+    components: [ComponentSplice; 255],
+    lent: &[u8],
+    target: &mut [u8],
+) -> Written
     ensures answer { λ r. ⌜ r ≡ answerOf (commandMade command components (now (lent .entry))) (now (target .entry)) ⌝ }
     ensures bytes { λ _. ⌜ now (target .exit) ≡ laterOf (commandMade command components (now (lent .entry))) (now (target .entry)) ⌝ }
 {

@@ -36,10 +36,7 @@ fn verdict(fits: bool, fair: bool, size: usize) -> Measured
 {
     if fits {
         if fair {
-            return Measured {
-                refusal: 0,
-                size,
-            };
+            return Measured { refusal: 0, size };
         }
         return Measured {
             refusal: 33,

@@ -24,7 +24,7 @@ measure-command-requires : tie.Need-measure-command-requires
 measure-command-requires c κs = search needs
 
 returns : tie.Need-returns
-returns c = 
+returns c =
     let k = c .before .before in
     let a = k .before .before .before .args in
     let m = commandMade (a .command) (a .components) (a .lent .now) in
@@ -32,7 +32,7 @@ returns c =
     sym (ap (stored (a .out .now) (a .at)) (refused-bytes m h) ∙ stored-nil (a .out .now) (a .at))
 
 returns-2 : tie.Need-returns-2
-returns-2 c = 
+returns-2 c =
     let k = c .before .before .before in
     let a = k .before .before .before .args in
     sym (stored-none (a .out .now) (a .at) (bytesIn (commandMade (a .command) (a .components) (a .lent .now))) (omega arith))
@@ -41,13 +41,13 @@ sub-if3 : tie.Need-sub-if3
 sub-if3 c = search needs
 
 returns-3 : tie.Need-returns-3
-returns-3 c = 
+returns-3 c =
     let k = c .before .before .before .before .before in
     let a = k .before .before .before .args in
     sym (stored-none (a .out .now) (a .at) (bytesIn (commandMade (a .command) (a .components) (a .lent .now))) (omega (arith, parts k .1)))
 
 store-command-requires : tie.Need-store-command-requires
-store-command-requires c κs = 
+store-command-requires c κs =
     let k = c .before .before .before .before .before .before in
     let a = k .before .before .before .args in
     let z : refusalIn (commandMade (a .command) (a .components) (a .lent .now)) ≡ 0 = omega (arith, parts k .0) in

@@ -37,14 +37,14 @@ measure-command-requires : tie.Need-measure-command-requires
 measure-command-requires c κs = search needs
 
 returns : tie.Need-returns
-returns c = 
+returns c =
     let k = c .before .before in
     let a = k .before .before .before .args in
     let m = commandMade (a .command) (a .components) (a .lent .now) in
     refused-answer m (a .target .now) (k .measure-command .result .refusal) (refusal-refused m _ (sym (parts k .0)) (c .if1 .taken))
 
 returns-2 : tie.Need-returns-2
-returns-2 c = 
+returns-2 c =
     let k = c .before .before .before in
     let a = k .before .before .before .args in
     let m = commandMade (a .command) (a .components) (a .lent .now) in
@@ -52,7 +52,7 @@ returns-2 c =
     short-answer m (a .target .now) (bytesIn m) (accepted k z) (omega (arith, parts k .1))
 
 store-command-requires : tie.Need-store-command-requires
-store-command-requires c κs = 
+store-command-requires c κs =
     let k = c .before .before .before .before in
     let a = k .before .before .before .args in
     let z : refusalIn (commandMade (a .command) (a .components) (a .lent .now)) ≡ 0 = omega (arith, parts k .0) in
@@ -63,7 +63,7 @@ same-length : tie.Need-same-length
 same-length c = search needs
 
 returns-3 : tie.Need-returns-3
-returns-3 c = 
+returns-3 c =
     let q = c .before .before in
     let k = q .before .before .before .before .before in
     let a = k .before .before .before .args in

@@ -163,7 +163,7 @@ returns : tie.Need-returns
 returns c = let q = c .before .before in at-once (q .before .before) .whole _ _ (q .store-end .ensures)
 
 store-time-requires : tie.Need-store-time-requires
-store-time-requires c κs = 
+store-time-requires c κs =
     let e = c .before in
     let i = e .before .before .before .before .before .before .before .before .before .before .before .args .insert in
     let f = e .before .before .before .before .before .before in
@@ -185,7 +185,7 @@ cast-store-components : tie.Need-cast-store-components
 cast-store-components c = search needs
 
 store-components-requires : tie.Need-store-components-requires
-store-components-requires c κs = 
+store-components-requires c κs =
     let p = c .before .before .before in
     let k = p .before .before .before in
     let s = k .before .before .before .before .before .before .before .before .before .before in
@@ -196,8 +196,7 @@ store-components-requires c κs =
     let f = k .before .before .before .before .before in
     let u = p .put-bits .last .0 in
     let z = p .put-bits .result in
-    let room : Fits (f .store-flags .last .0) (f .store-flags .result) (bitsOfNum 8 y) = omega (arith, counted k .room) in
-    (
+    let room : Fits (f .store-flags .last .0) (f .store-flags .result) (bitsOfNum 8 y) = omega (arith, counted k .room) in (
       most,
       bytes-all u (λ j. c .before .slice-known6 .given j .fits),
       pens-settled (f .store-flags .last .0) (f .store-flags .result) u z (bitsOfNum 8 y) room (p .put-bits .ensures),
@@ -211,7 +210,7 @@ same-length-2 : tie.Need-same-length-2
 same-length-2 c = search needs
 
 returns-2 : tie.Need-returns-2
-returns-2 c = 
+returns-2 c =
     let q = c .before .before in
     let p = q .before .before .before .before in
     timed (p .before .before) .whole _ _ (after-time p .whole _ _ (q .store-end2 .ensures))
@@ -220,7 +219,7 @@ same-length-3 : tie.Need-same-length-3
 same-length-3 c = search needs
 
 returns-3 : tie.Need-returns-3
-returns-3 c = 
+returns-3 c =
     let q = c .before .before in
     let r = q .before .before .before .before in
     let p = r .before .before .before .before in

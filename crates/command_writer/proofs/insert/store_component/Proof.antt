@@ -27,7 +27,7 @@ same-length : tie.Need-same-length
 same-length c = search needs
 
 returns : tie.Need-returns
-returns c = 
+returns c =
     let p = c .before .before .before in
     let a = p .before .before .before .before .args in
     component-now (a .out .now) (a .c) _ _ (a .at-once) (a .component) _ (c .if1 .taken) (p .before .wide .ensures .0) (p .put-bits .ensures)
@@ -39,7 +39,7 @@ same-length-2 : tie.Need-same-length-2
 same-length-2 c = search needs
 
 returns-2 : tie.Need-returns-2
-returns-2 c = 
+returns-2 c =
     let q = c .before .before in
     next (q .before .before) .whole _ _ (q .store-time .ensures)
 

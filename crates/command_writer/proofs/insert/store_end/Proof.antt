@@ -20,7 +20,7 @@ store-break-requires : tie.Need-store-break-requires
 store-break-requires c κs = let s = c .before .before .before .before .before in break-fits (s .args .out .now) (s .args .c) (s .args .insert .duration) _ _ (c .before .before .duration .given .1) (s .pre)
 
 store-tail-requires-2 : tie.Need-store-tail-requires-2
-store-tail-requires-2 c κs = 
+store-tail-requires-2 c κs =
     let p = c .before .before .before in
     let s = p .before .before .before .before .before .before in
     let i = s .args .insert in
@@ -36,7 +36,7 @@ same-length-2 : tie.Need-same-length-2
 same-length-2 c = search needs
 
 returns-2 : tie.Need-returns-2
-returns-2 c = 
+returns-2 c =
     let q = c .before .before in
     let p = q .before .before .before .before in
     let s = p .before .before .before .before .before .before in

@@ -75,7 +75,7 @@ put-bits-requires-5 : tie.Need-put-bits-requires-5
 put-bits-requires-5 c κs = search needs
 
 same-length : tie.Need-same-length
-same-length c = 
+same-length c =
     let p₅ = c .before .before in
     let a = p₅ .before .before .before .before .before .before .before .before .before .before .before .before .before .before .before .before .before .before .before .before .before .before .before .before .before .before .args in
     pens-length (a .out .now) (a .c) _ _ _ (all c)

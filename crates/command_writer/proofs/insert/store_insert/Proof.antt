@@ -63,7 +63,7 @@ put-bits-requires-5 : tie.Need-put-bits-requires-5
 put-bits-requires-5 c κs = search needs
 
 store-active-requires : tie.Need-store-active-requires
-store-active-requires c κs = 
+store-active-requires c κs =
     let p₅ = c .before .before .before in
     three p₅ .room
 
@@ -71,7 +71,7 @@ same-length : tie.Need-same-length
 same-length c = search needs
 
 returns : tie.Need-returns
-returns c = 
+returns c =
     let p₃ = c .before .before in
     let p₂ = p₃ .before .before .before .before .before in
     let p₁ = p₂ .before .before .before .before .before .before in
@@ -87,7 +87,7 @@ same-length-2 : tie.Need-same-length-2
 same-length-2 c = search needs
 
 returns-2 : tie.Need-returns-2
-returns-2 c = 
+returns-2 c =
     let q = c .before .before in
     let p₅ = q .before .before .before .before in
     let p₄ = p₅ .before .before .before .before .before in

@@ -29,7 +29,7 @@ add-t12 : tie.Need-add-t12
 add-t12 c = search needs
 
 returns : tie.Need-returns
-returns c = 
+returns c =
     let s = c .before .before .before .before .before in
     let size = c .before .before in
     let e = c .before .both .ensures ∙ ap (λ (u : Bool). u && s .args .s .fits) (size .before .before .time-fits .ensures) in

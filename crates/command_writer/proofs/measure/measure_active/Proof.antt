@@ -56,7 +56,7 @@ verdict-requires c κs = search needs
 
 returns : tie.Need-returns
 unfolding activeMeasured
-returns c = 
+returns c =
     let size = c .before .before in
     let fair = size .before in
     let fits = fair .before in

@@ -31,7 +31,7 @@ verdict-requires : tie.Need-verdict-requires
 verdict-requires c κs = search needs
 
 returns : tie.Need-returns
-returns c = 
+returns c =
     let s = c .before .before .before in
     let e : s .args .i .«splice_event_id» < 2 ^ 32 = omega arith in
     (c .verdict .ensures ∙ insert-cancelled (s .args .i) (s .args .t2) (c .before .enum-told .given .1) e, cancel-count (s .args .i .«splice_detail») (c .before .enum-told .given .1))
@@ -46,7 +46,7 @@ look-requires : tie.Need-look-requires
 look-requires c κs = search needs
 
 measure-active-requires : tie.Need-measure-active-requires
-measure-active-requires c κs = 
+measure-active-requires c κs =
     let k = c .before in
     let s = k .before .before .before .before .before in
     let z = k .shape-of .result in
@@ -54,7 +54,7 @@ measure-active-requires c κs =
     rw (c .look .ensures .0) (omega (arith, l, k .shape-of .ensures .1, survey-bytes (z .now) (take (z .count) (s .args .t2))))
 
 returns-2 : tie.Need-returns-2
-returns-2 c = 
+returns-2 c =
     let k = c .before .before in
     let x = k .before .before .before in
     let s = x .before .before in
@@ -68,10 +68,9 @@ returns-2 c =
     let most : count mode ≤ 255 = omega (arith, k .shape-of .ensures .1, n) in
     let y = c .before .look .ensures .0 ∙ ap₂ (λ (b : Bool) (n : ℕ). surveyed b (take n (a .t2))) b n in
     let event : a .i .«splice_event_id» < 2 ^ 32 = omega arith in
-    let bounds = c .measure-active .ensures in
-    (
+    let bounds = c .measure-active .ensures in (
       bounds .0 ∙ ap (λ (y : Survey). activeMeasured (a .i .reserved) mode (insert .duration) y) y
-    ∙ insert-active (a .i) insert (a .t2) (x .detail .given .1) (omega (arith, full s)) event (omega arith) (bounds .1) (bounds .2) (bounds .3) (rw n at (c .before .look .ensures .1)),
+          ∙ insert-active (a .i) insert (a .t2) (x .detail .given .1) (omega (arith, full s)) event (omega arith) (bounds .1) (bounds .2) (bounds .3) (rw n at (c .before .look .ensures .1)),
       active-count (a .i .«splice_detail») insert (x .detail .given .1) most,
     )
 

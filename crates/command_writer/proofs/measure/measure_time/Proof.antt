@@ -22,7 +22,7 @@ verdict-requires : tie.Need-verdict-requires
 verdict-requires c κs = search needs
 
 returns : tie.Need-returns
-returns c = 
+returns c =
     let size = c .before in
     let a = size .before .before .before .args in
     c .verdict .ensures ∙ rw (size .before .before .time-fits .ensures, size .before .is-immediate .ensures, size .time-size .ensures .0) (measured-time (a .time))
