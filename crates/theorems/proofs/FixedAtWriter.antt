@@ -17,6 +17,9 @@ use Rattle.descriptor_form.proofs.segment.mode_size.Reads as mode-size
 use Rattle.descriptor_form.proofs.segment.duration_size.Reads as duration-size
 use Rattle.descriptor_form.proofs.segment.sub_size.Reads as sub-size
 use Rattle.descriptor_writer.proofs.write_descriptor.Reads as write-descriptor
+use Rattle.command_writer.proofs.measure_command.Reads as measure-command
+use Rattle.command_writer.proofs.put_command.Reads as put-command
+use Rattle.command_writer.proofs.write_command.Reads as write-command
 use Rattle.theorems.specs.FixedAnswers.{Fixed, FixedIn}
 
 -- ---- pen: stores at any bit
@@ -81,3 +84,17 @@ write-descriptor-is-fixed = record { takes-any = λ κ a. tt; one-answer = λ κ
 
 pub write-descriptor-fixes-the-target : FixedIn write-descriptor.Asked write-descriptor.Learnt (λ κ answer after. now (after .1 .1 .1 .1 .0))
 write-descriptor-fixes-the-target = record { takes-any = λ κ a. tt; seen = λ κ a x y e f p q. p .target-later ∙ sym (q .target-later) }
+
+-- ---- command_writer
+
+pub measure-command-is-fixed : Fixed measure-command.Asked measure-command.Learnt
+measure-command-is-fixed = record { takes-any = λ κ a. tt; one-answer = λ κ a x y e f p q. p .0 ∙ sym (q .0) }
+
+pub put-command-fixes-the-target : FixedIn put-command.Asked put-command.Learnt (λ κ answer after. now (after .0))
+put-command-fixes-the-target = record { takes-any = λ κ a. tt; seen = λ κ a x y e f p q. p ∙ sym q }
+
+pub write-command-is-fixed : Fixed write-command.Asked write-command.Learnt
+write-command-is-fixed = record { takes-any = λ κ a. tt; one-answer = λ κ a x y e f p q. p .0 ∙ sym (q .0) }
+
+pub write-command-fixes-the-target : FixedIn write-command.Asked write-command.Learnt (λ κ answer after. now (after .1 .1 .1 .0))
+write-command-fixes-the-target = record { takes-any = λ κ a. tt; seen = λ κ a x y e f p q. p .1 ∙ sym (q .1) }
