@@ -3,3 +3,4 @@ pub mod PlainTrips
 pub mod PlainCanon
 pub mod SegmentRead
 pub mod SegmentTrips
+pub mod Rows
