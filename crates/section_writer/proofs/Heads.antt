@@ -52,7 +52,7 @@ flag-fits true = refl
 flag-fits false = refl
 
 -- the header with its command's length and type fits its fields
-fits-within : (h : SpliceInfoHeader) (size kind : ℕ) → Fitting h → size < 2 ^ 12 → kind < 2 ^ 8 → within (walk spliceHeader (headed h size kind) 0 .fields) ≡ true
+pub fits-within : (h : SpliceInfoHeader) (size kind : ℕ) → Fitting h → size < 2 ^ 12 → kind < 2 ^ 8 → within (walk spliceHeader (headed h size kind) 0 .fields) ≡ true
 unfolding headed spliceHeader number bit
 fits-within h size kind f n k =
     rw (

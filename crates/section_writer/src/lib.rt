@@ -1,1 +1,84 @@
-// The section writer.
+// The section writer: header, command and loop as a section's bytes.
+ghost use mathlib.Core.Path.{_≡_};
+ghost use mathlib.Core.Bool.{true};
+ghost use Prim.Native.Nat.{_+_, _^_, _<_, _≤_};
+ghost use lib.ListN.{length, take};
+ghost use Rattle.section_writer.specs.Frame.{head, sectionLength, numbersFit, fairHead};
+ghost use Rattle.section_writer.specs.Walk.{frontNumber, backNumber, tail};
+ghost use Rattle.table.specs.Lent.{stored};
+use crc::crc32;
+use header::header::SpliceInfoHeader;
+use table::numbers::wide;
+use table::store::put_bytes;
+use table::store::put_number;
+
+// ---- what is asked of a header
+
+// Refusal 32: is each of the header's numbers within its field? Its command length and type are not looked at.
+fn numbers_fit(header: SpliceInfoHeader) -> bool
+    ensures { λ r. ⌜ r ≡ numbersFit header ⌝ }
+{
+    let algorithm = header.encryption_algorithm;
+    if 63 < algorithm.id() {
+        return false;
+    }
+    if 0x1_FFFF_FFFF < header.pts_adjustment {
+        return false;
+    }
+    if 0xFFF < header.tier {
+        return false;
+    }
+    true
+}
+
+// Refusal 33: not encrypted, and an algorithm that its own number stands for.
+fn fair_head(header: SpliceInfoHeader) -> bool
+    ensures { λ r. ⌜ r ≡ fairHead header ⌝ }
+{
+    if header.encrypted_packet {
+        return false;
+    }
+    let algorithm = header.encryption_algorithm;
+    algorithm.fair()
+}
+
+// ---- the stores
+
+// The first six bytes of a header that is not encrypted: version 8, encrypted 1, algorithm 6, pts_adjustment 33.
+fn front_number(header: SpliceInfoHeader) -> u64
+    requires { ⌜ numbersFit header ≡ true ⌝ }
+    ensures { λ r. ⌜ r ≡ frontNumber header ⌝ }
+{
+    let algorithm = header.encryption_algorithm;
+    (wide(header.protocol_version) * 128 + wide(algorithm.id())) * 0x2_0000_0000 + header.pts_adjustment
+}
+
+// Its last five: cw_index 8, tier 12, command length 12, command type 8.
+fn back_number(header: SpliceInfoHeader, kind: u8, size: usize) -> u64
+    requires { ⌜ (numbersFit header ≡ true) × (size < 2 ^ 12) ⌝ }
+    ensures { λ r. ⌜ r ≡ backNumber header kind size ⌝ }
+{
+    ((wide(header.cw_index) * 4096 + header.tier as u64) * 4096 + size as u64) * 256 + wide(kind)
+}
+
+// All before the command: 14 bytes.
+fn put_head(out: &mut [u8], header: SpliceInfoHeader, kind: u8, size: usize, extent: usize)
+    requires { ⌜ (numbersFit header ≡ true) × (fairHead header ≡ true) × (sectionLength size extent ≤ 4096) × (14 ≤ length (now out)) ⌝ }
+    ensures { λ _. ⌜ now (out .exit) ≡ stored (now (out .entry)) 0 (head header kind size extent) ⌝ }
+{
+    put_number(out, 0, 3, 0xFC_3000 + (17 + size + extent) as u64);
+    put_number(out, 3, 6, front_number(header));
+    put_number(out, 9, 5, back_number(header, kind, size));
+}
+
+// All behind the command, which ends at `at`: the loop's length, the loop, and the CRC of all that stands before it.
+fn put_tail(out: &mut [u8], at: usize, descriptors: &[u8])
+    requires { ⌜ (at + length (now descriptors) ≤ 4096) × (at + length (now descriptors) + 6 ≤ length (now out)) ⌝ }
+    ensures { λ _. ⌜ now (out .exit) ≡ stored (now (out .entry)) at (tail (take at (now (out .entry))) (now (descriptors .entry))) ⌝ }
+{
+    put_number(out, at, 2, descriptors.len() as u64);
+    put_bytes(out, at + 2, descriptors);
+    let end = at + 2 + descriptors.len();
+    let crc = crc32(&out[0..end]);
+    put_number(out, end, 4, crc as u64);
+}
