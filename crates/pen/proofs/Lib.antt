@@ -1,0 +1,4 @@
+pub mod Penned
+pub mod Tables
+pub mod Turns
+pub mod Writes
