@@ -3,3 +3,4 @@ pub mod Heads
 pub mod Frames
 pub mod Backs
 pub mod Stored
+pub mod Refusals

@@ -22,11 +22,11 @@ use Rattle.table.specs.Writing.{walk, contents, print}
 use Rattle.table.proofs.Bits.{bits-join, bytes-num, bytes-append, length-num, length-bigEndian}
 use Rattle.table.proofs.Lists.{append-nil, zero-one}
 use Rattle.table.proofs.Stores.{stored-fits, stored-append}
-use Rattle.section_writer.specs.Frame.{headed, headerBytes, opening, sectionLength, head, measured, numbersFit, fairHead}
+use Rattle.section_writer.specs.Frame.{headed, headerBytes, opening, sectionLength, head, measured, body, frame, numbersFit, fairHead}
 use Rattle.section_writer.specs.Walk.{frontNumber, backNumber, tail}
 use Rattle.section_writer.proofs.Backs.{opening-is}
 use Rattle.section_writer.proofs.Frames.{length-measured}
-use Rattle.section_writer.proofs.Heads.{Fitting, fitting, fits-within, clear}
+use Rattle.section_writer.proofs.Heads.{Fitting, fitting, fits-within, clear, length-head}
 
 -- ---- refusals 32 and 33
 pub is-fitting : (h : SpliceInfoHeader) → Fitting h → true ≡ numbersFit h
@@ -126,3 +126,22 @@ tail-stored t u v w loop at c eu ev ec ew room =
     let k : bigEndian 4 c ≡ crcBytesOf (take at t ++ m) = crc-number c _ (ec ∙ ap crcOf f) in
     let o : at + 2 + length loop ≡ at + length m = omega arith in
     ew ∙ rw (e, o, k) (stored-append t at m (crcBytesOf (take at t ++ m)) (omega arith))
+
+-- before the command, the command, and behind it
+pub section-stored : (t u v w : List ℕ) (h : SpliceInfoHeader) (kind : ℕ) (payload loop : List ℕ) → u ≡ stored t 0 (head h kind (length payload) (length loop))
+    → v ≡ stored u 14 payload → w ≡ stored v (14 + length payload) (tail (take (14 + length payload) v) loop)
+    → sectionLength (length payload) (length loop) ≤ length t → w ≡ stored t 0 (frame h kind payload loop)
+unfolding tail frame body
+section-stored t u v w h kind payload loop eu ev ew room =
+    let a = head h kind (length payload) (length loop) in
+    let b = a ++ payload in
+    let m = measured loop in
+    let la : length a ≡ 14 = length-head h kind (length payload) (length loop) in
+    let lb : length b ≡ 14 + length payload = length-append a payload ∙ omega arith in
+    let lm : length m ≡ 2 + length loop = length-measured loop in
+    let e : v ≡ stored t 0 b = ev ∙ ap (λ (x : List ℕ). stored x 14 payload) eu ∙ ap (λ (i : ℕ). stored (stored t 0 a) i payload) (let z : 14 ≡ 0 + length a = omega arith in z) ∙ stored-append t 0 a payload (omega arith) in
+    let f : take (14 + length payload) v ≡ b = rw (e, stored-fits t 0 b (omega arith)) (take-at b (drop (0 + length b) t) (14 + length payload) lb) in
+    let c = crcBytesOf (b ++ m) in
+    let n : length (m ++ c) ≡ 6 + length loop = length-append m c ∙ omega arith in
+    let z : 14 + length payload ≡ 0 + length b = omega arith in
+    ew ∙ rw (f, e) (ap (λ (i : ℕ). stored (stored t 0 b) i (m ++ c)) z ∙ stored-append t 0 b (m ++ c) (omega arith) ∙ ap (stored t 0) (sym (append-assoc b m c)))

@@ -3,7 +3,9 @@ ghost use mathlib.Core.Path.{_≡_};
 ghost use mathlib.Core.Bool.{true};
 ghost use Prim.Native.Nat.{_+_, _^_, _<_, _≤_};
 ghost use lib.ListN.{length, take};
-ghost use Rattle.section_writer.specs.Frame.{head, sectionLength, numbersFit, fairHead};
+ghost use Rattle.section_writer.specs.Frame.{head, sectionLength, frame, numbersFit, fairHead};
+ghost use Rattle.section_writer.specs.Writing.{conditions};
+ghost use Rattle.section.specs.Section.{first};
 ghost use Rattle.section_writer.specs.Walk.{frontNumber, backNumber, tail};
 ghost use Rattle.table.specs.Lent.{stored};
 use crc::crc32;
@@ -40,6 +42,38 @@ fn fair_head(header: SpliceInfoHeader) -> bool
     }
     let algorithm = header.encryption_algorithm;
     algorithm.fair()
+}
+
+// Refusals 31 to 35, in order of number, and 0 where none applies: of a header; of a command that its own writer gives the refusal r, or `size` bytes; and of
+// a loop of `extent` bytes.
+fn refusal_of(header: SpliceInfoHeader, r: u8, size: usize, extent: usize, canonical: bool) -> u8
+    ensures { λ n. ⌜ n ≡ first 31 (conditions header r size extent canonical) ⌝ }
+{
+    if r == 31 {
+        return 31;
+    }
+    if r == 32 {
+        return 32;
+    }
+    if !numbers_fit(header) {
+        return 32;
+    }
+    if r == 33 {
+        return 33;
+    }
+    if !fair_head(header) {
+        return 33;
+    }
+    if 4076 < size {
+        return 34;
+    }
+    if 4076 - size < extent {
+        return 34;
+    }
+    if !canonical {
+        return 35;
+    }
+    0
 }
 
 // ---- the stores
@@ -81,4 +115,14 @@ fn put_tail(out: &mut [u8], at: usize, descriptors: &[u8])
     let end = at + 2 + descriptors.len();
     let crc = crc32(&out[0..end]);
     put_number(out, end, 4, crc as u64);
+}
+
+// A section whose parts pass every test, where there is room for it.
+fn put_section(out: &mut [u8], header: SpliceInfoHeader, kind: u8, payload: &[u8], descriptors: &[u8])
+    requires { ⌜ (numbersFit header ≡ true) × (fairHead header ≡ true) × (sectionLength (length (now payload)) (length (now descriptors)) ≤ 4096) × (sectionLength (length (now payload)) (length (now descriptors)) ≤ length (now out)) ⌝ }
+    ensures { λ _. ⌜ now (out .exit) ≡ stored (now (out .entry)) 0 (frame header kind (now (payload .entry)) (now (descriptors .entry))) ⌝ }
+{
+    put_head(out, header, kind, payload.len(), descriptors.len());
+    put_bytes(out, 14, payload);
+    put_tail(out, 14 + payload.len(), descriptors);
 }
