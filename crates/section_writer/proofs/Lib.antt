@@ -4,3 +4,4 @@ pub mod Frames
 pub mod Backs
 pub mod Stored
 pub mod Refusals
+pub mod Parts
