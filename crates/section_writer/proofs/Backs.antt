@@ -73,7 +73,7 @@ module _ (s : List ℕ) (a : AllBytes s) (long : 18 ≤ length s) (x : SpliceInf
   room : 11 ≤ length tail
   room = omega (arith, length-drop 3 s)
 
-  abbrev own : SpliceInfoHeader
+  abbrev pub own : SpliceInfoHeader
   own = record {
     «protocol_version» = field (bitsOf tail) 0 8;
     «encrypted_packet» = eqb (field (bitsOf tail) 8 1) 1;
@@ -85,7 +85,7 @@ module _ (s : List ℕ) (a : AllBytes s) (long : 18 ≤ length s) (x : SpliceInf
     «splice_command_type» = commandOf (field (bitsOf tail) 80 8);
   }
 
-  own-is : own ≡ x
+  pub own-is : own ≡ x
   unfolding headerOf headerRead
   own-is =
       let e : HeaderRead.Header own ≡ HeaderRead.Header x = sym (ap headerRead (header-got tail room)) ∙ is in

@@ -67,10 +67,10 @@ module _ (h : SpliceInfoHeader) (kind : ℕ) (payload loop : List ℕ) where
   frame-crc = crc-appended (body h kind payload loop)
 
   -- what stands behind the header, behind the command, and behind the loop
-  abbrev crc : List ℕ
+  abbrev pub crc : List ℕ
   crc = crcBytesOf (body h kind payload loop)
 
-  behind-three : frame h kind payload loop ≡ opening (sectionLength (length payload) (length loop)) ++ (headerBytes (headed h (length payload) kind) ++ (payload ++ (measured loop ++ crc)))
+  pub behind-three : frame h kind payload loop ≡ opening (sectionLength (length payload) (length loop)) ++ (headerBytes (headed h (length payload) kind) ++ (payload ++ (measured loop ++ crc)))
   unfolding frame body head
   behind-three = simp append-assoc
 

@@ -5,3 +5,4 @@ pub mod Backs
 pub mod Stored
 pub mod Refusals
 pub mod Parts
+pub mod Trips
