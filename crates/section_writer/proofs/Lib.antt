@@ -6,3 +6,4 @@ pub mod Stored
 pub mod Refusals
 pub mod Parts
 pub mod Trips
+pub mod Forms

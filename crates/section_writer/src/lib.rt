@@ -1,15 +1,19 @@
-// The section writer: header, command and loop as a section's bytes.
+// The section writer: what it tests, what it stores before and behind the command, and the canonical form around command and loop.
 ghost use mathlib.Core.Path.{_≡_};
 ghost use mathlib.Core.Bool.{true};
 ghost use Prim.Native.Nat.{_+_, _^_, _<_, _≤_};
 ghost use lib.ListN.{length, take};
-ghost use Rattle.section_writer.specs.Frame.{head, sectionLength, frame, numbersFit, fairHead};
+ghost use Rattle.section_writer.specs.Frame.{head, sectionLength, numbersFit, fairHead};
+ghost use Rattle.section_writer.specs.Canonical.{canonicalFrame};
 ghost use Rattle.section_writer.specs.Writing.{conditions};
 ghost use Rattle.section.specs.Section.{first};
 ghost use Rattle.section_writer.specs.Walk.{frontNumber, backNumber, tail};
 ghost use Rattle.table.specs.Lent.{stored};
 use crc::crc32;
 use header::header::SpliceInfoHeader;
+use section::SectionRead;
+use section::read_section;
+use table::numbers::bits;
 use table::numbers::wide;
 use table::store::put_bytes;
 use table::store::put_number;
@@ -84,7 +88,8 @@ fn front_number(header: SpliceInfoHeader) -> u64
     ensures { λ r. ⌜ r ≡ frontNumber header ⌝ }
 {
     let algorithm = header.encryption_algorithm;
-    (wide(header.protocol_version) * 128 + wide(algorithm.id())) * 0x2_0000_0000 + header.pts_adjustment
+    (wide(header.protocol_version) * 128 + wide(algorithm.id())) * 0x2_0000_0000
+        + header.pts_adjustment
 }
 
 // Its last five: cw_index 8, tier 12, command length 12, command type 8.
@@ -117,12 +122,27 @@ fn put_tail(out: &mut [u8], at: usize, descriptors: &[u8])
     put_number(out, end, 4, crc as u64);
 }
 
-// A section whose parts pass every test, where there is room for it.
-fn put_section(out: &mut [u8], header: SpliceInfoHeader, kind: u8, payload: &[u8], descriptors: &[u8])
-    requires { ⌜ (numbersFit header ≡ true) × (fairHead header ≡ true) × (sectionLength (length (now payload)) (length (now descriptors)) ≤ 4096) × (sectionLength (length (now payload)) (length (now descriptors)) ≤ length (now out)) ⌝ }
-    ensures { λ _. ⌜ now (out .exit) ≡ stored (now (out .entry)) 0 (frame header kind (now (payload .entry)) (now (descriptors .entry))) ⌝ }
+// ---- the canonical form
+
+// What the canonical form asks of a section around its command and its loop.
+pub fn is_canonical_frame(s: &[u8]) -> bool
+    ensures { λ r. ⌜ r ≡ canonicalFrame (now (s .entry)) ⌝ }
 {
-    put_head(out, header, kind, payload.len(), descriptors.len());
-    put_bytes(out, 14, payload);
-    put_tail(out, 14 + payload.len(), descriptors);
+    let read = match read_section(s) {
+        SectionRead::Is(x) => x,
+        SectionRead::Refused(_) => return false,
+    };
+    if bits(s, 1, 0, 4) != 0b0011 {
+        return false;
+    }
+    if bits(s, 1, 4, 12) as usize != s.len() - 3 {
+        return false;
+    }
+    let place = read.descriptors;
+    let at = place.at;
+    let len = place.len;
+    if s.len() != at + len + 4 {
+        return false;
+    }
+    true
 }
