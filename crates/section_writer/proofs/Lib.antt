@@ -7,3 +7,6 @@ pub mod Refusals
 pub mod Parts
 pub mod Trips
 pub mod Forms
+pub mod Commands
+pub mod Theorems
+pub mod Rows

@@ -4,6 +4,7 @@ use mathlib.Core.Bool.{Bool, not, _||_}
 use mathlib.Core.List.{List, [], _∷_}
 use lib.Dec.{ltb, eqb}
 use lib.ListN.{length}
+use Rattle.descriptor_form.specs.Canonical.{canonicalLoop}
 use Rattle.header.specs.declared.header.SpliceInfoHeader.{SpliceInfoHeader}
 use Rattle.pen.specs.Written.{refusalIn, bytesIn}
 use Rattle.section.specs.Section.{first}
@@ -37,3 +38,7 @@ madeIf canonical header command kind loop =
     unless
     (first 31 (conditions header (refusalIn command) (length (bytesIn command)) (length loop) canonical))
     (frame header kind (bytesIn command) loop)
+
+-- the section: of a header, what the command writer makes of the command, the command's type, and the lent loop
+unfoldable pub sectionMade : SpliceInfoHeader → Made → ℕ → List ℕ → Made
+sectionMade header command kind loop = madeIf (canonicalLoop loop) header command kind loop

@@ -1,0 +1,4 @@
+pub mod Fields
+pub mod Tests
+pub mod Refusals
+pub mod Making
