@@ -74,7 +74,7 @@ module _ (h : SpliceInfoHeader) (kind : ℕ) (payload loop : List ℕ) where
   unfolding frame body head
   behind-three = simp append-assoc
 
-  behind-head : frame h kind payload loop ≡ head h kind (length payload) (length loop) ++ (payload ++ (measured loop ++ crc))
+  pub behind-head : frame h kind payload loop ≡ head h kind (length payload) (length loop) ++ (payload ++ (measured loop ++ crc))
   unfolding frame body
   behind-head = simp append-assoc
 

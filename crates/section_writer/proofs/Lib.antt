@@ -10,3 +10,4 @@ pub mod Forms
 pub mod Commands
 pub mod Theorems
 pub mod Rows
+pub mod Views
