@@ -1,0 +1,162 @@
+-- The bits of a payload that is not refused, and its bytes in a target.
+use Prim.Native.Nat.{ℕ, _+_, _*_, _/_, _<_, _≤_}
+use mathlib.Core.Bool.{Bool, true, false}
+use mathlib.Core.List.{List, [], _∷_, _++_}
+use mathlib.Core.Path.{_≡_, refl, ap, ap₂, sym, _∙_}
+use native.Mathlib.Nat.{zero-add}
+use native.Mathlib.Omega.{arith}
+use lib.Dec.{leb}
+use lib.ListN.{length, take, drop, length-append}
+use lib.Seq.{length-take-le}
+use borrow.Author.Tests.{leb-true, le-leb}
+use Rattle.command.specs.Command.{private}
+use Rattle.command.specs.Fair.{fairInsert}
+use Rattle.command.specs.Insert.{WithComponents, count, insertOf, insert}
+use Rattle.command.specs.declared.Private.{Private}
+use Rattle.command.specs.declared.SpliceCommand.{SpliceCommand}
+use Rattle.command.specs.declared.components.ComponentSplice.{ComponentSplice}
+use Rattle.command.specs.declared.insert.Insertion.{Insertion}
+use Rattle.command.specs.declared.insert.SpliceInsert.{SpliceInsert}
+use Rattle.header.specs.Time.{spliceTime, notImmediate}
+use Rattle.header.specs.declared.time.SpliceTime.{SpliceTime}
+use Rattle.pen.specs.Pen.{Pens, Fits, penned}
+use Rattle.pen.specs.Written.{refusalIn, bytesIn}
+use Rattle.pen.proofs.Penned.{penned-stored}
+use Rattle.pen.proofs.Turns.{place-is}
+use Rattle.table.specs.Bits.{pick, bitsOfNum, bitsOf, bytesOf, AllBytes}
+use Rattle.table.specs.Cursor.{place}
+use Rattle.table.specs.Lent.{stored, viewed}
+use Rattle.table.specs.Table.{number, part, remaining}
+use Rattle.table.specs.Writing.{Field, bits, run, rest, walk, seen, within, contents, print, Made, made, refused, makeOf, make}
+use Rattle.table.specs.declared.View.{View}
+use Rattle.table.specs.declared.cursor.Cursor.{Cursor}
+use Rattle.table.proofs.Bits.{AllBits, all-append, all-num, all-bits, all-bytesN, length-num, length-bits, length-bytesN}
+use Rattle.table.proofs.Fields.{bits-bytes}
+use Rattle.table.proofs.Lists.{append-nil}
+use Rattle.table.proofs.Stores.{stored-nil, stored-none}
+use Rattle.table.proofs.Walks.{print-bits, print-length}
+use Rattle.command_writer.specs.Fields.{ink, timeFields, insertFields, privateInk}
+use Rattle.command_writer.specs.Made.{counted, timesFit, insertMade, commandMade}
+use Rattle.command_writer.specs.Survey.{Countable}
+use Rattle.command_writer.proofs.Making.{time-whole, insert-whole, private-fields}
+use Rattle.command_writer.proofs.Ties.{time-fields, insert-fields}
+
+pub record Payload (m : Made) (p : List ℕ) : Type 0 where
+  pub bytes : bytesIn m ≡ bytesOf p
+  pub whole : length p ≡ length (bytesIn m) * 8
+  pub is : m ≡ made (bytesIn m)
+
+payload-same : (m : Made) (p q : List ℕ) → p ≡ q → Payload m p → Payload m q
+payload-same m p q e h = rw (← e) h
+
+zero-31 : {A : Type 0} → _≡_ {A = ℕ} 31 0 → A
+zero-31 e = absurd (omega arith)
+
+pick-payload : (s w f : Bool) (p : List ℕ) (n : ℕ) → length p ≡ n * 8
+    → refusalIn (pick s (pick w (pick f (made (bytesOf p)) (refused 33)) (refused 32)) (refused 31)) ≡ 0
+    → Payload (pick s (pick w (pick f (made (bytesOf p)) (refused 33)) (refused 32)) (refused 31)) p
+unfolding refusalIn bytesIn
+pick-payload true true true p n e z = record { bytes = refl; whole = omega (arith, length-bytesN (length p / 8) p); is = refl }
+pick-payload true true false p n e z = absurd (omega arith)
+pick-payload true false f p n e z = absurd (omega arith)
+pick-payload false w f p n e z = absurd (omega arith)
+
+make-payload : (fair : Bool) (lent : List ℕ) (fs : List Field) (n : ℕ) → length (print (contents lent fs)) ≡ n * 8 → refusalIn (makeOf fair lent fs) ≡ 0 → Payload (makeOf fair lent fs) (print (contents lent fs))
+make-payload fair lent fs n e z = pick-payload (seen lent fs) (within fs) fair (print (contents lent fs)) n e z
+
+late-payload : (t : Bool) (m : Made) (p : List ℕ) → (refusalIn m ≡ 0 → Payload m p) → refusalIn (pick t m (refused 32)) ≡ 0 → Payload (pick t m (refused 32)) p
+unfolding refusalIn
+late-payload true m p h z = h z
+late-payload false m p h z = absurd (omega arith)
+
+insert-payload : (event kept : ℕ) (d : SpliceInsert) (cs : List ComponentSplice) → length cs ≡ count (insertOf d .«splice_mode»)
+    → (let x : WithComponents Insertion = record { value = record { «splice_event_id» = event; reserved = kept; «splice_detail» = d }; components = cs } in
+    refusalIn (insertMade x) ≡ 0 → Payload (insertMade x) (ink (insertFields x)))
+unfolding insertMade
+insert-payload event kept d cs e z =
+    let x : WithComponents Insertion = record { value = record { «splice_event_id» = event; reserved = kept; «splice_detail» = d }; components = cs } in
+    let f = insert-fields event kept d cs e in
+    let w = insert-whole event kept d cs in
+    late-payload (timesFit cs) (makeOf (fairInsert x) [] (walk insert x 0 .fields)) (ink (insertFields x)) (rw f (make-payload (fairInsert x) [] (insertFields x) (w .0) (w .1))) z
+
+seen-bytes : (lent : List ℕ) (v : View) → leb (v .at + v .len) (length lent) ≡ true → take (v .len) (drop (v .at) lent) ≡ viewed lent v
+unfolding viewed
+seen-bytes lent v e = rw e
+
+private-payload : (p : Private) (lent : List ℕ) → refusalIn (make private true lent p) ≡ 0 → Payload (make private true lent p) (privateInk p lent)
+unfolding refusalIn
+private-payload p lent z = rw (private-fields p lent) (go (leb (at + n) (length lent)) refl (rw (private-fields p lent) at z))
+  where
+    at : ℕ
+    at = p .«private_bytes» .at
+
+    n : ℕ
+    n = p .«private_bytes» .len
+
+    fs : List Field
+    fs = bits 32 (p .identifier) ∷ rest n ∷ run n at ∷ []
+
+    go : (b : Bool) → leb (at + n) (length lent) ≡ b → refusalIn (makeOf true lent fs) ≡ 0 → Payload (makeOf true lent fs) (privateInk p lent)
+    go false e z = zero-31 (rw e at z)
+    go true e z =
+        let v = take n (drop at lent) in
+        let w : print (contents lent fs) ≡ privateInk p lent =
+        ap (λ (l : List ℕ). bitsOfNum 32 (p .identifier) ++ l) (append-nil (bitsOf v) ∙ ap bitsOf (seen-bytes lent (p .«private_bytes») e)) in
+        let l : length (print (contents lent fs)) ≡ (4 + length v) * 8 =
+        length-append (bitsOfNum 32 (p .identifier)) (bitsOf v ++ []) ∙ omega (arith, length-append (bitsOf v) [], length-bits v) in
+        payload-same (makeOf true lent fs) (print (contents lent fs)) (privateInk p lent) w (make-payload true lent fs (4 + length v) l z)
+
+module _ (c : SpliceCommand) (places : List ComponentSplice) (lent : List ℕ) where
+  pub command-insert-payload : (i : Insertion) → c ≡ SpliceCommand.SpliceInsert i → length places ≡ 255 → count (insertOf (i .«splice_detail») .«splice_mode») ≤ 255 → refusalIn (commandMade c places lent) ≡ 0
+      → Payload (commandMade c places lent) (ink (insertFields (counted i places)))
+  unfolding commandMade
+  command-insert-payload i e n l z =
+      rw e
+      (insert-payload (i .«splice_event_id») (i .reserved) (i .«splice_detail») (take (count (insertOf (i .«splice_detail») .«splice_mode»)) places)
+      (length-take-le (count (insertOf (i .«splice_detail») .«splice_mode»)) places (omega arith)) (rw e at z))
+
+  pub command-time-payload : (t : SpliceTime) → c ≡ SpliceCommand.TimeSignal t → refusalIn (commandMade c places lent) ≡ 0 → Payload (commandMade c places lent) (ink (timeFields t))
+  unfolding commandMade
+  command-time-payload t e z = rw e (rw (time-fields t 0) (make-payload (notImmediate t) [] (timeFields t) (time-whole t .0) (time-whole t .1) (rw (e, time-fields t 0) at z)))
+
+  pub command-private-payload : (p : Private) → c ≡ SpliceCommand.PrivateCommand p → refusalIn (commandMade c places lent) ≡ 0 → Payload (commandMade c places lent) (privateInk p lent)
+  unfolding commandMade
+  command-private-payload p e z = rw e (private-payload p lent (rw e at z))
+
+  pub null-bytes : c ≡ SpliceCommand.SpliceNull → bytesIn (commandMade c places lent) ≡ []
+  unfolding commandMade bytesIn
+  null-bytes e = rw e
+
+  pub bandwidth-bytes : c ≡ SpliceCommand.BandwidthReservation → bytesIn (commandMade c places lent) ≡ []
+  unfolding commandMade bytesIn
+  bandwidth-bytes e = rw e
+
+-- ---- in a target
+module _ (out : List ℕ) (at : ℕ) (m : Made) (p : List ℕ) (made-of : Payload m p) (room : at + length (bytesIn m) ≤ length out) where
+  pub store-room : Fits out (record { byte = at; bit = 0 }) p
+  store-room = omega (arith, place-is (record { byte = at; bit = 0 }), made-of .whole)
+
+  pub store-whole : AllBytes out → AllBits p → (later : List ℕ) (d : Cursor) → Pens out (record { byte = at; bit = 0 }) p later d → later ≡ stored out at (bytesIn m)
+  store-whole a k later d q =
+      let z : place (record { byte = at; bit = 0 }) ≡ at * 8 = place-is (record { byte = at; bit = 0 }) ∙ omega arith in
+      let e : p ≡ bitsOf (bytesIn m) = sym (ap bitsOf (made-of .bytes) ∙ bits-bytes (length (bytesIn m)) p k (made-of .whole)) in
+      let b : AllBytes (bytesIn m) = rw (made-of .bytes) (all-bytesN (length p / 8) p k) in
+      q .bytes ∙ ap₂ (λ (n : ℕ) (l : List ℕ). penned out n l) z e ∙ penned-stored out at (bytesIn m) a b room
+
+pub private-bits : (p : Private) (lent : List ℕ) → AllBits (privateInk p lent)
+private-bits p lent = all-append (bitsOfNum 32 (p .identifier)) (bitsOf (viewed lent (p .«private_bytes»))) (all-num 32 (p .identifier)) (all-bits (viewed lent (p .«private_bytes»)))
+
+pub refused-bytes : (m : Made) → 0 < refusalIn m → bytesIn m ≡ []
+unfolding refusalIn bytesIn
+refused-bytes (made b) h = absurd (omega arith)
+refused-bytes (refused n) h = refl
+
+-- a command that is not refused is made
+pub command-made : (c : SpliceCommand) (places : List ComponentSplice) (lent : List ℕ) → length places ≡ 255 → Countable c → refusalIn (commandMade c places lent) ≡ 0
+    → commandMade c places lent ≡ made (bytesIn (commandMade c places lent))
+unfolding commandMade bytesIn
+command-made SpliceCommand.SpliceNull places lent n k z = refl
+command-made (SpliceCommand.SpliceInsert i) places lent n k z = command-insert-payload (SpliceCommand.SpliceInsert i) places lent i refl n k z .is
+command-made (SpliceCommand.TimeSignal t) places lent n k z = command-time-payload (SpliceCommand.TimeSignal t) places lent t refl z .is
+command-made SpliceCommand.BandwidthReservation places lent n k z = refl
+command-made (SpliceCommand.PrivateCommand p) places lent n k z = command-private-payload (SpliceCommand.PrivateCommand p) places lent p refl z .is

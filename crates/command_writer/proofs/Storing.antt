@@ -1,0 +1,159 @@
+-- Fields stored one behind the other.
+use Prim.Native.Nat.{ℕ, zero, suc, _+_, _*_, _<_, _≤_}
+use mathlib.Core.Bool.{Bool, true, false}
+use mathlib.Core.List.{List, [], _∷_, _++_, append-assoc}
+use mathlib.Core.Path.{_≡_, refl, ap, sym, _∙_}
+use native.Mathlib.Numerals.{add-one}
+use native.Mathlib.Omega.{arith}
+use lib.ListN.{length, take, getD, length-append}
+use lib.Seq.{take-suc}
+use Rattle.command.specs.declared.components.ComponentSplice.{ComponentSplice}
+use Rattle.command.specs.declared.insert.Break.{Break}
+use Rattle.command.specs.declared.insert.Insert.{Insert}
+use Rattle.command.specs.declared.insert.Insertion.{Insertion}
+use Rattle.command.specs.declared.insert.SpliceDuration.{SpliceDuration}
+use Rattle.command.specs.declared.insert.SpliceInsert.{SpliceInsert}
+use Rattle.command.specs.declared.insert.SpliceMode.{SpliceMode}
+use Rattle.header.specs.declared.time.SpliceTime.{SpliceTime}
+use Rattle.header.specs.declared.time.SpliceTime.the-variants.{Immediate, Unspecified, At}
+use Rattle.pen.specs.Pen.{Pens, Fits}
+use Rattle.pen.proofs.Penned.{length-penned}
+use Rattle.pen.proofs.Tables.{Goes, pens-place, pens-append, pens-last, pens-same, ink-append}
+use Rattle.table.specs.Bits.{bitsOfNum}
+use Rattle.table.specs.Cursor.{place}
+use Rattle.table.specs.Writing.{Field, bits, contents}
+use Rattle.table.specs.declared.cursor.Cursor.{Cursor}
+use Rattle.table.proofs.Bits.{all-num}
+use Rattle.table.proofs.Lists.{append-nil}
+use Rattle.table.proofs.Steppings.{Settled, settled-at}
+use Rattle.table.proofs.Walks.{print-bits}
+use Rattle.command_writer.specs.Fields.{ink, timeFields, componentFields, listFields, modeFields, breakFields, placesOf, activeFields, insertFields}
+use Rattle.command_writer.specs.Made.{counted}
+
+module _ (t : List ℕ) (c : Cursor) (u : List ℕ) (d : Cursor) where
+  -- one number, and what stands behind it
+  pub pens-next : (w v y : ℕ) (fs : List Field) → y ≡ v → Fits t c (ink (bits w v ∷ fs)) → Pens t c (bitsOfNum w y) u d → Goes t c (ink (bits w v ∷ fs)) u d (ink fs)
+  pens-next w v y fs e h p = pens-append t c (bitsOfNum w v) u d (ink fs) (all-num w v) h (pens-same t c (bitsOfNum w y) (bitsOfNum w v) u d (ap (bitsOfNum w) e) p)
+
+  pub pens-end : (w v y : ℕ) → y ≡ v → Pens t c (bitsOfNum w y) u d → Pens t c (ink (bits w v ∷ [])) u d
+  pens-end w v y e p = pens-last t c (bitsOfNum w v) u d (pens-same t c (bitsOfNum w y) (bitsOfNum w v) u d (ap (bitsOfNum w) e) p)
+
+  -- several fields, and what stands behind them
+  pub pens-fields : (fs gs : List Field) → Fits t c (ink (fs ++ gs)) → Pens t c (ink fs) u d → Goes t c (ink (fs ++ gs)) u d (ink gs)
+  pens-fields fs gs h p =
+      let e : ink (fs ++ gs) ≡ ink fs ++ ink gs = ink-append [] fs gs in
+      rw e (pens-append t c (ink fs) u d (ink gs) (print-bits (contents [] fs)) (rw e at h) p)
+
+  pub pens-length : (b : List ℕ) → Pens t c b u d → length u ≡ length t
+  pens-length b p = ap length (p .bytes) ∙ length-penned t (place c) b
+
+  -- ---- a time
+  pub time-open : (x : SpliceTime) → x ≡ Unspecified → Pens t c (bitsOfNum 8 127) u d → Pens t c (ink (timeFields x)) u d
+  time-open x e p = rw e p
+
+  pub time-now : (x : SpliceTime) → x ≡ Immediate → Pens t c (bitsOfNum 8 127) u d → Pens t c (ink (timeFields x)) u d
+  time-now x e p = rw e p
+
+  pub time-at : (x : SpliceTime) (k : ℕ) (v : List ℕ) (z : Cursor) → x ≡ At k → Fits t c (ink (timeFields x)) → Pens t c (bitsOfNum 7 127) u d → Pens u d (bitsOfNum 33 k) v z → Pens t c (ink (timeFields x)) v z
+  time-at x k v z e h p q =
+      let f : Fits t c (ink (bits 7 127 ∷ bits 33 k ∷ [])) = rw e at h in
+      rw e (pens-append t c (bitsOfNum 7 127) u d (bitsOfNum 33 k ++ []) (all-num 7 127) f p .whole v z (pens-last u d (bitsOfNum 33 k) v z q))
+
+  -- ---- a component
+  pub component-now : (b : Bool) (x : ComponentSplice) (y : ℕ) → b ≡ true → y ≡ x .«component_tag» → Pens t c (bitsOfNum 8 y) u d → Pens t c (ink (componentFields b x)) u d
+  component-now b x y e h p = rw e (pens-end 8 (x .«component_tag») y h p)
+
+  pub component-timed : (b : Bool) (x : ComponentSplice) (y : ℕ) → b ≡ false → y ≡ x .«component_tag» → Fits t c (ink (componentFields b x)) → Pens t c (bitsOfNum 8 y) u d
+      → Goes t c (ink (componentFields b x)) u d (ink (timeFields (x .«splice_time»)))
+  component-timed b x y e h f p =
+      let g : Fits t c (ink (componentFields false x)) = rw e at f in
+      rw e (pens-next 8 (x .«component_tag») y (timeFields (x .«splice_time»)) h g p)
+
+  -- one component more
+  pub component-more : (b : Bool) (cs : List ComponentSplice) (i : ℕ) (k : ComponentSplice) (v : List ℕ) (z : Cursor) → i < length cs → Fits t c (ink (listFields b (take (i + 1) cs)))
+      → Pens t c (ink (listFields b (take i cs))) u d → (Fits u d (ink (componentFields b (getD cs i k)))) × (Pens u d (ink (componentFields b (getD cs i k))) v z → Pens t c (ink (listFields b (take (i + 1) cs))) v z)
+  component-more b cs i k v z h f p =
+      let e : listFields b (take (i + 1) cs) ≡ listFields b (take i cs) ++ componentFields b (getD cs i k) =
+      ap (λ (n : ℕ). listFields b (take n cs)) (add-one i) ∙ ap (listFields b) (take-suc cs i k h) ∙ snoc (take i cs) (getD cs i k) in
+      let g = pens-fields (listFields b (take i cs)) (componentFields b (getD cs i k)) (rw e at f) p in
+      (g .room, λ q. rw e (g .whole v z q))
+    where
+      assoc : (fs gs hs : List Field) → fs ++ gs ++ hs ≡ fs ++ (gs ++ hs)
+      assoc fs gs hs = append-assoc fs gs hs
+
+      snoc : (l : List ComponentSplice) (x : ComponentSplice) → listFields b (l ++ (x ∷ [])) ≡ listFields b l ++ componentFields b x
+      snoc [] x = append-nil (componentFields b x)
+      snoc (y ∷ l) x = ap (λ (fs : List Field). componentFields b y ++ fs) (snoc l x) ∙ sym (assoc (componentFields b y) (listFields b l) (componentFields b x))
+
+  -- ---- a duration, if there is one
+  pub break-none : (x : Break) (fs : List Field) → x ≡ Break.Absent → Pens t c (ink fs) u d → Pens t c (ink (breakFields x ++ fs)) u d
+  break-none x fs e p = rw e p
+
+  pub break-goes : (x : Break) (k : SpliceDuration) (fs : List Field) → x ≡ Break.Lasts k → Fits t c (ink (breakFields x ++ fs)) → Pens t c (ink (breakFields (Break.Lasts k))) u d
+      → Goes t c (ink (breakFields x ++ fs)) u d (ink fs)
+  break-goes x k fs e h p =
+      let f : Fits t c (ink (breakFields (Break.Lasts k) ++ fs)) = rw e at h in
+      rw e (pens-fields (breakFields (Break.Lasts k)) fs f p)
+
+  -- what follows, said otherwise
+  pub goes-same : (all : List ℕ) (fs gs : List Field) → fs ≡ gs → Goes t c all u d (ink fs) → Goes t c all u d (ink gs)
+  goes-same all fs gs e g = rw (← e) g
+
+  pub pens-settled : (b : List ℕ) → Fits t c b → Pens t c b u d → Settled d
+  pens-settled b h p = let e = pens-place t c b u d h p .0 in rw e (settled-at (place c + length b))
+
+-- there is room for the first of two
+pub fits-front : (t : List ℕ) (c : Cursor) (fs gs : List Field) → Fits t c (ink (fs ++ gs)) → Fits t c (ink fs)
+fits-front t c fs gs h = omega (arith, length-append (ink fs) (ink gs), ap length (ink-append [] fs gs))
+
+pub fits-same : (t : List ℕ) (c : Cursor) (fs gs : List Field) → fs ≡ gs → Fits t c (ink fs) → Fits t c (ink gs)
+fits-same t c fs gs e h = rw (← e) h
+
+pub break-fits : (t : List ℕ) (c : Cursor) (x : Break) (k : SpliceDuration) (fs : List Field) → x ≡ Break.Lasts k → Fits t c (ink (breakFields x ++ fs)) → Fits t c (ink (breakFields (Break.Lasts k)))
+break-fits t c x k fs e h = fits-front t c (breakFields (Break.Lasts k)) fs (rw e at h)
+
+pub tail-fits : (t : List ℕ) (c : Cursor) (x : Break) (fs : List Field) → x ≡ Break.Absent → Fits t c (ink (breakFields x ++ fs)) → Fits t c (ink fs)
+tail-fits t c x fs e h = rw e at h
+
+-- there is room for fewer components
+pub fits-fewer : (t : List ℕ) (c : Cursor) (b : Bool) (cs : List ComponentSplice) (i : ℕ) → Fits t c (ink (listFields b cs)) → Fits t c (ink (listFields b (take i cs)))
+fits-fewer t c b cs i h = omega (arith, go cs i)
+  where
+    go : (cs : List ComponentSplice) (i : ℕ) → length (ink (listFields b (take i cs))) ≤ length (ink (listFields b cs))
+    go cs zero = omega arith
+    go [] (suc i) = omega arith
+    go (c ∷ cs) (suc i) = omega (
+      arith,
+      go cs i,
+      length-append (ink (componentFields b c)) (ink (listFields b cs)),
+      length-append (ink (componentFields b c)) (ink (listFields b (take i cs))),
+      ap length (ink-append [] (componentFields b c) (listFields b cs)),
+      ap length (ink-append [] (componentFields b c) (listFields b (take i cs))),
+    )
+
+-- ---- what the mode and the cancel bit decide
+module _ (b : Bool) (k : SpliceMode) (cs : List ComponentSplice) where
+  pub mode-now : (x : SpliceTime) → k ≡ SpliceMode.Program x → b ≡ true → modeFields b k cs ≡ []
+  mode-now x e h = rw (e, h)
+
+  pub mode-timed : (x : SpliceTime) → k ≡ SpliceMode.Program x → b ≡ false → modeFields b k cs ≡ timeFields x
+  mode-timed x e h = rw (e, h)
+
+  pub mode-list : (n : ℕ) → k ≡ SpliceMode.Components n → modeFields b k cs ≡ bits 8 n ∷ listFields b cs
+  mode-list n e = rw e
+
+pub cancel-fields : (i : Insertion) (places : List ComponentSplice) → i .«splice_detail» ≡ SpliceInsert.Cancel
+    → insertFields (counted i places) ≡ bits 32 (i .«splice_event_id») ∷ bits 1 1 ∷ bits 7 (i .reserved) ∷ []
+cancel-fields i places e = go (i .«splice_event_id») (i .reserved) (i .«splice_detail») e
+  where
+    go : (event kept : ℕ) (d : SpliceInsert) → d ≡ SpliceInsert.Cancel
+        → insertFields (counted (record { «splice_event_id» = event; reserved = kept; «splice_detail» = d }) places) ≡ bits 32 event ∷ bits 1 1 ∷ bits 7 kept ∷ []
+    go event kept d e = rw e
+
+pub active-insert : (i : Insertion) (x : Insert) (places : List ComponentSplice) → i .«splice_detail» ≡ SpliceInsert.Insert x
+    → insertFields (counted i places) ≡ bits 32 (i .«splice_event_id») ∷ bits 1 0 ∷ bits 7 (i .reserved) ∷ activeFields x (placesOf x places)
+active-insert i x places e = go (i .«splice_event_id») (i .reserved) (i .«splice_detail») e
+  where
+    go : (event kept : ℕ) (d : SpliceInsert) → d ≡ SpliceInsert.Insert x
+        → insertFields (counted (record { «splice_event_id» = event; reserved = kept; «splice_detail» = d }) places) ≡ bits 32 event ∷ bits 1 0 ∷ bits 7 kept ∷ activeFields x (placesOf x places)
+    go event kept d e = rw e

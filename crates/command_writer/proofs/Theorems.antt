@@ -1,0 +1,70 @@
+-- Round trips of the commands: what is written of a command is read again as an equal one, and what is written of the reading of canonical bytes is those bytes.
+use Prim.Native.Nat.{ℕ, _*_, _^_, _<_}
+use mathlib.Core.Bool.{Bool, true, false, _&&_}
+use mathlib.Core.List.{List, [], _∷_, _++_}
+use mathlib.Core.Path.{_≡_, refl, ap, sym, _∙_}
+use lib.Dec.{ltb}
+use lib.ListN.{length, take}
+use Rattle.command.specs.Command.{private, read, empty, commandOf}
+use Rattle.command.specs.Fair.{fairInsert}
+use Rattle.command.specs.Insert.{WithComponents, count, insertOf, insert}
+use Rattle.command.specs.declared.CommandRead.{CommandRead}
+use Rattle.command.specs.declared.Private.{Private}
+use Rattle.command.specs.declared.SpliceCommand.{SpliceCommand}
+use Rattle.command.specs.declared.components.ComponentSplice.{ComponentSplice}
+use Rattle.command.specs.declared.insert.Insertion.{Insertion}
+use Rattle.command.proofs.InsertLeads.{Counted}
+use Rattle.command.proofs.InsertTrips.{insert-write-read, insert-read-write}
+use Rattle.command.proofs.PrivateTrips.{moved, private-write-read, private-write-same, private-read-write}
+use Rattle.header.specs.Time.{spliceTime, notImmediate}
+use Rattle.header.specs.declared.time.SpliceTime.{SpliceTime}
+use Rattle.header.proofs.Times.{time-write-read, time-read-write}
+use Rattle.table.specs.Bits.{pick, bitsOf, AllBytes}
+use Rattle.table.specs.Table.{Answer, got, short, parse, canonical}
+use Rattle.table.specs.Writing.{Made, made, refused, Same, make}
+use Rattle.table.proofs.Lists.{zero-one, append-nil}
+use Rattle.command_writer.specs.Made.{counted, timesFit, insertMade, commandMade}
+
+-- ---- written, then read
+-- null and bandwidth reservation are written as nothing, which reads as them
+pub null-trip : (places : List ComponentSplice) (lent : List ℕ) → (commandMade SpliceCommand.SpliceNull places lent ≡ made []) × (commandOf 0x00 [] ≡ CommandRead.Is SpliceCommand.SpliceNull)
+unfolding commandMade commandOf
+null-trip places lent = (refl, refl)
+
+pub bandwidth-trip : (places : List ComponentSplice) (lent : List ℕ)
+    → (commandMade SpliceCommand.BandwidthReservation places lent ≡ made []) × (commandOf 0x07 [] ≡ CommandRead.Is SpliceCommand.BandwidthReservation)
+unfolding commandMade commandOf
+bandwidth-trip places lent = (refl, refl)
+
+pub time-trip : (t : SpliceTime) (places : List ComponentSplice) (lent b : List ℕ) → commandMade (SpliceCommand.TimeSignal t) places lent ≡ made b
+    → commandOf 0x06 b ≡ CommandRead.Is (SpliceCommand.TimeSignal t)
+unfolding commandMade commandOf
+time-trip t places lent b e =
+    let i = time-write-read [] t b [] e in
+    ap (read SpliceCommand.TimeSignal) (rw (append-nil b) at (i .0))
+
+-- its view is then of the payload, and holds the same bytes
+pub private-trip : (p : Private) (places : List ComponentSplice) (lent b : List ℕ) → AllBytes lent → commandMade (SpliceCommand.PrivateCommand p) places lent ≡ made b
+    → (commandOf 0xff b ≡ CommandRead.Is (SpliceCommand.PrivateCommand (moved p))) × Same private b (moved p) lent p
+unfolding commandMade commandOf
+private-trip p places lent b a e =
+    let i = private-write-read lent p b [] e refl in
+    (ap (read SpliceCommand.PrivateCommand) (rw (append-nil b) at (i .0)), private-write-same lent p b a e)
+
+-- an insert that is written was written by its table
+pub insert-made : (x : WithComponents Insertion) (b : List ℕ) → insertMade x ≡ made b → (timesFit (x .components) ≡ true) × (make insert (fairInsert x) [] x ≡ made b)
+unfolding insertMade
+insert-made x b e = go (timesFit (x .components)) refl e
+  where
+    go : (f : Bool) → timesFit (x .components) ≡ f → pick f (make insert (fairInsert x) [] x) (refused 32) ≡ made b → (timesFit (x .components) ≡ true) × (make insert (fairInsert x) [] x ≡ made b)
+    go true h e = (h, e)
+    go false h e = zero-one cc
+
+-- it reads as that insert, with its components, as many as there are places for
+pub insert-trip : (i : Insertion) (places : List ComponentSplice) (lent b : List ℕ) → Counted (counted i places) → commandMade (SpliceCommand.SpliceInsert i) places lent ≡ made b
+    → (commandOf 0x05 b ≡ CommandRead.Is (SpliceCommand.SpliceInsert i)) × (parse insert (bitsOf b) 0 ≡ got (counted i places) (length b * 8))
+unfolding commandMade commandOf
+insert-trip i places lent b h e =
+    let w = insert-write-read [] (counted i places) b [] h (insert-made (counted i places) b e .1) in
+    let p : parse insert (bitsOf b) 0 ≡ got (counted i places) (length b * 8) = rw (append-nil b) at (w .0) in
+    (ap (read (λ (x : WithComponents Insertion). SpliceCommand.SpliceInsert (x .value))) p, p)

@@ -1,0 +1,223 @@
+// Writing a splice_insert(), field by field as its table stands.
+ghost use Prim.Native.Nat.{_≤_};
+ghost use lib.ListN.{take};
+ghost use mathlib.Core.Path.{_≡_};
+ghost use Rattle.command.specs.Insert.{outOfNetwork, byProgram, lasting};
+ghost use Rattle.command.specs.declared.insert.Break.{Break};
+ghost use Rattle.command_writer.specs.Fields.{ink, componentFields, listFields, automatic, insertFlags, breakFields, tailFields, endFields, placesOf, activeFields, insertFields};
+ghost use Rattle.command_writer.specs.Made.{counted};
+ghost use Rattle.pen.specs.Pen.{Fits, Pens};
+ghost use Rattle.table.specs.Bits.{AllBytes};
+ghost use Rattle.table.specs.Table.{flagNumber};
+ghost use Rattle.table.proofs.Steppings.{Settled};
+use crate::measure::shape_of;
+use crate::time::store_time;
+use command::components::ComponentSplice;
+use command::insert::Break;
+use command::insert::Insert;
+use command::insert::Insertion;
+use command::insert::SpliceDuration;
+use command::insert::SpliceInsert;
+use command::insert::SpliceMode;
+use names::flags::NetworkIndicator;
+use names::flags::ReturnMode;
+use pen::put_bits;
+use table::cursor::Cursor;
+use table::numbers::wide;
+
+fn store_component(out: &mut [u8], c: Cursor, component: ComponentSplice, at_once: bool) -> Cursor
+    requires { ⌜ Fits (now out) c (ink (componentFields «at_once» component)) ⌝ }
+    ensures { λ r. ⌜ Pens (now (out .entry)) c (ink (componentFields «at_once» component)) (now (out .exit)) r ⌝ }
+{
+    let tag = component.component_tag;
+    let time = component.splice_time;
+    let c = put_bits(out, c, 8, wide(tag));
+    if at_once {
+        return c;
+    }
+    store_time(out, c, time)
+}
+
+// The first `count` components.
+fn store_components(
+    out: &mut [u8],
+    c: Cursor,
+    components: [ComponentSplice; 255],
+    count: usize,
+    at_once: bool,
+) -> Cursor
+    requires { ⌜ (count ≤ 255) × AllBytes (now out) × Settled c × Fits (now out) c (ink (listFields «at_once» (take count components))) ⌝ }
+    ensures { λ r. ⌜ Pens (now (out .entry)) c (ink (listFields «at_once» (take count components))) (now (out .exit)) r ⌝ }
+{
+    let mut next = c;
+    let mut i: usize = 0;
+    while i < count {
+        let component = components[i];
+        next = store_component(out, next, component, at_once);
+        i += 1;
+    }
+    next
+}
+
+fn flag_number(set: bool) -> u64
+    ensures { λ r. ⌜ r ≡ flagNumber set ⌝ }
+{
+    if set {
+        return 1;
+    }
+    0
+}
+
+fn is_automatic(mode: ReturnMode) -> bool
+    ensures { λ r. ⌜ r ≡ automatic mode ⌝ }
+{
+    match mode {
+        ReturnMode::Automatic => true,
+        ReturnMode::Manual => false,
+    }
+}
+
+fn is_out(indicator: NetworkIndicator) -> bool
+    ensures { λ r. ⌜ r ≡ outOfNetwork indicator ⌝ }
+{
+    match indicator {
+        NetworkIndicator::Out => true,
+        NetworkIndicator::In => false,
+    }
+}
+
+fn is_program(mode: SpliceMode) -> bool
+    ensures { λ r. ⌜ r ≡ byProgram mode ⌝ }
+{
+    match mode {
+        SpliceMode::Program(_) => true,
+        SpliceMode::Components(_) => false,
+    }
+}
+
+fn lasts(duration: Break) -> bool
+    ensures { λ r. ⌜ r ≡ lasting duration ⌝ }
+{
+    match duration {
+        Break::Absent => false,
+        Break::Lasts(_) => true,
+    }
+}
+
+// Four flags and four reserved bits.
+fn store_flags(out: &mut [u8], c: Cursor, insert: Insert, at_once: bool) -> Cursor
+    requires { ⌜ Fits (now out) c (ink (insertFlags insert «at_once»)) ⌝ }
+    ensures { λ r. ⌜ Pens (now (out .entry)) c (ink (insertFlags insert «at_once»)) (now (out .exit)) r ⌝ }
+{
+    let indicator = insert.network_indicator;
+    let mode = insert.splice_mode;
+    let duration = insert.duration;
+    let c = put_bits(out, c, 1, flag_number(is_out(indicator)));
+    let c = put_bits(out, c, 1, flag_number(is_program(mode)));
+    let c = put_bits(out, c, 1, flag_number(lasts(duration)));
+    let c = put_bits(out, c, 1, flag_number(at_once));
+    put_bits(out, c, 4, 15)
+}
+
+// A break_duration().
+fn store_break(out: &mut [u8], c: Cursor, d: SpliceDuration) -> Cursor
+    requires { ⌜ Fits (now out) c (ink (breakFields (Break.Lasts d))) ⌝ }
+    ensures { λ r. ⌜ Pens (now (out .entry)) c (ink (breakFields (Break.Lasts d))) (now (out .exit)) r ⌝ }
+{
+    let mode = d.return_mode;
+    let duration = d.duration;
+    let c = put_bits(out, c, 1, flag_number(is_automatic(mode)));
+    let c = put_bits(out, c, 6, 63);
+    put_bits(out, c, 33, duration)
+}
+
+fn store_tail(out: &mut [u8], c: Cursor, program_id: u16, avail: u8, expected: u8) -> Cursor
+    requires { ⌜ Fits (now out) c (ink (tailFields «program_id» avail expected)) ⌝ }
+    ensures { λ r. ⌜ Pens (now (out .entry)) c (ink (tailFields «program_id» avail expected)) (now (out .exit)) r ⌝ }
+{
+    let c = put_bits(out, c, 16, program_id as u64);
+    let c = put_bits(out, c, 8, wide(avail));
+    put_bits(out, c, 8, wide(expected))
+}
+
+// From the duration on.
+fn store_end(out: &mut [u8], c: Cursor, insert: Insert) -> Cursor
+    requires { ⌜ Fits (now out) c (ink (endFields insert)) ⌝ }
+    ensures { λ r. ⌜ Pens (now (out .entry)) c (ink (endFields insert)) (now (out .exit)) r ⌝ }
+{
+    let duration = insert.duration;
+    match duration {
+        Break::Absent => store_tail(
+            out,
+            c,
+            insert.unique_program_id,
+            insert.avail_num,
+            insert.avails_expected,
+        ),
+        Break::Lasts(d) => {
+            let c = store_break(out, c, d);
+            store_tail(
+                out,
+                c,
+                insert.unique_program_id,
+                insert.avail_num,
+                insert.avails_expected,
+            )
+        }
+    }
+}
+
+// What is not cancelled.
+fn store_active(
+    out: &mut [u8],
+    c: Cursor,
+    insert: Insert,
+    components: [ComponentSplice; 255],
+) -> Cursor
+    requires { ⌜ Fits (now out) c (ink (activeFields insert (placesOf insert components))) ⌝ }
+    ensures { λ r. ⌜ Pens (now (out .entry)) c (ink (activeFields insert (placesOf insert components))) (now (out .exit)) r ⌝ }
+{
+    let mode = insert.splice_mode;
+    let place = components[0];
+    let first = place.splice_time;
+    let shape = shape_of(mode, first);
+    let c = store_flags(out, c, insert, shape.now);
+    match mode {
+        SpliceMode::Program(time) => {
+            if shape.now {
+                return store_end(out, c, insert);
+            }
+            let c = store_time(out, c, time);
+            store_end(out, c, insert)
+        }
+        SpliceMode::Components(n) => {
+            let c = put_bits(out, c, 8, wide(n));
+            let c = store_components(out, c, components, n as usize, shape.now);
+            store_end(out, c, insert)
+        }
+    }
+}
+
+pub(crate) fn store_insert(
+    out: &mut [u8],
+    c: Cursor,
+    i: Insertion,
+    components: [ComponentSplice; 255],
+) -> Cursor
+    requires { ⌜ Fits (now out) c (ink (insertFields (counted i components))) ⌝ }
+    ensures { λ r. ⌜ Pens (now (out .entry)) c (ink (insertFields (counted i components))) (now (out .exit)) r ⌝ }
+{
+    let detail = i.splice_detail;
+    let c = put_bits(out, c, 32, i.splice_event_id as u64);
+    match detail {
+        SpliceInsert::Cancel => {
+            let c = put_bits(out, c, 1, 1);
+            put_bits(out, c, 7, wide(i.reserved))
+        }
+        SpliceInsert::Insert(insert) => {
+            let c = put_bits(out, c, 1, 0);
+            let c = put_bits(out, c, 7, wide(i.reserved));
+            store_active(out, c, insert, components)
+        }
+    }
+}

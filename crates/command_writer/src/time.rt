@@ -1,0 +1,20 @@
+// Writing a splice_time().
+ghost use Rattle.command_writer.specs.Fields.{ink, timeFields};
+ghost use Rattle.pen.specs.Pen.{Fits, Pens};
+use header::time::SpliceTime;
+use pen::put_bits;
+use table::cursor::Cursor;
+
+// The flag and its reserved bits are all 1 where a time is specified; else the flag is clear.
+pub(crate) fn store_time(out: &mut [u8], c: Cursor, time: SpliceTime) -> Cursor
+    requires { ⌜ Fits (now out) c (ink (timeFields time)) ⌝ }
+    ensures { λ r. ⌜ Pens (now (out .entry)) c (ink (timeFields time)) (now (out .exit)) r ⌝ }
+{
+    let ticks = match time {
+        SpliceTime::At(t) => t,
+        SpliceTime::Unspecified => return put_bits(out, c, 8, 0x7F),
+        SpliceTime::Immediate => return put_bits(out, c, 8, 0x7F),
+    };
+    let c = put_bits(out, c, 7, 0x7F);
+    put_bits(out, c, 33, ticks)
+}
