@@ -11,3 +11,5 @@ pub mod Commands
 pub mod Theorems
 pub mod Rows
 pub mod Views
+pub mod Answers
+pub mod Whole

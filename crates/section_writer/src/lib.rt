@@ -1,16 +1,23 @@
-// The section writer: what it tests, what it stores before and behind the command, and the canonical form around command and loop.
+// The section writer: header, command and loop as a section's bytes.
 ghost use mathlib.Core.Path.{_≡_};
 ghost use mathlib.Core.Bool.{true};
 ghost use Prim.Native.Nat.{_+_, _^_, _<_, _≤_};
 ghost use lib.ListN.{length, take};
 ghost use Rattle.section_writer.specs.Frame.{head, sectionLength, numbersFit, fairHead};
 ghost use Rattle.section_writer.specs.Canonical.{canonicalFrame};
-ghost use Rattle.section_writer.specs.Writing.{conditions};
+ghost use Rattle.command_writer.specs.Made.{commandMade};
+ghost use Rattle.pen.specs.Written.{answerOf, laterOf};
+ghost use Rattle.section_writer.specs.Writing.{conditions, kindOf, madeIf};
 ghost use Rattle.section.specs.Section.{first};
 ghost use Rattle.section_writer.specs.Walk.{frontNumber, backNumber, tail};
 ghost use Rattle.table.specs.Lent.{stored};
+use command::SpliceCommand;
+use command::components::ComponentSplice;
+use command_writer::measure_command;
+use command_writer::put_command;
 use crc::crc32;
 use header::header::SpliceInfoHeader;
+use pen::Written;
 use section::SectionRead;
 use section::read_section;
 use table::numbers::bits;
@@ -120,6 +127,51 @@ fn put_tail(out: &mut [u8], at: usize, descriptors: &[u8])
     let end = at + 2 + descriptors.len();
     let crc = crc32(&out[0..end]);
     put_number(out, end, 4, crc as u64);
+}
+
+// ---- the writer
+
+// The number of a command's type.
+fn kind_of(command: SpliceCommand) -> u8
+    ensures { λ r. ⌜ r ≡ kindOf command ⌝ }
+{
+    match command {
+        SpliceCommand::SpliceNull => 0x00,
+        SpliceCommand::SpliceInsert(_) => 0x05,
+        SpliceCommand::TimeSignal(_) => 0x06,
+        SpliceCommand::BandwidthReservation => 0x07,
+        SpliceCommand::PrivateCommand(_) => 0xFF,
+    }
+}
+
+// A section from the target's first byte on, or a refusal: 31 to 36. `lent` are the bytes that the command's views refer to; whether the loop is canonical
+// (35) is handed in.
+pub fn write_section_if(
+    canonical: bool,
+    header: SpliceInfoHeader,
+    command: SpliceCommand,
+    components: [ComponentSplice; 255],
+    lent: &[u8],
+    descriptors: &[u8],
+    target: &mut [u8],
+) -> Written
+    ensures answer { λ r. ⌜ r ≡ answerOf (madeIf canonical header (commandMade command components (now (lent .entry))) (kindOf command) (now (descriptors .entry))) (now (target .entry)) ⌝ }
+    ensures bytes { λ _. ⌜ now (target .exit) ≡ laterOf (madeIf canonical header (commandMade command components (now (lent .entry))) (kindOf command) (now (descriptors .entry))) (now (target .entry)) ⌝ }
+{
+    let measured = measure_command(command, components, lent);
+    let size = measured.size;
+    let refusal = refusal_of(header, measured.refusal, size, descriptors.len(), canonical);
+    if 0 < refusal {
+        return Written::Refused(refusal);
+    }
+    let length = 20 + size + descriptors.len();
+    if target.len() < length {
+        return Written::Refused(36);
+    }
+    put_head(target, header, kind_of(command), size, descriptors.len());
+    put_command(target, 14, command, components, lent);
+    put_tail(target, 14 + size, descriptors);
+    Written::Wrote(length)
 }
 
 // ---- the canonical form
