@@ -1,0 +1,72 @@
+-- What `is_canonical_frame` answers, return by return.
+use Prim.Native.Nat.{ℕ, _+_, _-_, _^_, _%_}
+use mathlib.Core.Bool.{true, false}
+use mathlib.Core.List.{List}
+use mathlib.Core.Path.{_≡_, refl, ap, sym, _∙_}
+use native.Mathlib.Omega.{arith}
+use lib.Dec.{eqb}
+use lib.ListN.{length}
+use borrow.Author.Tests.{eq-eqb, ne-eqb}
+use Rattle.section.specs.Section.{commandLength, loopLength, loopPlace, sectionOf, numberOf}
+use Rattle.section.specs.declared.Refusal.{Refusal}
+use Rattle.section.specs.declared.Section.{Section}
+use Rattle.section.specs.declared.SectionRead.{SectionRead}
+use Rattle.table.specs.Bits.{bitsOf, field}
+use Rattle.table.specs.declared.View.{View}
+use Rattle.table.proofs.Reading.{bits-are}
+use Rattle.section_writer.specs.Canonical.{canonicalFrame}
+use Rattle.section_writer.specs.Frame.{sectionLength}
+use Rattle.section_writer.proofs.Parts.{Parts, parts-of}
+
+refusal-counts : (r : Refusal) → eqb (numberOf (SectionRead.Refused r)) 0 ≡ false
+unfolding numberOf
+refusal-counts Refusal.TooShort = refl
+refusal-counts Refusal.TooLong = refl
+refusal-counts Refusal.OtherTable = refl
+refusal-counts Refusal.WrongCrc = refl
+refusal-counts Refusal.NoHeader = refl
+refusal-counts Refusal.Encrypted = refl
+refusal-counts Refusal.CommandTooLong = refl
+refusal-counts Refusal.NoLoopLength = refl
+refusal-counts Refusal.LoopTooLong = refl
+refusal-counts Refusal.UnknownCommand = refl
+refusal-counts Refusal.MalformedCommand = refl
+
+module _ (s : List ℕ) where
+  pub not-accepted : (r : Refusal) → sectionOf s ≡ SectionRead.Refused r → false ≡ canonicalFrame s
+  unfolding canonicalFrame
+  not-accepted r e = rw (e, refusal-counts r)
+
+  module _ (x : Section) (e : sectionOf s ≡ SectionRead.Is x) where
+    pub loop-at : (x .descriptors .at ≡ 16 + commandLength s) × (x .descriptors .len ≡ loopLength s)
+    unfolding loopPlace
+    loop-at = let l = parts-of s x e .loop in (ap (λ (v : View). v .at) l, ap (λ (v : View). v .len) l)
+
+    module _ (v : ℕ) (ev : v ≡ field (bitsOf s) 8 4 % 2 ^ 64) where
+      pub other-bits : (v ≡ 3 → ⊥) → false ≡ canonicalFrame s
+      unfolding canonicalFrame numberOf
+      other-bits h = rw (e, ne-eqb (field (bitsOf s) 8 4) 3 (λ z. h (bits-are s 8 4 v (omega arith) ev .0 ∙ z)))
+
+      module _ (high : v ≡ 3) (w : ℕ) (ew : w ≡ field (bitsOf s) 12 12 % 2 ^ 64) where
+        is-high : eqb (field (bitsOf s) 8 4) 3 ≡ true
+        is-high = eq-eqb _ _ (sym (bits-are s 8 4 v (omega arith) ev .0) ∙ high)
+
+        pub other-length : (w ≡ length s - 3 → ⊥) → false ≡ canonicalFrame s
+        unfolding canonicalFrame numberOf
+        other-length h = rw (e, is-high, ne-eqb (field (bitsOf s) 12 12) (length s - 3) (λ z. h (bits-are s 12 12 w (omega arith) ew .0 ∙ z)))
+
+        module _ (low : w ≡ length s - 3) where
+          is-low : eqb (field (bitsOf s) 12 12) (length s - 3) ≡ true
+          is-low = eq-eqb _ _ (sym (bits-are s 12 12 w (omega arith) ew .0) ∙ low)
+
+          pub spare-bytes : (length s ≡ x .descriptors .at + x .descriptors .len + 4 → ⊥) → false ≡ canonicalFrame s
+          unfolding canonicalFrame numberOf
+          spare-bytes h =
+              let z : length s ≡ sectionLength (commandLength s) (loopLength s) → ⊥ = λ q. h (omega (arith, q, loop-at .0, loop-at .1)) in
+              rw (e, is-high, is-low, ne-eqb (length s) (sectionLength (commandLength s) (loopLength s)) z)
+
+          pub no-spare-byte : length s ≡ x .descriptors .at + x .descriptors .len + 4 → true ≡ canonicalFrame s
+          unfolding canonicalFrame numberOf
+          no-spare-byte q =
+              let z : length s ≡ sectionLength (commandLength s) (loopLength s) = omega (arith, q, loop-at .0, loop-at .1) in
+              rw (e, is-high, is-low, eq-eqb (length s) (sectionLength (commandLength s) (loopLength s)) z)

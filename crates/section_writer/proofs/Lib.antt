@@ -1,0 +1,15 @@
+pub mod Numbers
+pub mod Heads
+pub mod Frames
+pub mod Backs
+pub mod Stored
+pub mod Refusals
+pub mod Parts
+pub mod Trips
+pub mod Forms
+pub mod Commands
+pub mod Theorems
+pub mod Rows
+pub mod Views
+pub mod Answers
+pub mod Whole

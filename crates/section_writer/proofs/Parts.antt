@@ -1,0 +1,91 @@
+-- What an accepted section has, part by part.
+use Prim.Native.Nat.{ℕ, _+_, _-_, _^_, _%_, _<_, _≤_}
+use mathlib.Core.Bool.{Bool, true, false, not}
+use mathlib.Core.List.{List}
+use mathlib.Core.Path.{_≡_, refl, ap, sym, _∙_}
+use native.Mathlib.Omega.{arith}
+use lib.ListN.{length, getD, drop}
+use borrow.Author.Tests.{ltb-false, eqb-true, eqb-false, not-false}
+use Rattle.command.specs.Command as command
+use Rattle.command.specs.declared.CommandRead.{CommandRead}
+use Rattle.command.specs.declared.SpliceCommand.{SpliceCommand}
+use Rattle.crc.specs.Crc.{crcOf}
+use Rattle.header.specs.Header.{headerOf}
+use Rattle.header.specs.declared.header.HeaderRead.{HeaderRead}
+use Rattle.section.specs.Section.{commandLength, commandType, commandBytes, roomAfter, loopLength, loopPlace, moved, accepted, sectionOf}
+use Rattle.section.specs.declared.Section.{Section}
+use Rattle.section.specs.declared.SectionRead.{SectionRead}
+use Rattle.section.proofs.Acceptance.{none-if-accepted}
+use Rattle.section.proofs.Frame.{is-laid-out, has-parts}
+use Rattle.table.specs.Bits.{bitsOf, field}
+use Rattle.table.specs.declared.View.{View}
+use Rattle.table.proofs.Lists.{zero-one}
+use Rattle.table.proofs.Reading.{field-exact}
+use Rattle.section_writer.specs.Frame.{sectionLength}
+
+pub record Parts (s : List ℕ) (x : Section) : Type 0 where
+  pub long : 18 ≤ length s
+  pub short : length s ≤ 4096
+  pub fits : sectionLength (commandLength s) (loopLength s) ≤ length s
+  pub first : getD s 0 0 ≡ 0xfc
+  pub crc : crcOf s ≡ 0
+  pub clear : field (bitsOf s) 32 1 ≡ 1 → ⊥
+  pub header : headerOf (drop 3 s) ≡ HeaderRead.Header (x .header)
+  pub own : SpliceCommand
+  pub command : command.commandOf (commandType s) (commandBytes s) ≡ CommandRead.Is own
+  pub moves : x .command ≡ moved 14 own
+  pub loop : x .descriptors ≡ loopPlace s
+
+record Made (h : HeaderRead) (r : CommandRead) (v : View) (x : Section) : Type 0 where
+  pub header : h ≡ HeaderRead.Header (x .header)
+  pub own : SpliceCommand
+  pub command : r ≡ CommandRead.Is own
+  pub moves : x .command ≡ moved 14 own
+  pub loop : x .descriptors ≡ v
+
+made : (h : HeaderRead) (r : CommandRead) (v : View) (x : Section) → accepted h r v ≡ SectionRead.Is x → Made h r v x
+unfolding accepted
+made (HeaderRead.Header h) (CommandRead.Is c) v x e =
+    let f : record { header = h; command = moved 14 c; descriptors = v } ≡ x = cc in
+    record {
+      header = ap (λ (y : Section). HeaderRead.Header (y .header)) f;
+      own = c;
+      command = refl;
+      moves = ap (λ (y : Section). y .command) (sym f);
+      loop = ap (λ (y : Section). y .descriptors) (sym f);
+    }
+made (HeaderRead.Header h) CommandRead.UnknownType v x e = zero-one cc
+made (HeaderRead.Header h) CommandRead.Malformed v x e = zero-one cc
+made HeaderRead.TooShort r v x e = zero-one cc
+
+pub parts-of : (s : List ℕ) (x : Section) → sectionOf s ≡ SectionRead.Is x → Parts s x
+unfolding roomAfter
+parts-of s x e =
+    let n = none-if-accepted s x e in
+    let long : 3 ≤ length s = ltb-false (length s) 3 (n .0) in
+    let short : length s ≤ 4096 = ltb-false 4096 (length s) (n .1 .0) in
+    let first : getD s 0 0 ≡ 0xfc = eqb-true (getD s 0 0) 0xfc (not-false _ (n .1 .1 .0)) in
+    let crc : crcOf s ≡ 0 = eqb-true (crcOf s) 0 (not-false _ (n .1 .1 .1 .0)) in
+    let longer : 18 ≤ length s = ltb-false (length s) 18 (n .1 .1 .1 .1 .0) in
+    let clear : field (bitsOf s) 32 1 ≡ 1 → ⊥ = eqb-false (field (bitsOf s) 32 1) 1 (n .1 .1 .1 .1 .1 .0) in
+    let size : commandLength s ≤ length s - 18 = ltb-false (length s - 18) (commandLength s) (n .1 .1 .1 .1 .1 .1 .0) in
+    let room : 2 ≤ length s - 18 - commandLength s = ltb-false (length s - 18 - commandLength s) 2 (n .1 .1 .1 .1 .1 .1 .1 .0) in
+    let extent : loopLength s + 2 ≤ length s - 18 - commandLength s = ltb-false (length s - 18 - commandLength s) (loopLength s + 2) (n .1 .1 .1 .1 .1 .1 .1 .1 .0) in
+    let r = accepted (headerOf (drop 3 s)) (command.commandOf (commandType s) (commandBytes s)) (loopPlace s) in
+    let f : r ≡ sectionOf s =
+    is-laid-out s long short first crc r longer
+    (has-parts s (field (bitsOf s) 32 1) (sym (field-exact s 32 1 (omega arith))) clear (commandLength s) refl size room (loopLength s) refl r extent refl) in
+    let m = made (headerOf (drop 3 s)) (command.commandOf (commandType s) (commandBytes s)) (loopPlace s) x (f ∙ e) in
+    record {
+      long = longer;
+      short = short;
+      fits = omega arith;
+      first = first;
+      crc = crc;
+      clear = clear;
+      header = m .header;
+      own = m .own;
+      command = m .command;
+      moves = m .moves;
+      loop = m .loop;
+    }

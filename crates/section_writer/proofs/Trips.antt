@@ -1,0 +1,189 @@
+-- Both round trips of a section around its command and its loop.
+--     section-wrote          what was made passed every test, and is a frame
+--     frame-canonical        what is written has the canonical form
+--     section-write-read     it reads as what was handed in
+--     section-read-write     a canonical section is what is written of its reading
+--     one-section            canonical sections of equal parts are equal
+use Prim.Native.Nat.{ℕ, zero, suc, _+_, _*_, _-_, _/_, _^_, _<_, _≤_}
+use mathlib.Core.Bool.{Bool, true, false, not, _&&_, _||_}
+use mathlib.Core.List.{List, [], _∷_, _++_, append-assoc}
+use mathlib.Core.Path.{_≡_, refl, ap, ap₂, sym, _∙_}
+use native.Mathlib.Omega.{arith}
+use lib.Dec.{eqb, ltb}
+use lib.ListN.{length, getD, take, drop, length-drop}
+use borrow.Author.Tests.{ltb-false, le-ltb, eqb-true, eqb-false, eq-eqb, ne-eqb, not-false, le-leb}
+use Rattle.command.specs.Command as command
+use Rattle.command.specs.declared.CommandRead.{CommandRead}
+use Rattle.command.specs.declared.SpliceCommand.{SpliceCommand}
+use Rattle.header.specs.declared.header.HeaderRead.{HeaderRead}
+use Rattle.header.specs.declared.header.SpliceInfoHeader.{SpliceInfoHeader}
+use Rattle.names.specs.Algorithm.{algorithmNumber, algorithmOf}
+use Rattle.names.proofs.Algorithms.{algorithm-laws}
+use Rattle.pen.specs.Written.{refusalIn, bytesIn}
+use Rattle.section.specs.Section.{first, commandLength, commandType, commandBytes, loopLength, loopPlace, moved, sectionOf, numberOf}
+use Rattle.section.specs.declared.Section.{Section}
+use Rattle.section.specs.declared.SectionRead.{SectionRead}
+use Rattle.table.specs.Bits.{bitsOf, field, bigEndian, AllBytes}
+use Rattle.table.specs.Lent.{viewed}
+use Rattle.table.specs.Writing.{Made, made, refused}
+use Rattle.table.proofs.Bits.{length-bits}
+use Rattle.table.proofs.Fields.{field-add}
+use Rattle.table.proofs.Lists.{and-true, zero-one}
+use Rattle.table.proofs.Reading.{field-lt}
+use Rattle.section_writer.specs.Canonical.{loopBytes, canonicalFrame}
+use Rattle.section_writer.specs.Frame.{headed, headerBytes, opening, sectionLength, head, measured, body, frame, numbersFit, fairHead}
+use Rattle.section_writer.specs.Writing.{conditions, unless, madeIf}
+use Rattle.section_writer.proofs.Backs.{opening-is, frame-again, own, own-is, headed-own}
+use Rattle.section_writer.proofs.Frames.{crc, length-frame, behind-three, frame-loop, frame-accepted, frame-command-length, frame-loop-length}
+use Rattle.section_writer.proofs.Heads.{Fitting}
+use Rattle.section_writer.proofs.Numbers.{number-at, field-behind}
+use Rattle.section_writer.proofs.Parts.{Parts, parts-of}
+use Rattle.section_writer.proofs.Refusals.{no-refusal}
+use Rattle.section_writer.proofs.Stored.{is-fitting, is-clear}
+
+-- ---- what was made, undone
+or-false : (a b : Bool) → a || b ≡ false → (a ≡ false) × (b ≡ false)
+or-false true b e = zero-one cc
+or-false false b e = (refl, e)
+
+all-false : (b₁ b₂ b₃ b₄ b₅ : Bool) → first 31 (b₁ ∷ b₂ ∷ b₃ ∷ b₄ ∷ b₅ ∷ []) ≡ 0 → (b₁ ≡ false) × (b₂ ≡ false) × (b₃ ≡ false) × (b₄ ≡ false) × (b₅ ≡ false)
+all-false true b₂ b₃ b₄ b₅ e = absurd (omega arith)
+all-false false true b₃ b₄ b₅ e = absurd (omega arith)
+all-false false false true b₄ b₅ e = absurd (omega arith)
+all-false false false false true b₅ e = absurd (omega arith)
+all-false false false false false true e = absurd (omega arith)
+all-false false false false false false e = (refl, refl, refl, refl, refl)
+
+unless-made : (n : ℕ) (f b : List ℕ) → unless n f ≡ made b → (n ≡ 0) × (b ≡ f)
+unless-made zero f b e = (refl, cc)
+unless-made (suc n) f b e = zero-one cc
+
+pub record Wrote (canonical : Bool) (h : SpliceInfoHeader) (command : Made) (kind : ℕ) (loop b : List ℕ) : Type 0 where
+  pub fits : numbersFit h ≡ true
+  pub fair : fairHead h ≡ true
+  pub short : sectionLength (length (bytesIn command)) (length loop) ≤ 4096
+  pub form : canonical ≡ true
+  pub seen : refusalIn command ≡ 31 → ⊥
+  pub within : refusalIn command ≡ 32 → ⊥
+  pub kept : refusalIn command ≡ 33 → ⊥
+  pub bytes : b ≡ frame h kind (bytesIn command) loop
+
+pub section-wrote : (canonical : Bool) (h : SpliceInfoHeader) (command : Made) (kind : ℕ) (loop b : List ℕ) → madeIf canonical h command kind loop ≡ made b → Wrote canonical h command kind loop b
+unfolding madeIf
+section-wrote canonical h command kind loop b e =
+    let r = refusalIn command in
+    let n = sectionLength (length (bytesIn command)) (length loop) in
+    let u = unless-made (first 31 (conditions h r (length (bytesIn command)) (length loop) canonical)) (frame h kind (bytesIn command) loop) b e in
+    let a = all-false (eqb r 31) (eqb r 32 || not (numbersFit h)) (eqb r 33 || not (fairHead h)) (ltb 4096 n) (not canonical) (u .0) in
+    let w = or-false (eqb r 32) (not (numbersFit h)) (a .1) in
+    let k = or-false (eqb r 33) (not (fairHead h)) (a .2) in
+    record {
+      fits = not-false _ (w .1);
+      fair = not-false _ (k .1);
+      short = ltb-false 4096 n (a .3);
+      form = not-false _ (a .4);
+      seen = eqb-false r 31 (a .0);
+      within = eqb-false r 32 (w .0);
+      kept = eqb-false r 33 (k .0);
+      bytes = u .1;
+    }
+
+-- ---- what is written has the canonical form
+module _ (h : SpliceInfoHeader) (kind : ℕ) (payload loop : List ℕ) (fits : numbersFit h ≡ true) (fair : fairHead h ≡ true) (byte : kind < 2 ^ 8)
+    (small : sectionLength (length payload) (length loop) ≤ 4096) where
+  second-and-third : field (bitsOf (frame h kind payload loop)) 8 16 ≡ 0x3000 + (length (frame h kind payload loop) - 3)
+  second-and-third =
+      let n = sectionLength (length payload) (length loop) in
+      let r = headerBytes (headed h (length payload) kind) ++ (payload ++ (measured loop ++ crc h kind payload loop)) in
+      let e : frame h kind payload loop ≡ (0xfc ∷ []) ++ (bigEndian 2 (0x3000 + (n - 3)) ++ r) =
+      behind-three h kind payload loop ∙ ap (λ (l : List ℕ). l ++ r) (opening-is n (omega arith)) in
+      ap (λ (l : List ℕ). field (bitsOf l) 8 16) e ∙ number-at (0xfc ∷ []) r 1 2 (0x3000 + (n - 3)) refl (omega arith)
+      ∙ ap (λ (m : ℕ). 0x3000 + (m - 3)) (sym (length-frame h kind payload loop))
+
+  pub frame-canonical : (c : SpliceCommand) → command.commandOf kind payload ≡ CommandRead.Is c → canonicalFrame (frame h kind payload loop) ≡ true
+  unfolding canonicalFrame numberOf
+  frame-canonical c e =
+      let s = frame h kind payload loop in
+      let l = length-frame h kind payload loop in
+      let f : field (bitsOf s) 8 16 ≡ field (bitsOf s) 8 4 * 2 ^ 12 + field (bitsOf s) 12 12 = field-add (bitsOf s) 8 4 12 (omega (arith, length-bits s)) in
+      let high : field (bitsOf s) 8 4 ≡ 3 = omega (arith, second-and-third, field-lt s 12 12) in
+      let low : field (bitsOf s) 12 12 ≡ length s - 3 = omega (arith, second-and-third, field-lt s 12 12) in
+      rw (
+        frame-accepted h kind payload loop fits fair byte small c e,
+        eq-eqb _ _ high,
+        eq-eqb _ _ low,
+        frame-command-length h kind payload loop fits fair byte small,
+        frame-loop-length h kind payload loop fits fair byte small,
+        eq-eqb _ _ l,
+      )
+
+-- ---- what is written reads as what was handed in: the header with the command's length and type, the command, and the loop's bytes
+pub section-write-read : (canonical : Bool) (h : SpliceInfoHeader) (payload : List ℕ) (kind : ℕ) (loop b : List ℕ) (c : SpliceCommand) → kind < 2 ^ 8
+    → madeIf canonical h (made payload) kind loop ≡ made b → command.commandOf kind payload ≡ CommandRead.Is c
+    → (sectionOf b ≡ SectionRead.Is (record { header = headed h (length payload) kind; command = moved 14 c; descriptors = record { at = 16 + length payload; len = length loop } }))
+    × (loopBytes b ≡ loop)
+    × (canonicalFrame b ≡ true)
+unfolding bytesIn
+section-write-read canonical h payload kind loop b c byte e k =
+    let w = section-wrote canonical h (made payload) kind loop b e in
+    rw (w .bytes) (
+      frame-accepted h kind payload loop (w .fits) (w .fair) byte (w .short) c k,
+      frame-loop h kind payload loop (w .fits) (w .fair) byte (w .short),
+      frame-canonical h kind payload loop (w .fits) (w .fair) byte (w .short) c k,
+    )
+
+-- ---- a canonical section is what is written of its reading
+module _ (s : List ℕ) (x : Section) (a : AllBytes s) (p : Parts s x) where
+  abbrev tail : List ℕ
+  tail = drop 3 s
+
+  read-fits : Fitting (x .header)
+  read-fits =
+      let e = own-is s a (p .long) (x .header) (p .header) in
+      rw (← e) (record {
+        version = field-lt tail 0 8;
+        algorithm = rw (algorithm-laws .there (field (bitsOf tail) 9 6)) (field-lt tail 9 6);
+        adjustment = field-lt tail 15 33;
+        index = field-lt tail 48 8;
+        tiers = field-lt tail 56 12;
+      })
+
+  read-fair : true ≡ fairHead (x .header)
+  read-fair =
+      let e = own-is s a (p .long) (x .header) (p .header) in
+      rw (← e)
+      (is-clear (own s a (p .long) (x .header) (p .header)) true (ne-eqb (field (bitsOf tail) 8 1) 1 (λ z. p .clear (field-behind s 3 8 1 ∙ z))) (sym (algorithm-laws .is-fair (field (bitsOf tail) 9 6))))
+
+pub section-read-write : (s : List ℕ) (x : Section) → AllBytes s → sectionOf s ≡ SectionRead.Is x → canonicalFrame s ≡ true
+    → madeIf true (x .header) (made (commandBytes s)) (commandType s) (loopBytes s) ≡ made s
+unfolding canonicalFrame madeIf bytesIn refusalIn viewed loopPlace
+section-read-write s x a e c =
+    let p = parts-of s x e in
+    let c₁ = and-true (eqb (numberOf (sectionOf s)) 0) _ c in
+    let c₂ = and-true (eqb (field (bitsOf s) 8 4) 0b0011) _ (c₁ .1) in
+    let c₃ = and-true (eqb (field (bitsOf s) 12 12) (length s - 3)) _ (c₂ .1) in
+    let exact : length s ≡ sectionLength (commandLength s) (loopLength s) = eqb-true _ _ (c₃ .1) in
+    let loop = take (loopLength s) (drop (16 + commandLength s) s) in
+    let l : loopBytes s ≡ loop = rw (le-leb (16 + commandLength s + loopLength s) (length s) (omega (arith, exact))) in
+    let f : s ≡ frame (x .header) (commandType s) (commandBytes s) loop =
+    frame-again s a (p .long) (p .short) exact (x .header) (p .first) (p .crc) (eqb-true _ _ (c₂ .0)) (eqb-true _ _ (c₃ .0)) (p .header) in
+    let n : sectionLength (length (commandBytes s)) (length loop) ≤ 4096 = omega (arith, ap length f, length-frame (x .header) (commandType s) (commandBytes s) loop, p .short) in
+    let z = no-refusal (x .header) 0 (length (commandBytes s)) (length loop) true (λ q. omega arith) (λ q. omega arith) (is-fitting (x .header) (read-fits s x a p)) (λ q. omega arith) (read-fair s x a p) n refl in
+    rw (l, ← z, ← f)
+
+-- ---- canonical sections of equal headers, commands and loops are equal
+-- the header's command length and type are left out: they are worked out
+headless : (h : SpliceInfoHeader) (kind : ℕ) (payload loop : List ℕ) → frame h kind payload loop ≡ frame (headed h 0 0) kind payload loop
+unfolding frame body head headed
+headless h kind payload loop = refl
+
+same-frame : (h g : SpliceInfoHeader) (k j : ℕ) (p q l m : List ℕ) → headed h 0 0 ≡ headed g 0 0 → k ≡ j → p ≡ q → l ≡ m → frame h k p l ≡ frame g j q m
+same-frame h g k j p q l m e₁ e₂ e₃ e₄ = headless h k p l ∙ rw (e₁, e₂, e₃, e₄) (sym (headless g j q m))
+
+pub one-section : (s r : List ℕ) (x y : Section) → AllBytes s → AllBytes r → sectionOf s ≡ SectionRead.Is x → sectionOf r ≡ SectionRead.Is y → canonicalFrame s ≡ true → canonicalFrame r ≡ true
+    → headed (x .header) 0 0 ≡ headed (y .header) 0 0 → commandType s ≡ commandType r → commandBytes s ≡ commandBytes r → loopBytes s ≡ loopBytes r → s ≡ r
+unfolding bytesIn
+one-section s r x y a b e f c d h t p l =
+    section-wrote true (x .header) (made (commandBytes s)) (commandType s) (loopBytes s) s (section-read-write s x a e c) .bytes
+    ∙ same-frame (x .header) (y .header) (commandType s) (commandType r) (commandBytes s) (commandBytes r) (loopBytes s) (loopBytes r) h t p l
+    ∙ sym (section-wrote true (y .header) (made (commandBytes r)) (commandType r) (loopBytes r) r (section-read-write r y b f d) .bytes)

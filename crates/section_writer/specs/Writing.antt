@@ -1,0 +1,53 @@
+-- What the section writer makes of a header, a command and a loop: the section's bytes, or the number of a refusal. 01, "Refusal numbers".
+use Prim.Native.Nat.{ℕ, zero, suc, _+_}
+use mathlib.Core.Bool.{Bool, not, _||_}
+use mathlib.Core.List.{List, [], _∷_}
+use lib.Dec.{ltb, eqb}
+use lib.ListN.{length}
+use Rattle.command.specs.declared.SpliceCommand.{SpliceCommand}
+use Rattle.descriptor_form.specs.Canonical.{canonicalLoop}
+use Rattle.header.specs.declared.header.SpliceInfoHeader.{SpliceInfoHeader}
+use Rattle.pen.specs.Written.{refusalIn, bytesIn}
+use Rattle.section.specs.Section.{first}
+use Rattle.table.specs.Writing.{Made, made, refused}
+use Rattle.section_writer.specs.Frame.{sectionLength, frame, numbersFit, fairHead}
+
+-- The conditions of refusals 31 to 35, in order: of a header, of a command that its own writer gives the refusal r (0 if none) or `size` bytes, and of a loop of
+-- `extent` bytes. 36, a short target, is `answerOf`'s and `laterOf`'s.
+abbrev pub conditions : SpliceInfoHeader → ℕ → ℕ → ℕ → Bool → List Bool
+conditions header r size extent canonical =
+    -- "a view reaches outside the lent bytes"
+    eqb r 31
+    -- "a number or count handed in exceeds its field"
+    ∷ (eqb r 32 || not (numbersFit header))
+    -- "a value that no canonical reading has"
+    ∷ (eqb r 33 || not (fairHead header))
+    -- "section over 4,096"
+    ∷ ltb 4096 (sectionLength size extent)
+    -- "lent loop not canonical"
+    ∷ not canonical
+    ∷ []
+
+-- "31 to 36 are checked in order of number": the bytes, unless one applies
+abbrev pub unless : ℕ → List ℕ → Made
+unless zero b = made b
+unless (suc n) b = refused (suc n)
+
+-- a header, what the command writer makes of the command, the command's type, and the lent loop, of which is said whether it is canonical
+unfoldable pub madeIf : Bool → SpliceInfoHeader → Made → ℕ → List ℕ → Made
+madeIf canonical header command kind loop =
+    unless
+    (first 31 (conditions header (refusalIn command) (length (bytesIn command)) (length loop) canonical))
+    (frame header kind (bytesIn command) loop)
+
+-- the section: of a header, what the command writer makes of the command, the command's type, and the lent loop
+unfoldable pub sectionMade : SpliceInfoHeader → Made → ℕ → List ℕ → Made
+sectionMade header command kind loop = madeIf (canonicalLoop loop) header command kind loop
+
+-- "works out .. command type"
+unfoldable pub kindOf : SpliceCommand → ℕ
+kindOf SpliceCommand.SpliceNull = 0x00
+kindOf (SpliceCommand.SpliceInsert i) = 0x05
+kindOf (SpliceCommand.TimeSignal t) = 0x06
+kindOf SpliceCommand.BandwidthReservation = 0x07
+kindOf (SpliceCommand.PrivateCommand p) = 0xff

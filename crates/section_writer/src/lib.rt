@@ -1,0 +1,200 @@
+// The section writer: header, command and loop as a section's bytes.
+ghost use mathlib.Core.Path.{_≡_};
+ghost use mathlib.Core.Bool.{true};
+ghost use Prim.Native.Nat.{_+_, _^_, _<_, _≤_};
+ghost use lib.ListN.{length, take};
+ghost use Rattle.section_writer.specs.Frame.{head, sectionLength, numbersFit, fairHead};
+ghost use Rattle.section_writer.specs.Canonical.{canonicalFrame};
+ghost use Rattle.command_writer.specs.Made.{commandMade};
+ghost use Rattle.pen.specs.Written.{answerOf, laterOf};
+ghost use Rattle.section_writer.specs.Writing.{conditions, kindOf, madeIf};
+ghost use Rattle.section.specs.Section.{first};
+ghost use Rattle.section_writer.specs.Walk.{frontNumber, backNumber, tail};
+ghost use Rattle.table.specs.Lent.{stored};
+use command::SpliceCommand;
+use command::components::ComponentSplice;
+use command_writer::measure_command;
+use command_writer::put_command;
+use crc::crc32;
+use header::header::SpliceInfoHeader;
+use pen::Written;
+use section::SectionRead;
+use section::read_section;
+use table::numbers::bits;
+use table::numbers::wide;
+use table::store::put_bytes;
+use table::store::put_number;
+
+// ---- what is asked of a header
+
+// Refusal 32: is each of the header's numbers within its field? Its command length and type are not looked at.
+fn numbers_fit(header: SpliceInfoHeader) -> bool
+    ensures { λ r. ⌜ r ≡ numbersFit header ⌝ }
+{
+    let algorithm = header.encryption_algorithm;
+    if 63 < algorithm.id() {
+        return false;
+    }
+    if 0x1_FFFF_FFFF < header.pts_adjustment {
+        return false;
+    }
+    if 0xFFF < header.tier {
+        return false;
+    }
+    true
+}
+
+// Refusal 33: not encrypted, and an algorithm that its own number stands for.
+fn fair_head(header: SpliceInfoHeader) -> bool
+    ensures { λ r. ⌜ r ≡ fairHead header ⌝ }
+{
+    if header.encrypted_packet {
+        return false;
+    }
+    let algorithm = header.encryption_algorithm;
+    algorithm.fair()
+}
+
+// Refusals 31 to 35, in order of number, and 0 where none applies: of a header; of a command that its own writer gives the refusal r, or `size` bytes; and of
+// a loop of `extent` bytes.
+fn refusal_of(header: SpliceInfoHeader, r: u8, size: usize, extent: usize, canonical: bool) -> u8
+    ensures { λ n. ⌜ n ≡ first 31 (conditions header r size extent canonical) ⌝ }
+{
+    if r == 31 {
+        return 31;
+    }
+    if r == 32 {
+        return 32;
+    }
+    if !numbers_fit(header) {
+        return 32;
+    }
+    if r == 33 {
+        return 33;
+    }
+    if !fair_head(header) {
+        return 33;
+    }
+    if 4076 < size {
+        return 34;
+    }
+    if 4076 - size < extent {
+        return 34;
+    }
+    if !canonical {
+        return 35;
+    }
+    0
+}
+
+// ---- the stores
+
+// The first six bytes of a header that is not encrypted: version 8, encrypted 1, algorithm 6, pts_adjustment 33.
+fn front_number(header: SpliceInfoHeader) -> u64
+    requires { ⌜ numbersFit header ≡ true ⌝ }
+    ensures { λ r. ⌜ r ≡ frontNumber header ⌝ }
+{
+    let algorithm = header.encryption_algorithm;
+    (wide(header.protocol_version) * 128 + wide(algorithm.id())) * 0x2_0000_0000
+        + header.pts_adjustment
+}
+
+// Its last five: cw_index 8, tier 12, command length 12, command type 8.
+fn back_number(header: SpliceInfoHeader, kind: u8, size: usize) -> u64
+    requires { ⌜ (numbersFit header ≡ true) × (size < 2 ^ 12) ⌝ }
+    ensures { λ r. ⌜ r ≡ backNumber header kind size ⌝ }
+{
+    ((wide(header.cw_index) * 4096 + header.tier as u64) * 4096 + size as u64) * 256 + wide(kind)
+}
+
+// All before the command: 14 bytes.
+fn put_head(out: &mut [u8], header: SpliceInfoHeader, kind: u8, size: usize, extent: usize)
+    requires { ⌜ (numbersFit header ≡ true) × (fairHead header ≡ true) × (sectionLength size extent ≤ 4096) × (14 ≤ length (now out)) ⌝ }
+    ensures { λ _. ⌜ now (out .exit) ≡ stored (now (out .entry)) 0 (head header kind size extent) ⌝ }
+{
+    put_number(out, 0, 3, 0xFC_3000 + (17 + size + extent) as u64);
+    put_number(out, 3, 6, front_number(header));
+    put_number(out, 9, 5, back_number(header, kind, size));
+}
+
+// All behind the command, which ends at `at`: the loop's length, the loop, and the CRC of all that stands before it.
+fn put_tail(out: &mut [u8], at: usize, descriptors: &[u8])
+    requires { ⌜ (at + length (now descriptors) ≤ 4096) × (at + length (now descriptors) + 6 ≤ length (now out)) ⌝ }
+    ensures { λ _. ⌜ now (out .exit) ≡ stored (now (out .entry)) at (tail (take at (now (out .entry))) (now (descriptors .entry))) ⌝ }
+{
+    put_number(out, at, 2, descriptors.len() as u64);
+    put_bytes(out, at + 2, descriptors);
+    let end = at + 2 + descriptors.len();
+    let crc = crc32(&out[0..end]);
+    put_number(out, end, 4, crc as u64);
+}
+
+// ---- the writer
+
+// The number of a command's type.
+fn kind_of(command: SpliceCommand) -> u8
+    ensures { λ r. ⌜ r ≡ kindOf command ⌝ }
+{
+    match command {
+        SpliceCommand::SpliceNull => 0x00,
+        SpliceCommand::SpliceInsert(_) => 0x05,
+        SpliceCommand::TimeSignal(_) => 0x06,
+        SpliceCommand::BandwidthReservation => 0x07,
+        SpliceCommand::PrivateCommand(_) => 0xFF,
+    }
+}
+
+// A section from the target's first byte on, or a refusal: 31 to 36. `lent` are the bytes that the command's views refer to; whether the loop is canonical
+// (35) is handed in.
+pub fn write_section_if(
+    canonical: bool,
+    header: SpliceInfoHeader,
+    command: SpliceCommand,
+    components: [ComponentSplice; 255],
+    lent: &[u8],
+    descriptors: &[u8],
+    target: &mut [u8],
+) -> Written
+    ensures answer { λ r. ⌜ r ≡ answerOf (madeIf canonical header (commandMade command components (now (lent .entry))) (kindOf command) (now (descriptors .entry))) (now (target .entry)) ⌝ }
+    ensures bytes { λ _. ⌜ now (target .exit) ≡ laterOf (madeIf canonical header (commandMade command components (now (lent .entry))) (kindOf command) (now (descriptors .entry))) (now (target .entry)) ⌝ }
+{
+    let measured = measure_command(command, components, lent);
+    let size = measured.size;
+    let refusal = refusal_of(header, measured.refusal, size, descriptors.len(), canonical);
+    if 0 < refusal {
+        return Written::Refused(refusal);
+    }
+    let length = 20 + size + descriptors.len();
+    if target.len() < length {
+        return Written::Refused(36);
+    }
+    put_head(target, header, kind_of(command), size, descriptors.len());
+    put_command(target, 14, command, components, lent);
+    put_tail(target, 14 + size, descriptors);
+    Written::Wrote(length)
+}
+
+// ---- the canonical form
+
+// What the canonical form asks of a section around its command and its loop.
+pub fn is_canonical_frame(s: &[u8]) -> bool
+    ensures { λ r. ⌜ r ≡ canonicalFrame (now (s .entry)) ⌝ }
+{
+    let read = match read_section(s) {
+        SectionRead::Is(x) => x,
+        SectionRead::Refused(_) => return false,
+    };
+    if bits(s, 1, 0, 4) != 0b0011 {
+        return false;
+    }
+    if bits(s, 1, 4, 12) as usize != s.len() - 3 {
+        return false;
+    }
+    let place = read.descriptors;
+    let at = place.at;
+    let len = place.len;
+    if s.len() != at + len + 4 {
+        return false;
+    }
+    true
+}
