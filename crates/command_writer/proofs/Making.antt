@@ -27,7 +27,8 @@ use Rattle.header.specs.declared.time.SpliceTime.the-variants.{Immediate, Unspe
 use Rattle.pen.specs.Written.{refusalIn, bytesIn}
 use Rattle.table.specs.Bits.{pick, bytesOf}
 use Rattle.table.specs.Table.{flagNumber, number, part, remaining}
-use Rattle.table.specs.Writing.{Field, bits, run, rest, walk, seen, within, contents, print, Made, made, refused, makeOf, make}
+use Rattle.table.specs.Writing as writing
+use Rattle.table.specs.Writing.{Content, Field, bits, run, rest, walk, seen, within, contents, print, Made, made, refused, makeOf, make}
 use Rattle.table.proofs.Bits.{length-bytesN}
 use Rattle.table.proofs.Lists.{and-assoc, and-true}
 use Rattle.table.proofs.Walks.{past, past-append, print-length}
@@ -58,7 +59,7 @@ pub measured-same : {u v a b : Bool} {n k : ℕ} → u ≡ v → a ≡ b → n �
 measured-same {u} {v} {a} {b} {n} {k} e f g = rw (e, f, g)
 
 -- no view
-abbrev Plain : List Field → Type 0
+abbrev pub Plain : List Field → Type 0
 Plain [] = Unit {0}
 Plain (bits w v ∷ fs) = Plain fs
 Plain (run n from ∷ fs) = ⊥
@@ -75,6 +76,16 @@ plain-append [] gs h k = k
 plain-append (bits w v ∷ fs) gs h k = plain-append fs gs h k
 plain-append (run n from ∷ fs) gs h k = absurd h
 plain-append (rest m ∷ fs) gs h k = plain-append fs gs h k
+
+contents-plain : (lent : List ℕ) (fs : List Field) → Plain fs → contents lent fs ≡ contents [] fs
+contents-plain lent [] h = refl
+contents-plain lent (bits w v ∷ fs) h = ap (λ (l : List Content). writing.number w v ∷ l) (contents-plain lent fs h)
+contents-plain lent (run n from ∷ fs) h = absurd h
+contents-plain lent (rest m ∷ fs) h = ap (λ (l : List Content). writing.count m ∷ l) (contents-plain lent fs h)
+
+-- fields without a view are made the same of any lent bytes
+make-plain : (fair : Bool) (lent : List ℕ) (fs : List Field) → Plain fs → makeOf fair lent fs ≡ makeOf fair [] fs
+make-plain fair lent fs h = rw (plain-seen lent fs h, plain-seen [] fs h, contents-plain lent fs h)
 
 within-append : (fs gs : List Field) → within (fs ++ gs) ≡ within fs && within gs
 within-append [] gs = refl
@@ -349,3 +360,20 @@ insert-whole event kept (SpliceInsert.Insert i) cs =
     let x : WithComponents Insertion = record { value = record { «splice_event_id» = event; reserved = kept; «splice_detail» = SpliceInsert.Insert i }; components = cs } in
     let n = 10 + modeBytes (i .«splice_mode») (surveyed (immediateIn i cs) cs .bytes) + breakBytes (i .duration) in
     (n, sym (zero-add (length (ink (insertFields x)))) ∙ print-length [] (insertFields x) 0 (plain-seen [] (insertFields x) (plain-active i cs)) ∙ past-active i cs 40 ∙ omega arith)
+
+-- ---- of any lent bytes
+pub time-made : (t : SpliceTime) (lent : List ℕ) → make spliceTime (notImmediate t) lent t ≡ make spliceTime (notImmediate t) [] t
+time-made t lent =
+    ap (makeOf (notImmediate t) lent) (time-fields t 0) ∙ make-plain (notImmediate t) lent (timeFields t) (plain-unless false t) ∙ sym (ap (makeOf (notImmediate t) []) (time-fields t 0))
+
+pub insert-made-of : (event kept : ℕ) (d : SpliceInsert) (cs : List ComponentSplice) (lent : List ℕ) → length cs ≡ count (insertOf d .«splice_mode»)
+    → (let x : WithComponents Insertion = record { value = record { «splice_event_id» = event; reserved = kept; «splice_detail» = d }; components = cs } in
+    make insert.insert (fairInsert x) lent x ≡ make insert.insert (fairInsert x) [] x)
+insert-made-of event kept d cs lent e =
+    let x : WithComponents Insertion = record { value = record { «splice_event_id» = event; reserved = kept; «splice_detail» = d }; components = cs } in
+    let f = insert-fields event kept d cs e in
+    ap (makeOf (fairInsert x) lent) f ∙ make-plain (fairInsert x) lent (insertFields x) (plain d) ∙ sym (ap (makeOf (fairInsert x) []) f)
+  where
+    plain : (d : SpliceInsert) → Plain (insertFields (record { value = record { «splice_event_id» = event; reserved = kept; «splice_detail» = d }; components = cs }))
+    plain SpliceInsert.Cancel = tt
+    plain (SpliceInsert.Insert i) = plain-active i cs

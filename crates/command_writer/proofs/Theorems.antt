@@ -24,6 +24,7 @@ use Rattle.table.specs.Table.{Answer, got, short, parse, canonical}
 use Rattle.table.specs.Writing.{Made, made, refused, Same, make}
 use Rattle.table.proofs.Lists.{zero-one, append-nil}
 use Rattle.command_writer.specs.Made.{counted, timesFit, insertMade, commandMade}
+use Rattle.command_writer.proofs.Making.{time-made, insert-made-of}
 
 -- ---- written, then read
 -- null and bandwidth reservation are written as nothing, which reads as them
@@ -68,3 +69,21 @@ insert-trip i places lent b h e =
     let w = insert-write-read [] (counted i places) b [] h (insert-made (counted i places) b e .1) in
     let p : parse insert (bitsOf b) 0 ≡ got (counted i places) (length b * 8) = rw (append-nil b) at (w .0) in
     (ap (read (λ (x : WithComponents Insertion). SpliceCommand.SpliceInsert (x .value))) p, p)
+
+-- ---- read, then written: what is written of the reading of canonical bytes without a spare one is those bytes
+pub time-back : (t : SpliceTime) (places : List ComponentSplice) (s : List ℕ) → AllBytes s → parse spliceTime (bitsOf s) 0 ≡ got t (length s * 8) → canonical spliceTime (bitsOf s) 0 ≡ true
+    → commandMade (SpliceCommand.TimeSignal t) places s ≡ made s
+unfolding commandMade
+time-back t places s a e c = sym (time-made t s) ∙ time-read-write s t a e c
+
+pub private-back : (p : Private) (places : List ComponentSplice) (s : List ℕ) → AllBytes s → parse private (bitsOf s) 0 ≡ got p (length s * 8) → canonical private (bitsOf s) 0 ≡ true
+    → commandMade (SpliceCommand.PrivateCommand p) places s ≡ made s
+unfolding commandMade
+private-back p places s a e c = private-read-write s p a e c
+
+-- of an insert whose components are as many as its mode says, and have times of 33 bits
+pub insert-back : (x : WithComponents Insertion) (s : List ℕ) → AllBytes s → parse insert (bitsOf s) 0 ≡ got x (length s * 8) → canonical insert (bitsOf s) 0 ≡ true
+    → Counted x → timesFit (x .components) ≡ true → insertMade x ≡ made s
+unfolding insertMade
+insert-back x s a e c h t =
+    rw t (sym (insert-made-of (x .value .«splice_event_id») (x .value .reserved) (x .value .«splice_detail») (x .components) s h) ∙ insert-read-write s x a e c)
