@@ -1,4 +1,4 @@
--- What a writer asks of an insert's components in one pass. No public contract cites this.
+-- What a writer asks of an insert's components in one pass. Of this a public contract cites `Countable` only, beside its equation.
 use Prim.Native.Nat.{ℕ, _+_, _^_, _<_, _≤_}
 use mathlib.Core.Bool.{Bool, true, false, not, _&&_}
 use mathlib.Core.List.{List, [], _∷_}
