@@ -35,12 +35,13 @@ by-table t b x p c =
     let c₂ : canonical t (bitsOf b) 0 ≡ true = rw (append-nil b) at c in
     rw (p₂, c₂, eq-eqb (length b * 8) (length b * 8) refl)
 
-record Read {X : Type 0} (t : Table X) (s : List ℕ) : Type 0 where
+-- a canonical payload, read
+pub record Read {X : Type 0} (t : Table X) (s : List ℕ) : Type 0 where
   pub value : X
   pub reads : parse t (bitsOf s) 0 ≡ got value (length s * 8)
   pub form : canonical t (bitsOf s) 0 ≡ true
 
-read-by : {X : Type 0} (t : Table X) (s : List ℕ) → canonicalBy t s ≡ true → Read t s
+pub read-by : {X : Type 0} (t : Table X) (s : List ℕ) → canonicalBy t s ≡ true → Read t s
 unfolding canonicalBy
 read-by {X} t s e =
     let a = and-true (takesAll (parse t (bitsOf s) 0) s) _ e in

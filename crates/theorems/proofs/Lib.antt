@@ -8,4 +8,6 @@ pub mod Upids
 pub mod Items
 pub mod Sections
 pub mod Worked
+pub mod InsertsRead
+pub mod WrittenBack
 pub mod Theorems

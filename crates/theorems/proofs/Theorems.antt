@@ -1,16 +1,29 @@
 -- The product's demands, over the definitions. A reader needs specs/Rows.antt, specs/Identifiers.antt and specs/Sections.antt beside this file; the proofs stand in
 -- the other files of this folder. That each public contract fixes its answer is stated for each function in FixedAnswers.antt. Assumes nothing.
 use Prim.Native.Nat.{ℕ, _≤_}
+use mathlib.Core.Bool.{true}
 use mathlib.Core.List.{List, [], _∷_}
 use mathlib.Core.Path.{_≡_}
 use lib.ListN.{length}
+use Rattle.command.specs.Command.{componentsOf}
+use Rattle.command.specs.declared.SpliceCommand.{SpliceCommand}
+use Rattle.command.specs.declared.components.ComponentSplice.{ComponentSplice}
+use Rattle.command_writer.specs.Made.{commandMade}
+use Rattle.command_writer.specs.Survey.{Countable}
+use Rattle.header.specs.declared.header.SpliceInfoHeader.{SpliceInfoHeader}
 use Rattle.items.specs.Cover.{Covered}
 use Rattle.items.specs.Items.{itemsOf}
 use Rattle.section.proofs.Acceptance as acceptance
 use Rattle.section.proofs.Acceptance.{None}
-use Rattle.section.specs.Section.{commandType, loopLength, conditions, first, sectionOf, numberOf}
+use Rattle.section.specs.Section.{commandType, commandBytes, loopLength, conditions, first, sectionOf, numberOf}
 use Rattle.section.specs.declared.Section.{Section}
 use Rattle.section.specs.declared.SectionRead.{SectionRead}
+use Rattle.section_writer.proofs.Theorems as writer
+use Rattle.section_writer.proofs.Whole.{ReadsBack}
+use Rattle.section_writer.specs.Canonical.{loopBytes, canonicalSection, SameAround}
+use Rattle.section_writer.specs.Writing.{kindOf, sectionMade}
+use Rattle.table.specs.Bits.{AllBytes}
+use Rattle.table.specs.Writing.{made}
 use Rattle.upid.specs.Cover.{All}
 use Rattle.theorems.specs.Identifiers.{OneRun, inSection, loopIn, identifiersOf, midsOf, Unsplit}
 use Rattle.theorems.specs.Rows.{Holds, rows}
@@ -18,6 +31,7 @@ use Rattle.theorems.specs.Sections.{EmptyCommand, spliceNull, eight, twe
 use Rattle.theorems.proofs.RowsHold as rows-hold
 use Rattle.theorems.proofs.Sections as sections
 use Rattle.theorems.proofs.Worked as worked
+use Rattle.theorems.proofs.WrittenBack as written-back
 
 -- ---- the worked rows
 
@@ -77,3 +91,22 @@ pub eight-and-twelve-bytes-are-read-whole : Identified eightAndTwelve (
     ∷ record { start = 47; len = 12; bytes = twelve }
     ∷ [])
 eight-and-twelve-bytes-are-read-whole = worked.both-whole
+
+-- ---- writing
+
+-- Demand 2: "Writing the reading of a canonical section gives its bytes": its header, its command with the components and bytes that it has, and its loop, as it stands
+-- in the section
+pub a-canonical-section-is-what-is-written-of-its-reading : (s : List ℕ) (x : Section) → AllBytes s → sectionOf s ≡ SectionRead.Is x → canonicalSection s ≡ true
+    → sectionMade (x .header) (commandMade (x .command) (componentsOf (commandBytes s)) s) (kindOf (x .command)) (loopIn s x) ≡ made s
+a-canonical-section-is-what-is-written-of-its-reading = written-back.section-back
+
+-- "reading what the writer wrote gives what it was handed": the header, with the command's length and type worked out; the command; the loop's bytes; and what is
+-- written is canonical. (An array has 255 places, and a count is a byte.)
+pub what-is-written-reads-back : (h : SpliceInfoHeader) (c : SpliceCommand) (places : List ComponentSplice) (lent loop b : List ℕ) → length places ≡ 255 → Countable c
+    → sectionMade h (commandMade c places lent) (kindOf c) loop ≡ made b → ReadsBack h c places lent loop b
+what-is-written-reads-back = written-back.section-reads
+
+-- Demand 3: "Two different canonical sections never have the same reading": equal values of header and command, equal bytes in the views, and equal loops
+pub canonical-sections-of-one-reading-are-one : (s r : List ℕ) (x y : Section) → AllBytes s → AllBytes r → sectionOf s ≡ SectionRead.Is x → sectionOf r ≡ SectionRead.Is y
+    → canonicalSection s ≡ true → canonicalSection r ≡ true → SameAround s r → loopBytes s ≡ loopBytes r → s ≡ r
+canonical-sections-of-one-reading-are-one = writer.no-other-section
