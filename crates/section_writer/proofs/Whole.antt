@@ -19,6 +19,7 @@ use Rattle.command.proofs.InsertLeads.{Counted}
 use Rattle.command.proofs.InsertTrips.{insert-write-read}
 use Rattle.command.proofs.PrivateTrips.{private-write-read}
 use Rattle.command.proofs.PrivateTrips as private-trips
+use Rattle.command_writer.proofs.Theorems.{insert-made}
 use Rattle.command_writer.specs.Made.{counted, timesFit, insertMade, commandMade}
 use Rattle.descriptor_form.specs.Canonical.{canonicalLoop}
 use Rattle.header.specs.Time.{spliceTime, notImmediate}
@@ -54,15 +55,6 @@ Held (SpliceCommand.TimeSignal t) cs = Unit {0}
 Held SpliceCommand.BandwidthReservation cs = Unit {0}
 Held (SpliceCommand.PrivateCommand p) cs = Unit {0}
 
--- ---- an insert that is written was written by its table
-insert-made : (x : WithComponents Insertion) (b : List ℕ) → insertMade x ≡ made b → make insert (fairInsert x) [] x ≡ made b
-unfolding insertMade
-insert-made x b e = go (timesFit (x .components)) e
-  where
-    go : (f : Bool) → pick f (make insert (fairInsert x) [] x) (refused 32) ≡ made b → make insert (fairInsert x) [] x ≡ made b
-    go true e = e
-    go false e = zero-one cc
-
 pub command-reads : (c : SpliceCommand) (cs : List ComponentSplice) (lent b : List ℕ) → Held c cs → commandMade c cs lent ≡ made b
     → (commandOf (kindOf c) b ≡ CommandRead.Is (ownOf c)) × (canonicalCommand (kindOf c) b ≡ true)
 unfolding commandMade commandOf kindOf
@@ -70,7 +62,7 @@ command-reads SpliceCommand.SpliceNull cs lent b h e =
     let n : [] ≡ b = cc in
     rw (← n) (refl, null-canonical)
 command-reads (SpliceCommand.SpliceInsert i) cs lent b h e =
-    let m = insert-made (counted i cs) b e in
+    let m = insert-made (counted i cs) b e .1 in
     let w = insert-write-read [] (counted i cs) b [] h m in
     (ap (read (λ (x : WithComponents Insertion). SpliceCommand.SpliceInsert (x .value))) (rw (append-nil b) at (w .0)), insert-canonical [] (counted i cs) b h m)
 command-reads (SpliceCommand.TimeSignal t) cs lent b h e =

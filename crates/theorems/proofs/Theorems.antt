@@ -1,14 +1,17 @@
--- The product's demands, over the definitions. A reader needs specs/Rows.antt, specs/Identifiers.antt and specs/Sections.antt beside this file; the proofs stand in
--- the other files of this folder. That each public contract fixes its answer is stated for each function in FixedAnswers.antt. Assumes nothing.
+-- The product's demands, over the definitions. A reader needs specs/Rows.antt, specs/Identifiers.antt and specs/Sections.antt beside this file, and for the part on
+-- writing the definitions of `section_writer` and `command_writer`; the proofs stand in the other files of this folder. That each public contract fixes its answer is
+-- stated for each function in FixedAnswers.antt, FixedAtBoundary.antt and FixedAtWriter.antt. Assumes nothing.
 use Prim.Native.Nat.{ℕ, _≤_}
 use mathlib.Core.Bool.{true}
 use mathlib.Core.List.{List, [], _∷_}
 use mathlib.Core.Path.{_≡_}
 use lib.ListN.{length}
-use Rattle.command.specs.Command.{componentsOf}
+use Rattle.command.specs.Command.{private, array, componentsOf}
+use Rattle.command.specs.declared.Private.{Private}
 use Rattle.command.specs.declared.SpliceCommand.{SpliceCommand}
 use Rattle.command.specs.declared.components.ComponentSplice.{ComponentSplice}
-use Rattle.command_writer.specs.Made.{commandMade}
+use Rattle.command.specs.declared.insert.Insertion.{Insertion}
+use Rattle.command_writer.specs.Made.{counted, commandMade}
 use Rattle.command_writer.specs.Survey.{Countable}
 use Rattle.header.specs.declared.header.SpliceInfoHeader.{SpliceInfoHeader}
 use Rattle.items.specs.Cover.{Covered}
@@ -19,11 +22,13 @@ use Rattle.section.specs.Section.{commandType, commandBytes, loopLength, condit
 use Rattle.section.specs.declared.Section.{Section}
 use Rattle.section.specs.declared.SectionRead.{SectionRead}
 use Rattle.section_writer.proofs.Theorems as writer
+use Rattle.section_writer.proofs.Views as views
 use Rattle.section_writer.proofs.Whole.{ReadsBack}
 use Rattle.section_writer.specs.Canonical.{loopBytes, canonicalSection, SameAround}
 use Rattle.section_writer.specs.Writing.{kindOf, sectionMade}
 use Rattle.table.specs.Bits.{AllBytes}
-use Rattle.table.specs.Writing.{made}
+use Rattle.table.specs.Lent.{viewed}
+use Rattle.table.specs.Writing.{made, make}
 use Rattle.upid.specs.Cover.{All}
 use Rattle.theorems.specs.Identifiers.{OneRun, inSection, loopIn, identifiersOf, midsOf, Unsplit}
 use Rattle.theorems.specs.Rows.{Holds, rows}
@@ -105,6 +110,16 @@ a-canonical-section-is-what-is-written-of-its-reading = written-back.section-bac
 pub what-is-written-reads-back : (h : SpliceInfoHeader) (c : SpliceCommand) (places : List ComponentSplice) (lent loop b : List ℕ) → length places ≡ 255 → Countable c
     → sectionMade h (commandMade c places lent) (kindOf c) loop ≡ made b → ReadsBack h c places lent loop b
 what-is-written-reads-back = written-back.section-reads
+
+-- its insert's components, as the payload's reader answers them
+pub an-inserts-components-read-back : (i : Insertion) (places : List ComponentSplice) (lent b : List ℕ) → length places ≡ 255 → Countable (SpliceCommand.SpliceInsert i)
+    → commandMade (SpliceCommand.SpliceInsert i) places lent ≡ made b → componentsOf b ≡ array (counted i places .components)
+an-inserts-components-read-back = written-back.components-read
+
+-- and a private command's bytes
+pub private-bytes-read-back : (lent : List ℕ) (p : Private) (payload : List ℕ) → make private true lent p ≡ made payload → (h : SpliceInfoHeader) (loop b : List ℕ) → AllBytes lent
+    → sectionMade h (made payload) 0xff loop ≡ made b → viewed b (record { at = 18; len = p .«private_bytes» .len }) ≡ viewed lent (p .«private_bytes»)
+private-bytes-read-back = views.private-bytes-back
 
 -- Demand 3: "Two different canonical sections never have the same reading": equal values of header and command, equal bytes in the views, and equal loops
 pub canonical-sections-of-one-reading-are-one : (s r : List ℕ) (x y : Section) → AllBytes s → AllBytes r → sectionOf s ≡ SectionRead.Is x → sectionOf r ≡ SectionRead.Is y

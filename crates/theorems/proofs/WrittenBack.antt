@@ -1,5 +1,5 @@
 -- A canonical command is what is written of its own reading, and so is a canonical section of its own.
-use Prim.Native.Nat.{ℕ, _+_, _-_, _≤_}
+use Prim.Native.Nat.{ℕ, _+_, _*_, _-_, _≤_}
 use mathlib.Core.Bool.{Bool, true, false}
 use mathlib.Core.List.{List, [], _∷_, _++_}
 use mathlib.Core.Path.{_≡_, refl, ap, sym, _∙_}
@@ -15,7 +15,7 @@ use Rattle.command.specs.declared.CommandRead.{CommandRead}
 use Rattle.command.specs.declared.SpliceCommand.{SpliceCommand}
 use Rattle.command.specs.declared.components.ComponentSplice.{ComponentSplice}
 use Rattle.command.specs.declared.insert.Insertion.{Insertion}
-use Rattle.command_writer.proofs.Theorems.{time-back, private-back, insert-back}
+use Rattle.command_writer.proofs.Theorems.{insert-trip, time-back, private-back, insert-back}
 use Rattle.command_writer.specs.Made.{counted, insertMade, commandMade}
 use Rattle.command_writer.specs.Survey.{Countable}
 use Rattle.descriptor_form.specs.Canonical.{canonicalBy}
@@ -187,3 +187,9 @@ held (SpliceCommand.PrivateCommand p) places n k = tt
 pub section-reads : (h : SpliceInfoHeader) (c : SpliceCommand) (places : List ComponentSplice) (lent loop b : List ℕ) → length places ≡ 255 → Countable c
     → sectionMade h (commandMade c places lent) (kindOf c) loop ≡ made b → ReadsBack h c places lent loop b
 section-reads h c places lent loop b n k e = whole-reads-back h c places lent loop b (held c places n k) e
+
+-- an insert's components, in the array that is read of its payload
+pub components-read : (i : Insertion) (places : List ComponentSplice) (lent b : List ℕ) → length places ≡ 255 → Countable (SpliceCommand.SpliceInsert i)
+    → commandMade (SpliceCommand.SpliceInsert i) places lent ≡ made b → componentsOf b ≡ array (counted i places .components)
+components-read i places lent b n k e =
+    components-are b (counted i places) (length b * 8) (insert-trip i places lent b (held (SpliceCommand.SpliceInsert i) places n k) e .1)
