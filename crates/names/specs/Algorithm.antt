@@ -12,25 +12,22 @@ use Rattle.names.specs.declared.algorithm.EncryptionAlgorithm.the-varian
   Reserved,
   Private,
 }
-use Rattle.names.specs.Numbering.{Class, named, reserved, private, Table, valueOf, fair, pick}
+use Rattle.names.specs.Numbering.{Class, Entry, named, reserved, private, Table, valueOf, fair, pick}
 
--- The table: the number of each name, in the order of the numbers.
+-- The table: the number and the class of each value, the names in the order of their numbers.
+abbrev pub algorithmEntry : EncryptionAlgorithm → Entry
+algorithmEntry None = (0, named)
+algorithmEntry DesEcb = (1, named)
+algorithmEntry DesCbc = (2, named)
+algorithmEntry TripleDesEde3Ecb = (3, named)
+algorithmEntry (Reserved n) = (n, reserved)
+algorithmEntry (Private n) = (n, private)
+
 abbrev pub algorithmNumber : EncryptionAlgorithm → ℕ
-algorithmNumber None = 0
-algorithmNumber DesEcb = 1
-algorithmNumber DesCbc = 2
-algorithmNumber TripleDesEde3Ecb = 3
-algorithmNumber (Reserved n) = n
-algorithmNumber (Private n) = n
+algorithmNumber x = algorithmEntry x .0
 
--- which values are names, and which carry a number without one
 abbrev pub algorithmClass : EncryptionAlgorithm → Class
-algorithmClass None = named
-algorithmClass DesEcb = named
-algorithmClass DesCbc = named
-algorithmClass TripleDesEde3Ecb = named
-algorithmClass (Reserved n) = reserved
-algorithmClass (Private n) = private
+algorithmClass x = algorithmEntry x .1
 
 -- 01: 4 to 31 reserved, 32 to 63 private; as a bare number, 64 to 255 too
 abbrev pub otherAlgorithm : ℕ → EncryptionAlgorithm

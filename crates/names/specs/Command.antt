@@ -12,27 +12,23 @@ use Rattle.names.specs.declared.command.SpliceCommandType.the-variants.{
   PrivateCommand,
   Reserved,
 }
-use Rattle.names.specs.Numbering.{Class, named, reserved, Table, valueOf, fair}
+use Rattle.names.specs.Numbering.{Class, Entry, named, reserved, Table, valueOf, fair}
 
--- The table: the number of each name, in the order of the numbers. 0x04 has a name here, as in 000, though a section with it is refused (01, refusal 10).
+-- The table: the number and the class of each value, the names in the order of their numbers. 0x04 has a name here, as in 000, though a section with it is refused (01, refusal 10).
+abbrev pub commandEntry : SpliceCommandType → Entry
+commandEntry SpliceNull = (0x00, named)
+commandEntry SpliceSchedule = (0x04, named)
+commandEntry SpliceInsert = (0x05, named)
+commandEntry TimeSignal = (0x06, named)
+commandEntry BandwidthReservation = (0x07, named)
+commandEntry PrivateCommand = (0xff, named)
+commandEntry (Reserved n) = (n, reserved)
+
 abbrev pub commandNumber : SpliceCommandType → ℕ
-commandNumber SpliceNull = 0x00
-commandNumber SpliceSchedule = 0x04
-commandNumber SpliceInsert = 0x05
-commandNumber TimeSignal = 0x06
-commandNumber BandwidthReservation = 0x07
-commandNumber PrivateCommand = 0xff
-commandNumber (Reserved n) = n
+commandNumber x = commandEntry x .0
 
--- which values are names, and which carry a number without one
 abbrev pub commandClass : SpliceCommandType → Class
-commandClass SpliceNull = named
-commandClass SpliceSchedule = named
-commandClass SpliceInsert = named
-commandClass TimeSignal = named
-commandClass BandwidthReservation = named
-commandClass PrivateCommand = named
-commandClass (Reserved n) = reserved
+commandClass x = commandEntry x .1
 
 abbrev pub commands : Table SpliceCommandType
 commands = record {

@@ -18,6 +18,10 @@ reserved = 1
 abbrev pub private : Class
 private = 2
 
+-- what a table says of a value: its number and its class
+abbrev pub Entry : Type 0
+Entry = ℕ × Class
+
 -- The number and the class of each value, the names in the order of their numbers, and the value of a number that no name has.
 pub record Table (A : Type 0) : Type 0 where
   pub number : A → ℕ

@@ -34,71 +34,45 @@ use Rattle.names.specs.declared.segmentation.SegmentationTypeId.the-vari
   NetworkEnd,
   Reserved,
 }
-use Rattle.names.specs.Numbering.{Class, named, reserved, Table, valueOf, fair}
+use Rattle.names.specs.Numbering.{Class, Entry, named, reserved, Table, valueOf, fair}
 
--- The table: the number of each name, in the order of the numbers. 28 numbers have a name; all others are reserved.
+-- The table: the number and the class of each value, the names in the order of their numbers. 28 numbers have a name; all others are reserved.
+abbrev pub segmentationEntry : SegmentationTypeId → Entry
+segmentationEntry NotIndicated = (0x00, named)
+segmentationEntry ContentIdentification = (0x01, named)
+segmentationEntry ProgramStart = (0x10, named)
+segmentationEntry ProgramEnd = (0x11, named)
+segmentationEntry ProgramEarlyTermination = (0x12, named)
+segmentationEntry ProgramBreakaway = (0x13, named)
+segmentationEntry ProgramResumption = (0x14, named)
+segmentationEntry ProgramRunoverPlanned = (0x15, named)
+segmentationEntry ProgramRunoverUnplanned = (0x16, named)
+segmentationEntry ProgramOverlapStart = (0x17, named)
+segmentationEntry ProgramBlackoutOverride = (0x18, named)
+segmentationEntry ProgramStartInProgress = (0x19, named)
+segmentationEntry ChapterStart = (0x20, named)
+segmentationEntry ChapterEnd = (0x21, named)
+segmentationEntry BreakStart = (0x22, named)
+segmentationEntry BreakEnd = (0x23, named)
+segmentationEntry ProviderAdvertisementStart = (0x30, named)
+segmentationEntry ProviderAdvertisementEnd = (0x31, named)
+segmentationEntry DistributorAdvertisementStart = (0x32, named)
+segmentationEntry DistributorAdvertisementEnd = (0x33, named)
+segmentationEntry ProviderPlacementOpportunityStart = (0x34, named)
+segmentationEntry ProviderPlacementOpportunityEnd = (0x35, named)
+segmentationEntry DistributorPlacementOpportunityStart = (0x36, named)
+segmentationEntry DistributorPlacementOpportunityEnd = (0x37, named)
+segmentationEntry UnscheduledEventStart = (0x40, named)
+segmentationEntry UnscheduledEventEnd = (0x41, named)
+segmentationEntry NetworkStart = (0x50, named)
+segmentationEntry NetworkEnd = (0x51, named)
+segmentationEntry (Reserved n) = (n, reserved)
+
 abbrev pub segmentationNumber : SegmentationTypeId → ℕ
-segmentationNumber NotIndicated = 0x00
-segmentationNumber ContentIdentification = 0x01
-segmentationNumber ProgramStart = 0x10
-segmentationNumber ProgramEnd = 0x11
-segmentationNumber ProgramEarlyTermination = 0x12
-segmentationNumber ProgramBreakaway = 0x13
-segmentationNumber ProgramResumption = 0x14
-segmentationNumber ProgramRunoverPlanned = 0x15
-segmentationNumber ProgramRunoverUnplanned = 0x16
-segmentationNumber ProgramOverlapStart = 0x17
-segmentationNumber ProgramBlackoutOverride = 0x18
-segmentationNumber ProgramStartInProgress = 0x19
-segmentationNumber ChapterStart = 0x20
-segmentationNumber ChapterEnd = 0x21
-segmentationNumber BreakStart = 0x22
-segmentationNumber BreakEnd = 0x23
-segmentationNumber ProviderAdvertisementStart = 0x30
-segmentationNumber ProviderAdvertisementEnd = 0x31
-segmentationNumber DistributorAdvertisementStart = 0x32
-segmentationNumber DistributorAdvertisementEnd = 0x33
-segmentationNumber ProviderPlacementOpportunityStart = 0x34
-segmentationNumber ProviderPlacementOpportunityEnd = 0x35
-segmentationNumber DistributorPlacementOpportunityStart = 0x36
-segmentationNumber DistributorPlacementOpportunityEnd = 0x37
-segmentationNumber UnscheduledEventStart = 0x40
-segmentationNumber UnscheduledEventEnd = 0x41
-segmentationNumber NetworkStart = 0x50
-segmentationNumber NetworkEnd = 0x51
-segmentationNumber (Reserved n) = n
+segmentationNumber x = segmentationEntry x .0
 
--- which values are names, and which carry a number without one
 abbrev pub segmentationClass : SegmentationTypeId → Class
-segmentationClass NotIndicated = named
-segmentationClass ContentIdentification = named
-segmentationClass ProgramStart = named
-segmentationClass ProgramEnd = named
-segmentationClass ProgramEarlyTermination = named
-segmentationClass ProgramBreakaway = named
-segmentationClass ProgramResumption = named
-segmentationClass ProgramRunoverPlanned = named
-segmentationClass ProgramRunoverUnplanned = named
-segmentationClass ProgramOverlapStart = named
-segmentationClass ProgramBlackoutOverride = named
-segmentationClass ProgramStartInProgress = named
-segmentationClass ChapterStart = named
-segmentationClass ChapterEnd = named
-segmentationClass BreakStart = named
-segmentationClass BreakEnd = named
-segmentationClass ProviderAdvertisementStart = named
-segmentationClass ProviderAdvertisementEnd = named
-segmentationClass DistributorAdvertisementStart = named
-segmentationClass DistributorAdvertisementEnd = named
-segmentationClass ProviderPlacementOpportunityStart = named
-segmentationClass ProviderPlacementOpportunityEnd = named
-segmentationClass DistributorPlacementOpportunityStart = named
-segmentationClass DistributorPlacementOpportunityEnd = named
-segmentationClass UnscheduledEventStart = named
-segmentationClass UnscheduledEventEnd = named
-segmentationClass NetworkStart = named
-segmentationClass NetworkEnd = named
-segmentationClass (Reserved n) = reserved
+segmentationClass x = segmentationEntry x .1
 
 abbrev pub segmentations : Table SegmentationTypeId
 segmentations = record {

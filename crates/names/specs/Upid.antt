@@ -22,47 +22,33 @@ use Rattle.names.specs.declared.upid.SegmentationUpidType.the-variants.{
   URI,
   Reserved,
 }
-use Rattle.names.specs.Numbering.{Class, named, reserved, Table, valueOf, fair}
+use Rattle.names.specs.Numbering.{Class, Entry, named, reserved, Table, valueOf, fair}
 
--- The table: the number of each name, in the order of the numbers. 16 and up have no name.
+-- The table: the number and the class of each value, the names in the order of their numbers. 16 and up have no name.
+abbrev pub upidTypeEntry : SegmentationUpidType → Entry
+upidTypeEntry NotUsed = (0, named)
+upidTypeEntry UserDefinedDeprecated = (1, named)
+upidTypeEntry ISCIDeprecated = (2, named)
+upidTypeEntry AdID = (3, named)
+upidTypeEntry UMID = (4, named)
+upidTypeEntry ISANDeprecated = (5, named)
+upidTypeEntry ISAN = (6, named)
+upidTypeEntry TID = (7, named)
+upidTypeEntry TI = (8, named)
+upidTypeEntry ADI = (9, named)
+upidTypeEntry EIDR = (10, named)
+upidTypeEntry ATSC = (11, named)
+upidTypeEntry MPU = (12, named)
+upidTypeEntry MID = (13, named)
+upidTypeEntry ADS = (14, named)
+upidTypeEntry URI = (15, named)
+upidTypeEntry (Reserved n) = (n, reserved)
+
 abbrev pub upidTypeNumber : SegmentationUpidType → ℕ
-upidTypeNumber NotUsed = 0
-upidTypeNumber UserDefinedDeprecated = 1
-upidTypeNumber ISCIDeprecated = 2
-upidTypeNumber AdID = 3
-upidTypeNumber UMID = 4
-upidTypeNumber ISANDeprecated = 5
-upidTypeNumber ISAN = 6
-upidTypeNumber TID = 7
-upidTypeNumber TI = 8
-upidTypeNumber ADI = 9
-upidTypeNumber EIDR = 10
-upidTypeNumber ATSC = 11
-upidTypeNumber MPU = 12
-upidTypeNumber MID = 13
-upidTypeNumber ADS = 14
-upidTypeNumber URI = 15
-upidTypeNumber (Reserved n) = n
+upidTypeNumber x = upidTypeEntry x .0
 
--- which values are names, and which carry a number without one
 abbrev pub upidTypeClass : SegmentationUpidType → Class
-upidTypeClass NotUsed = named
-upidTypeClass UserDefinedDeprecated = named
-upidTypeClass ISCIDeprecated = named
-upidTypeClass AdID = named
-upidTypeClass UMID = named
-upidTypeClass ISANDeprecated = named
-upidTypeClass ISAN = named
-upidTypeClass TID = named
-upidTypeClass TI = named
-upidTypeClass ADI = named
-upidTypeClass EIDR = named
-upidTypeClass ATSC = named
-upidTypeClass MPU = named
-upidTypeClass MID = named
-upidTypeClass ADS = named
-upidTypeClass URI = named
-upidTypeClass (Reserved n) = reserved
+upidTypeClass x = upidTypeEntry x .1
 
 abbrev pub upidTypes : Table SegmentationUpidType
 upidTypes = record {
