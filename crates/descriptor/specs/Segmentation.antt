@@ -259,6 +259,10 @@ backOf (Insert i) = record {
   «sub_segments» = i .«sub_segments»;
 }
 
+-- the same with another UPID
+abbrev pub withUpid : SegmentationInsert → SegmentationUpid → SegmentationInsert
+withUpid i upid = insertFrom (frontOf (Insert i)) upid (backOf (Insert i))
+
 abbrev pub headOf : SegmentationDescriptor → Head
 headOf d = record { event = d .«segmentation_event_id»; cancel = cancelled (d .«descriptor_detail») }
 

@@ -6,7 +6,7 @@ use mathlib.Core.Path.{_≡_}
 use lib.ListN.{take}
 use Rattle.table.specs.Lent.{viewed}
 use Rattle.table.specs.declared.View.{View}
-use Rattle.descriptor.specs.Segmentation.{countOf, frontOf}
+use Rattle.descriptor.specs.Segmentation.{countOf, frontOf, withUpid}
 use Rattle.descriptor.specs.Views.{descriptorViews}
 use Rattle.descriptor.specs.declared.Descriptor.{Descriptor}
 use Rattle.descriptor.specs.declared.Descriptor.the-variants.{Avail, Dtmf, Segmentation, Time, Reserved}
@@ -20,19 +20,7 @@ noView = record { at = 0; len = 0 }
 
 abbrev pub viewlessDetail : SegmentationDetail → SegmentationDetail
 viewlessDetail Cancel = Cancel
-viewlessDetail (Insert i) = Insert (record {
-  «program_segmentation_flag» = i .«program_segmentation_flag»;
-  «segmentation_duration_flag» = i .«segmentation_duration_flag»;
-  «delivery_not_restricted_flag» = i .«delivery_not_restricted_flag»;
-  «delivery_restrictions» = i .«delivery_restrictions»;
-  «segmentation_mode» = i .«segmentation_mode»;
-  «segmentation_duration» = i .«segmentation_duration»;
-  «segmentation_upid» = record { kind = i .«segmentation_upid» .kind; bytes = noView };
-  «segmentation_type_id» = i .«segmentation_type_id»;
-  «segment_num» = i .«segment_num»;
-  «segments_expected» = i .«segments_expected»;
-  «sub_segments» = i .«sub_segments»;
-})
+viewlessDetail (Insert i) = Insert (withUpid i (record { kind = i .«segmentation_upid» .kind; bytes = noView }))
 
 abbrev pub viewless : Descriptor → Descriptor
 viewless (Avail x) = Avail x

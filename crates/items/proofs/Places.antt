@@ -23,7 +23,8 @@ use Rattle.descriptor.specs.declared.plain.DTMFDescriptor.{DTMFDescriptor}
 use Rattle.descriptor.specs.declared.segmentation.SegmentationDescriptor.{SegmentationDescriptor}
 use Rattle.descriptor.specs.declared.segmentation.SegmentationInsert.{SegmentationInsert}
 use Rattle.descriptor.specs.declared.segmentation.SegmentationUpid.{SegmentationUpid}
-use Rattle.items.specs.Place.{viewsOf, moved, movedUpid, withUpid, movedInsert, movedDetail, movedDescriptor, movedRefusal}
+use Rattle.descriptor.specs.Segmentation.{withUpid}
+use Rattle.items.specs.Place.{viewsOf, moved, movedUpid, movedInsert, movedDetail, movedDescriptor, movedRefusal}
 use Rattle.items.specs.Walk.{Movable}
 use Rattle.items.specs.Items.{itemAt}
 

@@ -6,6 +6,7 @@ use lib.Dec.{eqb}
 use Rattle.table.specs.declared.View.{View}
 use Rattle.upid.specs.declared.Refusal.{Refusal}
 use Rattle.descriptor.specs.Descriptor as descriptor
+use Rattle.descriptor.specs.Segmentation.{withUpid}
 use Rattle.descriptor.specs.Views.{descriptorViews, refusalViews}
 use Rattle.descriptor.specs.declared.Descriptor.{Descriptor}
 use Rattle.descriptor.specs.declared.Descriptor.the-variants.{Avail, Dtmf, Segmentation, Time, Reserved}
@@ -41,23 +42,6 @@ moved base v = record { at = base + v .at; len = v .len }
 -- blank views stay blank
 abbrev pub movedUpid : ℕ → SegmentationUpid → SegmentationUpid
 movedUpid base u = cond (eqb (u .kind) 0 || eqb (u .kind) 10) u (record { kind = u .kind; bytes = moved base (u .bytes) })
-
--- the same with another UPID
-abbrev pub withUpid : SegmentationInsert → SegmentationUpid → SegmentationInsert
-withUpid i upid =
-    record {
-      «program_segmentation_flag» = i .«program_segmentation_flag»;
-      «segmentation_duration_flag» = i .«segmentation_duration_flag»;
-      «delivery_not_restricted_flag» = i .«delivery_not_restricted_flag»;
-      «delivery_restrictions» = i .«delivery_restrictions»;
-      «segmentation_mode» = i .«segmentation_mode»;
-      «segmentation_duration» = i .«segmentation_duration»;
-      «segmentation_upid» = upid;
-      «segmentation_type_id» = i .«segmentation_type_id»;
-      «segment_num» = i .«segment_num»;
-      «segments_expected» = i .«segments_expected»;
-      «sub_segments» = i .«sub_segments»;
-    }
 
 abbrev pub movedInsert : ℕ → SegmentationInsert → SegmentationInsert
 movedInsert base i = withUpid i (movedUpid base (i .«segmentation_upid»))
