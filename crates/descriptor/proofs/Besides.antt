@@ -10,10 +10,8 @@ use lib.Dec.{eqb}
 use lib.ListN.{length, getD, drop, set, replicate, length-replicate}
 use lib.Seq.{sets, sets-eq}
 use Rattle.table.specs.Bits.{pick, bitsOf, field}
-use Rattle.table.specs.Cursor.{place}
 use Rattle.table.specs.Lent.{viewed}
 use Rattle.table.specs.Table.{Table, done, must, inside, reserved, list, ones, Answer, got, short, parse}
-use Rattle.table.specs.declared.cursor.Cursor.{Cursor}
 use Rattle.table.specs.declared.cursor.Short.{Short}
 use Rattle.table.proofs.Laws.{field-there}
 use Rattle.table.proofs.Lists.{zero-one}
@@ -38,27 +36,18 @@ use Rattle.descriptor.specs.Segmentation.{
   Segmentation,
   segmentation,
 }
-use Rattle.descriptor.specs.Walk.{componentRead, filling, frontRead, backRead, headRead}
+use Rattle.descriptor.specs.Walk.{filling}
 use Rattle.descriptor.specs.Descriptor.{descriptorOf}
 use Rattle.descriptor.specs.Whole.{blanks, filled, blankBeside, besideIn, besideOf, besideRead, identifierRead, wholeOf}
 use Rattle.descriptor.specs.declared.DescriptorRead.{DescriptorRead}
 use Rattle.descriptor.specs.declared.back.Back.{Back}
-use Rattle.descriptor.specs.declared.back.BackRead.{BackRead}
 use Rattle.descriptor.specs.declared.front.Component.{Component}
-use Rattle.descriptor.specs.declared.front.ComponentRead.{ComponentRead}
 use Rattle.descriptor.specs.declared.front.Front.{Front}
-use Rattle.descriptor.specs.declared.front.FrontRead.{FrontRead}
-use Rattle.descriptor.specs.declared.front.Fronted.{Fronted}
-use Rattle.descriptor.specs.declared.segmentation.HeadRead.{HeadRead}
-use Rattle.descriptor.specs.declared.segmentation.Headed.{Headed}
 use Rattle.descriptor.specs.declared.segmentation.ModeComponent.{ModeComponent}
 use Rattle.descriptor.specs.declared.segmentation.SegmentationDetail.the-variants.{Cancel, Insert}
 use Rattle.descriptor.specs.declared.segmentation.SegmentationMode.{SegmentationMode}
 use Rattle.descriptor.specs.declared.whole.Beside.{Beside}
-use Rattle.descriptor.proofs.Backs.{back-got, back-lacks}
 use Rattle.descriptor.proofs.Insides.{reads-in}
-use Rattle.descriptor.proofs.Parts.{component-got, component-lacks}
-use Rattle.descriptor.proofs.Segmentations.{front-got, front-lacks, head-got, head-lacks}
 
 -- ---- where the components lie
 reads-ones : {X : Type 0} (s : List ℕ) (at w : ℕ) (t : Table X) (y : X) (m : ℕ) → parse (ones w t) (bitsOf s) at ≡ got y m → parse t (bitsOf s) (at + w) ≡ got y m
@@ -69,13 +58,6 @@ reads-ones {X} s at w t y m e = field-there w (λ (x : X). 2 ^ w - 1) (λ v. mus
 abbrev end : {X : Type 0} → Answer X → ℕ
 end (got x m) = m
 end (short e a) = 0
-
-head-at : (s : List ℕ) (h : Head) (m : ℕ) → parse head (bitsOf s) 0 ≡ got h m → 40 ≡ m
-unfolding head
-head-at s h m e =
-    let e₁ = reads-number s 0 32 _ _ h m e .1 in
-    let e₂ = reads-flag s 32 _ _ h m e₁ .1 in
-    ap end (reads-ones s 33 7 _ h m e₂)
 
 restrictions-at : (s : List ℕ) (b : Bool) (x : _) (m : ℕ) → parse (deliveryRestrictions b) (bitsOf s) 43 ≡ got x m → 48 ≡ m
 unfolding deliveryRestrictions
@@ -89,7 +71,7 @@ restrictions-at s false x m e =
 -- the components of a mode: none, or a list from bit 56 on
 abbrev Listed : List ℕ → SegmentationMode → List ModeComponent → Type 0
 Listed s SegmentationMode.Program cs = cs ≡ []
-Listed s (SegmentationMode.Component n) cs = (m : ℕ) × (parse (list n blankComponent component) (bitsOf s) 56 ≡ got cs m) × (n < 256)
+Listed s (SegmentationMode.Component n) cs = (m : ℕ) × (parse (list n blankComponent component) (bitsOf s) 56 ≡ got cs m) × (n < 256) × (56 ≤ length s * 8)
 
 abbrev modeIn : Answer Moded → Moded
 modeIn (got x m) = x
@@ -99,9 +81,10 @@ mode-listed : (s : List ℕ) (b : Bool) (x : Moded) (m : ℕ) → parse (mode b)
 unfolding mode
 mode-listed s true x m e = rw (← (ap modeIn e)) refl
 mode-listed s false x m e =
+    let e₀ = reads-number s 48 8 _ _ x m e .0 in
     let e₁ = reads-number s 48 8 _ _ x m e .1 in
     let i = reads-in (list (field (bitsOf s) 48 8) blankComponent component) _ _ (bitsOf s) 56 x m e₁ in
-    rw (← (ap modeIn (i .3))) (i .1, i .2, field-lt s 48 8)
+    rw (← (ap modeIn (i .3))) (i .1, i .2, field-lt s 48 8, e₀)
 
 abbrev modeOf : Answer Fore → Moded
 modeOf (got x m) = record { mode = x .front .«segmentation_mode»; components = x .components }
@@ -125,6 +108,14 @@ front-listed s x m e =
     let e₂ = reads-flag s 41 _ _ x m e₁ .1 in
     let e₃ = reads-flag s 42 _ _ x m e₂ .1 in
     parts-listed s _ _ _ x m e₃
+
+module _ (s : List ℕ) (f : Front) (cs : List ModeComponent) (m : ℕ) (e : parse front (bitsOf s) 40 ≡ got (record { front = f; components = cs }) m) where
+  there-as : (k : SegmentationMode) → f .«segmentation_mode» ≡ k → Listed s k cs
+  there-as k is = subst (λ (k : SegmentationMode). Listed s k cs) is (front-listed s (record { front = f; components = cs }) m e)
+
+  -- where there are components, there are seven bytes before them
+  pub components-from : (n : ℕ) → f .«segmentation_mode» ≡ SegmentationMode.Component n → 7 ≤ length s
+  components-from n is = let t : (m : ℕ) × (parse (list n blankComponent component) (bitsOf s) 56 ≡ got cs m) × (n < 256) × (56 ≤ length s * 8) = there-as (SegmentationMode.Component n) is in omega (arith, t .3)
 
 -- ---- an array that is filled
 list-length : (n : ℕ) (bs : List ℕ) (at : ℕ) (cs : List ModeComponent) (m : ℕ) → parse (list n blankComponent component) bs at ≡ got cs m → length cs ≡ n
@@ -157,10 +148,10 @@ unfolding filled blanks
 filled-none = refl
 
 -- ---- the loop that fills: what is left gives what the whole gives
-abbrev pub fillingFrom : List ℕ → List ModeComponent → ℕ → ℕ → Cursor → List ModeComponent
-fillingFrom s out i n c = filling out i (parse (list n blankComponent component) (bitsOf s) (place c))
+abbrev pub fillingFrom : List ℕ → List ModeComponent → ℕ → ℕ → ℕ → List ModeComponent
+fillingFrom s out i n c = filling out i (parse (list n blankComponent component) (bitsOf s) (c * 8))
 
-pub fill-start : (s : List ℕ) (n : ℕ) (c : Cursor) (out : List ModeComponent) → out ≡ blanks → (length out ≡ 255) × (fillingFrom s out 0 (n - 0) c ≡ fillingFrom s blanks 0 n c)
+pub fill-start : (s : List ℕ) (n c : ℕ) (out : List ModeComponent) → out ≡ blanks → (length out ≡ 255) × (fillingFrom s out 0 (n - 0) c ≡ fillingFrom s blanks 0 n c)
 unfolding blanks
 fill-start s n c out e =
     let z : n - 0 ≡ n = omega arith in
@@ -172,32 +163,32 @@ unfolding filling
 filling-onward bs out i y (got xs m) = refl
 filling-onward bs out i y (short e a) = refl
 
-module _ (s : List ℕ) (n : ℕ) (from : Cursor) (out : List ModeComponent) (i : ℕ) (c : Cursor) (inv : fillingFrom s out i (n - i) c ≡ fillingFrom s blanks 0 n from) where
+module _ (s : List ℕ) (n from : ℕ) (out : List ModeComponent) (i c : ℕ) (inv : fillingFrom s out i (n - i) c ≡ fillingFrom s blanks 0 n from) where
   pub fill-end : n ≤ i → out ≡ fillingFrom s blanks 0 n from
   unfolding filling
   fill-end h =
       let z : n - i ≡ 0 = omega arith in
-      let k : fillingFrom s out i (n - i) c ≡ out = rw (z, list-none blankComponent component (bitsOf s) (place c)) in
+      let k : fillingFrom s out i (n - i) c ≡ out = rw (z, list-none blankComponent component (bitsOf s) (c * 8)) in
       sym k ∙ inv
 
   module _ (h : i < n) where
     left-at : fillingFrom s out i (n - i) c ≡ fillingFrom s out i (suc (n - (i + 1))) c
     left-at = ap (λ (k : ℕ). fillingFrom s out i k c) (let z : n - i ≡ suc (n - (i + 1)) = omega arith in z)
 
-    pub fill-turn : (k : ℕ) → k ≡ i → (m : Component) → ComponentRead.Got m ≡ componentRead (parse component (bitsOf s) (place c))
+    pub fill-turn : (k : ℕ) → k ≡ i → (m : Component) → parse component (bitsOf s) (c * 8) ≡ got (m .component) (m .next * 8)
         → fillingFrom s (set out k (m .component)) (i + 1) (n - (i + 1)) (m .next) ≡ fillingFrom s blanks 0 n from
     fill-turn k ek m e =
         rw ek
-        (ap (λ (k : ℕ). filling (set out i (m .component)) k (parse (list (n - (i + 1)) blankComponent component) (bitsOf s) (place (m .next)))) (add-one i)
+        (ap (λ (k : ℕ). filling (set out i (m .component)) k (parse (list (n - (i + 1)) blankComponent component) (bitsOf s) (m .next * 8))) (add-one i)
         ∙ sym
-        (ap (filling out i) (list-turn (n - (i + 1)) blankComponent component (bitsOf s) (place c) (m .component) (place (m .next)) (component-got _ m e .0))
+        (ap (filling out i) (list-turn (n - (i + 1)) blankComponent component (bitsOf s) (c * 8) (m .component) (m .next * 8) e)
         ∙ filling-onward (bitsOf s) out i (m .component) _)
         ∙ sym left-at ∙ inv)
 
-    pub fill-short : (x : Short) → ComponentRead.Lacks x ≡ componentRead (parse component (bitsOf s) (place c)) → blanks ≡ fillingFrom s blanks 0 n from
+    pub fill-short : (x : Short) → parse component (bitsOf s) (c * 8) ≡ short (x .expected) (x .actual) → blanks ≡ fillingFrom s blanks 0 n from
     unfolding filling
     fill-short x e =
-        sym (ap (filling out i) (list-short (n - (i + 1)) blankComponent component (bitsOf s) (place c) (x .expected) (x .actual) (component-lacks _ x e)))
+        sym (ap (filling out i) (list-short (n - (i + 1)) blankComponent component (bitsOf s) (c * 8) (x .expected) (x .actual) e))
         ∙ sym left-at ∙ inv
 
 -- ---- beside a segmentation descriptor, step by step
@@ -206,73 +197,57 @@ module _ (s : List ℕ) where
   unfolding besideOf besideIn
   nothing x e = rw e
 
-  pub beside-no-head : (x : Short) → HeadRead.Lacks x ≡ headRead (parse head (bitsOf s) 0) → blankBeside ≡ besideOf s
+  pub beside-no-head : (x : Short) → parse head (bitsOf s) 0 ≡ short (x .expected) (x .actual) → blankBeside ≡ besideOf s
   unfolding segmentation
-  beside-no-head x e = nothing x (lacks-in head _ _ (bitsOf s) 0 (x .expected) (x .actual) (head-lacks _ x e))
+  beside-no-head x e = nothing x (lacks-in head _ _ (bitsOf s) 0 (x .expected) (x .actual) e)
 
-  module _ (h : Headed) (eh : HeadRead.Got h ≡ headRead (parse head (bitsOf s) 0)) where
+  module _ (h : Head) (eh : parse head (bitsOf s) 0 ≡ got h 40) where
     pub beside-cancelled : h .cancel ≡ true → blankBeside ≡ besideOf s
     unfolding segmentation besideOf besideIn blankBeside blanks filled eidrOf
     beside-cancelled on =
-        let g : parse segmentation (bitsOf s) 0 ≡ got (record { descriptor = record { «segmentation_event_id» = h .event; «descriptor_detail» = Cancel }; components = [] }) (place (h .next)) =
-        takes-in head _ _ (bitsOf s) 0 _ (place (h .next)) (head-got _ h eh) ∙ rw on in
+        let g : parse segmentation (bitsOf s) 0 ≡ got (record { descriptor = record { «segmentation_event_id» = h .event; «descriptor_detail» = Cancel }; components = [] }) 40 =
+        takes-in head _ _ (bitsOf s) 0 h 40 eh ∙ rw on in
         rw g
 
     module _ (off : h .cancel ≡ false) where
-      pub beside-no-front : (x : Short) → FrontRead.Lacks x ≡ frontRead (parse front (bitsOf s) (place (h .next))) → blankBeside ≡ besideOf s
+      pub beside-no-front : (x : Short) → parse front (bitsOf s) 40 ≡ short (x .expected) (x .actual) → blankBeside ≡ besideOf s
       unfolding segmentation
       beside-no-front x e =
-          nothing x
-          (takes-in head _ _ (bitsOf s) 0 _ (place (h .next)) (head-got _ h eh)
-          ∙ rw off (lacks-in front _ _ (bitsOf s) (place (h .next)) (x .expected) (x .actual) (front-lacks _ x e)))
+          nothing x (takes-in head _ _ (bitsOf s) 0 h 40 eh ∙ rw off (lacks-in front _ _ (bitsOf s) 40 (x .expected) (x .actual) e))
 
-      module _ (f : Fronted) (ef : FrontRead.Got f ≡ frontRead (parse front (bitsOf s) (place (h .next)))) where
-        pub beside-no-back : (x : Short) → BackRead.Lacks x ≡ backRead (parse back (bitsOf s) (place (f .next))) → blankBeside ≡ besideOf s
+      module _ (f : Front) (cs : List ModeComponent) (j : ℕ) (ef : parse front (bitsOf s) 40 ≡ got (record { front = f; components = cs }) j) where
+        pub beside-no-back : (x : Short) → parse back (bitsOf s) j ≡ short (x .expected) (x .actual) → blankBeside ≡ besideOf s
         unfolding segmentation
         beside-no-back x e =
-            let i = front-got _ f ef in
             nothing x
-            (takes-in head _ _ (bitsOf s) 0 _ (place (h .next)) (head-got _ h eh)
+            (takes-in head _ _ (bitsOf s) 0 h 40 eh
             ∙ rw off
-            (takes-in front _ _ (bitsOf s) (place (h .next)) (i .0) (place (f .next)) (i .2)
-            ∙ lacks-in back _ _ (bitsOf s) (place (f .next)) (x .expected) (x .actual) (back-lacks _ x e)))
+            (takes-in front _ _ (bitsOf s) 40 (record { front = f; components = cs }) j ef
+            ∙ lacks-in back _ _ (bitsOf s) j (x .expected) (x .actual) e))
 
-        module _ (b : Back) (eb : BackRead.Got b ≡ backRead (parse back (bitsOf s) (place (f .next)))) (held : List ℕ)
-            (eheld : held ≡ eidrOf (f .front .«segmentation_upid» .kind) (viewed s (f .front .«segmentation_upid» .bytes))) where
-          beside : (cs : List ModeComponent) → cs ≡ filled (front-got _ f ef .0 .components) → record { components = cs; eidr = held } ≡ besideOf s
+        module _ (b : Back) (m : ℕ) (eb : parse back (bitsOf s) j ≡ got b m) (held : List ℕ)
+            (eheld : held ≡ eidrOf (f .«segmentation_upid» .kind) (viewed s (f .«segmentation_upid» .bytes))) where
+          beside : (all : List ModeComponent) → all ≡ filled cs → record { components = all; eidr = held } ≡ besideOf s
           unfolding segmentation besideOf besideIn
-          beside cs e =
-              let i = front-got _ f ef in
-              let j = back-got _ b eb in
+          beside all e =
               let g : parse segmentation (bitsOf s) 0 ≡ got (record {
-                descriptor = record { «segmentation_event_id» = h .event; «descriptor_detail» = Insert (insertFrom (i .0 .front) (i .0 .front .«segmentation_upid») b) };
-                components = i .0 .components;
-              }) (j .0) =
-              takes-in head _ _ (bitsOf s) 0 _ (place (h .next)) (head-got _ h eh)
+                descriptor = record { «segmentation_event_id» = h .event; «descriptor_detail» = Insert (insertFrom f (f .«segmentation_upid») b) };
+                components = cs;
+              }) m =
+              takes-in head _ _ (bitsOf s) 0 h 40 eh
               ∙ rw off
-              (takes-in front _ _ (bitsOf s) (place (h .next)) (i .0) (place (f .next)) (i .2)
-              ∙ takes-in back _ _ (bitsOf s) (place (f .next)) b (j .0) (j .1)) in
-              rw (g, ← i .1, ← eheld, e)
+              (takes-in front _ _ (bitsOf s) 40 (record { front = f; components = cs }) j ef
+              ∙ takes-in back _ _ (bitsOf s) j b m eb) in
+              rw (g, ← eheld, e)
 
-          there : Listed s (f .front .«segmentation_mode») (front-got _ f ef .0 .components)
-          there =
-              let i = front-got _ f ef in
-              let z : 40 ≡ place (h .next) = head-at s _ (place (h .next)) (head-got _ h eh) in
-              subst (λ (k : Front). Listed s (k .«segmentation_mode») (i .0 .components)) (sym (i .1)) (front-listed s (i .0) (place (f .next)) (rw z (i .2)))
+          pub beside-program : f .«segmentation_mode» ≡ SegmentationMode.Program → (all : List ModeComponent) → all ≡ blanks → record { components = all; eidr = held } ≡ besideOf s
+          beside-program e all eall = beside all (eall ∙ sym (ap filled (there-as s f cs j ef SegmentationMode.Program e) ∙ filled-none))
 
-          there-as : (k : SegmentationMode) → f .front .«segmentation_mode» ≡ k → Listed s k (front-got _ f ef .0 .components)
-          there-as k e = subst (λ (k : SegmentationMode). Listed s k (front-got _ f ef .0 .components)) e there
-
-          pub beside-program : f .front .«segmentation_mode» ≡ SegmentationMode.Program → (cs : List ModeComponent) → cs ≡ blanks
-              → record { components = cs; eidr = held } ≡ besideOf s
-          beside-program e cs ecs = beside cs (ecs ∙ sym (ap filled (there-as SegmentationMode.Program e) ∙ filled-none))
-
-          pub beside-components : (n : ℕ) → f .front .«segmentation_mode» ≡ SegmentationMode.Component n → (cs : List ModeComponent)
-              → cs ≡ filling blanks 0 (parse (list n blankComponent component) (bitsOf s) (place (record { byte = 7; bit = 0 }))) → record { components = cs; eidr = held } ≡ besideOf s
-          unfolding place
-          beside-components n e cs ecs =
-              let t : (m : ℕ) × (parse (list n blankComponent component) (bitsOf s) 56 ≡ got (front-got _ f ef .0 .components) m) × (n < 256) = there-as (SegmentationMode.Component n) e in
-              beside cs (ecs ∙ filled-is n (bitsOf s) 56 _ (t .0) (omega arith) (t .1))
+          pub beside-components : (n : ℕ) → f .«segmentation_mode» ≡ SegmentationMode.Component n → (all : List ModeComponent)
+              → all ≡ filling blanks 0 (parse (list n blankComponent component) (bitsOf s) 56) → record { components = all; eidr = held } ≡ besideOf s
+          beside-components n e all eall =
+              let t : (m : ℕ) × (parse (list n blankComponent component) (bitsOf s) 56 ≡ got cs m) × (n < 256) × (56 ≤ length s * 8) = there-as s f cs j ef (SegmentationMode.Component n) e in
+              beside all (eall ∙ filled-is n (bitsOf s) 56 _ (t .0) (omega arith) (t .1))
 
 -- ---- beside any descriptor
 pub whole-is : (tag : ℕ) (id s : List ℕ) (r : DescriptorRead) → r ≡ descriptorOf tag id s → (i : List ℕ) → i ≡ identifierRead r id → (b : Beside) → b ≡ besideRead r s

@@ -1,8 +1,9 @@
--- Numbers that a byte holds: what a step on one says of the table from there on. s are the bytes, `at` the bit where the cursor stands.
-use Prim.Native.Nat.{ℕ, _^_, _<_, _≤_}
+-- Numbers of whole bytes; and those that a byte holds: what a step on one says of the table from there on. s are the bytes, `at` the bit where the cursor stands.
+use Prim.Native.Nat.{ℕ, _+_, _*_, _^_, _<_, _≤_}
 use mathlib.Core.List.{List}
-use mathlib.Core.Path.{_≡_, refl, ap₂, sym, _∙_}
+use mathlib.Core.Path.{_≡_, refl, ap, sym, _∙_}
 use native.Mathlib.Omega.{arith}
+use lib.ListN.{length, getD}
 use lib.Pow.{pow-mono}
 use Rattle.table.specs.Bits.{bitsOf, field}
 use Rattle.table.specs.Cursor.{place, cursorAt, takenOf}
@@ -11,6 +12,7 @@ use Rattle.table.specs.declared.cursor.Cursor.{Cursor}
 use Rattle.table.specs.declared.cursor.Number.{Number}
 use Rattle.table.specs.declared.cursor.Short.{Short}
 use Rattle.table.specs.declared.cursor.Taken.{Taken}
+use Rattle.table.proofs.Fields.{byte-field, field-byte}
 use Rattle.table.proofs.Laws.{field-there}
 use Rattle.table.proofs.Lists.{zero-one}
 use Rattle.table.proofs.Reading.{field-lt}
@@ -24,6 +26,25 @@ use Rattle.descriptor.specs.declared.octet.Small.{Small}
 pub place-start : place (record { byte = 0; bit = 0 }) ≡ 0
 unfolding place
 place-start = refl
+
+-- ---- numbers of whole bytes
+module _ (s : List ℕ) (bytes : (i : ℕ) → getD s i 0 < 256) (i : ℕ) where
+  four-bytes : i + 4 ≤ length s → field (bitsOf s) (i * 8) 32 ≡ ((getD s i 0 * 256 + getD s (i + 1) 0) * 256 + getD s (i + 2) 0) * 256 + getD s (i + 3) 0
+  four-bytes h =
+      field-byte s (i + 3) (omega arith) (bytes (i + 3)) (i * 8) 24 (omega arith)
+      ∙ ap (λ (x : ℕ). x * 256 + getD s (i + 3) 0)
+      (field-byte s (i + 2) (omega arith) (bytes (i + 2)) (i * 8) 16 (omega arith)
+      ∙ ap (λ (x : ℕ). x * 256 + getD s (i + 2) 0)
+      (field-byte s (i + 1) (omega arith) (bytes (i + 1)) (i * 8) 8 (omega arith)
+      ∙ ap (λ (x : ℕ). x * 256 + getD s (i + 1) 0) (byte-field s i (omega arith) (bytes i))))
+
+  pub is-four : (a b c d : ℕ) → a ≡ getD s i 0 → b ≡ getD s (i + 1) 0 → c ≡ getD s (i + 2) 0 → d ≡ getD s (i + 3) 0 → i + 4 ≤ length s
+      → (((a * 256 + b) * 256 + c) * 256 + d ≡ field (bitsOf s) (i * 8) 32) × (((a * 256 + b) * 256 + c) * 256 + d < 2 ^ 32)
+  is-four a b c d ea eb ec ed h =
+      (rw (ea, eb, ec, ed) (sym (four-bytes h)), omega (arith, ea, eb, ec, ed, bytes i, bytes (i + 1), bytes (i + 2), bytes (i + 3)))
+
+  pub is-five : (a b : ℕ) → a ≡ field (bitsOf s) (i * 8) 32 → b ≡ getD s (i + 4) 0 → i + 5 ≤ length s → a * 256 + b ≡ field (bitsOf s) (i * 8) 40
+  is-five a b ea eb h = rw (ea, eb) (sym (field-byte s (i + 4) (omega arith) (bytes (i + 4)) (i * 8) 32 (omega arith)))
 
 -- a reading that ends where a cursor stands
 pub placed : {X : Type 0} {x y : X} {c : Cursor} {m : ℕ} → y ≡ x → c ≡ cursorAt m → (got x m ≡ got y (place c)) × Settled c

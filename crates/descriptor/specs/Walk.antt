@@ -1,18 +1,20 @@
 -- What the contracts of private functions say: the readings of the tables as the functions answer them. These are definitions.
-use Prim.Native.Nat.{ℕ}
+use Prim.Native.Nat.{ℕ, _*_, _-_, _/_, _%_}
 use mathlib.Core.List.{List}
+use mathlib.Core.Path.{_≡_}
+use lib.Dec.{eqb}
 use lib.Seq.{sets}
+use Rattle.table.specs.Bits.{pick}
 use Rattle.table.specs.Cursor.{cursorAt}
 use Rattle.table.specs.Lent.{viewed}
 use Rattle.table.specs.Table.{Answer, got, short}
 use Rattle.table.specs.declared.View.{View}
 use Rattle.table.specs.declared.cursor.Short as lacks
-use Rattle.table.specs.declared.cursor.Skipped.{Skipped}
 use Rattle.upid.specs.Upid.{checkOf}
 use Rattle.upid.specs.declared.Refusal.the-variants.{Short}
 use Rattle.upid.specs.declared.UpidRead.{UpidRead}
 use Rattle.descriptor.specs.Descriptor.{moved, reportedUpid}
-use Rattle.descriptor.specs.Segmentation.{Moded, Fore, Head}
+use Rattle.descriptor.specs.Segmentation.{deviceOf, Moded, Fore, Head}
 use Rattle.descriptor.specs.Whole.{blanks}
 use Rattle.descriptor.specs.declared.DescriptorRead.{DescriptorRead}
 use Rattle.descriptor.specs.declared.DescriptorRead.the-variants.{Refused}
@@ -20,7 +22,7 @@ use Rattle.descriptor.specs.declared.back.Back.{Back}
 use Rattle.descriptor.specs.declared.back.BackRead.{BackRead}
 use Rattle.descriptor.specs.declared.back.SubSegmentsRead.{SubSegmentsRead}
 use Rattle.descriptor.specs.declared.front.ComponentRead.{ComponentRead}
-use Rattle.descriptor.specs.declared.front.DeliveryRead.{DeliveryRead}
+use Rattle.descriptor.specs.declared.front.ComponentsPassed.{ComponentsPassed}
 use Rattle.descriptor.specs.declared.front.DurationRead.{DurationRead}
 use Rattle.descriptor.specs.declared.front.FrontRead.{FrontRead}
 use Rattle.descriptor.specs.declared.front.ModeRead.{ModeRead}
@@ -42,45 +44,64 @@ unfoldable pub octetOf : Answer ℕ → Octet
 octetOf (got v at) = Octet.Got (record { value = v; next = cursorAt at })
 octetOf (short expected actual) = Octet.Lacks (record { expected = expected; actual = actual })
 
-unfoldable pub restrictionsRead : Answer DeliveryRestrictionFlags → DeliveryRead
-restrictionsRead (got x at) = DeliveryRead.Got (record { flags = x; next = cursorAt at })
-restrictionsRead (short expected actual) = DeliveryRead.Lacks (record { expected = expected; actual = actual })
+-- the restrictions in the byte that starts with the three flags
+unfoldable pub restrictionsIn : ℕ → DeliveryRestrictionFlags
+restrictionsIn flags =
+    pick (eqb (flags / 32 % 2) 1)
+    DeliveryRestrictionFlags.None
+    (DeliveryRestrictionFlags.DeliveryRestrictions (record {
+      «web_delivery_allowed_flag» = eqb (flags / 16 % 2) 1;
+      «no_regional_blackout_flag» = eqb (flags / 8 % 2) 1;
+      «archive_allowed_flag» = eqb (flags / 4 % 2) 1;
+      «device_restrictions» = deviceOf (flags % 4);
+    }))
 
-unfoldable pub componentRead : Answer ModeComponent → ComponentRead
-componentRead (got x at) = ComponentRead.Got (record { component = x; next = cursorAt at })
-componentRead (short expected actual) = ComponentRead.Lacks (record { expected = expected; actual = actual })
+-- what a component lacks of which n bytes are there: "A bit field of w bits with m left, m < w, gives 21 (w/8, m/8), rounded down"
+unfoldable pub lackedOf : ℕ → lacks.Short
+lackedOf n =
+    pick (eqb n 0) (record { expected = 1; actual = 0 })
+    (pick (eqb n 1) (record { expected = 0; actual = 0 })
+    (record { expected = 4; actual = n - 2 }))
 
-unfoldable pub componentsPassed : Answer (List ModeComponent) → Skipped
-componentsPassed (got xs at) = Skipped.Got (cursorAt at)
-componentsPassed (short expected actual) = Skipped.Lacks (record { expected = expected; actual = actual })
+-- ---- readers of parts that start and end with a byte: what each answer says of the table's reading
 
-unfoldable pub modeRead : Answer Moded → ModeRead
-modeRead (got x at) = ModeRead.Got (record { mode = x .mode; next = cursorAt at })
-modeRead (short expected actual) = ModeRead.Lacks (record { expected = expected; actual = actual })
+abbrev pub componentRead : ComponentRead → Answer ModeComponent → Type 0
+componentRead (ComponentRead.Got x) r = r ≡ got (x .component) (x .next * 8)
+componentRead (ComponentRead.Lacks e) r = r ≡ short (e .expected) (e .actual)
 
-unfoldable pub durationRead : Answer SegmentationDuration → DurationRead
-durationRead (got x at) = DurationRead.Got (record { duration = x; next = cursorAt at })
-durationRead (short expected actual) = DurationRead.Lacks (record { expected = expected; actual = actual })
+-- the components are not kept
+abbrev pub componentsPassed : ComponentsPassed → Answer (List ModeComponent) → Type 0
+componentsPassed (ComponentsPassed.Got next) r = (cs : List ModeComponent) × (r ≡ got cs (next * 8))
+componentsPassed (ComponentsPassed.Lacks e) r = r ≡ short (e .expected) (e .actual)
 
-unfoldable pub upidRead : Answer SegmentationUpid → WrittenRead
-upidRead (got x at) = WrittenRead.Got (record { upid = x; next = cursorAt at })
-upidRead (short expected actual) = WrittenRead.Lacks (record { expected = expected; actual = actual })
+abbrev pub modeRead : ModeRead → Answer Moded → Type 0
+modeRead (ModeRead.Got x) r = (cs : List ModeComponent) × (r ≡ got (record { mode = x .mode; components = cs }) (x .next * 8))
+modeRead (ModeRead.Lacks e) r = r ≡ short (e .expected) (e .actual)
 
-unfoldable pub frontRead : Answer Fore → FrontRead
-frontRead (got x at) = FrontRead.Got (record { front = x .front; next = cursorAt at })
-frontRead (short expected actual) = FrontRead.Lacks (record { expected = expected; actual = actual })
+abbrev pub durationRead : DurationRead → Answer SegmentationDuration → Type 0
+durationRead (DurationRead.Got x) r = r ≡ got (x .duration) (x .next * 8)
+durationRead (DurationRead.Lacks e) r = r ≡ short (e .expected) (e .actual)
 
-unfoldable pub headRead : Answer Head → HeadRead
-headRead (got x at) = HeadRead.Got (record { event = x .event; cancel = x .cancel; next = cursorAt at })
-headRead (short expected actual) = HeadRead.Lacks (record { expected = expected; actual = actual })
+abbrev pub upidRead : WrittenRead → Answer SegmentationUpid → Type 0
+upidRead (WrittenRead.Got x) r = r ≡ got (x .upid) (x .next * 8)
+upidRead (WrittenRead.Lacks e) r = r ≡ short (e .expected) (e .actual)
 
-unfoldable pub subSegmentsRead : Answer SubSegments → SubSegmentsRead
-subSegmentsRead (got x at) = SubSegmentsRead.Got x
-subSegmentsRead (short expected actual) = SubSegmentsRead.Lacks (record { expected = expected; actual = actual })
+abbrev pub frontRead : FrontRead → Answer Fore → Type 0
+frontRead (FrontRead.Got x) r = (cs : List ModeComponent) × (r ≡ got (record { front = x .front; components = cs }) (x .next * 8))
+frontRead (FrontRead.Lacks e) r = r ≡ short (e .expected) (e .actual)
 
-unfoldable pub backRead : Answer Back → BackRead
-backRead (got x at) = BackRead.Got x
-backRead (short expected actual) = BackRead.Lacks (record { expected = expected; actual = actual })
+abbrev pub headRead : HeadRead → Answer Head → Type 0
+headRead (HeadRead.Got x) r = r ≡ got (record { event = x .event; cancel = x .cancel }) 40
+headRead (HeadRead.Lacks e) r = r ≡ short (e .expected) (e .actual)
+
+-- and of those that end the payload
+abbrev pub subSegmentsRead : SubSegmentsRead → Answer SubSegments → Type 0
+subSegmentsRead (SubSegmentsRead.Got x) r = (m : ℕ) × (r ≡ got x m)
+subSegmentsRead (SubSegmentsRead.Lacks e) r = r ≡ short (e .expected) (e .actual)
+
+abbrev pub backRead : BackRead → Answer Back → Type 0
+backRead (BackRead.Got x) r = (m : ℕ) × (r ≡ got x m)
+backRead (BackRead.Lacks e) r = r ≡ short (e .expected) (e .actual)
 
 -- a UPID that is checked
 abbrev pub upidAnswer : UpidRead → View → UpidChecked

@@ -1,16 +1,14 @@
 // A segmentation descriptor's fields after its UPID.
 ghost use mathlib.Core.Path.{_≡_};
+ghost use Prim.Native.Nat.{_+_, _*_, _≤_};
+ghost use lib.ListN.{length};
 ghost use Rattle.descriptor.specs.Segmentation.{subSegments, back};
 ghost use Rattle.descriptor.specs.Walk.{subSegmentsRead, backRead};
 ghost use Rattle.table.specs.Bits.{bitsOf};
-ghost use Rattle.table.specs.Cursor.{place};
 ghost use Rattle.table.specs.Table.{parse};
-use crate::octet::Octet;
-use crate::octet::take_octet;
 use crate::segmentation::SubSegment;
 use crate::segmentation::SubSegments;
 use names::segmentation::SegmentationTypeId;
-use table::cursor::Cursor;
 use table::cursor::Short;
 
 pub(crate) enum SubSegmentsRead {
@@ -30,53 +28,44 @@ pub(crate) enum BackRead {
     Lacks(Short),
 }
 
-fn read_sub_segments(s: &[u8], c: Cursor) -> SubSegmentsRead
-    ensures { λ r. ⌜ r ≡ subSegmentsRead (parse subSegments (bitsOf (now (s .entry))) (place c)) ⌝ }
+fn read_sub_segments(s: &[u8], at: usize) -> SubSegmentsRead
+    requires { ⌜ at ≤ length (now s) ⌝ }
+    ensures { λ r. ⌜ subSegmentsRead r (parse subSegments (bitsOf (now (s .entry))) (at * 8)) ⌝ }
 {
-    if c.left(s) == 0 {
+    let left = s.len() - at;
+    if left == 0 {
         return SubSegmentsRead::Got(SubSegments::Absent);
     }
-    let number = match take_octet(s, c, 8) {
-        Octet::Got(n) => n,
-        Octet::Lacks(e) => return SubSegmentsRead::Lacks(e),
-    };
-    let next = number.next;
-    let expected = match take_octet(s, next, 8) {
-        Octet::Got(n) => n,
-        Octet::Lacks(e) => return SubSegmentsRead::Lacks(e),
-    };
+    if left == 1 {
+        return SubSegmentsRead::Lacks(Short {
+            expected: 1,
+            actual: 0,
+        });
+    }
     SubSegmentsRead::Got(SubSegments::Is(SubSegment {
-        sub_segment_num: number.value,
-        sub_segments_expected: expected.value,
+        sub_segment_num: s[at],
+        sub_segments_expected: s[at + 1],
     }))
 }
 
-pub(crate) fn read_back(s: &[u8], c: Cursor) -> BackRead
-    ensures { λ r. ⌜ r ≡ backRead (parse back (bitsOf (now (s .entry))) (place c)) ⌝ }
+pub(crate) fn read_back(s: &[u8], at: usize) -> BackRead
+    requires { ⌜ at ≤ length (now s) ⌝ }
+    ensures { λ r. ⌜ backRead r (parse back (bitsOf (now (s .entry))) (at * 8)) ⌝ }
 {
-    let kind = match take_octet(s, c, 8) {
-        Octet::Got(n) => n,
-        Octet::Lacks(e) => return BackRead::Lacks(e),
-    };
-    let next = kind.next;
-    let number = match take_octet(s, next, 8) {
-        Octet::Got(n) => n,
-        Octet::Lacks(e) => return BackRead::Lacks(e),
-    };
-    let next = number.next;
-    let expected = match take_octet(s, next, 8) {
-        Octet::Got(n) => n,
-        Octet::Lacks(e) => return BackRead::Lacks(e),
-    };
-    let next = expected.next;
-    let sub_segments = match read_sub_segments(s, next) {
+    if s.len() - at < 3 {
+        return BackRead::Lacks(Short {
+            expected: 1,
+            actual: 0,
+        });
+    }
+    let sub_segments = match read_sub_segments(s, at + 3) {
         SubSegmentsRead::Got(x) => x,
         SubSegmentsRead::Lacks(e) => return BackRead::Lacks(e),
     };
     BackRead::Got(Back {
-        segmentation_type_id: SegmentationTypeId::from_id(kind.value),
-        segment_num: number.value,
-        segments_expected: expected.value,
+        segmentation_type_id: SegmentationTypeId::from_id(s[at]),
+        segment_num: s[at + 1],
+        segments_expected: s[at + 2],
         sub_segments,
     })
 }

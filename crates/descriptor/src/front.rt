@@ -1,13 +1,13 @@
-// A segmentation descriptor's fields from its three flags to its UPID.
+// A segmentation descriptor's fields from its three flags to its UPID. Each part starts with a byte; `at` is that byte's place.
 ghost use mathlib.Core.Path.{_≡_};
-ghost use Rattle.descriptor.specs.Segmentation.{deviceOf, blankComponent, component, deliveryRestrictions, mode, duration, writtenUpid, parts, front};
-ghost use Rattle.descriptor.specs.Walk.{componentRead, componentsPassed, restrictionsRead, modeRead, durationRead, upidRead, frontRead};
+ghost use Prim.Native.Nat.{_+_, _*_, _≤_, _<_};
+ghost use lib.ListN.{length};
+ghost use Rattle.descriptor.specs.Segmentation.{deviceOf, blankComponent, component, mode, duration, writtenUpid, front};
+ghost use Rattle.descriptor.specs.Walk.{restrictionsIn, lackedOf, componentRead, componentsPassed, modeRead, durationRead, upidRead, frontRead};
 ghost use Rattle.table.specs.Bits.{bitsOf};
-ghost use Rattle.table.specs.Cursor.{place, cursorAt};
 ghost use Rattle.table.specs.Table.{list, parse};
-use crate::octet::Octet;
+use crate::octet::number40;
 use crate::octet::size;
-use crate::octet::take_octet;
 use crate::segmentation::DeliveryRestrictionFlags;
 use crate::segmentation::DeliveryRestrictions;
 use crate::segmentation::ModeComponent;
@@ -16,27 +16,14 @@ use crate::segmentation::SegmentationMode;
 use crate::segmentation::SegmentationUpid;
 use names::flags::DeviceRestrictions;
 use names::flags::RestrictionsRead;
-use table::cursor::Cursor;
-use table::cursor::Flagged;
-use table::cursor::Passed;
+use table::View;
 use table::cursor::Short;
-use table::cursor::Skipped;
-use table::cursor::Taken;
+use table::numbers::time33;
 
-// Each part with the cursor after it.
-pub(crate) struct Delivery {
-    pub flags: DeliveryRestrictionFlags,
-    pub next: Cursor,
-}
-
-pub(crate) enum DeliveryRead {
-    Got(Delivery),
-    Lacks(Short),
-}
-
+// Each part with the byte after it.
 pub(crate) struct Component {
     pub component: ModeComponent,
-    pub next: Cursor,
+    pub next: usize,
 }
 
 pub(crate) enum ComponentRead {
@@ -44,9 +31,14 @@ pub(crate) enum ComponentRead {
     Lacks(Short),
 }
 
+pub(crate) enum ComponentsPassed {
+    Got(usize),
+    Lacks(Short),
+}
+
 pub(crate) struct Mode {
     pub mode: SegmentationMode,
-    pub next: Cursor,
+    pub next: usize,
 }
 
 pub(crate) enum ModeRead {
@@ -56,7 +48,7 @@ pub(crate) enum ModeRead {
 
 pub(crate) struct Lasting {
     pub duration: SegmentationDuration,
-    pub next: Cursor,
+    pub next: usize,
 }
 
 pub(crate) enum DurationRead {
@@ -66,7 +58,7 @@ pub(crate) enum DurationRead {
 
 pub(crate) struct Written {
     pub upid: SegmentationUpid,
-    pub next: Cursor,
+    pub next: usize,
 }
 
 pub(crate) enum WrittenRead {
@@ -87,7 +79,7 @@ pub(crate) struct Front {
 
 pub(crate) struct Fronted {
     pub front: Front,
-    pub next: Cursor,
+    pub next: usize,
 }
 
 pub(crate) enum FrontRead {
@@ -105,223 +97,190 @@ fn device(bits: u8) -> DeviceRestrictions
     }
 }
 
-fn read_restrictions(s: &[u8], c: Cursor, not_restricted: bool) -> DeliveryRead
-    ensures { λ r. ⌜ r ≡ restrictionsRead (parse (deliveryRestrictions «not_restricted») (bitsOf (now (s .entry))) (place c)) ⌝ }
+// The restrictions in the last five bits of the byte of flags, which say something unless the third does not restrict.
+fn restrictions(flags: u8) -> DeliveryRestrictionFlags
+    ensures { λ r. ⌜ r ≡ restrictionsIn flags ⌝ }
 {
-    if not_restricted {
-        return match c.skip(s, 5) {
-            Skipped::Got(next) => DeliveryRead::Got(Delivery {
-                flags: DeliveryRestrictionFlags::None,
-                next,
-            }),
-            Skipped::Lacks(e) => DeliveryRead::Lacks(e),
-        };
+    if flags / 32 % 2 == 1 {
+        return DeliveryRestrictionFlags::None;
     }
-    let web = match c.flag(s) {
-        Flagged::Got(f) => f,
-        Flagged::Lacks(e) => return DeliveryRead::Lacks(e),
-    };
-    let next = web.next;
-    let blackout = match next.flag(s) {
-        Flagged::Got(f) => f,
-        Flagged::Lacks(e) => return DeliveryRead::Lacks(e),
-    };
-    let next = blackout.next;
-    let archive = match next.flag(s) {
-        Flagged::Got(f) => f,
-        Flagged::Lacks(e) => return DeliveryRead::Lacks(e),
-    };
-    let next = archive.next;
-    let bits = match take_octet(s, next, 2) {
-        Octet::Got(n) => n,
-        Octet::Lacks(e) => return DeliveryRead::Lacks(e),
-    };
-    let next = bits.next;
-    let flags = DeliveryRestrictionFlags::DeliveryRestrictions(DeliveryRestrictions {
-        web_delivery_allowed_flag: web.set,
-        no_regional_blackout_flag: blackout.set,
-        archive_allowed_flag: archive.set,
-        device_restrictions: device(bits.value),
-    });
-    DeliveryRead::Got(Delivery { flags, next })
-}
-
-pub(crate) fn read_component(s: &[u8], c: Cursor) -> ComponentRead
-    ensures { λ r. ⌜ r ≡ componentRead (parse component (bitsOf (now (s .entry))) (place c)) ⌝ }
-{
-    let tag = match take_octet(s, c, 8) {
-        Octet::Got(n) => n,
-        Octet::Lacks(e) => return ComponentRead::Lacks(e),
-    };
-    let next = tag.next;
-    let next = match next.skip(s, 7) {
-        Skipped::Got(c) => c,
-        Skipped::Lacks(e) => return ComponentRead::Lacks(e),
-    };
-    let offset = match next.take(s, 33) {
-        Taken::Got(n) => n,
-        Taken::Lacks(e) => return ComponentRead::Lacks(e),
-    };
-    let next = offset.next;
-    ComponentRead::Got(Component {
-        component: ModeComponent {
-            component_tag: tag.value,
-            pts_offset: offset.value,
-        },
-        next,
+    DeliveryRestrictionFlags::DeliveryRestrictions(DeliveryRestrictions {
+        web_delivery_allowed_flag: flags / 16 % 2 == 1,
+        no_regional_blackout_flag: flags / 8 % 2 == 1,
+        archive_allowed_flag: flags / 4 % 2 == 1,
+        device_restrictions: device(flags % 4),
     })
 }
 
-// Past n components, each of which is there.
-fn pass_components(s: &[u8], c: Cursor, n: u8) -> Skipped
-    requires { ⌜ cursorAt (place c) ≡ c ⌝ }
-    ensures { λ r. ⌜ r ≡ componentsPassed (parse (list n blankComponent component) (bitsOf (now (s .entry))) (place c)) ⌝ }
+// What a component of which `left` bytes are there lacks first: its tag, its reserved bits or its offset.
+fn lacked(left: usize) -> Short
+    requires { ⌜ left < 6 ⌝ }
+    ensures { λ r. ⌜ r ≡ lackedOf left ⌝ }
 {
-    let mut next = c;
-    let mut i: u8 = 0;
-    while i < n {
-        let after = match read_component(s, next) {
-            ComponentRead::Got(m) => m,
-            ComponentRead::Lacks(e) => return Skipped::Lacks(e),
+    if left == 0 {
+        return Short {
+            expected: 1,
+            actual: 0,
         };
-        let there = after.next;
-        next = there;
-        i += 1;
     }
-    Skipped::Got(next)
+    if left == 1 {
+        return Short {
+            expected: 0,
+            actual: 0,
+        };
+    }
+    Short {
+        expected: 4,
+        actual: left - 2,
+    }
 }
 
-fn read_mode(s: &[u8], c: Cursor, program: bool) -> ModeRead
-    requires { ⌜ cursorAt (place c) ≡ c ⌝ }
-    ensures { λ r. ⌜ r ≡ modeRead (parse (mode program) (bitsOf (now (s .entry))) (place c)) ⌝ }
+pub(crate) fn read_component(s: &[u8], at: usize) -> ComponentRead
+    requires { ⌜ at ≤ length (now s) ⌝ }
+    ensures { λ r. ⌜ componentRead r (parse component (bitsOf (now (s .entry))) (at * 8)) ⌝ }
+{
+    let left = s.len() - at;
+    if left < 6 {
+        return ComponentRead::Lacks(lacked(left));
+    }
+    ComponentRead::Got(Component {
+        component: ModeComponent {
+            component_tag: s[at],
+            pts_offset: time33(s, at + 1),
+        },
+        next: at + 6,
+    })
+}
+
+// Past n components, of six bytes each; where they are not all there, the first of them that is not whole lacks something.
+fn pass_components(s: &[u8], at: usize, n: u8) -> ComponentsPassed
+    requires { ⌜ at ≤ length (now s) ⌝ }
+    ensures { λ r. ⌜ componentsPassed r (parse (list n blankComponent component) (bitsOf (now (s .entry))) (at * 8)) ⌝ }
+{
+    let left = s.len() - at;
+    let bytes = size(n) * 6;
+    if left < bytes {
+        return ComponentsPassed::Lacks(lacked(left % 6));
+    }
+    ComponentsPassed::Got(at + bytes)
+}
+
+fn read_mode(s: &[u8], at: usize, program: bool) -> ModeRead
+    requires { ⌜ at ≤ length (now s) ⌝ }
+    ensures { λ r. ⌜ modeRead r (parse (mode program) (bitsOf (now (s .entry))) (at * 8)) ⌝ }
 {
     if program {
         return ModeRead::Got(Mode {
             mode: SegmentationMode::Program,
-            next: c,
+            next: at,
         });
     }
-    let count = match take_octet(s, c, 8) {
-        Octet::Got(n) => n,
-        Octet::Lacks(e) => return ModeRead::Lacks(e),
-    };
-    let next = count.next;
-    match pass_components(s, next, count.value) {
-        Skipped::Got(next) => ModeRead::Got(Mode {
-            mode: SegmentationMode::Component(count.value),
+    if s.len() <= at {
+        return ModeRead::Lacks(Short {
+            expected: 1,
+            actual: 0,
+        });
+    }
+    let count = s[at];
+    match pass_components(s, at + 1, count) {
+        ComponentsPassed::Got(next) => ModeRead::Got(Mode {
+            mode: SegmentationMode::Component(count),
             next,
         }),
-        Skipped::Lacks(e) => ModeRead::Lacks(e),
+        ComponentsPassed::Lacks(e) => ModeRead::Lacks(e),
     }
 }
 
-fn read_duration(s: &[u8], c: Cursor, flagged: bool) -> DurationRead
-    requires { ⌜ cursorAt (place c) ≡ c ⌝ }
-    ensures { λ r. ⌜ r ≡ durationRead (parse (duration flagged) (bitsOf (now (s .entry))) (place c)) ⌝ }
+fn read_duration(s: &[u8], at: usize, flagged: bool) -> DurationRead
+    requires { ⌜ at ≤ length (now s) ⌝ }
+    ensures { λ r. ⌜ durationRead r (parse (duration flagged) (bitsOf (now (s .entry))) (at * 8)) ⌝ }
 {
     if flagged {
-        return match c.take(s, 40) {
-            Taken::Got(n) => {
-                let next = n.next;
-                DurationRead::Got(Lasting {
-                    duration: SegmentationDuration::Ticks(n.value),
-                    next,
-                })
-            }
-            Taken::Lacks(e) => DurationRead::Lacks(e),
-        };
+        let left = s.len() - at;
+        if left < 5 {
+            return DurationRead::Lacks(Short {
+                expected: 5,
+                actual: left,
+            });
+        }
+        return DurationRead::Got(Lasting {
+            duration: SegmentationDuration::Ticks(number40(s, at)),
+            next: at + 5,
+        });
     }
     DurationRead::Got(Lasting {
         duration: SegmentationDuration::Absent,
-        next: c,
+        next: at,
     })
 }
 
-fn read_written_upid(s: &[u8], c: Cursor) -> WrittenRead
-    ensures { λ r. ⌜ r ≡ upidRead (parse writtenUpid (bitsOf (now (s .entry))) (place c)) ⌝ }
+fn read_written_upid(s: &[u8], at: usize) -> WrittenRead
+    requires { ⌜ at ≤ length (now s) ⌝ }
+    ensures { λ r. ⌜ upidRead r (parse writtenUpid (bitsOf (now (s .entry))) (at * 8)) ⌝ }
 {
-    let kind = match take_octet(s, c, 8) {
-        Octet::Got(n) => n,
-        Octet::Lacks(e) => return WrittenRead::Lacks(e),
-    };
-    let next = kind.next;
-    let length = match take_octet(s, next, 8) {
-        Octet::Got(n) => n,
-        Octet::Lacks(e) => return WrittenRead::Lacks(e),
-    };
-    let next = length.next;
-    let run = match next.pass(s, size(length.value)) {
-        Passed::Got(r) => r,
-        Passed::Lacks(e) => return WrittenRead::Lacks(e),
-    };
-    let bytes = run.bytes;
-    let next = run.next;
+    let left = s.len() - at;
+    if left < 2 {
+        return WrittenRead::Lacks(Short {
+            expected: 1,
+            actual: 0,
+        });
+    }
+    let len = size(s[at + 1]);
+    let start = at + 2;
+    if left - 2 < len {
+        return WrittenRead::Lacks(Short {
+            expected: 1,
+            actual: 0,
+        });
+    }
     WrittenRead::Got(Written {
         upid: SegmentationUpid {
-            kind: kind.value,
-            bytes,
+            kind: s[at],
+            bytes: View { at: start, len },
         },
-        next,
+        next: start + len,
     })
 }
 
-// What the three flags say of the rest.
-fn read_parts(s: &[u8], c: Cursor, program: bool, lasts: bool, free: bool) -> FrontRead
-    ensures { λ r. ⌜ r ≡ frontRead (parse (parts program lasts free) (bitsOf (now (s .entry))) (place c)) ⌝ }
+// The byte of flags, and what the first two say of the rest.
+pub(crate) fn read_front(s: &[u8], at: usize) -> FrontRead
+    ensures { λ r. ⌜ frontRead r (parse front (bitsOf (now (s .entry))) (at * 8)) ⌝ }
 {
-    let delivery = match read_restrictions(s, c, free) {
-        DeliveryRead::Got(d) => d,
-        DeliveryRead::Lacks(e) => return FrontRead::Lacks(e),
-    };
-    let next = delivery.next;
-    let moded = match read_mode(s, next, program) {
+    if s.len() <= at {
+        return FrontRead::Lacks(Short {
+            expected: 0,
+            actual: 0,
+        });
+    }
+    let flags = s[at];
+    let program = flags / 128 % 2 == 1;
+    let lasts = flags / 64 % 2 == 1;
+    let moded = match read_mode(s, at + 1, program) {
         ModeRead::Got(m) => m,
         ModeRead::Lacks(e) => return FrontRead::Lacks(e),
     };
-    let next = moded.next;
-    let lasting = match read_duration(s, next, lasts) {
+    let lasting = match read_duration(s, moded.next, lasts) {
         DurationRead::Got(d) => d,
         DurationRead::Lacks(e) => return FrontRead::Lacks(e),
     };
-    let next = lasting.next;
-    let written = match read_written_upid(s, next) {
+    let written = match read_written_upid(s, lasting.next) {
         WrittenRead::Got(u) => u,
         WrittenRead::Lacks(e) => return FrontRead::Lacks(e),
     };
-    let next = written.next;
-    let delivery_restrictions = delivery.flags;
     let segmentation_mode = moded.mode;
     let segmentation_duration = lasting.duration;
     let segmentation_upid = written.upid;
     let front = Front {
         program_segmentation_flag: program,
         segmentation_duration_flag: lasts,
-        delivery_not_restricted_flag: free,
-        delivery_restrictions,
+        delivery_not_restricted_flag: flags / 32 % 2 == 1,
+        delivery_restrictions: restrictions(flags),
         segmentation_mode,
         segmentation_duration,
         segmentation_upid,
     };
-    FrontRead::Got(Fronted { front, next })
-}
-
-pub(crate) fn read_front(s: &[u8], c: Cursor) -> FrontRead
-    ensures { λ r. ⌜ r ≡ frontRead (parse front (bitsOf (now (s .entry))) (place c)) ⌝ }
-{
-    let program = match c.flag(s) {
-        Flagged::Got(f) => f,
-        Flagged::Lacks(e) => return FrontRead::Lacks(e),
-    };
-    let next = program.next;
-    let lasts = match next.flag(s) {
-        Flagged::Got(f) => f,
-        Flagged::Lacks(e) => return FrontRead::Lacks(e),
-    };
-    let next = lasts.next;
-    let free = match next.flag(s) {
-        Flagged::Got(f) => f,
-        Flagged::Lacks(e) => return FrontRead::Lacks(e),
-    };
-    let next = free.next;
-    read_parts(s, next, program.set, lasts.set, free.set)
+    FrontRead::Got(Fronted {
+        front,
+        next: written.next,
+    })
 }

@@ -1,10 +1,10 @@
 // Segmentation descriptors.
 ghost use mathlib.Core.Path.{_≡_};
+ghost use Prim.Native.Nat.{_*_};
 ghost use Rattle.descriptor.specs.Descriptor.{reportedUpid, inserted, insertOf, segmentationOf};
 ghost use Rattle.descriptor.specs.Segmentation.{head};
 ghost use Rattle.descriptor.specs.Walk.{upidChecked, headRead};
 ghost use Rattle.table.specs.Bits.{bitsOf};
-ghost use Rattle.table.specs.Cursor.{place};
 ghost use Rattle.table.specs.Table.{parse};
 use crate::Descriptor;
 use crate::DescriptorRead;
@@ -15,14 +15,11 @@ use crate::front::Front;
 use crate::front::FrontRead;
 use crate::front::read_front;
 use crate::octet::lacks;
+use crate::octet::number32;
 use names::flags::DeviceRestrictions;
 use names::segmentation::SegmentationTypeId;
 use table::View;
-use table::cursor::Cursor;
-use table::cursor::Flagged;
 use table::cursor::Short;
-use table::cursor::Skipped;
-use table::cursor::Taken;
 use table::lent::view;
 use upid::Refusal;
 use upid::UpidRead;
@@ -179,33 +176,31 @@ fn insert(
     }))
 }
 
-// What follows the head of a descriptor that is not cancelled.
-fn read_insert(payload: &[u8], c: Cursor, event: u32) -> DescriptorRead
-    ensures { λ r. ⌜ r ≡ insertOf (now (payload .entry)) event (place c) ⌝ }
+// What follows the head of a descriptor that is not cancelled, from byte `at` on.
+fn read_insert(payload: &[u8], at: usize, event: u32) -> DescriptorRead
+    ensures { λ r. ⌜ r ≡ insertOf (now (payload .entry)) event (at * 8) ⌝ }
 {
-    let fronted = match read_front(payload, c) {
+    let fronted = match read_front(payload, at) {
         FrontRead::Got(f) => f,
         FrontRead::Lacks(e) => return lacks(e),
     };
     let front = fronted.front;
-    let next = fronted.next;
     let written = front.segmentation_upid;
     let segmentation_upid = match checked_upid(payload, written) {
         UpidChecked::Is(u) => u,
         UpidChecked::Refused(r) => return DescriptorRead::Refused(r),
     };
-    let back = match read_back(payload, next) {
+    let back = match read_back(payload, fronted.next) {
         BackRead::Got(b) => b,
         BackRead::Lacks(e) => return lacks(e),
     };
     insert(event, front, segmentation_upid, back)
 }
 
-// The event and whether it is cancelled, with the cursor after them.
+// The event and whether it is cancelled. They take five bytes.
 pub(crate) struct Headed {
     pub event: u32,
     pub cancel: bool,
-    pub next: Cursor,
 }
 
 pub(crate) enum HeadRead {
@@ -214,27 +209,25 @@ pub(crate) enum HeadRead {
 }
 
 pub(crate) fn read_head(payload: &[u8]) -> HeadRead
-    ensures { λ r. ⌜ r ≡ headRead (parse head (bitsOf (now (payload .entry))) 0) ⌝ }
+    ensures { λ r. ⌜ headRead r (parse head (bitsOf (now (payload .entry))) 0) ⌝ }
 {
-    let start = Cursor { byte: 0, bit: 0 };
-    let event = match start.take(payload, 32) {
-        Taken::Got(n) => n,
-        Taken::Lacks(e) => return HeadRead::Lacks(e),
-    };
-    let next = event.next;
-    let cancel = match next.flag(payload) {
-        Flagged::Got(f) => f,
-        Flagged::Lacks(e) => return HeadRead::Lacks(e),
-    };
-    let next = cancel.next;
-    match next.skip(payload, 7) {
-        Skipped::Got(next) => HeadRead::Got(Headed {
-            event: event.value as u32,
-            cancel: cancel.set,
-            next,
-        }),
-        Skipped::Lacks(e) => HeadRead::Lacks(e),
+    let left = payload.len();
+    if left < 4 {
+        return HeadRead::Lacks(Short {
+            expected: 4,
+            actual: left,
+        });
     }
+    if left < 5 {
+        return HeadRead::Lacks(Short {
+            expected: 0,
+            actual: 0,
+        });
+    }
+    HeadRead::Got(Headed {
+        event: number32(payload, 0) as u32,
+        cancel: payload[4] / 128 % 2 == 1,
+    })
 }
 
 // Tag 2.
@@ -251,6 +244,5 @@ pub fn read_segmentation(payload: &[u8]) -> DescriptorRead
             descriptor_detail: SegmentationDetail::Cancel,
         }));
     }
-    let next = head.next;
-    read_insert(payload, next, head.event)
+    read_insert(payload, 5, head.event)
 }

@@ -1,10 +1,11 @@
 // What stands beside a descriptor, for those who ask: the identifier of a reserved one, and the components and the EIDR of a segmentation descriptor.
 ghost use mathlib.Core.Path.{_≡_};
+ghost use Prim.Native.Nat.{_*_, _≤_};
+ghost use lib.ListN.{length};
 ghost use Rattle.descriptor.specs.Segmentation.{blankComponent, component};
 ghost use Rattle.descriptor.specs.Walk.{filling};
 ghost use Rattle.descriptor.specs.Whole.{blankBeside, blanks, besideOf, besideRead, identifierRead, wholeOf};
 ghost use Rattle.table.specs.Bits.{bitsOf};
-ghost use Rattle.table.specs.Cursor.{place};
 ghost use Rattle.table.specs.Table.{list, parse};
 use crate::Descriptor;
 use crate::DescriptorRead;
@@ -20,7 +21,6 @@ use crate::segmentation::HeadRead;
 use crate::segmentation::ModeComponent;
 use crate::segmentation::SegmentationMode;
 use crate::segmentation::read_head;
-use table::cursor::Cursor;
 use table::lent::view;
 use upid::eidr;
 
@@ -57,23 +57,23 @@ pub fn blank_beside() -> Beside
     }
 }
 
-// n components from a cursor on; none where they are not all there.
-fn list_components(s: &[u8], c: Cursor, n: u8) -> [ModeComponent; 255]
-    ensures { λ r. ⌜ r ≡ filling blanks 0 (parse (list n blankComponent component) (bitsOf (now (s .entry))) (place c)) ⌝ }
+// n components from a byte on; none where they are not all there.
+fn list_components(s: &[u8], from: usize, n: u8) -> [ModeComponent; 255]
+    requires { ⌜ from ≤ length (now s) ⌝ }
+    ensures { λ r. ⌜ r ≡ filling blanks 0 (parse (list n blankComponent component) (bitsOf (now (s .entry))) (from * 8)) ⌝ }
 {
     let mut out = no_components();
-    let mut next = c;
+    let mut next = from;
     let mut i: u8 = 0;
     while i < n {
         let read = match read_component(s, next) {
             ComponentRead::Got(m) => m,
             ComponentRead::Lacks(_) => return no_components(),
         };
-        let there = read.next;
         let component = read.component;
         let at = size(i);
         out[at] = component;
-        next = there;
+        next = read.next;
         i += 1;
     }
     out
@@ -90,13 +90,11 @@ pub fn read_beside(payload: &[u8]) -> Beside
     if head.cancel {
         return blank_beside();
     }
-    let next = head.next;
-    let fronted = match read_front(payload, next) {
+    let fronted = match read_front(payload, 5) {
         FrontRead::Got(f) => f,
         FrontRead::Lacks(_) => return blank_beside(),
     };
-    let next = fronted.next;
-    match read_back(payload, next) {
+    match read_back(payload, fronted.next) {
         BackRead::Got(_) => {}
         BackRead::Lacks(_) => return blank_beside(),
     }
@@ -112,7 +110,7 @@ pub fn read_beside(payload: &[u8]) -> Beside
             eidr,
         },
         SegmentationMode::Component(n) => Beside {
-            components: list_components(payload, Cursor { byte: 7, bit: 0 }, n),
+            components: list_components(payload, 7, n),
             eidr,
         },
     }

@@ -1,95 +1,135 @@
--- `descriptor::front::read_front` walks as its table does: each step of the cursor is one of the table.
-use mathlib.Core.Path.{_≡_, refl, ap, sym, _∙_}
-use Rattle.table.specs.Cursor.{place}
-use Rattle.descriptor.specs.Walk.{frontRead}
-use Rattle.descriptor.proofs.Segmentations.{no-program-flag, no-duration-flag, no-restricted-flag, flags-are}
+-- `descriptor::front::read_front`: the byte of flags, and the parts after it in turn.
+use Prim.Native.Nat.{_+_, _≤_}
+use native.Mathlib.Omega.{arith}
+use lib.ListN.{length}
+use Rattle.descriptor.specs.Segmentation.{mode, duration}
+use Rattle.descriptor.specs.Walk.{modeRead, durationRead, upidRead}
+use Rattle.descriptor.proofs.Parts.{told, ends-inside}
+use Rattle.descriptor.proofs.Segmentations.{no-flags, no-mode, no-lasting, no-upid, front-is}
 use borrow.Author.Needs.{needs}
 use Rattle.descriptor.proofs.front.read_front.Statement.{statement}
 use Rattle.descriptor.proofs.front.read_front.Tie as tie
 
-flag-requires : tie.Need-flag-requires
-flag-requires c κs = search needs
+returns : tie.Need-returns
+returns c = let a = c .before .before .args in no-flags (a .s .now) (a .at) (c .if1 .taken)
 
-enum-known-f : tie.Need-enum-known-f
-enum-known-f c = search needs
+shared-slice-read-flags : tie.Need-shared-slice-read-flags
+shared-slice-read-flags c = search needs
+
+add-read-mode : tie.Need-add-read-mode
+add-read-mode c = search needs
+
+read-mode-requires : tie.Need-read-mode-requires
+read-mode-requires c κs = search needs
+
+enum-known-m : tie.Need-enum-known-m
+enum-known-m c = search needs
 
 enum-known-e : tie.Need-enum-known-e
 enum-known-e c = search needs
 
-returns : tie.Need-returns
-returns c =
+returns-2 : tie.Need-returns-2
+returns-2 c =
     let e = c .before in
-    let flag = e .before .before in
-    let a = flag .before .before .args in
-    no-program-flag (a .s .now) (place (a .c)) _ (sym (e .e .given .1) ∙ flag .flag .ensures)
+    let read-mode = e .before .before in
+    let k = read-mode .before in
+    let a = k .before .before .before .args in
+    no-mode (a .s .now) (a .at) (k .before .if1 .left) (k .shared-slice-known2 .given (a .at) .fits) _ _ (told modeRead _ _ _ (e .e .given .1) (read-mode .read-mode .ensures))
 
-flag-requires-2 : tie.Need-flag-requires-2
-flag-requires-2 c κs = search needs
+read-duration-requires : tie.Need-read-duration-requires
+read-duration-requires c κs =
+    let m = c .before in
+    let read-mode = m .before .before in
+    let k = read-mode .before in
+    let a = k .before .before .before .args in
+    let there : a .at + 1 ≤ length (a .s .now) = omega (arith, k .before .if1 .left) in
+    ends-inside (mode _) (a .s .now) (a .at + 1) _ _ there (told modeRead _ _ _ (m .m .given .1) (read-mode .read-mode .ensures) .1)
 
-enum-known-f-2 : tie.Need-enum-known-f-2
-enum-known-f-2 c = search needs
+enum-known-d : tie.Need-enum-known-d
+enum-known-d c = search needs
 
 enum-known-e-2 : tie.Need-enum-known-e-2
 enum-known-e-2 c = search needs
 
-returns-2 : tie.Need-returns-2
-returns-2 c =
+returns-3 : tie.Need-returns-3
+returns-3 c =
     let e2 = c .before in
-    let flag2 = e2 .before .before in
-    let f = flag2 .before .before .before in
-    let flag = f .before .before in
-    let a = flag .before .before .args in
-    no-duration-flag (a .s .now) (place (a .c)) _ (sym (f .f .given .1) ∙ flag .flag .ensures) _ (sym (e2 .e2 .given .1) ∙ flag2 .flag2 .ensures)
+    let read-duration = e2 .before .before in
+    let m = read-duration .before .before in
+    let read-mode = m .before .before in
+    let k = read-mode .before in
+    let a = k .before .before .before .args in
+    let g = told modeRead _ _ _ (m .m .given .1) (read-mode .read-mode .ensures) in
+    no-lasting (a .s .now) (a .at) (k .before .if1 .left) (k .shared-slice-known2 .given (a .at) .fits) _ _ (g .1) _ _ (told durationRead _ _ _ (e2 .e2 .given .1) (read-duration .read-duration .ensures))
 
-flag-requires-3 : tie.Need-flag-requires-3
-flag-requires-3 c κs = search needs
+read-written-upid-requires : tie.Need-read-written-upid-requires
+read-written-upid-requires c κs =
+    let d = c .before in
+    let read-duration = d .before .before in
+    let m = read-duration .before .before in
+    let read-mode = m .before .before in
+    let k = read-mode .before in
+    let a = k .before .before .before .args in
+    let there : a .at + 1 ≤ length (a .s .now) = omega (arith, k .before .if1 .left) in
+    let moded = ends-inside (mode _) (a .s .now) (a .at + 1) _ _ there (told modeRead _ _ _ (m .m .given .1) (read-mode .read-mode .ensures) .1) in
+    ends-inside (duration _) (a .s .now) _ _ _ moded (told durationRead _ _ _ (d .d .given .1) (read-duration .read-duration .ensures))
 
-enum-known-f-3 : tie.Need-enum-known-f-3
-enum-known-f-3 c = search needs
+enum-known-u : tie.Need-enum-known-u
+enum-known-u c = search needs
 
 enum-known-e-3 : tie.Need-enum-known-e-3
 enum-known-e-3 c = search needs
 
-returns-3 : tie.Need-returns-3
-returns-3 c =
-    let e3 = c .before in
-    let flag3 = e3 .before .before in
-    let f2 = flag3 .before .before .before in
-    let flag2 = f2 .before .before in
-    let f = flag2 .before .before .before in
-    let flag = f .before .before in
-    let a = flag .before .before .args in
-    no-restricted-flag (a .s .now) (place (a .c)) _ (sym (f .f .given .1) ∙ flag .flag .ensures) _ (sym (f2 .f2 .given .1) ∙ flag2 .flag2 .ensures) _ (sym (e3 .e3 .given .1) ∙ flag3 .flag3 .ensures)
-
-read-parts-requires : tie.Need-read-parts-requires
-read-parts-requires c κs = search needs
-
 returns-4 : tie.Need-returns-4
 returns-4 c =
-    let f3 = c .before .before .before in
-    let flag3 = f3 .before .before in
-    let f2 = flag3 .before .before .before in
-    let flag2 = f2 .before .before in
-    let f = flag2 .before .before .before in
-    let flag = f .before .before in
-    let a = flag .before .before .args in
-    c .read-parts .ensures ∙ ap frontRead (flags-are (a .s .now) (place (a .c)) _ (sym (f .f .given .1) ∙ flag .flag .ensures) _ (sym (f2 .f2 .given .1) ∙ flag2 .flag2 .ensures) _ (sym (f3 .f3 .given .1) ∙ flag3 .flag3 .ensures))
+    let e3 = c .before in
+    let read-upid = e3 .before .before in
+    let d = read-upid .before .before in
+    let read-duration = d .before .before in
+    let m = read-duration .before .before in
+    let read-mode = m .before .before in
+    let k = read-mode .before in
+    let a = k .before .before .before .args in
+    let g = told modeRead _ _ _ (m .m .given .1) (read-mode .read-mode .ensures) in
+    let h = told durationRead _ _ _ (d .d .given .1) (read-duration .read-duration .ensures) in
+    no-upid (a .s .now) (a .at) (k .before .if1 .left) (k .shared-slice-known2 .given (a .at) .fits) _ _ (g .1) _ _ h _ _ (told upidRead _ _ _ (e3 .e3 .given .1) (read-upid .read-written-upid .ensures))
+
+restrictions-requires : tie.Need-restrictions-requires
+restrictions-requires c κs = search needs
+
+returns-5 : tie.Need-returns-5
+returns-5 c =
+    let u = c .before .before .before in
+    let read-upid = u .before .before in
+    let d = read-upid .before .before in
+    let read-duration = d .before .before in
+    let m = read-duration .before .before in
+    let read-mode = m .before .before in
+    let k = read-mode .before in
+    let a = k .before .before .before .args in
+    let g = told modeRead _ _ _ (m .m .given .1) (read-mode .read-mode .ensures) in
+    let h = told durationRead _ _ _ (d .d .given .1) (read-duration .read-duration .ensures) in
+    let w = told upidRead _ _ _ (u .u .given .1) (read-upid .read-written-upid .ensures) in
+    (g .0, front-is (a .s .now) (a .at) (k .before .if1 .left) (k .shared-slice-known2 .given (a .at) .fits) _ _ (g .1) _ _ h _ (c .restrictions .ensures) _ _ w)
 
 pub read-front-spec : {M : Type 1} → statement M
 read-front-spec =
     tie.close
     (tie.spec
-    flag-requires
-    enum-known-f
-    enum-known-e
     returns
-    flag-requires-2
-    enum-known-f-2
-    enum-known-e-2
+    shared-slice-read-flags
+    add-read-mode
+    read-mode-requires
+    enum-known-m
+    enum-known-e
     returns-2
-    flag-requires-3
-    enum-known-f-3
-    enum-known-e-3
+    read-duration-requires
+    enum-known-d
+    enum-known-e-2
     returns-3
-    read-parts-requires
-    returns-4)
+    read-written-upid-requires
+    enum-known-u
+    enum-known-e-3
+    returns-4
+    restrictions-requires
+    returns-5)

@@ -1,7 +1,9 @@
 -- `descriptor::segmentation::read_insert`: front, UPID and back in turn.
-use mathlib.Core.Path.{_≡_, refl, ap, sym, _∙_}
-use Rattle.table.specs.Cursor.{place}
-use Rattle.descriptor.proofs.Segmentations.{no-front, bad-upid, no-back, insert-is}
+use Prim.Native.Nat.{_*_}
+use mathlib.Core.Path.{sym, _∙_}
+use Rattle.descriptor.specs.Walk.{frontRead, backRead}
+use Rattle.descriptor.proofs.Parts.{told}
+use Rattle.descriptor.proofs.Segmentations.{front-inside, no-front, bad-upid, no-back, insert-is}
 use borrow.Author.Needs.{needs}
 use Rattle.descriptor.proofs.segmentation.read_insert.Statement.{statement}
 use Rattle.descriptor.proofs.segmentation.read_insert.Tie as tie
@@ -23,7 +25,7 @@ returns c =
     let e = c .before .before in
     let read-front = e .before .before in
     let a = read-front .before .before .args in
-    c .lacks .ensures ∙ no-front (a .payload .now) (a .event) (place (a .c)) _ (sym (e .e .given .1) ∙ read-front .read-front .ensures)
+    c .lacks .ensures ∙ no-front (a .payload .now) (a .event) (a .at * 8) _ (told frontRead _ _ _ (e .e .given .1) (read-front .read-front .ensures))
 
 checked-upid-requires : tie.Need-checked-upid-requires
 checked-upid-requires c κs = search needs
@@ -38,13 +40,20 @@ returns-2 : tie.Need-returns-2
 returns-2 c =
     let r = c .before in
     let checked-upid = r .before .before in
-    let f = checked-upid .before .before .before .before .before in
+    let f = checked-upid .before .before .before .before in
     let read-front = f .before .before in
     let a = read-front .before .before .args in
-    bad-upid (a .payload .now) (a .event) (place (a .c)) _ (sym (f .f .given .1) ∙ read-front .read-front .ensures) _ (sym (r .r .given .1) ∙ checked-upid .checked-upid .ensures)
+    let g = told frontRead _ _ _ (f .f .given .1) (read-front .read-front .ensures) in
+    bad-upid (a .payload .now) (a .event) (a .at * 8) _ _ _ (g .1) _ (sym (r .r .given .1) ∙ checked-upid .checked-upid .ensures)
 
 read-back-requires : tie.Need-read-back-requires
-read-back-requires c κs = search needs
+read-back-requires c κs =
+    let checked-upid = c .before .before .before in
+    let f = checked-upid .before .before .before .before in
+    let read-front = f .before .before in
+    let a = read-front .before .before .args in
+    let g = told frontRead _ _ _ (f .f .given .1) (read-front .read-front .ensures) in
+    front-inside (a .payload .now) (a .at) _ _ (g .1)
 
 enum-known-b : tie.Need-enum-known-b
 enum-known-b c = search needs
@@ -61,10 +70,11 @@ returns-3 c =
     let read-back = e2 .before .before in
     let u = read-back .before .before in
     let checked-upid = u .before .before in
-    let f = checked-upid .before .before .before .before .before in
+    let f = checked-upid .before .before .before .before in
     let read-front = f .before .before in
     let a = read-front .before .before .args in
-    c .lacks2 .ensures ∙ no-back (a .payload .now) (a .event) (place (a .c)) _ (sym (f .f .given .1) ∙ read-front .read-front .ensures) _ (sym (u .u .given .1) ∙ checked-upid .checked-upid .ensures) _ (sym (e2 .e2 .given .1) ∙ read-back .read-back .ensures)
+    let g = told frontRead _ _ _ (f .f .given .1) (read-front .read-front .ensures) in
+    c .lacks2 .ensures ∙ no-back (a .payload .now) (a .event) (a .at * 8) _ _ _ (g .1) _ (sym (u .u .given .1) ∙ checked-upid .checked-upid .ensures) _ (told backRead _ _ _ (e2 .e2 .given .1) (read-back .read-back .ensures))
 
 insert-requires : tie.Need-insert-requires
 insert-requires c κs = search needs
@@ -75,10 +85,11 @@ returns-4 c =
     let read-back = b .before .before in
     let u = read-back .before .before in
     let checked-upid = u .before .before in
-    let f = checked-upid .before .before .before .before .before in
+    let f = checked-upid .before .before .before .before in
     let read-front = f .before .before in
     let a = read-front .before .before .args in
-    c .insert .ensures ∙ insert-is (a .payload .now) (a .event) (place (a .c)) _ (sym (f .f .given .1) ∙ read-front .read-front .ensures) _ (sym (u .u .given .1) ∙ checked-upid .checked-upid .ensures) _ (sym (b .b .given .1) ∙ read-back .read-back .ensures)
+    let g = told frontRead _ _ _ (f .f .given .1) (read-front .read-front .ensures) in
+    c .insert .ensures ∙ insert-is (a .payload .now) (a .event) (a .at * 8) _ _ _ (g .1) _ (sym (u .u .given .1) ∙ checked-upid .checked-upid .ensures) _ _ (told backRead _ _ _ (b .b .given .1) (read-back .read-back .ensures) .1)
 
 pub read-insert-spec : {M : Type 1} → statement M
 read-insert-spec =

@@ -1,5 +1,7 @@
 -- `descriptor::segmentation::read_segmentation`: the head, and what follows it.
-use mathlib.Core.Path.{_≡_, refl, ap, sym, _∙_}
+use mathlib.Core.Path.{_∙_}
+use Rattle.descriptor.specs.Walk.{headRead}
+use Rattle.descriptor.proofs.Parts.{told}
 use Rattle.descriptor.proofs.Segmentations.{no-head, cancel-is, insert-from}
 use borrow.Author.Needs.{needs}
 use Rattle.descriptor.proofs.segmentation.read_segmentation.Statement.{statement}
@@ -22,25 +24,25 @@ returns c =
     let e = c .before .before in
     let read-head = e .before .before in
     let a = read-head .before .before .args in
-    c .lacks .ensures ∙ no-head (a .payload .now) _ (sym (e .e .given .1) ∙ read-head .read-head .ensures)
+    c .lacks .ensures ∙ no-head (a .payload .now) _ (told headRead _ _ _ (e .e .given .1) (read-head .read-head .ensures))
 
 returns-2 : tie.Need-returns-2
 returns-2 c =
     let h = c .before .before in
     let read-head = h .before .before in
     let a = read-head .before .before .args in
-    cancel-is (a .payload .now) _ (sym (h .h .given .1) ∙ read-head .read-head .ensures) (c .if1 .taken)
+    cancel-is (a .payload .now) _ (told headRead _ _ _ (h .h .given .1) (read-head .read-head .ensures)) (c .if1 .taken)
 
 read-insert-requires : tie.Need-read-insert-requires
 read-insert-requires c κs = search needs
 
 returns-3 : tie.Need-returns-3
 returns-3 c =
-    let if1 = c .before .before in
+    let if1 = c .before in
     let h = if1 .before .before in
     let read-head = h .before .before in
     let a = read-head .before .before .args in
-    c .read-insert .ensures ∙ insert-from (a .payload .now) _ (sym (h .h .given .1) ∙ read-head .read-head .ensures) (if1 .if1 .left)
+    c .read-insert .ensures ∙ insert-from (a .payload .now) _ (told headRead _ _ _ (h .h .given .1) (read-head .read-head .ensures)) (if1 .if1 .left)
 
 pub read-segmentation-spec : {M : Type 1} → statement M
 read-segmentation-spec =

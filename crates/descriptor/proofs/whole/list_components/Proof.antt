@@ -1,19 +1,22 @@
 -- `descriptor::whole::list_components`. The loop's invariant: what is left, stored from place i on, gives what the whole gives.
 use Prim.Native.Nat.{_+_, _-_, _≤_}
-use mathlib.Core.Path.{_≡_, refl, ap, sym, _∙_}
+use mathlib.Core.Path.{_≡_, _∙_}
 use native.Mathlib.Omega.{arith}
 use lib.ListN.{length, length-set}
+use Rattle.descriptor.specs.Segmentation.{component}
+use Rattle.descriptor.specs.Walk.{componentRead}
 use Rattle.descriptor.specs.Whole.{blanks}
 use Rattle.descriptor.proofs.Besides.{fillingFrom, fill-start, fill-end, fill-turn, fill-short}
+use Rattle.descriptor.proofs.Parts.{told, ends-inside}
 use borrow.Author.Needs.{needs}
 use Rattle.descriptor.proofs.whole.list_components.Statement.{statement}
 use Rattle.descriptor.proofs.whole.list_components.Tie as tie
 
 abbrev Inv-loop : tie.InvT-loop
-Inv-loop s n out₀ next₀ i₀ out next i = (length out ≡ 255) × (i ≤ n) × (fillingFrom s out i (n - i) next ≡ fillingFrom s blanks 0 n next₀)
+Inv-loop s from n out₀ next₀ i₀ out next i = (length out ≡ 255) × (next ≤ length s) × (i ≤ n) × (fillingFrom s out i (n - i) next ≡ fillingFrom s blanks 0 n next₀)
 
 abbrev μ-loop : tie.MeasureT-loop
-μ-loop s n out₀ next₀ i₀ out next i = n - i
+μ-loop s from n out₀ next₀ i₀ out next i = n - i
 
 no-components-requires : tie.Need-no-components-requires Inv-loop μ-loop
 no-components-requires c κs = search needs
@@ -21,7 +24,7 @@ no-components-requires c κs = search needs
 loop-holds : tie.Need-loop-holds Inv-loop μ-loop
 loop-holds c =
     let a = c .before .before .args in
-    (fill-start (a .s .now) (a .n) (a .c) _ (c .no-components .ensures) .0, omega arith, fill-start (a .s .now) (a .n) (a .c) _ (c .no-components .ensures) .1)
+    (fill-start (a .s .now) (a .n) (a .from) _ (c .no-components .ensures) .0, c .before .before .pre, omega arith, fill-start (a .s .now) (a .n) (a .from) _ (c .no-components .ensures) .1)
 
 read-component-requires : tie.Need-read-component-requires Inv-loop μ-loop
 read-component-requires c κs = search needs
@@ -42,7 +45,7 @@ returns c =
     let loop-test = read-component .before in
     let loop = loop-test .before in
     let a = loop .before .before .before .args in
-    c .no-components2 .ensures ∙ fill-short (a .s .now) (a .n) (a .c) (loop .loop .out) (loop .loop .i) (loop .loop .next) (loop .loop .inv .2) (loop-test .loop-test .taken) _ (sym (enum-told .enum-told .given .1) ∙ read-component .read-component .ensures)
+    c .no-components2 .ensures ∙ fill-short (a .s .now) (a .n) (a .from) (loop .loop .out) (loop .loop .i) (loop .loop .next) (loop .loop .inv .3) (loop-test .loop-test .taken) _ (told componentRead _ _ _ (enum-told .enum-told .given .1) (read-component .read-component .ensures))
 
 size-requires : tie.Need-size-requires Inv-loop μ-loop
 size-requires c κs = search needs
@@ -61,21 +64,23 @@ loop-less c = omega arith
 
 loop-again : tie.Need-loop-again Inv-loop μ-loop
 loop-again c =
-    let m = c .before .before .before .before in
+    let m = c .before .before .before in
     let read = m .before .before in
     let loop = read .before .before in
-    let a = loop .before .before .before .args in (
+    let a = loop .before .before .before .args in
+    let g = told componentRead _ _ _ (m .m .given .1) (read .read-component .ensures) in (
       simp length-set (loop .loop .inv .0),
+      ends-inside component (a .s .now) (loop .loop .next) _ _ (loop .loop .inv .1) g,
       omega arith,
-      fill-turn (a .s .now) (a .n) (a .c) (loop .loop .out) (loop .loop .i) (loop .loop .next) (loop .loop .inv .2) (read .before .loop-test .taken) _ (c .size .ensures) _
-          (sym (m .m .given .1) ∙ read .read-component .ensures),
+      fill-turn (a .s .now) (a .n) (a .from) (loop .loop .out) (loop .loop .i) (loop .loop .next) (loop .loop .inv .3) (read .before .loop-test .taken) _ (c .size .ensures) _
+          g,
     )
 
 returns-2 : tie.Need-returns-2 Inv-loop μ-loop
 returns-2 c =
     let loop = c .before in
     let a = loop .before .before .before .args in
-    fill-end (a .s .now) (a .n) (a .c) (loop .loop .out) (loop .loop .i) (loop .loop .next) (loop .loop .inv .2) (c .loop-test .left)
+    fill-end (a .s .now) (a .n) (a .from) (loop .loop .out) (loop .loop .i) (loop .loop .next) (loop .loop .inv .3) (c .loop-test .left)
 
 pub list-components-spec : {M : Type 1} → statement M
 list-components-spec =

@@ -1,7 +1,10 @@
 -- `descriptor::whole::read_beside`: the table's parts in turn, then its components from their first byte on.
-use mathlib.Core.Path.{_≡_, refl, ap, sym, _∙_}
+use mathlib.Core.Path.{ap, _∙_}
 use Rattle.upid.specs.Upid.{eidrOf}
-use Rattle.descriptor.proofs.Besides.{beside-no-head, beside-cancelled, beside-no-front, beside-no-back, beside-program, beside-components}
+use Rattle.descriptor.specs.Walk.{frontRead, backRead, headRead}
+use Rattle.descriptor.proofs.Besides.{components-from, beside-no-head, beside-cancelled, beside-no-front, beside-no-back, beside-program, beside-components}
+use Rattle.descriptor.proofs.Parts.{told}
+use Rattle.descriptor.proofs.Segmentations.{front-inside}
 use borrow.Author.Needs.{needs}
 use Rattle.descriptor.proofs.whole.read_beside.Statement.{statement}
 use Rattle.descriptor.proofs.whole.read_beside.Tie as tie
@@ -23,7 +26,7 @@ returns c =
     let enum-told = c .before in
     let read-head = enum-told .before .before in
     let a = read-head .before .before .args in
-    c .blank-beside .ensures ∙ beside-no-head (a .payload .now) _ (sym (enum-told .enum-told .given .1) ∙ read-head .read-head .ensures)
+    c .blank-beside .ensures ∙ beside-no-head (a .payload .now) _ (told headRead _ _ _ (enum-told .enum-told .given .1) (read-head .read-head .ensures))
 
 blank-beside-requires-2 : tie.Need-blank-beside-requires-2
 blank-beside-requires-2 c κs = search needs
@@ -34,7 +37,7 @@ returns-2 c =
     let h = if1 .before .before in
     let read-head = h .before .before in
     let a = read-head .before .before .args in
-    c .blank-beside2 .ensures ∙ beside-cancelled (a .payload .now) _ (sym (h .h .given .1) ∙ read-head .read-head .ensures) (if1 .if1 .taken)
+    c .blank-beside2 .ensures ∙ beside-cancelled (a .payload .now) _ (told headRead _ _ _ (h .h .given .1) (read-head .read-head .ensures)) (if1 .if1 .taken)
 
 read-front-requires : tie.Need-read-front-requires
 read-front-requires c κs = search needs
@@ -52,14 +55,19 @@ returns-3 : tie.Need-returns-3
 returns-3 c =
     let enum-told2 = c .before in
     let read-front = enum-told2 .before .before in
-    let if1 = read-front .before .before in
+    let if1 = read-front .before in
     let h = if1 .before .before in
     let read-head = h .before .before in
     let a = read-head .before .before .args in
-    c .blank-beside3 .ensures ∙ beside-no-front (a .payload .now) _ (sym (h .h .given .1) ∙ read-head .read-head .ensures) (if1 .if1 .left) _ (sym (enum-told2 .enum-told2 .given .1) ∙ read-front .read-front .ensures)
+    c .blank-beside3 .ensures ∙ beside-no-front (a .payload .now) _ (told headRead _ _ _ (h .h .given .1) (read-head .read-head .ensures)) (if1 .if1 .left) _ (told frontRead _ _ _ (enum-told2 .enum-told2 .given .1) (read-front .read-front .ensures))
 
 read-back-requires : tie.Need-read-back-requires
-read-back-requires c κs = search needs
+read-back-requires c κs =
+    let f = c .before in
+    let read-front = f .before .before in
+    let a = read-front .before .before .before .before .before .before .before .args in
+    let g = told frontRead _ _ _ (f .f .given .1) (read-front .read-front .ensures) in
+    front-inside (a .payload .now) 5 _ _ (g .1)
 
 enum-told-3 : tie.Need-enum-told-3
 enum-told-3 c = search needs
@@ -74,13 +82,14 @@ returns-4 : tie.Need-returns-4
 returns-4 c =
     let enum-told4 = c .before in
     let read-back = enum-told4 .before .before in
-    let f = read-back .before .before .before in
+    let f = read-back .before .before in
     let read-front = f .before .before in
-    let if1 = read-front .before .before in
+    let if1 = read-front .before in
     let h = if1 .before .before in
     let read-head = h .before .before in
     let a = read-head .before .before .args in
-    c .blank-beside4 .ensures ∙ beside-no-back (a .payload .now) _ (sym (h .h .given .1) ∙ read-head .read-head .ensures) (if1 .if1 .left) _ (sym (f .f .given .1) ∙ read-front .read-front .ensures) _ (sym (enum-told4 .enum-told4 .given .1) ∙ read-back .read-back .ensures)
+    let g = told frontRead _ _ _ (f .f .given .1) (read-front .read-front .ensures) in
+    c .blank-beside4 .ensures ∙ beside-no-back (a .payload .now) _ (told headRead _ _ _ (h .h .given .1) (read-head .read-head .ensures)) (if1 .if1 .left) _ _ _ (g .1) _ (told backRead _ _ _ (enum-told4 .enum-told4 .given .1) (read-back .read-back .ensures))
 
 view-requires : tie.Need-view-requires
 view-requires c κs = search needs
@@ -98,7 +107,14 @@ enum-known-mode : tie.Need-enum-known-mode
 enum-known-mode c = search needs
 
 list-components-requires : tie.Need-list-components-requires
-list-components-requires c κs = search needs
+list-components-requires c κs =
+    let mode = c .before in
+    let view = mode .before .before .before in
+    let f = view .before .before .before .before .before .before .before .before in
+    let read-front = f .before .before in
+    let a = read-front .before .before .before .before .before .before .before .args in
+    let g = told frontRead _ _ _ (f .f .given .1) (read-front .read-front .ensures) in
+    components-from (a .payload .now) _ _ _ (g .1) _ (mode .mode .given .1)
 
 returns-5 : tie.Need-returns-5
 returns-5 c =
@@ -107,13 +123,14 @@ returns-5 c =
     let view = eidr .before in
     let enum-told3 = view .before .before .before .before in
     let read-back = enum-told3 .before .before in
-    let f = read-back .before .before .before in
+    let f = read-back .before .before in
     let read-front = f .before .before in
-    let if1 = read-front .before .before in
+    let if1 = read-front .before in
     let h = if1 .before .before in
     let read-head = h .before .before in
     let a = read-head .before .before .args in
-    beside-program (a .payload .now) _ (sym (h .h .given .1) ∙ read-head .read-head .ensures) (if1 .if1 .left) _ (sym (f .f .given .1) ∙ read-front .read-front .ensures) _ (sym (enum-told3 .enum-told3 .given .1) ∙ read-back .read-back .ensures) _ (eidr .eidr .ensures ∙ ap (eidrOf _) (view .view .ensures)) (enum-told5 .enum-told5 .given .1) _ (c .no-components .ensures)
+    let g = told frontRead _ _ _ (f .f .given .1) (read-front .read-front .ensures) in
+    beside-program (a .payload .now) _ (told headRead _ _ _ (h .h .given .1) (read-head .read-head .ensures)) (if1 .if1 .left) _ _ _ (g .1) _ _ (told backRead _ _ _ (enum-told3 .enum-told3 .given .1) (read-back .read-back .ensures) .1) _ (eidr .eidr .ensures ∙ ap (eidrOf _) (view .view .ensures)) (enum-told5 .enum-told5 .given .1) _ (c .no-components .ensures)
 
 returns-6 : tie.Need-returns-6
 returns-6 c =
@@ -122,13 +139,14 @@ returns-6 c =
     let view = eidr .before in
     let enum-told3 = view .before .before .before .before in
     let read-back = enum-told3 .before .before in
-    let f = read-back .before .before .before in
+    let f = read-back .before .before in
     let read-front = f .before .before in
-    let if1 = read-front .before .before in
+    let if1 = read-front .before in
     let h = if1 .before .before in
     let read-head = h .before .before in
     let a = read-head .before .before .args in
-    beside-components (a .payload .now) _ (sym (h .h .given .1) ∙ read-head .read-head .ensures) (if1 .if1 .left) _ (sym (f .f .given .1) ∙ read-front .read-front .ensures) _ (sym (enum-told3 .enum-told3 .given .1) ∙ read-back .read-back .ensures) _ (eidr .eidr .ensures ∙ ap (eidrOf _) (view .view .ensures)) _ (mode .mode .given .1) _ (c .list-components .ensures)
+    let g = told frontRead _ _ _ (f .f .given .1) (read-front .read-front .ensures) in
+    beside-components (a .payload .now) _ (told headRead _ _ _ (h .h .given .1) (read-head .read-head .ensures)) (if1 .if1 .left) _ _ _ (g .1) _ _ (told backRead _ _ _ (enum-told3 .enum-told3 .given .1) (read-back .read-back .ensures) .1) _ (eidr .eidr .ensures ∙ ap (eidrOf _) (view .view .ensures)) _ (mode .mode .given .1) _ (c .list-components .ensures)
 
 pub read-beside-spec : {M : Type 1} → statement M
 read-beside-spec =
