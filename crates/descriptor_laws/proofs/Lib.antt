@@ -2,6 +2,8 @@ pub mod PlainLaws
 pub mod PlainTrips
 pub mod PlainCanon
 pub mod Canon
+pub mod Remade
+pub mod Reported
 pub mod SegmentRead
 pub mod SegmentTrips
 pub mod Rows
