@@ -6,4 +6,5 @@ pub mod Remade
 pub mod Reported
 pub mod SegmentRead
 pub mod SegmentTrips
+pub mod SegmentBack
 pub mod Rows
