@@ -7,4 +7,5 @@ pub mod Reported
 pub mod SegmentRead
 pub mod SegmentTrips
 pub mod SegmentBack
+pub mod SegmentCanon
 pub mod Rows
