@@ -8,4 +8,5 @@ pub mod SegmentRead
 pub mod SegmentTrips
 pub mod SegmentBack
 pub mod SegmentCanon
+pub mod Alike
 pub mod Rows
