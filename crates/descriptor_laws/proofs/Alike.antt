@@ -19,10 +19,11 @@ use Rattle.table.specs.declared.View.{View}
 use Rattle.table.proofs.Lists.{zero-one, and-true}
 use Rattle.table.proofs.Structure as laws
 use Rattle.upid.specs.Upid.{checkOf}
+use Rattle.upid.proofs.Walks.{empty}
 use Rattle.descriptor.specs.Plain.{avail, dtmf, time, privateBytes}
 use Rattle.descriptor.specs.Segmentation as table
 use Rattle.descriptor.specs.Segmentation.{agrees, countOf, fairDetail, fairFront, frontOf, head, segmentation}
-use Rattle.descriptor.specs.Views.{descriptorViews}
+use Rattle.descriptor.specs.Views.{detailViews, descriptorViews}
 use Rattle.descriptor.specs.declared.Descriptor.{Descriptor}
 use Rattle.descriptor.specs.declared.Descriptor.the-variants.{Avail, Dtmf, Segmentation, Time, Reserved}
 use Rattle.descriptor.specs.declared.plain.DTMFDescriptor.{DTMFDescriptor}
@@ -317,3 +318,102 @@ module _ (s r t id : List ℕ) (b c : Beside) (eidrs : b .eidr ≡ c .eidr) wher
       let k : withView (viewIn e) d ≡ e = views-differ d e values in
       subst (λ (f : Descriptor). descriptorMade f id c r ≡ made t) k
       (with-view (viewIn e) d places h (same ∙ ap (λ (f : Descriptor). take (componentsOf f) (c .components)) (sym k)) m)
+
+-- ---- equal readings, of both of which something is written
+
+by-bytes : (s : List ℕ) (v : View) (r : List ℕ) (w : View) → v .at + v .len ≤ length s → w .at + w .len ≤ length r → viewed s v ≡ viewed r w → SameView s v r w
+by-bytes s v r w hs hr e = record { size = sym (viewed-length s v hs) ∙ ap length e ∙ viewed-length r w hr; bytes = e; left = hs; right = hr }
+
+both-none : (s : List ℕ) (v : View) (r : List ℕ) (w : View) → v .at + v .len ≤ length s → w .at + w .len ≤ length r → v .len ≡ 0 → w .len ≡ 0 → SameView s v r w
+both-none s v r w hs hr n m = by-bytes s v r w hs hr (empty (viewed s v) (viewed-length s v hs ∙ n) ∙ sym (empty (viewed r w) (viewed-length r w hr ∙ m)))
+
+pub no-views : (s r : List ℕ) → SameView s noView r noView
+no-views s r = both-none s noView r noView (omega arith) (omega arith) refl refl
+
+-- None and EIDR have no bytes
+none-fair : (u : SegmentationUpid) (eidr lent : List ℕ) → eqb (u .kind) 0 || eqb (u .kind) 10 ≡ true → fairUpid u eidr lent ≡ true → u .bytes .len ≡ 0
+unfolding fairUpid
+none-fair u eidr lent k f = go (eqb (u .kind) 10) (eqb (u .kind) 0) k f
+  where
+    go : (ten none : Bool) → none || ten ≡ true
+        → pick ten (eqb (u .bytes .len) 0) (allZero eidr && (agrees none (eqb (u .bytes .len) 0) && (not (eqb (u .kind) 5) && accepts (checkOf (writtenKind u) (viewed lent (u .bytes)))))) ≡ true
+        → u .bytes .len ≡ 0
+    go true none k f = eqb-true (u .bytes .len) 0 f
+    go false true k f = eqb-true (u .bytes .len) 0 (and-true (eqb (u .bytes .len) 0) _ (and-true (allZero eidr) _ f .1) .0)
+    go false false k f = zero-one cc
+
+-- what is written of a descriptor tells of its view: it lies in the lent bytes, and is empty of None and EIDR
+abbrev DetailTold : SegmentationDetail → Type 0
+DetailTold Cancel = Unit {0}
+DetailTold (Insert i) = eqb (i .«segmentation_upid» .kind) 0 || eqb (i .«segmentation_upid» .kind) 10 ≡ true → i .«segmentation_upid» .bytes .len ≡ 0
+
+abbrev NoneTold : Descriptor → Type 0
+NoneTold (Avail x) = Unit {0}
+NoneTold (Dtmf x) = Unit {0}
+NoneTold (Segmentation x) = DetailTold (x .«descriptor_detail»)
+NoneTold (Time x) = Unit {0}
+NoneTold (Reserved tag own) = Unit {0}
+
+module _ (s p id : List ℕ) (b : Beside) where
+  detail-told : (event : ℕ) (d : SegmentationDetail) → countOf (frontOf d .«segmentation_mode») ≤ length (b .components)
+      → segmentationMade (record { «segmentation_event_id» = event; «descriptor_detail» = d }) id b s ≡ made p → (detailView d .at + detailView d .len ≤ length s) × DetailTold d
+  detail-told event Cancel places e = (omega arith, tt)
+  detail-told event (Insert i) places e =
+      let x : SegmentationDescriptor = record { «segmentation_event_id» = event; «descriptor_detail» = Insert i } in
+      (zero-view x id b s (ap numberIn e) .1, λ k. none-fair (i .«segmentation_upid») (b .eidr) s k (all-fair x id b s places p e .2))
+
+  payload-told : (d : Descriptor) → componentsOf d ≤ length (b .components) → payloadMade d id b s ≡ made p → (viewIn d .at + viewIn d .len ≤ length s) × NoneTold d
+  unfolding payloadMade dtmf privateBytes fields.number fields.reserved fields.part fields.remaining
+  payload-told (Avail x) places e = (omega arith, tt)
+  payload-told (Dtmf x) places e =
+      let v = x .«dtmf_chars» in
+      (leb-true _ _ (and-true (leb (v .at + v .len) (length s)) true (laws.wrote (alone id (b .eidr)) s (walk dtmf x 0 .fields) p e .views) .0), tt)
+  payload-told (Segmentation x) places e = detail-told (x .«segmentation_event_id») (x .«descriptor_detail») places e
+  payload-told (Time x) places e = (omega arith, tt)
+  payload-told (Reserved tag v) places e =
+      (leb-true _ _ (and-true (leb (v .at + v .len) (length s)) true (laws.wrote (fairReserved tag id (b .eidr)) s (walk privateBytes v 0 .fields) p e .views) .0), tt)
+
+made-told : (s t id : List ℕ) (b : Beside) (d : Descriptor) → componentsOf d ≤ length (b .components) → descriptorMade d id b s ≡ made t → (viewIn d .at + viewIn d .len ≤ length s) × NoneTold d
+unfolding descriptorMade
+made-told s t id b d places e =
+    let u = unframed (tagOf d) (identifierOf d id) (payloadMade d id b s) t e in
+    payload-told s (u .0) id b d places (u .1)
+
+first : List (List ℕ) → List ℕ
+first [] = []
+first (b ∷ bs) = b
+
+module _ (s r : List ℕ) (w : View) where
+  detail-view : (d : SegmentationDetail) → (detailView d .at + detailView d .len ≤ length s) × DetailTold d → (detailView (detailAt w d) .at + detailView (detailAt w d) .len ≤ length r) × DetailTold (detailAt w d)
+      → bytesOfViews s (detailViews d) ≡ bytesOfViews r (detailViews (detailAt w d)) → SameView s (detailView d) r (detailView (detailAt w d))
+  unfolding first
+  detail-view Cancel f g e = no-views s r
+  detail-view (Insert i) f g e = go (i .«segmentation_upid») (eqb (i .«segmentation_upid» .kind) 0 || eqb (i .«segmentation_upid» .kind) 10) (f .0) (f .1) (g .1) refl e
+    where
+      go : (u : SegmentationUpid) (t : Bool) → u .bytes .at + u .bytes .len ≤ length s → (eqb (u .kind) 0 || eqb (u .kind) 10 ≡ true → u .bytes .len ≡ 0) → (eqb (u .kind) 0 || eqb (u .kind) 10 ≡ true → w .len ≡ 0)
+          → eqb (u .kind) 0 || eqb (u .kind) 10 ≡ t → bytesOfViews s (cond t [] (u .bytes ∷ [])) ≡ bytesOfViews r (cond t [] (w ∷ [])) → SameView s (u .bytes) r w
+      go u true a n m t h = both-none s (u .bytes) r w a (g .0) (n t) (m t)
+      go u false a n m t h = by-bytes s (u .bytes) r w a (g .0) (ap first h)
+
+  view-same : (d : Descriptor) → (viewIn d .at + viewIn d .len ≤ length s) × NoneTold d → (viewIn (withView w d) .at + viewIn (withView w d) .len ≤ length r) × NoneTold (withView w d)
+      → bytesOfViews s (descriptorViews d) ≡ bytesOfViews r (descriptorViews (withView w d)) → SameView s (viewIn d) r (viewIn (withView w d))
+  unfolding first
+  view-same (Avail x) f g e = no-views s r
+  view-same (Dtmf x) f g e = by-bytes s (x .«dtmf_chars») r w (f .0) (g .0) (ap first e)
+  view-same (Segmentation x) f g e = detail-view (x .«descriptor_detail») f g e
+  view-same (Time x) f g e = no-views s r
+  view-same (Reserved tag own) f g e = by-bytes s own r w (f .0) (g .0) (ap first e)
+
+-- what is written of equal readings is equal
+pub same-made : (s r t q : List ℕ) (d e : Descriptor) (id other : List ℕ) (b c : Beside) → componentsOf d ≤ length (b .components) → componentsOf e ≤ length (c .components)
+    → SameReading s d id b r e other c → descriptorMade d id b s ≡ made t → descriptorMade e other c r ≡ made q → t ≡ q
+same-made s r t q d e id other b c pd pe same m n =
+    let k : withView (viewIn e) d ≡ e = views-differ d e (same .values) in
+    let f = made-told s t id b d pd m in
+    let g = subst (λ (y : Descriptor). (viewIn y .at + viewIn y .len ≤ length r) × NoneTold y) (sym k) (made-told r q other c e pe n) in
+    let v : SameView s (viewIn d) r (viewIn (withView (viewIn e) d)) =
+    view-same s r (viewIn e) d f g (same .bytes ∙ ap (λ (y : Descriptor). bytesOfViews r (descriptorViews y)) (sym k)) in
+    let h : SameView s (viewIn d) r (viewIn e) = subst (λ (y : Descriptor). SameView s (viewIn d) r (viewIn y)) k v in
+    let o : descriptorMade e id c r ≡ made t = alike-made s r t id b c (same .eidrs) d e pd (same .values) h (same .components) m in
+    let z : made t ≡ made q = sym o ∙ ap (λ (i : List ℕ). descriptorMade e i c r) (same .identifiers) ∙ n in
+    cc
