@@ -9,4 +9,5 @@ pub mod SegmentTrips
 pub mod SegmentBack
 pub mod SegmentCanon
 pub mod Alike
+pub mod Wholes
 pub mod Rows

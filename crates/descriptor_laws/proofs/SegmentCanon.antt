@@ -1,13 +1,13 @@
 -- A segmentation descriptor: a canonical payload is what is written of its own reading.
 --     segmentation-counted      as many components as the count says
 --     segment-read-write        the payload
-use Prim.Native.Nat.{ℕ, zero, suc, _+_, _*_, _≤_}
+use Prim.Native.Nat.{ℕ, zero, suc, _+_, _*_, _-_, _≤_}
 use mathlib.Core.Bool.{Bool, true, false, cond, not, _&&_, _||_}
 use mathlib.Core.List.{List, [], _∷_, _++_}
 use mathlib.Core.Path.{_≡_, refl, ap, ap₂, sym, subst, _∙_}
 use native.Mathlib.Omega.{arith}
 use lib.Dec.{leb, eqb}
-use lib.ListN.{length, getD, take, drop, replicate}
+use lib.ListN.{length, take, drop, replicate, length-append}
 use lib.Seq.{take-all}
 use borrow.Author.Tests.{eqb-true, eqb-false, eq-eqb, ne-eqb, le-leb, leb-true}
 use Rattle.table.specs.Bits.{pick, bitsOf, AllBytes}
@@ -266,10 +266,17 @@ module _ (p : List ℕ) (u : SegmentationUpid) (there : u .bytes .at + u .bytes 
 
 -- ---- the descriptor
 
+filled-places : (cs : List ModeComponent) → length cs ≤ length (filled cs)
+unfolding filled
+filled-places cs = omega (arith, length-append cs (replicate (255 - length cs) blankComponent))
+
 module _ (p : List ℕ) (a : AllBytes p) where
   -- canonical bytes are what is written of their reading
   abbrev Back : SegmentationDescriptor → Type 0
-  Back d = (segmentationOf p ≡ Is (Segmentation d)) × (segmentationMade d (replicate 4 0) (besideOf p) p ≡ made p)
+  Back d =
+      (segmentationOf p ≡ Is (Segmentation d))
+      × (segmentationMade d (replicate 4 0) (besideOf p) p ≡ made p)
+      × (countOf (frontOf (d .«descriptor_detail») .«segmentation_mode») ≤ length (besideOf p .components))
 
   module _ (event : ℕ) where
     module _ (cs : List ModeComponent) (m : ℕ) where
@@ -281,7 +288,7 @@ module _ (p : List ℕ) (a : AllBytes p) where
           let c : checkOf 0 (viewed p (record { at = 0; len = 0 })) ≡ Fine 0 = check-none 0 _ (ap length (viewed-none p)) in
           let n : length cs ≡ 0 = segmentation-counted p x m e in
           let z : cs ≡ [] = nothing cs n in
-          (segmentation-read p x m e, rw (e, le-leb 0 (length p) (omega arith), c) (rw z at f))
+          (segmentation-read p x m e, rw (e, le-leb 0 (length p) (omega arith), c) (rw z at f), omega arith)
         where
           nothing : (cs : List ModeComponent) → length cs ≡ 0 → cs ≡ []
           nothing [] e = refl
@@ -343,6 +350,7 @@ module _ (p : List ℕ) (a : AllBytes p) where
               segmentation-read p x m e ∙ ap (λ (c : UpidRead). ifFine c (u .bytes) λ (w : SegmentationUpid). Is (Segmentation (with w))) c,
               ap (λ (b : Beside). segmentationMade (with (reportedUpid q (u .bytes))) (replicate 4 0) b p) beside-is
                   ∙ remade (reportedUpid q (u .bytes)) (eidrOf (u .kind) (viewed p (u .bytes))) (upid-again p u there q c canon),
+              subst (λ (b : Beside). countOf (i .«segmentation_mode») ≤ length (b .components)) (sym beside-is) (omega (arith, filled-places cs, counts)),
             ),
           )
 
@@ -355,10 +363,11 @@ module _ (p : List ℕ) (a : AllBytes p) where
       insert-again event cs m i e f c (checkOf (i .«segmentation_upid» .kind) (viewed p (i .«segmentation_upid» .bytes))) refl (and-true (accepts (checkOf (i .«segmentation_upid» .kind) (viewed p (i .«segmentation_upid» .bytes)))) _ c .0)
 
   pub segment-read-write : canonicalSegmentation p ≡ true → (d : SegmentationDescriptor) × (segmentationOf p ≡ Is (Segmentation d)) × (segmentationMade d (replicate 4 0) (besideOf p) p ≡ made p)
+      × (countOf (frontOf (d .«descriptor_detail») .«segmentation_mode») ≤ length (besideOf p .components))
   unfolding canonicalSegmentation
   segment-read-write e =
       let i = and-true (canonicalBy segmentation p) _ e in
       let x = segmentation-read-write p a (i .0) in
       let c : upidCanonical p (parse segmentation (bitsOf p) 0) ≡ true = i .1 in
       let r = by-detail (x .0 .descriptor .«segmentation_event_id») (x .0 .descriptor .«descriptor_detail») (x .0 .components) (length p * 8) (x .1) (x .2) (rw (x .1) at c) in
-      (r .0, r .1 .0, r .1 .1)
+      (r .0, r .1 .0, r .1 .1, r .1 .2)
