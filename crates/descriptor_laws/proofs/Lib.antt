@@ -10,4 +10,5 @@ pub mod SegmentBack
 pub mod SegmentCanon
 pub mod Alike
 pub mod Wholes
+pub mod Theorems
 pub mod Rows
