@@ -1,5 +1,6 @@
 -- The fields that a segmentation descriptor's table has of what is written, part by part.
 --     fields-are     they are those of specs/Parts.antt
+--     insert-fields  the same of an insert with any UPID, cut at the UPID
 use Prim.Native.Nat.{ℕ, zero, suc, _+_, _*_, _/_, _^_, _-_}
 use mathlib.Core.Bool.{Bool, true, false}
 use mathlib.Core.List.{List, [], _∷_, _++_, append-assoc}
@@ -48,7 +49,7 @@ use Rattle.descriptor.specs.declared.segmentation.SegmentationUpid.{Segmentatio
 use Rattle.descriptor.specs.declared.segmentation.SubSegments.{SubSegments}
 use Rattle.descriptor_form.specs.Parts.{deliveryFields, componentFields, componentsFields, modeFields, durationFields, upidFields, subFields, backFields, flagFields, headFields, insertFields, segmentFields}
 use Rattle.descriptor_form.specs.Writing as writing
-use Rattle.descriptor_form.specs.Writing.{writtenInsert, writtenDetail}
+use Rattle.descriptor_form.specs.Writing.{writtenDetail}
 
 -- the fields of a table inside another, and then those of the outer one
 in-fields : {X Y : Type 0} (t : Table Y) (q : X → Y) (k : Y → Table X) (x : X) (at : ℕ) (fs gs : List Field) → walk t (q x) at .fields ≡ fs
@@ -103,28 +104,44 @@ flag-fields p k x at fs e = ap (λ (b : Bool). bits 1 (flagNumber (p x)) ∷ wal
     again true = refl
     again false = refl
 
-module _ (i : SegmentationInsert) (cs : List ModeComponent) (fits : length cs ≡ countOf (i .«segmentation_mode»)) where
+-- an insert as its table has it: each flag as its part says, and this UPID as it is written
+abbrev pub flagged : SegmentationInsert → SegmentationUpid → SegmentationInsert
+flagged i upid = record {
+  «program_segmentation_flag» = byProgram (i .«segmentation_mode»);
+  «segmentation_duration_flag» = lasting (i .«segmentation_duration»);
+  «delivery_not_restricted_flag» = unrestricted (i .«delivery_restrictions»);
+  «delivery_restrictions» = i .«delivery_restrictions»;
+  «segmentation_mode» = i .«segmentation_mode»;
+  «segmentation_duration» = i .«segmentation_duration»;
+  «segmentation_upid» = upid;
+  «segmentation_type_id» = i .«segmentation_type_id»;
+  «segment_num» = i .«segment_num»;
+  «segments_expected» = i .«segments_expected»;
+  «sub_segments» = i .«sub_segments»;
+}
+
+module _ (i : SegmentationInsert) (upid : SegmentationUpid) (cs : List ModeComponent) (fits : length cs ≡ countOf (i .«segmentation_mode»)) where
   abbrev fore : Fore
-  fore = record { front = frontOf (Insert (writtenInsert i)); components = cs }
+  fore = record { front = frontOf (Insert (flagged i upid)); components = cs }
 
   parts-fields : (at : ℕ) → walk (parts (byProgram (i .«segmentation_mode»)) (lasting (i .«segmentation_duration»)) (unrestricted (i .«delivery_restrictions»))) fore at .fields
       ≡ deliveryFields (i .«delivery_restrictions»)
       ++ (modeFields (i .«segmentation_mode») cs
       ++ (durationFields (i .«segmentation_duration»)
-      ++ (upidFields (writing.writtenUpid (i .«segmentation_upid»)) ++ [])))
+      ++ (upidFields upid ++ [])))
   unfolding parts
   parts-fields at =
       in-fields (deliveryRestrictions (unrestricted (i .«delivery_restrictions»))) _ _ fore at _ _ (delivery-fields (i .«delivery_restrictions») at)
       (in-fields (mode (byProgram (i .«segmentation_mode»))) _ _ fore _ _ _ (mode-fields (i .«segmentation_mode») cs _ fits)
       (in-fields (duration (lasting (i .«segmentation_duration»))) _ _ fore _ _ _ (duration-fields (i .«segmentation_duration») _)
-      (in-fields writtenUpid _ _ fore _ _ _ (upid-fields (writing.writtenUpid (i .«segmentation_upid»)) _) refl)))
+      (in-fields writtenUpid _ _ fore _ _ _ (upid-fields upid _) refl)))
 
   front-fields : (at : ℕ) → walk front fore at .fields
       ≡ flagFields (byProgram (i .«segmentation_mode»)) (lasting (i .«segmentation_duration»)) (unrestricted (i .«delivery_restrictions»))
       ++ (deliveryFields (i .«delivery_restrictions»)
       ++ (modeFields (i .«segmentation_mode») cs
       ++ (durationFields (i .«segmentation_duration»)
-      ++ (upidFields (writing.writtenUpid (i .«segmentation_upid»)) ++ []))))
+      ++ (upidFields upid ++ []))))
   unfolding front
   front-fields at =
       flag-fields _ _ fore at _
@@ -132,19 +149,41 @@ module _ (i : SegmentationInsert) (cs : List ModeComponent) (fits : length cs �
       (flag-fields _ _ fore (at + 1 + 1) _
       (parts-fields (at + 1 + 1 + 1))))
 
-  back-fields : (at : ℕ) → walk back (backOf (Insert (writtenInsert i))) at .fields ≡ backFields i
+  back-fields : (at : ℕ) → walk back (backOf (Insert (flagged i upid))) at .fields ≡ backFields i
   unfolding back number
   back-fields at =
       ap (λ (l : List Field). bits 8 (segmentationNumber (i .«segmentation_type_id»)) ∷ (bits 8 (i .«segment_num») ∷ (bits 8 (i .«segments_expected») ∷ l)))
-      (in-fields subSegments _ _ (backOf (Insert (writtenInsert i))) (at + 8 + 8 + 8) _ _ (sub-fields (i .«sub_segments») _) refl ∙ append-nil (subFields (i .«sub_segments»)))
+      (in-fields subSegments _ _ (backOf (Insert (flagged i upid))) (at + 8 + 8 + 8) _ _ (sub-fields (i .«sub_segments») _) refl ∙ append-nil (subFields (i .«sub_segments»)))
+
+  all-fields : (event : ℕ) → (let x : Segmentation = record { descriptor = record { «segmentation_event_id» = event; «descriptor_detail» = Insert (flagged i upid) }; components = cs } in
+      walk segmentation x 0 .fields
+      ≡ headFields event false
+      ++ (flagFields (byProgram (i .«segmentation_mode»)) (lasting (i .«segmentation_duration»)) (unrestricted (i .«delivery_restrictions»))
+      ++ (deliveryFields (i .«delivery_restrictions»)
+      ++ (modeFields (i .«segmentation_mode») cs
+      ++ (durationFields (i .«segmentation_duration») ++ (upidFields upid ++ backFields i))))))
+  unfolding segmentation head number bit reserved
+  all-fields event =
+      let x : Segmentation = record { descriptor = record { «segmentation_event_id» = event; «descriptor_detail» = Insert (flagged i upid) }; components = cs } in
+      ap (λ (l : List Field). headFields event false ++ l)
+      (in-fields front _ _ x 40 _ _ (front-fields 40) (in-fields back _ _ x _ _ _ (back-fields _) refl ∙ append-nil (backFields i))
+      ∙ simp (append-assoc, append-nil))
+
+-- the fields before the UPID's
+abbrev pub foreFields : ℕ → SegmentationInsert → List ModeComponent → List Field
+foreFields event i cs =
+    headFields event false
+    ++ (flagFields (byProgram (i .«segmentation_mode»)) (lasting (i .«segmentation_duration»)) (unrestricted (i .«delivery_restrictions»))
+    ++ (deliveryFields (i .«delivery_restrictions») ++ (modeFields (i .«segmentation_mode») cs ++ durationFields (i .«segmentation_duration»))))
+
+pub insert-fields : (event : ℕ) (i : SegmentationInsert) (upid : SegmentationUpid) (cs : List ModeComponent) → length cs ≡ countOf (i .«segmentation_mode»)
+    → (let x : Segmentation = record { descriptor = record { «segmentation_event_id» = event; «descriptor_detail» = Insert (flagged i upid) }; components = cs } in
+    walk segmentation x 0 .fields ≡ foreFields event i cs ++ (upidFields upid ++ backFields i))
+insert-fields event i upid cs e = all-fields i upid cs e event ∙ simp append-assoc
 
 pub fields-are : (event : ℕ) (d : SegmentationDetail) (cs : List ModeComponent) → length cs ≡ countOf (frontOf d .«segmentation_mode»)
     → (let x : Segmentation = record { descriptor = record { «segmentation_event_id» = event; «descriptor_detail» = writtenDetail d }; components = cs } in
     walk segmentation x 0 .fields ≡ segmentFields event d cs)
 unfolding segmentation segmentFields head number bit reserved
 fields-are event Cancel cs e = refl
-fields-are event (Insert i) cs e =
-    let x : Segmentation = record { descriptor = record { «segmentation_event_id» = event; «descriptor_detail» = Insert (writtenInsert i) }; components = cs } in
-    ap (λ (l : List Field). headFields event false ++ l)
-    (in-fields front _ _ x 40 _ _ (front-fields i cs e 40) (in-fields back _ _ x _ _ _ (back-fields i cs e _) refl ∙ append-nil (backFields i))
-    ∙ simp (append-assoc, append-nil))
+fields-are event (Insert i) cs e = all-fields i (writing.writtenUpid (i .«segmentation_upid»)) cs e event

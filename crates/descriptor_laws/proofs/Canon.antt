@@ -4,23 +4,25 @@ use mathlib.Core.Bool.{Bool, true, false, not, _&&_}
 use mathlib.Core.List.{List, [], _∷_, _++_}
 use mathlib.Core.Path.{_≡_, refl, ap, ap₂, sym, _∙_}
 use native.Mathlib.Omega.{arith}
-use lib.Dec.{leb, eqb}
+use lib.Dec.{leb, ltb, eqb}
 use lib.ListN.{length, take, drop, getD, length-append, length-drop, take-append-drop}
 use lib.Seq.{take-at, drop-at}
-use borrow.Author.Tests.{le-leb, leb-true, eq-eqb, eqb-true}
+use borrow.Author.Tests.{le-leb, leb-true, eq-eqb, eqb-true, ne-eqb, ltb-false}
 use Rattle.table.specs.Bits.{pick, AllBytes}
-use Rattle.table.specs.Writing.{made, make}
-use Rattle.table.proofs.Lists.{and-true}
+use Rattle.table.specs.Writing.{walk, made, make}
+use Rattle.table.specs.declared.View.{View}
+use Rattle.table.proofs.Lists.{zero-one, and-true}
+use Rattle.table.proofs.Structure as laws
 use Rattle.descriptor.specs.Descriptor.{isCuei}
 use Rattle.descriptor.specs.Plain.{avail, dtmf, time, privateBytes}
-use Rattle.descriptor.specs.declared.Descriptor.the-variants.{Avail, Dtmf, Time}
+use Rattle.descriptor.specs.declared.Descriptor.the-variants.{Avail, Dtmf, Time, Reserved}
 use Rattle.descriptor.specs.declared.plain.AvailDescriptor.{AvailDescriptor}
 use Rattle.descriptor.specs.declared.plain.DTMFDescriptor.{DTMFDescriptor}
 use Rattle.descriptor.specs.declared.plain.TimeDescriptor.{TimeDescriptor}
 use Rattle.descriptor.specs.declared.whole.Beside.{Beside}
-use Rattle.descriptor.proofs.Structures.{availStructure, dtmfStructure, timeStructure}
-use Rattle.descriptor_form.specs.Canonical.{canonicalPayload, canonicalDescriptor}
-use Rattle.descriptor_form.specs.Writing.{cuei, framed, alone, payloadMade, descriptorMade}
+use Rattle.descriptor.proofs.Structures.{availStructure, dtmfStructure, timeStructure, privateStructure}
+use Rattle.descriptor_form.specs.Canonical.{canonicalBy, canonicalSegmentation, canonicalPayload, canonicalDescriptor}
+use Rattle.descriptor_form.specs.Writing.{cuei, framed, allZero, alone, fairReserved, payloadMade, descriptorMade}
 use Rattle.descriptor_laws.proofs.PlainLaws.{table-write-read}
 use Rattle.descriptor_laws.proofs.PlainTrips.{unframed}
 
@@ -75,3 +77,22 @@ module _ (id : List ℕ) (beside : Beside) (lent s : List ℕ) where
   time-canonical x e =
       let u = unframed 3 cuei (make time (alone id (beside .eidr)) lent x) s e in
       rw (u .2) (framed-canonical 3 cuei (u .0) refl (u .3) (table-write-read time timeStructure (λ x. refl) (alone id (beside .eidr)) lent x (u .0) (u .1) tt .1))
+
+  pub reserved-canonical : (tag : ℕ) (v : View) → length id ≡ 4 → descriptorMade (Reserved tag v) id beside lent ≡ made s → canonicalDescriptor s ≡ true
+  unfolding descriptorMade payloadMade canonicalPayload fairReserved
+  reserved-canonical tag v four e =
+      let fair : Bool = fairReserved tag id (beside .eidr) in
+      let u = unframed tag id (make privateBytes fair lent v) s e in
+      let c : canonicalBy privateBytes (u .0) ≡ true = table-write-read privateBytes privateStructure (λ x. refl) fair lent v (u .0) (u .1) tt .1 in
+      let f : not (isCuei id && ltb tag 4) ≡ true = and-true (not (isCuei id && ltb tag 4)) (allZero (beside .eidr)) (laws.wrote fair lent (walk privateBytes v 0 .fields) (u .0) (u .1) .fit) .0 in
+      rw (u .2) (framed-canonical tag id (u .0) four (u .3) (foreign (u .0) (isCuei id) (ltb tag 4) refl f ∙ c))
+    where
+      foreign : (p : List ℕ) (c l : Bool) → ltb tag 4 ≡ l → not (c && l) ≡ true
+          → pick c (pick (eqb tag 0) (canonicalBy avail p) (pick (eqb tag 1) (canonicalBy dtmf p) (pick (eqb tag 2) (canonicalSegmentation p) (pick (eqb tag 3) (canonicalBy time p) (canonicalBy privateBytes p)))))
+          (canonicalBy privateBytes p)
+          ≡ canonicalBy privateBytes p
+      foreign p false l e h = refl
+      foreign p true true e h = zero-one cc
+      foreign p true false e h =
+          let k : 4 ≤ tag = ltb-false tag 4 e in
+          rw (ne-eqb tag 0 (λ z. omega arith), ne-eqb tag 1 (λ z. omega arith), ne-eqb tag 2 (λ z. omega arith), ne-eqb tag 3 (λ z. omega arith))

@@ -2,6 +2,13 @@ pub mod PlainLaws
 pub mod PlainTrips
 pub mod PlainCanon
 pub mod Canon
+pub mod Remade
+pub mod Reported
 pub mod SegmentRead
 pub mod SegmentTrips
+pub mod SegmentBack
+pub mod SegmentCanon
+pub mod Alike
+pub mod Wholes
+pub mod Theorems
 pub mod Rows

@@ -29,7 +29,8 @@ detailRead s event (Insert i) =
     ifFine (checkOf (i .«segmentation_upid» .kind) (viewed s (i .«segmentation_upid» .bytes))) (i .«segmentation_upid» .bytes) λ u.
     Is (Segmentation (record { «segmentation_event_id» = event; «descriptor_detail» = reportedDetail (Insert i) u }))
 
-abbrev after : Head → Table table.Segmentation
+-- the table behind the head
+abbrev pub after : Head → Table table.Segmentation
 after h =
     pick (h .cancel)
     (done (record { descriptor = record { «segmentation_event_id» = h .event; «descriptor_detail» = Cancel }; components = [] }))

@@ -1,0 +1,285 @@
+-- A segmentation descriptor: what is written of it reads back equal to what was handed in, and is canonical.
+use Prim.Native.Nat.{ℕ, _+_, _*_, _≤_}
+use mathlib.Core.Bool.{Bool, true, false, cond, not, _&&_, _||_}
+use mathlib.Core.List.{List, [], _∷_, _++_}
+use mathlib.Core.Path.{_≡_, refl, ap, ap₂, sym, _∙_}
+use native.Mathlib.Omega.{arith}
+use lib.Dec.{eqb}
+use lib.ListN.{length, take, drop, replicate, length-drop}
+use lib.Seq.{length-take-le, take-all, take-at}
+use borrow.Author.Tests.{eqb-true, eqb-false, eq-eqb, ne-eqb, not-true}
+use Rattle.table.specs.Bits.{pick, bitsOf, AllBytes}
+use Rattle.table.specs.Lent.{viewed}
+use Rattle.table.specs.Table.{Answer, got, parse}
+use Rattle.table.specs.Writing.{walk, contents, made}
+use Rattle.table.specs.declared.View.{View}
+use Rattle.table.proofs.Lists.{zero-one, and-true}
+use Rattle.table.proofs.Structure as laws
+use Rattle.upid.specs.Upid.{checkOf, eidrOf, reportedOf, upidOf}
+use Rattle.upid.specs.declared.UpidRead.{UpidRead}
+use Rattle.upid.specs.declared.UpidRead.the-variants.{Fine, Refused}
+use Rattle.upid.proofs.Theorems.{eidr-is-held-by-value}
+use Rattle.descriptor.specs.Descriptor.{isCuei, cueiOf, descriptorOf, reportedUpid, ifFine, segmentationOf}
+use Rattle.descriptor.specs.Segmentation as table
+use Rattle.descriptor.specs.Segmentation.{agrees, byProgram, blankUpid, countOf, fairDetail, fairFront, frontOf, backOf, insertFrom, lasting, segmentation, unrestricted}
+use Rattle.descriptor.specs.Views.{upidViews}
+use Rattle.descriptor.specs.Whole.{filled, besideIn, besideOf}
+use Rattle.descriptor.specs.declared.Descriptor.the-variants.{Segmentation}
+use Rattle.descriptor.specs.declared.DescriptorRead.{DescriptorRead}
+use Rattle.descriptor.specs.declared.DescriptorRead.the-variants.{Is}
+use Rattle.descriptor.specs.declared.segmentation.ModeComponent.{ModeComponent}
+use Rattle.descriptor.specs.declared.segmentation.SegmentationDescriptor.{SegmentationDescriptor}
+use Rattle.descriptor.specs.declared.segmentation.SegmentationDetail.{SegmentationDetail}
+use Rattle.descriptor.specs.declared.segmentation.SegmentationDetail.the-variants.{Cancel, Insert}
+use Rattle.descriptor.specs.declared.segmentation.SegmentationInsert.{SegmentationInsert}
+use Rattle.descriptor.specs.declared.segmentation.SegmentationUpid.{SegmentationUpid}
+use Rattle.descriptor.specs.declared.whole.Beside.{Beside}
+use Rattle.descriptor.proofs.SegmentationLaws.{segmentationStructure, segmentationMoved, upidAt, upidPlace}
+use Rattle.descriptor_form.specs.Canonical.{canonicalUpid, canonicalSegmentation, canonicalPayload, canonicalDescriptor}
+use Rattle.descriptor_form.specs.Parts.{numberIn}
+use Rattle.descriptor_form.specs.Same.{SameReading, viewlessDetail, bytesOfViews}
+use Rattle.descriptor_form.specs.Writing.{cuei, allZero, accepts, fairUpid, segmentationMade, payloadMade, descriptorMade, upidIn, upidSource, written, writtenDetail, writtenKind, writtenUpid}
+use Rattle.descriptor_form.proofs.Fields.{flagged, insert-fields}
+use Rattle.descriptor_form.proofs.Making.{all-fair, by-table, counted, count-written, zero-view}
+use Rattle.descriptor_laws.proofs.Canon.{framed-canonical}
+use Rattle.descriptor_laws.proofs.PlainLaws.{viewed-at}
+use Rattle.descriptor_laws.proofs.PlainTrips.{ReadsBack, unframed, zeros}
+use Rattle.descriptor_laws.proofs.Remade.{withUpid, upid-found}
+use Rattle.descriptor_laws.proofs.Reported.{check-none, reports}
+use Rattle.descriptor_laws.proofs.SegmentRead.{detailRead}
+use Rattle.descriptor_laws.proofs.SegmentTrips.{segmentation-write-read}
+
+-- ---- views
+pub viewed-length : (s : List ℕ) (v : View) → v .at + v .len ≤ length s → length (viewed s v) ≡ v .len
+viewed-length s v h = ap length (viewed-at s (v .at) (v .len) h) ∙ length-take-le (v .len) (drop (v .at) s) (omega (arith, length-drop (v .at) s))
+
+pub viewed-none : (s : List ℕ) → viewed s (record { at = 0; len = 0 }) ≡ []
+viewed-none s = viewed-at s 0 0 (omega arith)
+
+-- ---- a UPID that is written: w, of the bytes `source`
+
+pub record Written (u : SegmentationUpid) (eidr lent source : List ℕ) (w : SegmentationUpid) : Type 0 where
+  pub checked : checkOf (w .kind) (viewed source (w .bytes)) ≡ Fine (u .kind)
+  pub held : eidrOf (w .kind) (viewed source (w .bytes)) ≡ eidr
+  pub kinds : pick (eqb (w .bytes .len) 0) (eqb (w .kind) 0) true ≡ true
+  pub bytes : eqb (u .kind) 0 || eqb (u .kind) 10 ≡ false → viewed source (w .bytes) ≡ viewed lent (u .bytes)
+  pub inside : w .bytes .at + w .bytes .len ≤ length source
+  pub are : AllBytes source
+
+module _ (u : SegmentationUpid) (eidr lent : List ℕ) (twelve : length eidr ≡ 12) (held : AllBytes eidr) (all : AllBytes lent) (there : u .bytes .at + u .bytes .len ≤ length lent) where
+  of-eidr : u .kind ≡ 10 → Written u eidr lent eidr (record { kind = 10; bytes = record { at = 0; len = 12 } })
+  unfolding upidOf
+  of-eidr k =
+      let v : viewed eidr (record { at = 0; len = 12 }) ≡ eidr = viewed-at eidr 0 12 (omega arith) ∙ take-all 12 eidr (omega arith) in
+      let h = eidr-is-held-by-value eidr twelve in
+      record {
+        checked = ap (checkOf 10) v ∙ h .0 ∙ ap Fine (sym k);
+        held = ap (eidrOf 10) v ∙ h .1;
+        kinds = refl;
+        bytes = λ e. (let z : true ≡ false = rw k at e in zero-one cc);
+        inside = omega arith;
+        are = held;
+      }
+
+  kind-back : (t : Bool) → eqb (u .kind) 6 && eqb (u .bytes .len) 8 ≡ t → (u .kind ≡ 5 → ⊥) → reportedOf (pick t 5 (u .kind)) ≡ u .kind
+  unfolding reportedOf
+  kind-back true e n = sym (eqb-true (u .kind) 6 (and-true (eqb (u .kind) 6) (eqb (u .bytes .len) 8) e .0))
+  kind-back false e n = rw (ne-eqb (u .kind) 5 n)
+
+  kind-some : (t : Bool) → (u .kind ≡ 10 → ⊥) → pick t 5 (u .kind) ≡ 10 → ⊥
+  kind-some true n e = absurd (omega arith)
+  kind-some false n e = n e
+
+  kind-none : u .kind ≡ 0 → writtenKind u ≡ 0
+  unfolding writtenKind
+  kind-none k = rw k
+
+  -- None: no bytes
+  of-none : u .bytes .len ≡ 0 → u .kind ≡ 0 → allZero eidr ≡ true → Written u eidr lent lent (record { kind = writtenKind u; bytes = u .bytes })
+  unfolding eidrOf
+  of-none n k z =
+      let k₂ : writtenKind u ≡ 0 = kind-none k in
+      record {
+        checked = check-none (writtenKind u) (viewed lent (u .bytes)) (viewed-length lent (u .bytes) there ∙ n) ∙ ap Fine (sym k);
+        held = rw k₂ (zeros eidr 12 z twelve);
+        kinds = ap₂ (λ (a b : ℕ). pick (eqb a 0) (eqb b 0) true) n k₂;
+        bytes = λ e. refl;
+        inside = there;
+        are = all;
+      }
+
+  -- any other
+  of-bytes : 1 ≤ u .bytes .len → (u .kind ≡ 10 → ⊥) → (u .kind ≡ 5 → ⊥) → allZero eidr ≡ true → (c : UpidRead) → checkOf (writtenKind u) (viewed lent (u .bytes)) ≡ c → accepts c ≡ true
+      → Written u eidr lent lent (record { kind = writtenKind u; bytes = u .bytes })
+  unfolding writtenKind eidrOf
+  of-bytes n ten five z (Refused r) c a = zero-one cc
+  of-bytes n ten five z (Fine q) c a =
+      let t = eqb (u .kind) 6 && eqb (u .bytes .len) 8 in
+      let m : length (viewed lent (u .bytes)) ≡ u .bytes .len = viewed-length lent (u .bytes) there in
+      let r = reports (writtenKind u) (viewed lent (u .bytes)) q c (omega arith) in
+      record {
+        checked = c ∙ ap Fine (sym (r .0) ∙ kind-back t refl five);
+        held = rw (ne-eqb (writtenKind u) 10 (kind-some t ten)) (zeros eidr 12 z twelve);
+        kinds = rw (ne-eqb (u .bytes .len) 0 (λ (o : u .bytes .len ≡ 0). omega arith));
+        bytes = λ e. refl;
+        inside = there;
+        are = all;
+      }
+
+  pub upid-written : fairUpid u eidr lent ≡ true → Written u eidr lent (upidSource u eidr lent) (writtenUpid u)
+  unfolding fairUpid upidSource writtenUpid
+  upid-written f = go (eqb (u .kind) 10) refl f
+    where
+      go : (t : Bool) → eqb (u .kind) 10 ≡ t
+          → pick t (eqb (u .bytes .len) 0)
+          (allZero eidr && (agrees (eqb (u .kind) 0) (eqb (u .bytes .len) 0) && (not (eqb (u .kind) 5) && accepts (checkOf (writtenKind u) (viewed lent (u .bytes)))))) ≡ true
+          → Written u eidr lent (pick t eidr lent) (pick t (record { kind = 10; bytes = record { at = 0; len = 12 } }) (record { kind = writtenKind u; bytes = u .bytes }))
+      go true t f = of-eidr (eqb-true (u .kind) 10 t)
+      go false t f = sized (eqb (u .kind) 0) (eqb (u .bytes .len) 0) refl refl (and-true (agrees (eqb (u .kind) 0) (eqb (u .bytes .len) 0)) _ (and-true (allZero eidr) _ f .1) .0)
+        where
+          sized : (k n : Bool) → eqb (u .kind) 0 ≡ k → eqb (u .bytes .len) 0 ≡ n → agrees k n ≡ true → Written u eidr lent lent (record { kind = writtenKind u; bytes = u .bytes })
+          sized true true ek en g = of-none (eqb-true (u .bytes .len) 0 en) (eqb-true (u .kind) 0 ek) (and-true (allZero eidr) _ f .0)
+          sized true false ek en g = zero-one cc
+          sized false true ek en g = zero-one cc
+          sized false false ek en g =
+              let a = and-true (allZero eidr) _ f in
+              let b = and-true (agrees (eqb (u .kind) 0) (eqb (u .bytes .len) 0)) _ (a .1) in
+              let c = and-true (not (eqb (u .kind) 5)) (accepts (checkOf (writtenKind u) (viewed lent (u .bytes)))) (b .1) in
+              let n = eqb-false (u .bytes .len) 0 en in
+              of-bytes (omega (arith, n)) (eqb-false (u .kind) 10 t) (eqb-false (u .kind) 5 (not-true (eqb (u .kind) 5) (c .0))) (a .0) (checkOf (writtenKind u) (viewed lent (u .bytes))) refl (c .1)
+
+-- ---- the descriptor
+
+agreed : (a b : Bool) → agrees a b ≡ true → a ≡ b
+agreed true true e = refl
+agreed true false e = zero-one cc
+agreed false true e = zero-one cc
+agreed false false e = refl
+
+-- an insert whose flags are as its parts say
+pub flags-agree : (i : SegmentationInsert) → fairDetail (Insert i) ≡ true → flagged i (i .«segmentation_upid») ≡ i
+unfolding fairDetail fairFront
+flags-agree i f =
+    let a = and-true (fairFront (frontOf (Insert i))) _ f in
+    let b = and-true (agrees (i .«program_segmentation_flag») (byProgram (i .«segmentation_mode»))) _ (a .0) in
+    let c = and-true (agrees (i .«segmentation_duration_flag») (lasting (i .«segmentation_duration»))) _ (b .1) in
+    let p : i .«program_segmentation_flag» ≡ byProgram (i .«segmentation_mode») = agreed _ _ (b .0) in
+    let l : i .«segmentation_duration_flag» ≡ lasting (i .«segmentation_duration») = agreed _ _ (c .0) in
+    let d : i .«delivery_not_restricted_flag» ≡ unrestricted (i .«delivery_restrictions») = agreed _ _ (c .1) in
+    rw (← p, ← l, ← d)
+
+-- the views of a UPID that is reported: none of None and EIDR
+same-views : (s lent : List ℕ) (t : Bool) (v w : View) → (t ≡ false → viewed s v ≡ viewed lent w)
+    → bytesOfViews s (cond t [] (pick t (record { at = 0; len = 0 }) v ∷ [])) ≡ bytesOfViews lent (cond t [] (w ∷ []))
+same-views s lent true v w f = refl
+same-views s lent false v w f = ap (λ (b : List ℕ). b ∷ []) (f refl)
+
+-- the components up to the count
+pub counted-again : (n : ℕ) (cs : List ModeComponent) → length cs ≡ n → take n (filled cs) ≡ cs
+unfolding filled
+counted-again n cs e = take-at cs _ n e
+
+module _ (id : List ℕ) (beside : Beside) (lent : List ℕ) (four : length id ≡ 4) (twelve : length (beside .eidr) ≡ 12) (held : AllBytes (beside .eidr)) (all : AllBytes lent) (p : List ℕ) where
+  -- a payload that reads back as x
+  pub record PayloadBack (x : SegmentationDescriptor) : Type 0 where
+    pub again : SegmentationDescriptor
+    pub reading : segmentationOf p ≡ Is (Segmentation again)
+    pub same : SameReading p (Segmentation again) (replicate 4 0) (besideOf p) lent (Segmentation x) id beside
+    pub canon : canonicalSegmentation p ≡ true
+
+  module _ (event : ℕ) where
+    cancel-back : (let x : SegmentationDescriptor = record { «segmentation_event_id» = event; «descriptor_detail» = Cancel } in
+        segmentationMade x id beside lent ≡ made p → PayloadBack x)
+    unfolding besideOf besideIn canonicalSegmentation canonicalUpid fairUpid eidrOf
+    cancel-back e =
+        let x : SegmentationDescriptor = record { «segmentation_event_id» = event; «descriptor_detail» = Cancel } in
+        let r = segmentation-write-read x id beside lent p (omega arith) e in
+        let f = all-fair x id beside lent (omega arith) p e in
+        let z = and-true (allZero (beside .eidr)) _ (f .2) .0 in
+        let c : checkOf 0 (viewed p (record { at = 0; len = 0 })) ≡ Fine 0 = check-none 0 _ (ap length (viewed-none p)) in
+        record {
+          again = x;
+          reading = r .2;
+          same = record { values = refl; bytes = refl; identifiers = zeros id 4 (f .0) four; components = refl; eidrs = rw (r .0) (zeros (beside .eidr) 12 z twelve) };
+          canon = rw (r .1, r .0, c);
+        }
+
+    module _ (i : SegmentationInsert) (places : countOf (i .«segmentation_mode») ≤ length (beside .components)) where
+      abbrev x : SegmentationDescriptor
+      x = record { «segmentation_event_id» = event; «descriptor_detail» = Insert i }
+
+      abbrev u : SegmentationUpid
+      u = i .«segmentation_upid»
+
+      abbrev w : SegmentationUpid
+      w = writtenUpid (i .«segmentation_upid»)
+
+      abbrev source : List ℕ
+      source = upidSource (i .«segmentation_upid») (beside .eidr) lent
+
+      abbrev cs : List ModeComponent
+      cs = take (countOf (i .«segmentation_mode»)) (beside .components)
+
+      abbrev there : SegmentationUpid
+      there = upidAt (upidPlace (frontOf (Insert (flagged i (writtenUpid (i .«segmentation_upid»)))))) (writtenUpid (i .«segmentation_upid»))
+
+      module _ (e : segmentationMade x id beside lent ≡ made p) where
+        upid-is : Written u (beside .eidr) lent source w
+        upid-is = upid-written u (beside .eidr) lent twelve held all (zero-view x id beside lent (ap numberIn e) .1) (all-fair x id beside lent places p e .2)
+
+        -- its bytes are where they are written
+        upid-bytes : viewed p (there .bytes) ≡ viewed source (w .bytes)
+        upid-bytes =
+            let c = counted x id beside lent places in
+            let t : table.Segmentation = written x (beside .components) in
+            let m = by-table x id beside lent places p e in
+            let n = laws.write-size segmentation segmentationStructure source t p c m in
+            let s = laws.write-same segmentation segmentationStructure source t p (upid-is .are) c m in
+            let g : contents p (withUpid event i cs there) ≡ contents source (withUpid event i cs w) =
+            ap (contents p) (sym (insert-fields event i there cs c)) ∙ s ∙ ap (contents source) (insert-fields event i w cs c) in
+            viewed-at p (there .bytes .at) (there .bytes .len) (omega (arith, n)) ∙ upid-found event i cs p source there w g ∙ sym (viewed-at source (w .bytes .at) (w .bytes .len) (upid-is .inside))
+
+        checked : checkOf (w .kind) (viewed p (there .bytes)) ≡ Fine (u .kind)
+        checked = ap (checkOf (w .kind)) upid-bytes ∙ upid-is .checked
+
+        insert-back : PayloadBack x
+        unfolding besideOf besideIn canonicalSegmentation canonicalUpid
+        insert-back =
+            let r = segmentation-write-read x id beside lent p places e in
+            let f = all-fair x id beside lent places p e in
+            let c = counted x id beside lent places in
+            let k = flagged i (reportedUpid (u .kind) (there .bytes)) in
+            record {
+              again = record { «segmentation_event_id» = event; «descriptor_detail» = Insert k };
+              reading = r .2 ∙ ap (λ (c : UpidRead). ifFine c (there .bytes) λ v. Is (Segmentation (record { «segmentation_event_id» = event; «descriptor_detail» = Insert (flagged i v) }))) checked;
+              same = record {
+                values = ap (λ (j : SegmentationInsert). Segmentation (record { «segmentation_event_id» = event; «descriptor_detail» = viewlessDetail (Insert j) })) (flags-agree i (f .1));
+                bytes = same-views p lent (eqb (u .kind) 0 || eqb (u .kind) 10) (there .bytes) (u .bytes) (λ t. upid-bytes ∙ upid-is .bytes t);
+                identifiers = zeros id 4 (f .0) four;
+                components = rw (r .0) (counted-again (countOf (i .«segmentation_mode»)) cs c);
+                eidrs = rw (r .0) (ap (eidrOf (w .kind)) upid-bytes ∙ upid-is .held);
+              };
+              canon = rw (r .1, r .0, checked) (upid-is .kinds);
+            }
+
+  payload-back : (event : ℕ) (d : SegmentationDetail) → (let x : SegmentationDescriptor = record { «segmentation_event_id» = event; «descriptor_detail» = d } in
+      countOf (frontOf d .«segmentation_mode») ≤ length (beside .components) → segmentationMade x id beside lent ≡ made p → PayloadBack x)
+  payload-back event Cancel h e = cancel-back event e
+  payload-back event (Insert i) h e = insert-back event i h e
+
+-- What is written of a segmentation descriptor reads back, and is canonical. (Its array has as many places as its count, or more.)
+module _ (x : SegmentationDescriptor) (id : List ℕ) (beside : Beside) (lent s : List ℕ) (four : length id ≡ 4) (twelve : length (beside .eidr) ≡ 12)
+    (held : AllBytes (beside .eidr)) (all : AllBytes lent) (places : countOf (frontOf (x .«descriptor_detail») .«segmentation_mode») ≤ length (beside .components)) where
+  pub segmentation-reads-back : descriptorMade (Segmentation x) id beside lent ≡ made s → ReadsBack (Segmentation x) id beside lent s
+  unfolding descriptorMade payloadMade descriptorOf cueiOf isCuei
+  segmentation-reads-back e =
+      let u = unframed 2 cuei (segmentationMade x id beside lent) s e in
+      let b = payload-back id beside lent four twelve held all (u .0) (x .«segmentation_event_id») (x .«descriptor_detail») places (u .1) in
+      record { payload = u .0; framing = u .2; fits = u .3; again = Segmentation (b .again); reading = b .reading; same = b .same }
+
+  pub segmentation-canonical : descriptorMade (Segmentation x) id beside lent ≡ made s → canonicalDescriptor s ≡ true
+  unfolding descriptorMade payloadMade canonicalPayload isCuei
+  segmentation-canonical e =
+      let u = unframed 2 cuei (segmentationMade x id beside lent) s e in
+      let b = payload-back id beside lent four twelve held all (u .0) (x .«segmentation_event_id») (x .«descriptor_detail») places (u .1) in
+      rw (u .2) (framed-canonical 2 cuei (u .0) refl (u .3) (b .canon))

@@ -1,0 +1,65 @@
+-- The round trips of descriptors, of all kinds. A reader needs specs/Trips.antt beside this file, and the definitions of `descriptor_form`.
+use Prim.Native.Nat.{ℕ, _≤_}
+use mathlib.Core.Bool.{true}
+use mathlib.Core.List.{List}
+use mathlib.Core.Path.{_≡_, ap, sym, subst, _∙_}
+use native.Mathlib.Omega.{arith}
+use lib.ListN.{length, drop}
+use Rattle.table.specs.Bits.{AllBytes}
+use Rattle.table.specs.Writing.{made}
+use Rattle.descriptor.specs.declared.Descriptor.{Descriptor}
+use Rattle.descriptor.specs.declared.Descriptor.the-variants.{Avail, Dtmf, Segmentation, Time, Reserved}
+use Rattle.descriptor.specs.declared.DescriptorRead.{DescriptorRead}
+use Rattle.descriptor.specs.declared.DescriptorRead.the-variants.{Is}
+use Rattle.descriptor.specs.declared.whole.Beside.{Beside}
+use Rattle.descriptor.specs.declared.whole.WholeDescriptor.{WholeDescriptor}
+use Rattle.descriptor_form.specs.Canonical.{canonicalDescriptor}
+use Rattle.descriptor_form.specs.Same.{SameReading, componentsOf}
+use Rattle.descriptor_form.specs.Writing.{descriptorMade}
+use Rattle.descriptor_laws.specs.Trips.{wholeIn, Handed, ReadAs}
+use Rattle.descriptor_laws.proofs.Alike.{same-made}
+use Rattle.descriptor_laws.proofs.Canon.{avail-canonical, dtmf-canonical, time-canonical, reserved-canonical}
+use Rattle.descriptor_laws.proofs.PlainTrips.{ReadsBack, avail-reads-back, dtmf-reads-back, time-reads-back, reserved-reads-back}
+use Rattle.descriptor_laws.proofs.SegmentBack.{segmentation-reads-back, segmentation-canonical}
+use Rattle.descriptor_laws.proofs.Wholes.{reads-as, whole-back}
+
+back : (d : Descriptor) (id : List ℕ) (beside : Beside) (lent s : List ℕ) → Handed d id beside lent → descriptorMade d id beside lent ≡ made s → ReadsBack d id beside lent s × (canonicalDescriptor s ≡ true)
+back (Avail x) id beside lent s h e = (avail-reads-back id beside lent s (h .four) (h .twelve) x e, avail-canonical id beside lent s x e)
+back (Dtmf x) id beside lent s h e = (dtmf-reads-back id beside lent s (h .four) (h .twelve) x (h .are) e, dtmf-canonical id beside lent s x e)
+back (Segmentation x) id beside lent s h e =
+    let places : componentsOf (Segmentation x) ≤ length (beside .components) = omega (arith, h .count, h .places) in
+    (segmentation-reads-back x id beside lent s (h .four) (h .twelve) (h .held) (h .are) places e, segmentation-canonical x id beside lent s (h .four) (h .twelve) (h .held) (h .are) places e)
+back (Time x) id beside lent s h e = (time-reads-back id beside lent s (h .four) (h .twelve) x e, time-canonical id beside lent s x e)
+back (Reserved tag v) id beside lent s h e = (reserved-reads-back id beside lent s (h .four) (h .twelve) tag v (h .are) e, reserved-canonical id beside lent s tag v (h .four) e)
+
+-- What is written of a descriptor reads back equal to what was handed in, and is canonical.
+pub descriptor-write-read : (d : Descriptor) (identifier : List ℕ) (beside : Beside) (lent s : List ℕ) → Handed d identifier beside lent
+    → descriptorMade d identifier beside lent ≡ made s → ReadAs s d identifier beside lent × (canonicalDescriptor s ≡ true)
+descriptor-write-read d id beside lent s h e = let b = back d id beside lent s h e in (reads-as d id beside lent (h .four) s (b .0), b .1)
+
+-- A canonical descriptor is read, and writing its reading gives its bytes.
+pub descriptor-read-write : (s : List ℕ) → AllBytes s → canonicalDescriptor s ≡ true
+    → (d : Descriptor) × (wholeIn s .read ≡ Is d) × (descriptorMade d (wholeIn s .identifier) (wholeIn s .beside) (drop 6 s) ≡ made s)
+descriptor-read-write s a c = let b = whole-back s a c in (b .read, ap (λ (w : WholeDescriptor). w .read) (b .whole), b .writes)
+
+-- Two different canonical descriptors never have the same reading.
+pub descriptors-of-one-reading-are-one : (s r : List ℕ) (d e : Descriptor) → AllBytes s → AllBytes r → canonicalDescriptor s ≡ true → canonicalDescriptor r ≡ true
+    → wholeIn s .read ≡ Is d → wholeIn r .read ≡ Is e
+    → SameReading (drop 6 s) d (wholeIn s .identifier) (wholeIn s .beside) (drop 6 r) e (wholeIn r .identifier) (wholeIn r .beside) → s ≡ r
+descriptors-of-one-reading-are-one s r d e a b cs cr rs rr same =
+    let x = written s a cs d rs in
+    let y = written r b cr e rr in
+    same-made (drop 6 s) (drop 6 r) s r d e (wholeIn s .identifier) (wholeIn r .identifier) (wholeIn s .beside) (wholeIn r .beside) (x .1) (y .1) same (x .0) (y .0)
+  where
+    written : (s : List ℕ) → AllBytes s → canonicalDescriptor s ≡ true → (d : Descriptor) → wholeIn s .read ≡ Is d
+        → (descriptorMade d (wholeIn s .identifier) (wholeIn s .beside) (drop 6 s) ≡ made s) × (componentsOf d ≤ length (wholeIn s .beside .components))
+    written s a c d e =
+        let b = whole-back s a c in
+        let i : Is (b .read) ≡ Is d = sym (ap (λ (w : WholeDescriptor). w .read) (b .whole)) ∙ e in
+        let z : b .read ≡ d = one (b .read) d i in (
+          subst (λ (k : Descriptor). descriptorMade k (wholeIn s .identifier) (wholeIn s .beside) (drop 6 s) ≡ made s) z (b .writes),
+          subst (λ (k : Descriptor). componentsOf k ≤ length (wholeIn s .beside .components)) z (b .places),
+        )
+      where
+        one : (x y : Descriptor) → Is x ≡ Is y → x ≡ y
+        one x y e = cc
