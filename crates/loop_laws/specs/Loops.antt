@@ -50,8 +50,8 @@ pub record SameItem (loop other : List ℕ) (x y : Listed) : Type 0 where
   pub same : SameReading loop this (x .step .identifier) (readingOf loop (x .offset) .beside) other that (y .step .identifier) (readingOf other (y .offset) .beside)
 
 pub data SameItems (loop other : List ℕ) : List Listed → List Listed → Type 0 where
-  none : SameItems loop other [] []
-  more : {x y : Listed} {xs ys : List Listed} → SameItem loop other x y → SameItems loop other xs ys → SameItems loop other (x ∷ xs) (y ∷ ys)
+  done : SameItems loop other [] []
+  pair : {x y : Listed} {xs ys : List Listed} → SameItem loop other x y → SameItems loop other xs ys → SameItems loop other (x ∷ xs) (y ∷ ys)
 
 -- ---- descriptors that are handed in, one after the other, each with the bytes that its views refer to
 
@@ -74,5 +74,5 @@ pub record ItemBack (loop : List ℕ) (x : Listed) (g : Given) : Type 0 where
   pub same : SameReading loop again (x .step .identifier) (readingOf loop (x .offset) .beside) (g .lent) (g .descriptor) (g .identifier) (g .beside)
 
 pub data ItemsBack (loop : List ℕ) : List Listed → List Given → Type 0 where
-  none : ItemsBack loop [] []
-  more : {x : Listed} {g : Given} {xs : List Listed} {gs : List Given} → ItemBack loop x g → ItemsBack loop xs gs → ItemsBack loop (x ∷ xs) (g ∷ gs)
+  over : ItemsBack loop [] []
+  back : {x : Listed} {g : Given} {xs : List Listed} {gs : List Given} → ItemBack loop x g → ItemsBack loop xs gs → ItemsBack loop (x ∷ xs) (g ∷ gs)
