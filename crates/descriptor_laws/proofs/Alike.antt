@@ -73,7 +73,7 @@ pub record SameView (s : List ℕ) (v : View) (r : List ℕ) (w : View) : Type 0
   pub left : v .at + v .len ≤ length s
   pub right : w .at + w .len ≤ length r
 
-abbrev detailView : SegmentationDetail → View
+abbrev pub detailView : SegmentationDetail → View
 detailView Cancel = noView
 detailView (Insert i) = i .«segmentation_upid» .bytes
 
@@ -321,10 +321,10 @@ module _ (s r t id : List ℕ) (b c : Beside) (eidrs : b .eidr ≡ c .eidr) wher
 
 -- ---- equal readings, of both of which something is written
 
-by-bytes : (s : List ℕ) (v : View) (r : List ℕ) (w : View) → v .at + v .len ≤ length s → w .at + w .len ≤ length r → viewed s v ≡ viewed r w → SameView s v r w
+pub by-bytes : (s : List ℕ) (v : View) (r : List ℕ) (w : View) → v .at + v .len ≤ length s → w .at + w .len ≤ length r → viewed s v ≡ viewed r w → SameView s v r w
 by-bytes s v r w hs hr e = record { size = sym (viewed-length s v hs) ∙ ap length e ∙ viewed-length r w hr; bytes = e; left = hs; right = hr }
 
-both-none : (s : List ℕ) (v : View) (r : List ℕ) (w : View) → v .at + v .len ≤ length s → w .at + w .len ≤ length r → v .len ≡ 0 → w .len ≡ 0 → SameView s v r w
+pub both-none : (s : List ℕ) (v : View) (r : List ℕ) (w : View) → v .at + v .len ≤ length s → w .at + w .len ≤ length r → v .len ≡ 0 → w .len ≡ 0 → SameView s v r w
 both-none s v r w hs hr n m = by-bytes s v r w hs hr (empty (viewed s v) (viewed-length s v hs ∙ n) ∙ sym (empty (viewed r w) (viewed-length r w hr ∙ m)))
 
 pub no-views : (s r : List ℕ) → SameView s noView r noView
@@ -343,11 +343,11 @@ none-fair u eidr lent k f = go (eqb (u .kind) 10) (eqb (u .kind) 0) k f
     go false false k f = zero-one cc
 
 -- what is written of a descriptor tells of its view: it lies in the lent bytes, and is empty of None and EIDR
-abbrev DetailTold : SegmentationDetail → Type 0
+abbrev pub DetailTold : SegmentationDetail → Type 0
 DetailTold Cancel = Unit {0}
 DetailTold (Insert i) = eqb (i .«segmentation_upid» .kind) 0 || eqb (i .«segmentation_upid» .kind) 10 ≡ true → i .«segmentation_upid» .bytes .len ≡ 0
 
-abbrev NoneTold : Descriptor → Type 0
+abbrev pub NoneTold : Descriptor → Type 0
 NoneTold (Avail x) = Unit {0}
 NoneTold (Dtmf x) = Unit {0}
 NoneTold (Segmentation x) = DetailTold (x .«descriptor_detail»)
@@ -373,7 +373,7 @@ module _ (s p id : List ℕ) (b : Beside) where
   payload-told (Reserved tag v) places e =
       (leb-true _ _ (and-true (leb (v .at + v .len) (length s)) true (laws.wrote (fairReserved tag id (b .eidr)) s (walk privateBytes v 0 .fields) p e .views) .0), tt)
 
-made-told : (s t id : List ℕ) (b : Beside) (d : Descriptor) → componentsOf d ≤ length (b .components) → descriptorMade d id b s ≡ made t → (viewIn d .at + viewIn d .len ≤ length s) × NoneTold d
+pub made-told : (s t id : List ℕ) (b : Beside) (d : Descriptor) → componentsOf d ≤ length (b .components) → descriptorMade d id b s ≡ made t → (viewIn d .at + viewIn d .len ≤ length s) × NoneTold d
 unfolding descriptorMade
 made-told s t id b d places e =
     let u = unframed (tagOf d) (identifierOf d id) (payloadMade d id b s) t e in

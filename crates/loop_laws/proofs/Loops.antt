@@ -1,0 +1,212 @@
+-- The items of a loop that is cut into canonical descriptors, written again; and descriptors that are written, joined and read.
+--     join-back      what is written of the items, joined, is the loop
+--     one-cut        loops with the same items are cut into the same descriptors
+--     given-back     what is written of descriptors, joined, has them as its items
+use Prim.Native.Nat.{ℕ, zero, suc, _+_, _-_, _≤_}
+use mathlib.Core.Bool.{Bool, true, false}
+use mathlib.Core.List.{List, [], _∷_, _++_, map}
+use mathlib.Core.Path.{_≡_, refl, ap, ap₂, sym, subst, _∙_}
+use native.Mathlib.Omega.{arith}
+use lib.ListN.{length, take, drop, getD}
+use Rattle.table.specs.Bits.{AllBytes}
+use Rattle.table.specs.Writing.{Made, made, refused}
+use Rattle.table.specs.declared.View.{View}
+use Rattle.table.proofs.Lists.{zero-one}
+use Rattle.upid.specs.Cover.{All, none, more}
+use Rattle.descriptor.specs.Descriptor.{descriptorOf}
+use Rattle.descriptor.specs.Views.{descriptorViews, readViews}
+use Rattle.descriptor.specs.Whole.{wholeOf}
+use Rattle.descriptor.specs.declared.Descriptor.{Descriptor}
+use Rattle.descriptor.specs.declared.DescriptorRead.{DescriptorRead}
+use Rattle.descriptor.specs.declared.DescriptorRead.the-variants as read
+use Rattle.descriptor.specs.declared.segmentation.ModeComponent.{ModeComponent}
+use Rattle.descriptor.specs.declared.whole.Beside.{Beside}
+use Rattle.descriptor.specs.declared.whole.WholeDescriptor.{WholeDescriptor}
+use Rattle.descriptor.proofs.Insides.{read-inside}
+use Rattle.descriptor_form.specs.Canonical.{canonicalLoop}
+use Rattle.descriptor_form.specs.Same.{SameReading, bytesOfViews, componentsOf}
+use Rattle.descriptor_form.specs.Writing.{descriptorMade}
+use Rattle.descriptor_laws.specs.Trips.{wholeIn, ReadAs}
+use Rattle.descriptor_laws.proofs.Alike.{SameView, viewIn, NoneTold, made-told, alike-made, same-made}
+use Rattle.descriptor_laws.proofs.Theorems.{descriptor-write-read}
+use Rattle.descriptor_laws.proofs.Wholes.{whole-back}
+use Rattle.items.specs.Cover.{joined}
+use Rattle.items.specs.Items.{itemAt, stepOf, readingOf, Listed, listed, itemsOf}
+use Rattle.items.specs.Place.{movedDescriptor}
+use Rattle.items.specs.declared.Item.{Item}
+use Rattle.items.specs.declared.Item.the-variants.{End, Refused, Is}
+use Rattle.items.specs.declared.Step.{Step}
+use Rattle.items.specs.declared.reading.Reading.{Reading}
+use Rattle.loop_laws.specs.Loops.{
+  itemMade,
+  writtenAt,
+  _followed-by_,
+  joinedMade,
+  SameItem,
+  SameItems,
+  done,
+  pair,
+  Given,
+  givenMade,
+  GivenTypes,
+  ItemBack,
+  ItemsBack,
+  over,
+  back,
+}
+use Rattle.loop_laws.proofs.Pieces.{Canonical, cut-canonical, At, Items, end, item, items-cut}
+use Rattle.loop_laws.proofs.Places.{moved-values, moved-count, moved-view, moved-bytes}
+
+-- ---- the bytes of the pieces
+
+all-left : (t post : List ℕ) → AllBytes (t ++ post) → AllBytes t
+all-left [] post a = tt
+all-left (b ∷ t) post a = (a .0, all-left t post (a .1))
+
+all-right : (t post : List ℕ) → AllBytes (t ++ post) → AllBytes post
+all-right [] post a = a
+all-right (b ∷ t) post a = all-right t post (a .1)
+
+pub all-pieces : (ts : List (List ℕ)) → AllBytes (joined ts) → All AllBytes ts
+unfolding joined
+all-pieces [] a = none
+all-pieces (t ∷ ts) a = more (all-left t (joined ts) a) (all-pieces ts (all-right t (joined ts) a))
+
+-- ---- an item that is read where a piece stands
+
+module _ (loop : List ℕ) (offset : ℕ) (t : List ℕ) (a : At loop offset t) where
+  pub item-is : stepOf loop offset .item ≡ itemAt (offset + 6) (wholeIn t .read)
+  unfolding readingOf
+  item-is = ap (λ (r : Reading). r .step .item) (a .reading)
+
+  pub identifier-is : stepOf loop offset .identifier ≡ wholeIn t .identifier
+  unfolding readingOf
+  identifier-is = ap (λ (r : Reading). r .step .identifier) (a .reading)
+
+  pub beside-is : readingOf loop offset .beside ≡ wholeIn t .beside
+  beside-is = ap (λ (r : Reading). r .beside) (a .reading)
+
+  -- the piece is what is written of the item
+  pub record Back : Type 0 where
+    pub read : Descriptor
+    pub is : stepOf loop offset .item ≡ Is read
+    pub writes : descriptorMade read (stepOf loop offset .identifier) (readingOf loop offset .beside) loop ≡ made t
+    pub places : componentsOf read ≤ length (readingOf loop offset .beside .components)
+
+  pub back-at : AllBytes t → Back
+  back-at all =
+      let w = whole-back t all (a .canon) in
+      let d : Descriptor = w .read in
+      let base : ℕ = offset + 6 in
+      let there : Descriptor = movedDescriptor base d in
+      let id : List ℕ = wholeIn t .identifier in
+      let b : Beside = wholeIn t .beside in
+      let told = subst (λ (p : List ℕ). (viewIn d .at + viewIn d .len ≤ length p) × NoneTold d) (sym (a .payload)) (made-told (drop 6 t) t id b d (w .places) (w .writes)) in
+      let v : SameView (drop 6 t) (viewIn d) loop (viewIn there) =
+      subst (λ (p : List ℕ). SameView p (viewIn d) loop (viewIn there)) (a .payload) (moved-view loop base (length t - 6) (a .there) d told) in
+      let m : descriptorMade there id b loop ≡ made t =
+      alike-made (drop 6 t) loop t id b b refl d there (w .places) (sym (moved-values base d)) v (ap (λ (n : ℕ). take n (b .components)) (sym (moved-count base d))) (w .writes) in
+      record {
+        read = there;
+        is = item-is ∙ ap (itemAt base) (ap (λ (x : WholeDescriptor). x .read) (w .whole));
+        writes = ap₂ (λ (i : List ℕ) (c : Beside). descriptorMade there i c loop) identifier-is beside-is ∙ m;
+        places = subst (λ (c : Beside). componentsOf there ≤ length (c .components)) (sym beside-is) (omega (arith, moved-count base d, w .places));
+      }
+
+  -- the item is what the piece was written of
+  pub given-at : (g : Given) → ReadAs t (g .descriptor) (g .identifier) (g .beside) (g .lent) → ItemBack loop (listed loop offset) g
+  unfolding wholeOf
+  given-at g r =
+      let d : Descriptor = r .again in
+      let base : ℕ = offset + 6 in
+      let there : Descriptor = movedDescriptor base d in
+      let views : All (λ (v : View). v .at + v .len ≤ length (drop 6 t)) (descriptorViews d) =
+      subst (λ (x : DescriptorRead). All (λ (v : View). v .at + v .len ≤ length (drop 6 t)) (readViews x)) (r .reading) (read-inside (getD t 0 0) (take 4 (drop 2 t)) (drop 6 t)) in
+      let inside = subst (λ (p : List ℕ). All (λ (v : View). v .at + v .len ≤ length p) (descriptorViews d)) (sym (a .payload)) views in
+      let moves : bytesOfViews loop (descriptorViews there) ≡ bytesOfViews (drop 6 t) (descriptorViews d) =
+      moved-bytes loop base (length t - 6) (a .there) d inside ∙ ap (λ (p : List ℕ). bytesOfViews p (descriptorViews d)) (a .payload) in
+      record {
+        again = there;
+        is = item-is ∙ ap (itemAt base) (r .reading);
+        same = record {
+          values = moved-values base d ∙ r .same .values;
+          bytes = moves ∙ r .same .bytes;
+          identifiers = identifier-is ∙ r .same .identifiers;
+          components = ap₂ (λ (n : ℕ) (c : Beside). take n (c .components)) (moved-count base d) beside-is ∙ r .same .components;
+          eidrs = ap (λ (c : Beside). c .eidr) beside-is ∙ r .same .eidrs;
+        };
+      }
+
+-- ---- all of them
+
+module _ (loop : List ℕ) (fits : length loop ≤ 4076) where
+  pub join-back : {offset : ℕ} {ts : List (List ℕ)} {xs : List Listed} → Items loop fits offset ts xs → All AllBytes ts → joinedMade (map (writtenAt loop) xs) ≡ made (joined ts)
+  unfolding joinedMade joined
+  join-back end none = refl
+  join-back (item {offset = o} {t = t} {ts = ts} {xs = xs} a i) (more h hs) =
+      let b = back-at loop o t a h in
+      let m : writtenAt loop (listed loop o) ≡ made t = ap (λ (y : Item). itemMade loop y (stepOf loop o .identifier) (readingOf loop o .beside)) (b .is) ∙ b .writes in
+      ap₂ (λ (p q : Made). p followed-by q) m (join-back i hs)
+
+-- ---- loops with the same items
+
+one-read : (x y : Descriptor) (i : Item) → i ≡ Is x → i ≡ Is y → x ≡ y
+one-read x y i e f =
+    let z : Is x ≡ Is y = sym e ∙ f in
+    cc
+
+-- the piece is what is written of the descriptor that the item is
+named : (loop : List ℕ) (offset : ℕ) (t : List ℕ) → At loop offset t → AllBytes t → (d : Descriptor) → stepOf loop offset .item ≡ Is d
+    → (descriptorMade d (stepOf loop offset .identifier) (readingOf loop offset .beside) loop ≡ made t) × (componentsOf d ≤ length (readingOf loop offset .beside .components))
+named loop o t a h d e =
+    let b = back-at loop o t a h in
+    let z : b .read ≡ d = one-read (b .read) d (stepOf loop o .item) (b .is) e in (
+      subst (λ (k : Descriptor). descriptorMade k (stepOf loop o .identifier) (readingOf loop o .beside) loop ≡ made t) z (b .writes),
+      subst (λ (k : Descriptor). componentsOf k ≤ length (readingOf loop o .beside .components)) z (b .places),
+    )
+
+module _ (loop other : List ℕ) (fits : length loop ≤ 4076) (fits₂ : length other ≤ 4076) where
+  pub one-cut : {o₁ o₂ : ℕ} {ts us : List (List ℕ)} {xs ys : List Listed} → Items loop fits o₁ ts xs → Items other fits₂ o₂ us ys → All AllBytes ts → All AllBytes us → SameItems loop other xs ys → ts ≡ us
+  one-cut end end none none done = refl
+  one-cut (item {offset = o} {t = t} a i) (item {offset = q} {t = u} b j) (more h hs) (more k ks) (pair s ss) =
+      let m = named loop o t a h (s .this) (s .first) in
+      let n = named other q u b k (s .that) (s .second) in
+      ap₂ (λ (p : List ℕ) (ps : List (List ℕ)). p ∷ ps)
+      (same-made loop other t u (s .this) (s .that) (stepOf loop o .identifier) (stepOf other q .identifier) (readingOf loop o .beside) (readingOf other q .beside) (m .1) (n .1) (s .same) (m .0) (n .0))
+      (one-cut i j hs ks ss)
+
+-- ---- descriptors that are written, joined and read
+
+-- each piece is read as what was handed in
+data Reads : List (List ℕ) → List Given → Type 0 where
+  nil : Reads [] []
+  cons : {t : List ℕ} {g : Given} {ts : List (List ℕ)} {gs : List Given} → ReadAs t (g .descriptor) (g .identifier) (g .beside) (g .lent) → Reads ts gs → Reads (t ∷ ts) (g ∷ gs)
+
+items-back : (loop : List ℕ) (fits : length loop ≤ 4076) {offset : ℕ} {ts : List (List ℕ)} {xs : List Listed} {gs : List Given} → Items loop fits offset ts xs → Reads ts gs → ItemsBack loop xs gs
+items-back loop fits end nil = over
+items-back loop fits (item {offset = o} {t = t} a i) (cons {g = g} r rs) = back (given-at loop o t a g r) (items-back loop fits i rs)
+
+record Cut (gs : List Given) (loop : List ℕ) : Type 0 where
+  pieces : List (List ℕ)
+  canon : All Canonical pieces
+  reads : Reads pieces gs
+  joins : joined pieces ≡ loop
+
+given-cut : {gs : List Given} → All GivenTypes gs → (loop : List ℕ) → joinedMade (map givenMade gs) ≡ made loop → Cut gs loop
+unfolding joinedMade joined
+given-cut none loop e = record { pieces = []; canon = none; reads = nil; joins = cc }
+given-cut (more {x = g} {xs = gs} h hs) loop e = go (givenMade g) (joinedMade (map givenMade gs)) (given-cut hs) refl refl e
+  where
+    go : (m n : Made) → ((c : List ℕ) → joinedMade (map givenMade gs) ≡ made c → Cut gs c) → givenMade g ≡ m → joinedMade (map givenMade gs) ≡ n → m followed-by n ≡ made loop → Cut (g ∷ gs) loop
+    go (refused k) n more-cut em en e = zero-one cc
+    go (made t) (refused k) more-cut em en e = zero-one cc
+    go (made t) (made c) more-cut em en e =
+        let i = more-cut c en in
+        let r = descriptor-write-read (g .descriptor) (g .identifier) (g .beside) (g .lent) t h em in
+        let z : t ++ c ≡ loop = cc in
+        record { pieces = t ∷ i .pieces; canon = more (r .1) (i .canon); reads = cons (r .0) (i .reads); joins = ap (λ (l : List ℕ). t ++ l) (i .joins) ∙ z }
+
+pub given-back : {gs : List Given} → All GivenTypes gs → (loop : List ℕ) → length loop ≤ 4076 → joinedMade (map givenMade gs) ≡ made loop → (canonicalLoop loop ≡ true) × ItemsBack loop (itemsOf loop) gs
+given-back hs loop fits e =
+    let c = given-cut hs loop e in
+    (subst (λ (l : List ℕ). canonicalLoop l ≡ true) (c .joins) (cut-canonical (c .canon)), items-back loop fits (items-cut loop fits (c .canon) (c .joins)) (c .reads))

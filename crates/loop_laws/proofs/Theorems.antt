@@ -1,0 +1,43 @@
+-- Descriptor loops: written of their items, and read. A reader needs specs/Loops.antt beside this file, and the definitions of `items` and `descriptor_form`.
+-- Assumes nothing.
+use Prim.Native.Nat.{ℕ, _≤_}
+use mathlib.Core.Bool.{true}
+use mathlib.Core.List.{List, map}
+use mathlib.Core.Path.{_≡_, ap, sym, subst, _∙_}
+use lib.ListN.{length}
+use Rattle.table.specs.Bits.{AllBytes}
+use Rattle.table.specs.Writing.{made}
+use Rattle.upid.specs.Cover.{All}
+use Rattle.descriptor_form.specs.Canonical.{canonicalLoop}
+use Rattle.items.specs.Cover.{joined}
+use Rattle.items.specs.Items.{itemsOf}
+use Rattle.loop_laws.specs.Loops.{joinedMade, loopMade, SameItems, Given, givenMade, GivenTypes, ItemsBack}
+use Rattle.loop_laws.proofs.Loops.{all-pieces, join-back, one-cut, given-back}
+use Rattle.loop_laws.proofs.Pieces.{Canonical, canonical-cut, items-cut}
+
+-- the canonical descriptors of a canonical loop
+cut : (loop : List ℕ) → canonicalLoop loop ≡ true → (ts : List (List ℕ)) × All Canonical ts × (joined ts ≡ loop)
+unfolding canonicalLoop
+cut loop c = canonical-cut (length loop) loop c
+
+-- "Writing a reading means each item's descriptor, joined in order as the loop": of a canonical loop this gives its bytes.
+pub a-canonical-loop-is-what-is-written-of-its-items : (loop : List ℕ) → AllBytes loop → length loop ≤ 4076 → canonicalLoop loop ≡ true → loopMade loop ≡ made loop
+unfolding loopMade
+a-canonical-loop-is-what-is-written-of-its-items loop a fits c =
+    let t = cut loop c in
+    join-back loop fits (items-cut loop fits (t .1) (t .2)) (all-pieces (t .0) (subst AllBytes (sym (t .2)) a)) ∙ ap made (t .2)
+
+-- Two different canonical loops never have the same items.
+pub canonical-loops-of-the-same-items-are-one : (loop other : List ℕ) → AllBytes loop → AllBytes other → length loop ≤ 4076 → length other ≤ 4076 → canonicalLoop loop ≡ true → canonicalLoop other ≡ true
+    → SameItems loop other (itemsOf loop) (itemsOf other) → loop ≡ other
+canonical-loops-of-the-same-items-are-one loop other a b fits fits₂ c d same =
+    let t = cut loop c in
+    let u = cut other d in
+    let e = one-cut loop other fits fits₂ (items-cut loop fits (t .1) (t .2)) (items-cut other fits₂ (u .1) (u .2)) (all-pieces (t .0) (subst AllBytes (sym (t .2)) a))
+    (all-pieces (u .0) (subst AllBytes (sym (u .2)) b)) same in
+    sym (t .2) ∙ ap joined e ∙ u .2
+
+-- What is written of descriptors, joined in order, is a canonical loop, and its items read back as what was handed in.
+pub descriptors-written-in-order-are-the-items-of-a-canonical-loop : (gs : List Given) (loop : List ℕ) → All GivenTypes gs → length loop ≤ 4076 → joinedMade (map givenMade gs) ≡ made loop
+    → (canonicalLoop loop ≡ true) × ItemsBack loop (itemsOf loop) gs
+descriptors-written-in-order-are-the-items-of-a-canonical-loop gs loop h fits e = given-back h loop fits e

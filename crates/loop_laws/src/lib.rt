@@ -1,0 +1,1 @@
+// The laws of descriptor loops: what is written of a loop's items, against what its reader makes of it. All is in proofs/.
