@@ -43,6 +43,7 @@ use section::read_section;
 use upid::read_upid;
 
 pub mod numbers;
+pub mod writing;
 
 // The bytes from an offset on.
 fn rest(s: &[u8], at: usize) -> &[u8]

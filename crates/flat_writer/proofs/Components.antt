@@ -1,0 +1,60 @@
+-- The components of an insert, from their words. Assumes nothing.
+use Prim.Native.Nat.{ℕ, zero, suc, _+_, _-_, _%_, _<_, _≤_}
+use mathlib.Core.Bool.{Bool, true, false, _&&_}
+use mathlib.Core.List.{List, [], _∷_, _++_}
+use mathlib.Core.Path.{_≡_, refl, ap, sym, _∙_}
+use native.Mathlib.Nat.{sub-zero, zero-sub, suc-sub-suc, zero-add, mod-eq-of-lt, mod-lt}
+use native.Mathlib.Omega.{arith}
+use lib.Dec.{eqb, ltb, lit<}
+use lib.ListN.{length, drop, replicate}
+use lib.Seq.{paste, take-all}
+use borrow.Author.Tests.{ltb-true, ltb-false, eq-eqb, ne-eqb}
+use Rattle.command.specs.Command.{array}
+use Rattle.command.specs.Insert.{blank}
+use Rattle.command.specs.declared.components.ComponentSplice.{ComponentSplice}
+use Rattle.flat.specs.FlatCommand.{flatComponent}
+use Rattle.flat_writer.specs.CommandWords.{componentFrom, componentWords, ownComponent}
+use Rattle.flat_writer.specs.Words.{word, same}
+use Rattle.flat_writer.proofs.Words.{and-unit, word-drop, word-drop-two}
+
+-- ---- one component
+module _ (words : List ℕ) where
+  pub own-wide : 255 < word words 0 → false ≡ ownComponent words
+  unfolding same componentWords flatComponent componentFrom
+  own-wide h = rw (ne-eqb (word words 0) (word words 0 % 256) (λ e. omega (arith, mod-lt (word words 0) {m = 256} (lit< tt))))
+
+  narrow : word words 0 ≤ 255 → eqb (word words 0) (word words 0 % 256) ≡ true
+  narrow h = eq-eqb (word words 0) (word words 0 % 256) (sym (mod-eq-of-lt (omega arith)))
+
+  pub own-timed : word words 0 ≤ 255 → word words 1 ≡ 3 → true ≡ ownComponent words
+  unfolding same componentWords flatComponent componentFrom
+  own-timed h e = rw (narrow h, word-drop words 1, word-drop-two words, e, eq-eqb (word words 2) (word words 2) refl)
+
+  own-immediate : word words 0 ≤ 255 → word words 1 ≡ 1 → eqb (word words 2) 0 ≡ ownComponent words
+  unfolding same componentWords flatComponent componentFrom
+  own-immediate h e = rw (narrow h, word-drop words 1, word-drop-two words, e) (and-unit (eqb (word words 2) 0))
+
+  own-unspecified : word words 0 ≤ 255 → word words 1 ≡ 2 → eqb (word words 2) 0 ≡ ownComponent words
+  unfolding same componentWords flatComponent componentFrom
+  own-unspecified h e = rw (narrow h, word-drop words 1, word-drop-two words, e) (and-unit (eqb (word words 2) 0))
+
+  pub own-blank : word words 0 ≤ 255 → 1 ≤ word words 1 → word words 1 < 3 → eqb (word words 2) 0 ≡ ownComponent words
+  own-blank h a b = go (ltb (word words 1) 2) refl
+    where
+      go : (t : Bool) → ltb (word words 1) 2 ≡ t → eqb (word words 2) 0 ≡ ownComponent words
+      go true e = own-immediate h (omega (arith, ltb-true (word words 1) 2 e))
+      go false e = own-unspecified h (omega (arith, ltb-false (word words 1) 2 e))
+
+  pub own-none : word words 0 ≤ 255 → (word words 1 ≡ 1 → ⊥) → (word words 1 ≡ 2 → ⊥) → (word words 1 ≡ 3 → ⊥) → false ≡ ownComponent words
+  unfolding same componentWords flatComponent componentFrom
+  own-none h a b c = rw (narrow h, word-drop words 1, ne-eqb (word words 1) 1 a, ne-eqb (word words 1) 3 c, ne-eqb (word words 1) 2 b)
+
+-- ---- their array
+drop-replicate : {A : Type 0} (i n : ℕ) (a : A) → drop i (replicate n a) ≡ replicate (n - i) a
+drop-replicate zero n a = rw sub-zero
+drop-replicate (suc i) zero a = rw zero-sub
+drop-replicate (suc i) (suc n) a = rw suc-sub-suc (drop-replicate i n a)
+
+pub filled-array : (out s : List ComponentSplice) (i n : ℕ) → length s ≡ n → n ≡ i → out ≡ paste (array []) 0 s i → out ≡ array s
+unfolding array
+filled-array out s i n l e p = p ∙ rw (← e, zero-add n, take-all n s (omega arith), drop-replicate n 255 blank, l)

@@ -1,0 +1,2 @@
+pub mod Components
+pub mod Words

@@ -1,0 +1,3 @@
+pub mod Words
+pub mod CommandWords
+pub mod Walk

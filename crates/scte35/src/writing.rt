@@ -1,0 +1,21 @@
+// The writers. They take words, those of the C structs in their order: a word past the end counts as 0, and words past the struct's end are not looked at.
+ghost use mathlib.Core.Path.{_≡_};
+ghost use Rattle.flat_writer.specs.CommandWords.{commandWordsMade};
+ghost use Rattle.flat_writer.specs.Words.{flatWritten};
+ghost use Rattle.pen.specs.Written.{answerOf, laterOf};
+use flat_writer::FlatWritten;
+use flat_writer::commands::write_command_words;
+
+// A command's payload: the words of a command and of its components, and the bytes that its view names.
+#[no_mangle]
+pub extern "C" fn scte35_write_command(
+    command: &[u64],
+    components: &[u64],
+    lent: &[u8],
+    target: &mut [u8],
+) -> FlatWritten
+    ensures answer { λ r. ⌜ r ≡ flatWritten (answerOf (commandWordsMade (now (command .entry)) (now (components .entry)) (now (lent .entry))) (now (target .entry))) ⌝ }
+    ensures bytes { λ _. ⌜ now (target .exit) ≡ laterOf (commandWordsMade (now (command .entry)) (now (components .entry)) (now (lent .entry))) (now (target .entry)) ⌝ }
+{
+    write_command_words(command, components, lent, target)
+}
