@@ -51,18 +51,19 @@ pub fn is_cuei(identifier: [u8; 4]) -> bool
     identifier[3] == 0x49
 }
 
-// The descriptor that a tag, an identifier and a payload make.
+// The descriptor that a tag, an identifier and a payload make. Each arm returns, here and where a caller matches the answer: what
+// is built is then stored where it goes, and is not merged with what the other arms build.
 pub fn read_descriptor(tag: u8, identifier: [u8; 4], payload: &[u8]) -> DescriptorRead
     ensures { λ r. ⌜ r ≡ descriptorOf tag identifier (now (payload .entry)) ⌝ }
 {
     if is_cuei(identifier) {
-        return match tag {
-            0 => read_avail(payload),
-            1 => read_dtmf(payload),
-            2 => read_segmentation(payload),
-            3 => read_time(payload),
-            _ => read_reserved(tag, payload),
-        };
+        match tag {
+            0 => return read_avail(payload),
+            1 => return read_dtmf(payload),
+            2 => return read_segmentation(payload),
+            3 => return read_time(payload),
+            _ => return read_reserved(tag, payload),
+        }
     }
     read_reserved(tag, payload)
 }

@@ -79,14 +79,14 @@ read-descriptor-spec =
     (tie.spec
     is-cuei-requires
     read-avail-requires
-    read-dtmf-requires
-    read-segmentation-requires
-    read-time-requires
-    read-reserved-requires
     returns
+    read-dtmf-requires
     returns-2
+    read-segmentation-requires
     returns-3
+    read-time-requires
     returns-4
+    read-reserved-requires
     returns-5
     read-reserved-requires-2
     returns-6)
