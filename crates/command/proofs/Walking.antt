@@ -12,6 +12,7 @@ use Rattle.header.specs.declared.time.SpliceTime.{SpliceTime}
 use Rattle.header.specs.declared.time.SpliceTime.the-variants.{Immediate, Unspecified}
 use Rattle.header.specs.declared.time.TimeRead.{TimeRead}
 use Rattle.header.specs.declared.time.Timed.{Timed}
+use Rattle.header.proofs.Headers.{flag-of}
 use Rattle.header.proofs.Times.{timed-got, timed-lacks}
 use Rattle.names.specs.declared.flags.NetworkIndicator.{NetworkIndicator}
 use Rattle.names.specs.declared.flags.ReturnMode.{ReturnMode}
@@ -53,11 +54,6 @@ next-byte i = omega arith
 module _ (s : List ℕ) (i f : ℕ) (there : i < length s) (is : f ≡ getD s i 0) (byte : f < 256) where
   one-bit : (j k at : ℕ) → at ≡ i * 8 + j → j + 1 + k ≡ 8 → field (bitsOf s) at 1 ≡ f / 2 ^ k % 2
   one-bit j k at e h = ap (λ (p : ℕ). field (bitsOf s) p 1) e ∙ field-in s i there (rw is at byte) j 1 k h ∙ ap (λ (x : ℕ). x / 2 ^ k % 2) (sym is)
-
-  top-bit : field (bitsOf s) (i * 8) 1 ≡ f / 128
-  top-bit =
-      let z : f / 128 % 2 ≡ f / 128 = omega arith in
-      one-bit 0 7 (i * 8) (sym (add-zero (i * 8))) refl ∙ z
 
 -- ---- a splice_time unless immediate
 pub at-once : (s : List ℕ) (i : ℕ) → TimeRead.Got (record { time = Immediate; next = record { byte = i; bit = 0 } }) ≡ timeRead (parse (timeUnless true) (bitsOf s) (i * 8))
@@ -184,7 +180,7 @@ module _ (s : List ℕ) (i : ℕ) where
   a-break f v m there ef byte em ev =
       let p : i * 8 + 1 + 6 ≡ i * 8 + 7 = omega arith in
       let q : i * 8 + 1 + 6 + 33 ≡ (i + 5) * 8 = omega arith in
-      break-got _ _ (i + 5) (rw em (takes-flag s (i * 8) (eqb (f / 128) 1) _ _ (omega arith) (ap (λ (x : ℕ). eqb x 1) (top-bit s i f (omega arith) ef byte)) ∙ takes-ones s (i * 8 + 1) 6 _ (omega arith)
+      break-got _ _ (i + 5) (rw em (takes-flag s (i * 8) (eqb (f / 128) 1) _ _ (omega arith) (ap (λ (x : ℕ). eqb x 1) (sym (flag-of s i f (omega arith) ef byte))) ∙ takes-ones s (i * 8 + 1) 6 _ (omega arith)
       ∙ takes-number s (i * 8 + 1 + 6) 33 v _ _ (omega arith) (ev ∙ ap (λ (x : ℕ). field (bitsOf s) x 33) (sym p)) ∙ ap (got (Break.Lasts (record { «return_mode» = pick (eqb (f / 128) 1) ReturnMode.Automatic ReturnMode.Manual; duration = v }))) q))
 
 -- one that was read, and the byte after it
@@ -272,7 +268,7 @@ module _ (s : List ℕ) (i : ℕ) where
     unfolding active
     flags =
         let p : i * 8 + 1 + 1 + 1 + 1 + 4 ≡ (i + 1) * 8 = omega arith in
-        takes-flag s (i * 8) _ _ _ (omega arith) (ap (λ (x : ℕ). eqb x 1) (top-bit s i f there is byte))
+        takes-flag s (i * 8) _ _ _ (omega arith) (ap (λ (x : ℕ). eqb x 1) (sym (flag-of s i f there is byte)))
         ∙ takes-flag s (i * 8 + 1) _ _ _ (omega arith) (ap (λ (x : ℕ). eqb x 1) (one-bit s i f there is byte 1 6 (i * 8 + 1) refl refl))
         ∙ takes-flag s (i * 8 + 1 + 1) _ _ _ (omega arith) (ap (λ (x : ℕ). eqb x 1) (one-bit s i f there is byte 2 5 (i * 8 + 1 + 1) (omega arith) refl))
         ∙ takes-flag s (i * 8 + 1 + 1 + 1) _ _ _ (omega arith) (ap (λ (x : ℕ). eqb x 1) (one-bit s i f there is byte 3 4 (i * 8 + 1 + 1 + 1) (omega arith) refl))
@@ -319,7 +315,7 @@ module _ (s : List ℕ) where
         sym (field-in s 4 (omega arith) byte 1 7 0 refl ∙ z)
 
     cancel : (c : Bool) → eqb (getD s 4 0 / 128) 1 ≡ c → eqb (field (bitsOf s) 32 1) 1 ≡ c
-    cancel c e = ap (λ (x : ℕ). eqb x 1) (top-bit s 4 (getD s 4 0) (omega arith) refl byte) ∙ e
+    cancel c e = ap (λ (x : ℕ). eqb x 1) (sym (flag-of s 4 (getD s 4 0) (omega arith) refl byte)) ∙ e
 
     pub a-cancel : 128 ≤ getD s 4 0
         → InsertRead.Got (record { «splice_event_id» = v; reserved = getD s 4 0 % 128; «splice_detail» = SpliceInsert.Cancel }) ≡ insertRead (parse insert (bitsOf s) 0)
