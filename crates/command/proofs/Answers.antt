@@ -1,13 +1,11 @@
 -- What the readers of an insert answer, made of a reading and undone.
-use Prim.Native.Nat.{ℕ}
+use Prim.Native.Nat.{ℕ, _*_, _/_, _%_}
 use mathlib.Core.List.{List}
 use mathlib.Core.Path.{_≡_, refl}
-use Rattle.table.specs.Cursor.{place, cursorAt}
+use native.Mathlib.Omega.{arith}
 use Rattle.table.specs.Table.{Answer, got, short}
-use Rattle.table.specs.declared.cursor.Cursor.{Cursor}
 use Rattle.table.specs.declared.cursor.Short.{Short}
 use Rattle.table.proofs.Lists.{zero-one}
-use Rattle.table.proofs.Steppings.{Settled, place-of, settled-at}
 use Rattle.command.specs.Insert.{WithComponents}
 use Rattle.command.specs.Walk.{componentRead, skimmedOf, breakRead, modedRead, activeRead, insertRead}
 use Rattle.command.specs.declared.components.Component.{Component}
@@ -24,23 +22,31 @@ use Rattle.command.specs.declared.insert.InsertRead.{InsertRead}
 use Rattle.command.specs.declared.insert.Moded.{Moded}
 use Rattle.command.specs.declared.insert.ModedRead.{ModedRead}
 use Rattle.command.specs.declared.insert.SpliceMode.{SpliceMode}
+use Rattle.command.proofs.Wholes.{Whole}
+
+-- ---- the byte that starts with a bit, and its first bit
+byte-of : (n : ℕ) → n * 8 / 8 ≡ n
+byte-of n = omega arith
+
+bit-of : (m : ℕ) → m % 8 ≡ 0 → m / 8 * 8 ≡ m
+bit-of m z = omega arith
 
 -- ---- a component
-pub component-got : (r : Answer ComponentSplice) (y : ComponentSplice) (c : Cursor) → Settled c → r ≡ got y (place c) → ComponentRead.Got (record { component = y; next = c }) ≡ componentRead r
+pub component-got : (r : Answer ComponentSplice) (y : ComponentSplice) (n : ℕ) → r ≡ got y (n * 8) → ComponentRead.Got (record { component = y; next = n }) ≡ componentRead r
 unfolding componentRead
-component-got r y c h e = rw (e, h)
+component-got r y n e = rw (e, byte-of n)
 
 pub component-lacks : (r : Answer ComponentSplice) (x : Short) → r ≡ short (x .expected) (x .actual) → ComponentRead.Lacks x ≡ componentRead r
 unfolding componentRead
 component-lacks r x e = rw e
 
-pub got-component : (r : Answer ComponentSplice) (y : Component) → ComponentRead.Got y ≡ componentRead r → (r ≡ got (y .component) (place (y .next))) × Settled (y .next)
+pub got-component : (r : Answer ComponentSplice) (y : Component) → Whole r → ComponentRead.Got y ≡ componentRead r → r ≡ got (y .component) (y .next * 8)
 unfolding componentRead
-got-component (got x m) y f =
+got-component (got x m) y w f =
     let e : y .component ≡ x = cc in
-    let c : y .next ≡ cursorAt m = cc in
-    (rw (e, c, place-of m), rw c (settled-at m))
-got-component (short e a) y f = zero-one cc
+    let c : y .next ≡ m / 8 = cc in
+    rw (e, c, bit-of m (w x m refl))
+got-component (short e a) y w f = zero-one cc
 
 pub lacks-component : (r : Answer ComponentSplice) (x : Short) → ComponentRead.Lacks x ≡ componentRead r → r ≡ short (x .expected) (x .actual)
 unfolding componentRead
@@ -48,26 +54,25 @@ lacks-component (got y m) x f = zero-one cc
 lacks-component (short e a) x f = cc
 
 -- ---- components that are skimmed
-pub skim-got : (r : Answer (List ComponentSplice)) (ys : List ComponentSplice) (c : Cursor) → Settled c → r ≡ got ys (place c) → Skimmed.Got c ≡ skimmedOf r
+pub skim-got : (r : Answer (List ComponentSplice)) (ys : List ComponentSplice) (n : ℕ) → r ≡ got ys (n * 8) → Skimmed.Got n ≡ skimmedOf r
 unfolding skimmedOf
-skim-got r ys c h e = rw (e, h)
+skim-got r ys n e = rw (e, byte-of n)
 
 pub skim-lacks : (r : Answer (List ComponentSplice)) (x : Short) → r ≡ short (x .expected) (x .actual) → Skimmed.Lacks x ≡ skimmedOf r
 unfolding skimmedOf
 skim-lacks r x e = rw e
 
 -- they were read, whichever they are
-pub record Skims (r : Answer (List ComponentSplice)) (c : Cursor) : Type 0 where
+pub record Skims (r : Answer (List ComponentSplice)) (n : ℕ) : Type 0 where
   pub list : List ComponentSplice
-  pub is : r ≡ got list (place c)
-  pub settled : Settled c
+  pub is : r ≡ got list (n * 8)
 
-pub got-skim : (r : Answer (List ComponentSplice)) (c : Cursor) → Skimmed.Got c ≡ skimmedOf r → Skims r c
+pub got-skim : (r : Answer (List ComponentSplice)) (n : ℕ) → Whole r → Skimmed.Got n ≡ skimmedOf r → Skims r n
 unfolding skimmedOf
-got-skim (got ys m) c f =
-    let e : c ≡ cursorAt m = cc in
-    record { list = ys; is = rw (e, place-of m); settled = rw e (settled-at m) }
-got-skim (short e a) c f = zero-one cc
+got-skim (got ys m) n w f =
+    let e : n ≡ m / 8 = cc in
+    record { list = ys; is = rw (e, bit-of m (w ys m refl)) }
+got-skim (short e a) n w f = zero-one cc
 
 pub lacks-skim : (r : Answer (List ComponentSplice)) (x : Short) → Skimmed.Lacks x ≡ skimmedOf r → r ≡ short (x .expected) (x .actual)
 unfolding skimmedOf
@@ -75,21 +80,21 @@ lacks-skim (got ys m) x f = zero-one cc
 lacks-skim (short e a) x f = cc
 
 -- ---- a duration
-pub break-got : (r : Answer Break) (y : Break) (c : Cursor) → Settled c → r ≡ got y (place c) → BreakRead.Got (record { duration = y; next = c }) ≡ breakRead r
+pub break-got : (r : Answer Break) (y : Break) (n : ℕ) → r ≡ got y (n * 8) → BreakRead.Got (record { duration = y; next = n }) ≡ breakRead r
 unfolding breakRead
-break-got r y c h e = rw (e, h)
+break-got r y n e = rw (e, byte-of n)
 
 pub break-lacks : (r : Answer Break) (x : Short) → r ≡ short (x .expected) (x .actual) → BreakRead.Lacks x ≡ breakRead r
 unfolding breakRead
 break-lacks r x e = rw e
 
-pub got-break : (r : Answer Break) (y : Broken) → BreakRead.Got y ≡ breakRead r → (r ≡ got (y .duration) (place (y .next))) × Settled (y .next)
+pub got-break : (r : Answer Break) (y : Broken) → Whole r → BreakRead.Got y ≡ breakRead r → r ≡ got (y .duration) (y .next * 8)
 unfolding breakRead
-got-break (got x m) y f =
+got-break (got x m) y w f =
     let e : y .duration ≡ x = cc in
-    let c : y .next ≡ cursorAt m = cc in
-    (rw (e, c, place-of m), rw c (settled-at m))
-got-break (short e a) y f = zero-one cc
+    let c : y .next ≡ m / 8 = cc in
+    rw (e, c, bit-of m (w x m refl))
+got-break (short e a) y w f = zero-one cc
 
 pub lacks-break : (r : Answer Break) (x : Short) → BreakRead.Lacks x ≡ breakRead r → r ≡ short (x .expected) (x .actual)
 unfolding breakRead
@@ -97,10 +102,10 @@ lacks-break (got y m) x f = zero-one cc
 lacks-break (short e a) x f = cc
 
 -- ---- a mode, with whichever components
-pub mode-got : (r : Answer (WithComponents SpliceMode)) (y : SpliceMode) (cs : List ComponentSplice) (c : Cursor) → Settled c
-    → r ≡ got (record { value = y; components = cs }) (place c) → ModedRead.Got (record { mode = y; next = c }) ≡ modedRead r
+pub mode-got : (r : Answer (WithComponents SpliceMode)) (y : SpliceMode) (cs : List ComponentSplice) (n : ℕ)
+    → r ≡ got (record { value = y; components = cs }) (n * 8) → ModedRead.Got (record { mode = y; next = n }) ≡ modedRead r
 unfolding modedRead
-mode-got r y cs c h e = rw (e, h)
+mode-got r y cs n e = rw (e, byte-of n)
 
 pub mode-lacks : (r : Answer (WithComponents SpliceMode)) (x : Short) → r ≡ short (x .expected) (x .actual) → ModedRead.Lacks x ≡ modedRead r
 unfolding modedRead
@@ -108,16 +113,15 @@ mode-lacks r x e = rw e
 
 pub record Modes (r : Answer (WithComponents SpliceMode)) (y : Moded) : Type 0 where
   pub list : List ComponentSplice
-  pub is : r ≡ got (record { value = y .mode; components = list }) (place (y .next))
-  pub settled : Settled (y .next)
+  pub is : r ≡ got (record { value = y .mode; components = list }) (y .next * 8)
 
-pub got-mode : (r : Answer (WithComponents SpliceMode)) (y : Moded) → ModedRead.Got y ≡ modedRead r → Modes r y
+pub got-mode : (r : Answer (WithComponents SpliceMode)) (y : Moded) → Whole r → ModedRead.Got y ≡ modedRead r → Modes r y
 unfolding modedRead
-got-mode (got x m) y f =
+got-mode (got x m) y w f =
     let e : y .mode ≡ x .value = cc in
-    let c : y .next ≡ cursorAt m = cc in
-    record { list = x .components; is = rw (e, c, place-of m); settled = rw c (settled-at m) }
-got-mode (short e a) y f = zero-one cc
+    let c : y .next ≡ m / 8 = cc in
+    record { list = x .components; is = rw (e, c, bit-of m (w x m refl)) }
+got-mode (short e a) y w f = zero-one cc
 
 pub lacks-mode : (r : Answer (WithComponents SpliceMode)) (x : Short) → ModedRead.Lacks x ≡ modedRead r → r ≡ short (x .expected) (x .actual)
 unfolding modedRead

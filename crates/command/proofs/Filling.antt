@@ -11,7 +11,6 @@ use lib.ListN.{length, drop, set, replicate, length-replicate}
 use lib.Seq.{sets, sets-eq}
 use Rattle.header.specs.declared.time.SpliceTime.{SpliceTime}
 use Rattle.table.specs.Bits.{pick, bitsOf, field}
-use Rattle.table.specs.Cursor.{place}
 use Rattle.table.specs.Table.{Table, done, inside, list, Answer, got, short, parse}
 use Rattle.table.specs.declared.cursor.Short.{Short}
 use Rattle.table.proofs.Lists.{zero-one}
@@ -28,7 +27,8 @@ use Rattle.command.specs.declared.insert.Insertion.{Insertion}
 use Rattle.command.specs.declared.insert.InsertRead.{InsertRead}
 use Rattle.command.specs.declared.insert.SpliceInsert.{SpliceInsert}
 use Rattle.command.specs.declared.insert.SpliceMode.{SpliceMode}
-use Rattle.command.proofs.Answers.{got-component, lacks-component}
+use Rattle.command.proofs.Answers.{lacks-component}
+use Rattle.command.proofs.Walking.{component-there}
 
 -- ---- as many as the list says
 list-length : {Y : Type 0} (n : ℕ) (d : Y) (t : Table Y) (bs : List ℕ) (at : ℕ) (ys : List Y) (m : ℕ) → parse (list n d t) bs at ≡ got ys m → length ys ≡ n
@@ -65,11 +65,11 @@ module _ (s : List ℕ) (b : Bool) where
   pub fill-start : (n at : ℕ) → n ≤ 255 → filled (array []) 0 (parse (list n blank (component b)) (bitsOf s) at) ≡ array (listIn (parse (list n blank (component b)) (bitsOf s) at))
   fill-start n at h = start _ (λ cs m e. omega (arith, list-length n blank (component b) (bitsOf s) at cs m e))
 
-  pub fill-turn : (out : List ComponentSplice) (i n at : ℕ) (y : Component) → ComponentRead.Got y ≡ componentRead (parse (component b) (bitsOf s) at)
-      → filled (set out i (y .component)) (i + 1) (parse (list n blank (component b)) (bitsOf s) (place (y .next))) ≡ filled out i (parse (list (suc n) blank (component b)) (bitsOf s) at)
+  pub fill-turn : (out : List ComponentSplice) (i n at : ℕ) (y : Component) → ComponentRead.Got y ≡ componentRead (parse (component b) (bitsOf s) (at * 8))
+      → filled (set out i (y .component)) (i + 1) (parse (list n blank (component b)) (bitsOf s) (y .next * 8)) ≡ filled out i (parse (list (suc n) blank (component b)) (bitsOf s) (at * 8))
   fill-turn out i n at y e =
-      sym (ap (filled out i) (list-turn n blank (component b) (bitsOf s) at (y .component) (place (y .next)) (got-component (parse (component b) (bitsOf s) at) y e .0))
-      ∙ on (bitsOf s) out i (y .component) (parse (list n blank (component b)) (bitsOf s) (place (y .next))))
+      sym (ap (filled out i) (list-turn n blank (component b) (bitsOf s) (at * 8) (y .component) (y .next * 8) (component-there s b at y e))
+      ∙ on (bitsOf s) out i (y .component) (parse (list n blank (component b)) (bitsOf s) (y .next * 8)))
 
   pub fill-lacks : (out : List ComponentSplice) (i n at : ℕ) (x : Short) → ComponentRead.Lacks x ≡ componentRead (parse (component b) (bitsOf s) at)
       → array [] ≡ filled out i (parse (list (suc n) blank (component b)) (bitsOf s) at)

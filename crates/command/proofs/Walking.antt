@@ -1,30 +1,29 @@
--- The walks of the readers of an insert, step by step.
-use Prim.Native.Nat.{ℕ, zero, suc, _+_, _*_, _-_, _^_, _<_, _≤_}
+-- The walks of the readers of an insert, by bytes. s are the bytes, i the place of the first.
+use Prim.Native.Nat.{ℕ, zero, suc, _+_, _*_, _-_, _/_, _%_, _^_, _<_, _≤_}
 use mathlib.Core.Bool.{Bool, true, false}
 use mathlib.Core.List.{List, [], _∷_}
 use mathlib.Core.Path.{_≡_, refl, ap, sym, _∙_}
+use native.Mathlib.Nat.{add-zero}
 use native.Mathlib.Omega.{arith}
+use lib.Dec.{eqb}
+use lib.ListN.{length, getD}
 use Rattle.header.specs.Time.{spliceTime, timeRead}
 use Rattle.header.specs.declared.time.SpliceTime.{SpliceTime}
 use Rattle.header.specs.declared.time.SpliceTime.the-variants.{Immediate, Unspecified}
 use Rattle.header.specs.declared.time.TimeRead.{TimeRead}
 use Rattle.header.specs.declared.time.Timed.{Timed}
-use Rattle.header.proofs.Times.{time-got, timed-got, timed-lacks}
+use Rattle.header.proofs.Headers.{flag-of}
+use Rattle.header.proofs.Times.{timed-got, timed-lacks}
 use Rattle.names.specs.declared.flags.NetworkIndicator.{NetworkIndicator}
 use Rattle.names.specs.declared.flags.ReturnMode.{ReturnMode}
-use Rattle.table.specs.Bits.{pick, bitsOf}
-use Rattle.table.specs.Cursor.{place, takenOf, flaggedOf, skippedOf}
-use Rattle.table.specs.Table.{Table, done, inside, number, bit, reserved, list, Answer, got, short, parse}
+use Rattle.table.specs.Bits.{pick, bitsOf, field}
+use Rattle.table.specs.Cursor.{place, cursorAt}
+use Rattle.table.specs.Table.{Table, done, inside, list, Answer, got, short, parse}
 use Rattle.table.specs.declared.cursor.Cursor.{Cursor}
-use Rattle.table.specs.declared.cursor.Flag.{Flag}
-use Rattle.table.specs.declared.cursor.Flagged.{Flagged}
-use Rattle.table.specs.declared.cursor.Number.{Number}
 use Rattle.table.specs.declared.cursor.Short.{Short}
-use Rattle.table.specs.declared.cursor.Skipped.{Skipped}
-use Rattle.table.specs.declared.cursor.Taken.{Taken}
-use Rattle.table.proofs.Cursors.{goes-number, stops-number, goes-flag, stops-flag, goes-ones, stops-ones}
-use Rattle.table.proofs.Steppings.{Settled, taken-got}
-use Rattle.table.proofs.Steps.{takes-in, lacks-in, onward, list-turn, list-short, list-none}
+use Rattle.table.proofs.Bits.{length-bits}
+use Rattle.table.proofs.Fields.{byte-field, field-in}
+use Rattle.table.proofs.Steps.{takes-in, lacks-in, takes-number, lacks-number, takes-flag, lacks-flag, takes-ones, parse-bound, onward, list-turn, list-short, list-none}
 use Rattle.command.specs.Insert.{WithComponents, timeUnless, component, blank, moded, breakDuration, ending, active, activeOf, insert, modeOf}
 use Rattle.command.specs.Walk.{componentRead, skimmedOf, breakRead, modedRead, activeRead, insertRead}
 use Rattle.command.specs.declared.components.ComponentRead.{ComponentRead}
@@ -41,34 +40,63 @@ use Rattle.command.specs.declared.insert.Moded.{Moded}
 use Rattle.command.specs.declared.insert.ModedRead.{ModedRead}
 use Rattle.command.specs.declared.insert.SpliceInsert.{SpliceInsert}
 use Rattle.command.specs.declared.insert.SpliceMode.{SpliceMode}
-use Rattle.command.proofs.Answers.{component-got, component-lacks, got-component, lacks-component, skim-got, skim-lacks, got-skim, lacks-skim, break-got, break-lacks, got-break, lacks-break, mode-got, mode-lacks, got-mode, lacks-mode, active-got, active-lacks, got-active, lacks-active, insert-got, insert-lacks}
+use Rattle.command.proofs.Answers.{component-got, component-lacks, got-component, lacks-component, skim-got, skim-lacks, got-skim, lacks-skim, break-got, break-lacks, got-break, lacks-break, mode-got, mode-lacks, Modes, got-mode, lacks-mode, active-got, active-lacks, got-active, lacks-active, insert-got, insert-lacks}
+use Rattle.command.proofs.Wholes.{whole-time-unless, whole-component, whole-list, whole-mode, whole-break}
+
+-- a byte's first bit is where a byte begins
+begins : (i : ℕ) → i * 8 % 8 ≡ 0
+begins i = omega arith
+
+next-byte : (i : ℕ) → (i + 1) * 8 ≡ i * 8 + 8
+next-byte i = omega arith
+
+-- the bit of a byte f that has j bits before it and k after it
+module _ (s : List ℕ) (i f : ℕ) (there : i < length s) (is : f ≡ getD s i 0) (byte : f < 256) where
+  one-bit : (j k at : ℕ) → at ≡ i * 8 + j → j + 1 + k ≡ 8 → field (bitsOf s) at 1 ≡ f / 2 ^ k % 2
+  one-bit j k at e h = ap (λ (p : ℕ). field (bitsOf s) p 1) e ∙ field-in s i there (rw is at byte) j 1 k h ∙ ap (λ (x : ℕ). x / 2 ^ k % 2) (sym is)
 
 -- ---- a splice_time unless immediate
-pub at-once : (s : List ℕ) (c : Cursor) → Settled c → TimeRead.Got (record { time = Immediate; next = c }) ≡ timeRead (parse (timeUnless true) (bitsOf s) (place c))
-unfolding timeUnless
-at-once s c h = time-got (got Immediate (place c)) Immediate c h refl
+pub at-once : (s : List ℕ) (i : ℕ) → TimeRead.Got (record { time = Immediate; next = record { byte = i; bit = 0 } }) ≡ timeRead (parse (timeUnless true) (bitsOf s) (i * 8))
+unfolding timeUnless timeRead cursorAt
+at-once s i =
+    let b : i * 8 / 8 ≡ i = omega arith in
+    rw (b, begins i)
 
-pub at-a-time : (s : List ℕ) (at : ℕ) → timeRead (parse spliceTime (bitsOf s) at) ≡ timeRead (parse (timeUnless false) (bitsOf s) at)
-unfolding timeUnless
-at-a-time s at = refl
+pub at-a-time : (s : List ℕ) (i : ℕ) (r : TimeRead) → r ≡ timeRead (parse spliceTime (bitsOf s) (place (record { byte = i; bit = 0 }))) → r ≡ timeRead (parse (timeUnless false) (bitsOf s) (i * 8))
+unfolding timeUnless place
+at-a-time s i r e = e ∙ ap (λ (p : ℕ). timeRead (parse spliceTime (bitsOf s) p)) (add-zero (i * 8))
+
+-- one that was read, and the byte after it
+timed : (s : List ℕ) (b : Bool) (i : ℕ) (t : Timed) → TimeRead.Got t ≡ timeRead (parse (timeUnless b) (bitsOf s) (i * 8)) → parse (timeUnless b) (bitsOf s) (i * 8) ≡ got (t .time) (t .next .byte * 8)
+unfolding cursorAt
+timed s b i t e =
+    let g = timed-got (parse (timeUnless b) (bitsOf s) (i * 8)) t e in
+    let w : place (t .next) % 8 ≡ 0 = whole-time-unless s b (i * 8) (begins i) _ _ (g .0) in
+    let d : place (t .next) / 8 ≡ t .next .byte = ap (λ (c : Cursor). c .byte) (g .1) in
+    let z : place (t .next) ≡ t .next .byte * 8 = omega (arith, w, d) in
+    g .0 ∙ ap (got (t .time)) z
 
 -- ---- a component
-module _ (s : List ℕ) (at : ℕ) (b : Bool) where
-  pub no-tag : (x : Short) → Taken.Lacks x ≡ takenOf (parse (number 8) (bitsOf s) at) → ComponentRead.Lacks x ≡ componentRead (parse (component b) (bitsOf s) at)
+module _ (s : List ℕ) (i : ℕ) (b : Bool) where
+  pub no-tag : length s ≤ i → ComponentRead.Lacks (record { expected = 1; actual = 0 }) ≡ componentRead (parse (component b) (bitsOf s) (i * 8))
   unfolding component
-  no-tag x e = component-lacks _ x (stops-number s at 8 _ _ x e)
+  no-tag h =
+      let z : (length s * 8 - i * 8) / 8 ≡ 0 = omega arith in
+      component-lacks _ _ (lacks-number s (i * 8) 8 _ _ (omega arith) ∙ ap (short 1) z)
 
-  module _ (n : Number) (en : Taken.Got n ≡ takenOf (parse (number 8) (bitsOf s) at)) where
-    pub no-splice-time : (x : Short) → TimeRead.Lacks x ≡ timeRead (parse (timeUnless b) (bitsOf s) (place (n .next))) → ComponentRead.Lacks x ≡ componentRead (parse (component b) (bitsOf s) at)
+  module _ (there : i < length s) (byte : getD s i 0 < 256) where
+    pub no-splice-time : (x : Short) → TimeRead.Lacks x ≡ timeRead (parse (timeUnless b) (bitsOf s) ((i + 1) * 8)) → ComponentRead.Lacks x ≡ componentRead (parse (component b) (bitsOf s) (i * 8))
     unfolding component
-    no-splice-time x e = component-lacks _ x (goes-number s at 8 _ _ n (omega arith) en ∙ lacks-in (timeUnless b) _ _ (bitsOf s) _ _ _ (timed-lacks _ x e))
+    no-splice-time x e =
+        component-lacks _ x (takes-number s (i * 8) 8 (getD s i 0) _ _ (omega arith) (sym (byte-field s i there byte))
+        ∙ lacks-in (timeUnless b) _ _ (bitsOf s) _ _ _ (rw next-byte at (timed-lacks _ x e)))
 
-    pub a-component : (t : Timed) → TimeRead.Got t ≡ timeRead (parse (timeUnless b) (bitsOf s) (place (n .next)))
-        → ComponentRead.Got (record { component = record { «component_tag» = n .value; «splice_time» = t .time }; next = t .next }) ≡ componentRead (parse (component b) (bitsOf s) at)
+    pub a-component : (t : Timed) → TimeRead.Got t ≡ timeRead (parse (timeUnless b) (bitsOf s) ((i + 1) * 8))
+        → ComponentRead.Got (record { component = record { «component_tag» = getD s i 0; «splice_time» = t .time }; next = t .next .byte }) ≡ componentRead (parse (component b) (bitsOf s) (i * 8))
     unfolding component
     a-component t e =
-        let g = timed-got (parse (timeUnless b) (bitsOf s) (place (n .next))) t e in
-        component-got _ _ (t .next) (g .1) (goes-number s at 8 _ _ n (omega arith) en ∙ takes-in (timeUnless b) _ _ (bitsOf s) _ _ _ (g .0))
+        component-got _ _ (t .next .byte) (takes-number s (i * 8) 8 (getD s i 0) _ _ (omega arith) (sym (byte-field s i there byte))
+        ∙ takes-in (timeUnless b) _ _ (bitsOf s) _ _ _ (rw next-byte at (timed s b (i + 1) t e)))
 
 -- ---- components
 skim-on : (bs : List ℕ) (y : ComponentSplice) (r : Answer (List ComponentSplice)) → skimmedOf (onward bs (λ ys. done (y ∷ ys)) r) ≡ skimmedOf r
@@ -77,194 +105,240 @@ skim-on bs y (got ys m) = refl
 skim-on bs y (short e a) = refl
 
 module _ (s : List ℕ) (b : Bool) where
+  -- a component that was read, and the byte after it
+  pub component-there : (i : ℕ) (y : Component) → ComponentRead.Got y ≡ componentRead (parse (component b) (bitsOf s) (i * 8)) → parse (component b) (bitsOf s) (i * 8) ≡ got (y .component) (y .next * 8)
+  component-there i y e = got-component _ y (whole-component s b (i * 8) (begins i)) e
+
   -- what is left gives what the whole gives
-  pub turn : (n at : ℕ) (y : Component) → ComponentRead.Got y ≡ componentRead (parse (component b) (bitsOf s) at)
-      → skimmedOf (parse (list n blank (component b)) (bitsOf s) (place (y .next))) ≡ skimmedOf (parse (list (suc n) blank (component b)) (bitsOf s) at)
-  turn n at y e =
-      sym (ap skimmedOf (list-turn n blank (component b) (bitsOf s) at (y .component) (place (y .next)) (got-component (parse (component b) (bitsOf s) at) y e .0))
-      ∙ skim-on (bitsOf s) (y .component) (parse (list n blank (component b)) (bitsOf s) (place (y .next))))
+  pub turn : (n i : ℕ) (y : Component) → ComponentRead.Got y ≡ componentRead (parse (component b) (bitsOf s) (i * 8))
+      → skimmedOf (parse (list n blank (component b)) (bitsOf s) (y .next * 8)) ≡ skimmedOf (parse (list (suc n) blank (component b)) (bitsOf s) (i * 8))
+  turn n i y e =
+      sym (ap skimmedOf (list-turn n blank (component b) (bitsOf s) (i * 8) (y .component) (y .next * 8) (component-there i y e))
+      ∙ skim-on (bitsOf s) (y .component) (parse (list n blank (component b)) (bitsOf s) (y .next * 8)))
 
   pub turn-lacks : (n at : ℕ) (x : Short) → ComponentRead.Lacks x ≡ componentRead (parse (component b) (bitsOf s) at)
       → Skimmed.Lacks x ≡ skimmedOf (parse (list (suc n) blank (component b)) (bitsOf s) at)
   turn-lacks n at x e = skim-lacks _ x (list-short n blank (component b) (bitsOf s) at _ _ (lacks-component (parse (component b) (bitsOf s) at) x e))
 
-  pub all-skimmed : (c : Cursor) → Settled c → Skimmed.Got c ≡ skimmedOf (parse (list 0 blank (component b)) (bitsOf s) (place c))
-  all-skimmed c h = skim-got _ [] c h (list-none blank (component b) (bitsOf s) (place c))
+  pub all-skimmed : (i : ℕ) → Skimmed.Got i ≡ skimmedOf (parse (list 0 blank (component b)) (bitsOf s) (i * 8))
+  all-skimmed i = skim-got _ [] i (list-none blank (component b) (bitsOf s) (i * 8))
 
 -- ---- the mode
-module _ (s : List ℕ) (at : ℕ) (b : Bool) where
-  pub by-program : (t : Timed) → TimeRead.Got t ≡ timeRead (parse (timeUnless b) (bitsOf s) at)
-      → ModedRead.Got (record { mode = SpliceMode.Program (t .time); next = t .next }) ≡ modedRead (parse (moded true b) (bitsOf s) at)
+module _ (s : List ℕ) (i : ℕ) (b : Bool) where
+  pub by-program : (t : Timed) → TimeRead.Got t ≡ timeRead (parse (timeUnless b) (bitsOf s) (i * 8))
+      → ModedRead.Got (record { mode = SpliceMode.Program (t .time); next = t .next .byte }) ≡ modedRead (parse (moded true b) (bitsOf s) (i * 8))
   unfolding moded
-  by-program t e =
-      let g = timed-got (parse (timeUnless b) (bitsOf s) at) t e in
-      mode-got _ _ [] (t .next) (g .1) (takes-in (timeUnless b) _ _ (bitsOf s) at _ _ (g .0))
+  by-program t e = mode-got _ _ [] (t .next .byte) (takes-in (timeUnless b) _ _ (bitsOf s) (i * 8) _ _ (timed s b i t e))
 
-  pub no-program-time : (x : Short) → TimeRead.Lacks x ≡ timeRead (parse (timeUnless b) (bitsOf s) at) → ModedRead.Lacks x ≡ modedRead (parse (moded true b) (bitsOf s) at)
+  pub no-program-time : (x : Short) → TimeRead.Lacks x ≡ timeRead (parse (timeUnless b) (bitsOf s) (i * 8)) → ModedRead.Lacks x ≡ modedRead (parse (moded true b) (bitsOf s) (i * 8))
   unfolding moded
-  no-program-time x e = mode-lacks _ x (lacks-in (timeUnless b) _ _ (bitsOf s) at _ _ (timed-lacks _ x e))
+  no-program-time x e = mode-lacks _ x (lacks-in (timeUnless b) _ _ (bitsOf s) (i * 8) _ _ (timed-lacks _ x e))
 
-  pub no-count : (x : Short) → Taken.Lacks x ≡ takenOf (parse (number 8) (bitsOf s) at) → ModedRead.Lacks x ≡ modedRead (parse (moded false b) (bitsOf s) at)
+  pub no-count : length s ≤ i → ModedRead.Lacks (record { expected = 1; actual = 0 }) ≡ modedRead (parse (moded false b) (bitsOf s) (i * 8))
   unfolding moded
-  no-count x e = mode-lacks _ x (stops-number s at 8 _ _ x e)
+  no-count h =
+      let z : (length s * 8 - i * 8) / 8 ≡ 0 = omega arith in
+      mode-lacks _ _ (lacks-number s (i * 8) 8 _ _ (omega arith) ∙ ap (short 1) z)
 
-  module _ (n : Number) (en : Taken.Got n ≡ takenOf (parse (number 8) (bitsOf s) at)) where
-    pub no-components : (x : Short) → Skimmed.Lacks x ≡ skimmedOf (parse (list (n .value) blank (component b)) (bitsOf s) (place (n .next)))
-        → ModedRead.Lacks x ≡ modedRead (parse (moded false b) (bitsOf s) at)
+  module _ (there : i < length s) (byte : getD s i 0 < 256) where
+    pub no-components : (x : Short) → Skimmed.Lacks x ≡ skimmedOf (parse (list (getD s i 0) blank (component b)) (bitsOf s) ((i + 1) * 8))
+        → ModedRead.Lacks x ≡ modedRead (parse (moded false b) (bitsOf s) (i * 8))
     unfolding moded
     no-components x e =
-        mode-lacks _ x (goes-number s at 8 _ _ n (omega arith) en ∙ lacks-in (list (n .value) blank (component b)) _ _ (bitsOf s) _ _ _ (lacks-skim _ x e))
+        mode-lacks _ x (takes-number s (i * 8) 8 (getD s i 0) _ _ (omega arith) (sym (byte-field s i there byte))
+        ∙ lacks-in (list (getD s i 0) blank (component b)) _ _ (bitsOf s) _ _ _ (rw next-byte at (lacks-skim _ x e)))
 
-    pub by-components : (c : Cursor) → Skimmed.Got c ≡ skimmedOf (parse (list (n .value) blank (component b)) (bitsOf s) (place (n .next)))
-        → ModedRead.Got (record { mode = SpliceMode.Components (n .value); next = c }) ≡ modedRead (parse (moded false b) (bitsOf s) at)
+    pub by-components : (n : ℕ) → Skimmed.Got n ≡ skimmedOf (parse (list (getD s i 0) blank (component b)) (bitsOf s) ((i + 1) * 8))
+        → ModedRead.Got (record { mode = SpliceMode.Components (getD s i 0); next = n }) ≡ modedRead (parse (moded false b) (bitsOf s) (i * 8))
     unfolding moded
-    by-components c e =
-        let g = got-skim (parse (list (n .value) blank (component b)) (bitsOf s) (place (n .next))) c e in
-        mode-got _ _ (g .list) c (g .settled) (goes-number s at 8 _ _ n (omega arith) en ∙ takes-in (list (n .value) blank (component b)) _ _ (bitsOf s) _ _ _ (g .is))
+    by-components n e =
+        let g = got-skim (parse (list (getD s i 0) blank (component b)) (bitsOf s) ((i + 1) * 8)) n (whole-list s b (getD s i 0) ((i + 1) * 8) (begins (i + 1))) e in
+        mode-got _ _ (g .list) n (takes-number s (i * 8) 8 (getD s i 0) _ _ (omega arith) (sym (byte-field s i there byte))
+        ∙ takes-in (list (getD s i 0) blank (component b)) _ _ (bitsOf s) _ _ _ (ap (λ (p : ℕ). parse (list (getD s i 0) blank (component b)) (bitsOf s) p) (sym (next-byte i)) ∙ g .is))
 
 -- ---- the duration
-module _ (s : List ℕ) (at : ℕ) where
-  pub no-break : (c : Cursor) → Settled c → BreakRead.Got (record { duration = Break.Absent; next = c }) ≡ breakRead (parse (breakDuration false) (bitsOf s) (place c))
+pub no-break : (s : List ℕ) (i : ℕ) → BreakRead.Got (record { duration = Break.Absent; next = i }) ≡ breakRead (parse (breakDuration false) (bitsOf s) (i * 8))
+unfolding breakDuration
+no-break s i = break-got _ Break.Absent i refl
+
+module _ (s : List ℕ) (i : ℕ) where
+  pub no-auto-return : length s ≤ i → BreakRead.Lacks (record { expected = 0; actual = 0 }) ≡ breakRead (parse (breakDuration true) (bitsOf s) (i * 8))
   unfolding breakDuration
-  no-break c h = break-got _ Break.Absent c h refl
+  no-auto-return h =
+      let z : (length s * 8 - i * 8) / 8 ≡ 0 = omega arith in
+      break-lacks _ _ (lacks-flag s (i * 8) _ _ (omega arith) ∙ ap (short 0) z)
 
-  pub no-auto-return : (x : Short) → Flagged.Lacks x ≡ flaggedOf (parse bit (bitsOf s) at) → BreakRead.Lacks x ≡ breakRead (parse (breakDuration true) (bitsOf s) at)
+  pub no-duration : (n : ℕ) → i < length s → n ≡ length s - i → n < 5 → BreakRead.Lacks (record { expected = 4; actual = n - 1 }) ≡ breakRead (parse (breakDuration true) (bitsOf s) (i * 8))
   unfolding breakDuration
-  no-auto-return x e = break-lacks _ x (stops-flag s at _ _ x e)
+  no-duration n there e h =
+      let z : (length s * 8 - (i * 8 + 1 + 6)) / 8 ≡ n - 1 = omega arith in
+      break-lacks _ _ (takes-flag s (i * 8) _ _ _ (omega arith) refl ∙ takes-ones s (i * 8 + 1) 6 _ (omega arith) ∙ lacks-number s (i * 8 + 1 + 6) 33 _ _ (omega arith) ∙ ap (short 4) z)
 
-  module _ (f : Flag) (ef : Flagged.Got f ≡ flaggedOf (parse bit (bitsOf s) at)) where
-    pub no-break-reserved : (x : Short) → Skipped.Lacks x ≡ skippedOf (parse (reserved 6) (bitsOf s) (place (f .next))) → BreakRead.Lacks x ≡ breakRead (parse (breakDuration true) (bitsOf s) at)
-    unfolding breakDuration
-    no-break-reserved x e = break-lacks _ x (goes-flag s at _ _ f ef ∙ stops-ones s _ 6 _ x e)
+  pub a-break : (f v : ℕ) (m : ReturnMode) → i + 5 ≤ length s → f ≡ getD s i 0 → f < 256 → m ≡ pick (eqb (f / 128) 1) ReturnMode.Automatic ReturnMode.Manual → v ≡ field (bitsOf s) (i * 8 + 7) 33
+      → BreakRead.Got (record { duration = Break.Lasts (record { «return_mode» = m; duration = v }); next = i + 5 }) ≡ breakRead (parse (breakDuration true) (bitsOf s) (i * 8))
+  unfolding breakDuration
+  a-break f v m there ef byte em ev =
+      let p : i * 8 + 1 + 6 ≡ i * 8 + 7 = omega arith in
+      let q : i * 8 + 1 + 6 + 33 ≡ (i + 5) * 8 = omega arith in
+      break-got _ _ (i + 5) (rw em (takes-flag s (i * 8) (eqb (f / 128) 1) _ _ (omega arith) (ap (λ (x : ℕ). eqb x 1) (sym (flag-of s i f (omega arith) ef byte))) ∙ takes-ones s (i * 8 + 1) 6 _ (omega arith)
+      ∙ takes-number s (i * 8 + 1 + 6) 33 v _ _ (omega arith) (ev ∙ ap (λ (x : ℕ). field (bitsOf s) x 33) (sym p)) ∙ ap (got (Break.Lasts (record { «return_mode» = pick (eqb (f / 128) 1) ReturnMode.Automatic ReturnMode.Manual; duration = v }))) q))
 
-    module _ (c : Cursor) (ec : Skipped.Got c ≡ skippedOf (parse (reserved 6) (bitsOf s) (place (f .next)))) where
-      pub no-duration : (x : Short) → Taken.Lacks x ≡ takenOf (parse (number 33) (bitsOf s) (place c)) → BreakRead.Lacks x ≡ breakRead (parse (breakDuration true) (bitsOf s) at)
-      unfolding breakDuration
-      no-duration x e = break-lacks _ x (goes-flag s at _ _ f ef ∙ goes-ones s _ 6 _ c ec ∙ stops-number s _ 33 _ _ x e)
+-- one that was read, and the byte after it
+module _ (s : List ℕ) (i : ℕ) (room : i ≤ length s) (b : Bool) (d : Broken) (ed : BreakRead.Got d ≡ breakRead (parse (breakDuration b) (bitsOf s) (i * 8))) where
+  break-there : parse (breakDuration b) (bitsOf s) (i * 8) ≡ got (d .duration) (d .next * 8)
+  break-there = got-break _ d (whole-break s b (i * 8) (begins i)) ed
 
-      pub a-break : (n : Number) (m : ReturnMode) → Taken.Got n ≡ takenOf (parse (number 33) (bitsOf s) (place c)) → m ≡ pick (f .set) ReturnMode.Automatic ReturnMode.Manual
-          → BreakRead.Got (record { duration = Break.Lasts (record { «return_mode» = m; duration = n .value }); next = n .next }) ≡ breakRead (parse (breakDuration true) (bitsOf s) at)
-      unfolding breakDuration
-      a-break n m e em =
-          break-got _ _ (n .next) (taken-got s 33 (place c) n (omega arith) e .1)
-          (rw em (goes-flag s at _ _ f ef ∙ goes-ones s _ 6 _ c ec ∙ goes-number s _ 33 _ _ n (omega arith) e))
+  pub break-within : d .next ≤ length s
+  break-within =
+      let h : d .next * 8 ≤ length (bitsOf s) = parse-bound (breakDuration b) (bitsOf s) (i * 8) _ _ (omega (arith, length-bits s)) break-there in
+      omega (arith, h, length-bits s)
 
 -- ---- from the duration on
-module _ (s : List ℕ) (at : ℕ) (out : Bool) (m : WithComponents SpliceMode) (b : Bool) where
-  pub no-ending : (x : Short) → BreakRead.Lacks x ≡ breakRead (parse (breakDuration b) (bitsOf s) at) → ActiveRead.Lacks x ≡ activeRead (parse (ending out m b) (bitsOf s) at)
+module _ (s : List ℕ) (i : ℕ) (room : i ≤ length s) (out : Bool) (m : WithComponents SpliceMode) (b : Bool) where
+  pub no-ending : (x : Short) → BreakRead.Lacks x ≡ breakRead (parse (breakDuration b) (bitsOf s) (i * 8)) → ActiveRead.Lacks x ≡ activeRead (parse (ending out m b) (bitsOf s) (i * 8))
   unfolding ending
-  no-ending x e = active-lacks _ x (lacks-in (breakDuration b) _ _ (bitsOf s) at _ _ (lacks-break _ x e))
+  no-ending x e = active-lacks _ x (lacks-in (breakDuration b) _ _ (bitsOf s) (i * 8) _ _ (lacks-break _ x e))
 
-  module _ (d : Broken) (ed : BreakRead.Got d ≡ breakRead (parse (breakDuration b) (bitsOf s) at)) where
-    pub no-program-id : (x : Short) → Taken.Lacks x ≡ takenOf (parse (number 16) (bitsOf s) (place (d .next))) → ActiveRead.Lacks x ≡ activeRead (parse (ending out m b) (bitsOf s) at)
-    unfolding ending
-    no-program-id x e = active-lacks _ x (takes-in (breakDuration b) _ _ (bitsOf s) at _ _ (got-break _ d ed .0) ∙ stops-number s _ 16 _ _ x e)
+  module _ (d : Broken) (ed : BreakRead.Got d ≡ breakRead (parse (breakDuration b) (bitsOf s) (i * 8))) where
+    broken : parse (breakDuration b) (bitsOf s) (i * 8) ≡ got (d .duration) (d .next * 8)
+    broken = break-there s i room b d ed
 
-    module _ (n : Number) (en : Taken.Got n ≡ takenOf (parse (number 16) (bitsOf s) (place (d .next)))) where
-      pub no-avail : (x : Short) → Taken.Lacks x ≡ takenOf (parse (number 8) (bitsOf s) (place (n .next))) → ActiveRead.Lacks x ≡ activeRead (parse (ending out m b) (bitsOf s) at)
+    within : d .next ≤ length s
+    within = break-within s i room b d ed
+
+    module _ (n : ℕ) (en : n ≡ length s - d .next) where
+      pub no-program-id : n < 2 → ActiveRead.Lacks (record { expected = 2; actual = n }) ≡ activeRead (parse (ending out m b) (bitsOf s) (i * 8))
       unfolding ending
-      no-avail x e = active-lacks _ x (takes-in (breakDuration b) _ _ (bitsOf s) at _ _ (got-break _ d ed .0) ∙ goes-number s _ 16 _ _ n (omega arith) en ∙ stops-number s _ 8 _ _ x e)
+      no-program-id h =
+          let z : (length s * 8 - d .next * 8) / 8 ≡ n = omega arith in
+          active-lacks _ _ (takes-in (breakDuration b) _ _ (bitsOf s) (i * 8) _ _ broken ∙ lacks-number s (d .next * 8) 16 _ _ (omega (arith, within)) ∙ ap (short 2) z)
 
-      module _ (a : Number) (ea : Taken.Got a ≡ takenOf (parse (number 8) (bitsOf s) (place (n .next)))) where
-        pub no-expected : (x : Short) → Taken.Lacks x ≡ takenOf (parse (number 8) (bitsOf s) (place (a .next))) → ActiveRead.Lacks x ≡ activeRead (parse (ending out m b) (bitsOf s) at)
-        unfolding ending
-        no-expected x e =
-            active-lacks _ x (takes-in (breakDuration b) _ _ (bitsOf s) at _ _ (got-break _ d ed .0) ∙ goes-number s _ 16 _ _ n (omega arith) en ∙ goes-number s _ 8 _ _ a (omega arith) ea
-            ∙ stops-number s _ 8 _ _ x e)
+      no-avail : 2 ≤ n → n < 3 → ActiveRead.Lacks (record { expected = 1; actual = 0 }) ≡ activeRead (parse (ending out m b) (bitsOf s) (i * 8))
+      unfolding ending
+      no-avail g h =
+          let z : (length s * 8 - (d .next * 8 + 16)) / 8 ≡ 0 = omega arith in
+          active-lacks _ _ (takes-in (breakDuration b) _ _ (bitsOf s) (i * 8) _ _ broken ∙ takes-number s (d .next * 8) 16 _ _ _ (omega arith) refl
+          ∙ lacks-number s (d .next * 8 + 16) 8 _ _ (omega (arith, within)) ∙ ap (short 1) z)
 
-        pub an-ending : (y : Number) (i : NetworkIndicator) → Taken.Got y ≡ takenOf (parse (number 8) (bitsOf s) (place (a .next))) → i ≡ pick out NetworkIndicator.Out NetworkIndicator.In
-            → ActiveRead.Got (record {
-              «network_indicator» = i;
-              «splice_mode» = m .value;
-              duration = d .duration;
-              «unique_program_id» = n .value;
-              «avail_num» = a .value;
-              «avails_expected» = y .value;
-            }) ≡ activeRead (parse (ending out m b) (bitsOf s) at)
-        unfolding ending
-        an-ending y i e ei =
-            active-got _ _ (m .components) (place (y .next)) (rw ei (takes-in (breakDuration b) _ _ (bitsOf s) at _ _ (got-break _ d ed .0) ∙ goes-number s _ 16 _ _ n (omega arith) en
-            ∙ goes-number s _ 8 _ _ a (omega arith) ea ∙ goes-number s _ 8 _ _ y (omega arith) e))
+      no-expected : 3 ≤ n → n < 4 → ActiveRead.Lacks (record { expected = 1; actual = 0 }) ≡ activeRead (parse (ending out m b) (bitsOf s) (i * 8))
+      unfolding ending
+      no-expected g h =
+          let z : (length s * 8 - (d .next * 8 + 16 + 8)) / 8 ≡ 0 = omega arith in
+          active-lacks _ _ (takes-in (breakDuration b) _ _ (bitsOf s) (i * 8) _ _ broken ∙ takes-number s (d .next * 8) 16 _ _ _ (omega arith) refl
+          ∙ takes-number s (d .next * 8 + 16) 8 _ _ _ (omega arith) refl ∙ lacks-number s (d .next * 8 + 16 + 8) 8 _ _ (omega (arith, within)) ∙ ap (short 1) z)
+
+      -- the one or the other
+      pub no-avails : 2 ≤ n → n < 4 → ActiveRead.Lacks (record { expected = 1; actual = 0 }) ≡ activeRead (parse (ending out m b) (bitsOf s) (i * 8))
+      no-avails g h = go (n - 2) refl
+        where
+          go : (k : ℕ) → k ≡ n - 2 → ActiveRead.Lacks (record { expected = 1; actual = 0 }) ≡ activeRead (parse (ending out m b) (bitsOf s) (i * 8))
+          go zero e = no-avail g (omega arith)
+          go (suc k) e = no-expected (omega arith) h
+
+    pub an-ending : (v : ℕ) (o : NetworkIndicator) → d .next + 4 ≤ length s → v ≡ field (bitsOf s) (d .next * 8) 16 → getD s (d .next + 2) 0 < 256 → getD s (d .next + 3) 0 < 256
+        → o ≡ pick out NetworkIndicator.Out NetworkIndicator.In
+        → ActiveRead.Got (record {
+          «network_indicator» = o;
+          «splice_mode» = m .value;
+          duration = d .duration;
+          «unique_program_id» = v;
+          «avail_num» = getD s (d .next + 2) 0;
+          «avails_expected» = getD s (d .next + 3) 0;
+        }) ≡ activeRead (parse (ending out m b) (bitsOf s) (i * 8))
+    unfolding ending
+    an-ending v o there ev byte₂ byte₃ eo =
+        let p : d .next * 8 + 16 ≡ (d .next + 2) * 8 = omega arith in
+        let q : d .next * 8 + 16 + 8 ≡ (d .next + 3) * 8 = omega arith in
+        active-got _ _ (m .components) (d .next * 8 + 16 + 8 + 8) (rw eo (takes-in (breakDuration b) _ _ (bitsOf s) (i * 8) _ _ broken ∙ takes-number s (d .next * 8) 16 v _ _ (omega arith) ev
+        ∙ takes-number s (d .next * 8 + 16) 8 _ _ _ (omega arith) (sym (ap (λ (x : ℕ). field (bitsOf s) x 8) p ∙ byte-field s (d .next + 2) (omega arith) byte₂))
+        ∙ takes-number s (d .next * 8 + 16 + 8) 8 _ _ _ (omega arith) (sym (ap (λ (x : ℕ). field (bitsOf s) x 8) q ∙ byte-field s (d .next + 3) (omega arith) byte₃))))
 
 -- ---- what is not cancelled
-module _ (s : List ℕ) (at : ℕ) where
-  pub no-out : (x : Short) → Flagged.Lacks x ≡ flaggedOf (parse bit (bitsOf s) at) → ActiveRead.Lacks x ≡ activeRead (parse active (bitsOf s) at)
+module _ (s : List ℕ) (i : ℕ) where
+  pub no-flags : length s ≤ i → ActiveRead.Lacks (record { expected = 0; actual = 0 }) ≡ activeRead (parse active (bitsOf s) (i * 8))
   unfolding active
-  no-out x e = active-lacks _ x (stops-flag s at _ _ x e)
+  no-flags h =
+      let z : (length s * 8 - i * 8) / 8 ≡ 0 = omega arith in
+      active-lacks _ _ (lacks-flag s (i * 8) _ _ (omega arith) ∙ ap (short 0) z)
 
-  module _ (o : Flag) (eo : Flagged.Got o ≡ flaggedOf (parse bit (bitsOf s) at)) where
-    pub no-program : (x : Short) → Flagged.Lacks x ≡ flaggedOf (parse bit (bitsOf s) (place (o .next))) → ActiveRead.Lacks x ≡ activeRead (parse active (bitsOf s) at)
+  -- by the byte f of the flags
+  module _ (f : ℕ) (there : i < length s) (is : f ≡ getD s i 0) (byte : f < 256) where
+    flags : parse active (bitsOf s) (i * 8)
+        ≡ parse (inside (moded (eqb (f / 64 % 2) 1) (eqb (f / 16 % 2) 1)) modeOf (λ m. ending (eqb (f / 128) 1) m (eqb (f / 32 % 2) 1))) (bitsOf s) ((i + 1) * 8)
     unfolding active
-    no-program x e = active-lacks _ x (goes-flag s at _ _ o eo ∙ stops-flag s _ _ _ x e)
+    flags =
+        let p : i * 8 + 1 + 1 + 1 + 1 + 4 ≡ (i + 1) * 8 = omega arith in
+        takes-flag s (i * 8) _ _ _ (omega arith) (ap (λ (x : ℕ). eqb x 1) (sym (flag-of s i f there is byte)))
+        ∙ takes-flag s (i * 8 + 1) _ _ _ (omega arith) (ap (λ (x : ℕ). eqb x 1) (one-bit s i f there is byte 1 6 (i * 8 + 1) refl refl))
+        ∙ takes-flag s (i * 8 + 1 + 1) _ _ _ (omega arith) (ap (λ (x : ℕ). eqb x 1) (one-bit s i f there is byte 2 5 (i * 8 + 1 + 1) (omega arith) refl))
+        ∙ takes-flag s (i * 8 + 1 + 1 + 1) _ _ _ (omega arith) (ap (λ (x : ℕ). eqb x 1) (one-bit s i f there is byte 3 4 (i * 8 + 1 + 1 + 1) (omega arith) refl))
+        ∙ takes-ones s (i * 8 + 1 + 1 + 1 + 1) 4 _ (omega arith)
+        ∙ ap (λ (x : ℕ). parse (inside (moded (eqb (f / 64 % 2) 1) (eqb (f / 16 % 2) 1)) modeOf (λ m. ending (eqb (f / 128) 1) m (eqb (f / 32 % 2) 1))) (bitsOf s) x) p
 
-    module _ (p : Flag) (ep : Flagged.Got p ≡ flaggedOf (parse bit (bitsOf s) (place (o .next)))) where
-      pub no-duration-flag : (x : Short) → Flagged.Lacks x ≡ flaggedOf (parse bit (bitsOf s) (place (p .next))) → ActiveRead.Lacks x ≡ activeRead (parse active (bitsOf s) at)
-      unfolding active
-      no-duration-flag x e = active-lacks _ x (goes-flag s at _ _ o eo ∙ goes-flag s _ _ _ p ep ∙ stops-flag s _ _ _ x e)
+    pub no-mode : (x : Short) → ModedRead.Lacks x ≡ modedRead (parse (moded (eqb (f / 64 % 2) 1) (eqb (f / 16 % 2) 1)) (bitsOf s) ((i + 1) * 8)) → ActiveRead.Lacks x ≡ activeRead (parse active (bitsOf s) (i * 8))
+    no-mode x e = active-lacks _ x (flags ∙ lacks-in (moded (eqb (f / 64 % 2) 1) (eqb (f / 16 % 2) 1)) modeOf _ (bitsOf s) _ _ _ (lacks-mode _ x e))
 
-      module _ (d : Flag) (ed : Flagged.Got d ≡ flaggedOf (parse bit (bitsOf s) (place (p .next)))) where
-        pub no-immediate : (x : Short) → Flagged.Lacks x ≡ flaggedOf (parse bit (bitsOf s) (place (d .next))) → ActiveRead.Lacks x ≡ activeRead (parse active (bitsOf s) at)
-        unfolding active
-        no-immediate x e = active-lacks _ x (goes-flag s at _ _ o eo ∙ goes-flag s _ _ _ p ep ∙ goes-flag s _ _ _ d ed ∙ stops-flag s _ _ _ x e)
+    module _ (m : Moded) (em : ModedRead.Got m ≡ modedRead (parse (moded (eqb (f / 64 % 2) 1) (eqb (f / 16 % 2) 1)) (bitsOf s) ((i + 1) * 8))) where
+      mode-there : Modes (parse (moded (eqb (f / 64 % 2) 1) (eqb (f / 16 % 2) 1)) (bitsOf s) ((i + 1) * 8)) m
+      mode-there = got-mode _ m (whole-mode s (eqb (f / 64 % 2) 1) (eqb (f / 16 % 2) 1) ((i + 1) * 8) (begins (i + 1))) em
 
-        module _ (i : Flag) (ei : Flagged.Got i ≡ flaggedOf (parse bit (bitsOf s) (place (d .next)))) where
-          pub no-active-reserved : (x : Short) → Skipped.Lacks x ≡ skippedOf (parse (reserved 4) (bitsOf s) (place (i .next))) → ActiveRead.Lacks x ≡ activeRead (parse active (bitsOf s) at)
-          unfolding active
-          no-active-reserved x e =
-              active-lacks _ x (goes-flag s at _ _ o eo ∙ goes-flag s _ _ _ p ep ∙ goes-flag s _ _ _ d ed ∙ goes-flag s _ _ _ i ei ∙ stops-ones s _ 4 _ x e)
+      pub mode-within : m .next ≤ length s
+      mode-within =
+          let h : m .next * 8 ≤ length (bitsOf s) = parse-bound (moded (eqb (f / 64 % 2) 1) (eqb (f / 16 % 2) 1)) (bitsOf s) ((i + 1) * 8) _ _ (omega (arith, length-bits s)) (mode-there .is) in
+          omega (arith, h, length-bits s)
 
-          module _ (c : Cursor) (ec : Skipped.Got c ≡ skippedOf (parse (reserved 4) (bitsOf s) (place (i .next)))) where
-            flags : parse active (bitsOf s) at ≡ parse (inside (moded (p .set) (i .set)) modeOf (λ m. ending (o .set) m (d .set))) (bitsOf s) (place c)
-            unfolding active
-            flags = goes-flag s at _ _ o eo ∙ goes-flag s _ _ _ p ep ∙ goes-flag s _ _ _ d ed ∙ goes-flag s _ _ _ i ei ∙ goes-ones s _ 4 _ c ec
-
-            pub no-mode : (x : Short) → ModedRead.Lacks x ≡ modedRead (parse (moded (p .set) (i .set)) (bitsOf s) (place c)) → ActiveRead.Lacks x ≡ activeRead (parse active (bitsOf s) at)
-            no-mode x e = active-lacks _ x (flags ∙ lacks-in (moded (p .set) (i .set)) modeOf _ (bitsOf s) _ _ _ (lacks-mode _ x e))
-
-            pub an-active : (m : Moded) (r : ActiveRead) → ModedRead.Got m ≡ modedRead (parse (moded (p .set) (i .set)) (bitsOf s) (place c))
-                → ((cs : List ComponentSplice) → r ≡ activeRead (parse (ending (o .set) (record { value = m .mode; components = cs }) (d .set)) (bitsOf s) (place (m .next))))
-                → r ≡ activeRead (parse active (bitsOf s) at)
-            an-active m r em er =
-                let g = got-mode (parse (moded (p .set) (i .set)) (bitsOf s) (place c)) m em in
-                er (g .list) ∙ ap activeRead (sym (flags ∙ takes-in (moded (p .set) (i .set)) modeOf _ (bitsOf s) _ _ _ (g .is)))
+      pub an-active : (r : ActiveRead)
+          → ((cs : List ComponentSplice) → r ≡ activeRead (parse (ending (eqb (f / 128) 1) (record { value = m .mode; components = cs }) (eqb (f / 32 % 2) 1)) (bitsOf s) (m .next * 8)))
+          → r ≡ activeRead (parse active (bitsOf s) (i * 8))
+      an-active r er =
+          er (mode-there .list) ∙ ap activeRead (sym (flags ∙ takes-in (moded (eqb (f / 64 % 2) 1) (eqb (f / 16 % 2) 1)) modeOf _ (bitsOf s) _ _ _ (mode-there .is)))
 
 -- ---- an insert
 module _ (s : List ℕ) where
-  pub no-event : (x : Short) → Taken.Lacks x ≡ takenOf (parse (number 32) (bitsOf s) 0) → InsertRead.Lacks x ≡ insertRead (parse insert (bitsOf s) 0)
+  pub no-event : length s < 4 → InsertRead.Lacks (record { expected = 4; actual = length s }) ≡ insertRead (parse insert (bitsOf s) 0)
   unfolding insert
-  no-event x e = insert-lacks _ x (stops-number s 0 32 _ _ x e)
+  no-event h =
+      let z : (length s * 8 - 0) / 8 ≡ length s = omega arith in
+      insert-lacks _ _ (lacks-number s 0 32 _ _ (omega arith) ∙ ap (short 4) z)
 
-  module _ (n : Number) (en : Taken.Got n ≡ takenOf (parse (number 32) (bitsOf s) 0)) where
-    pub no-cancel : (x : Short) → Flagged.Lacks x ≡ flaggedOf (parse bit (bitsOf s) (place (n .next))) → InsertRead.Lacks x ≡ insertRead (parse insert (bitsOf s) 0)
+  pub no-cancel : 4 ≤ length s → length s < 5 → InsertRead.Lacks (record { expected = 0; actual = 0 }) ≡ insertRead (parse insert (bitsOf s) 0)
+  unfolding insert
+  no-cancel g h =
+      let z : (length s * 8 - 32) / 8 ≡ 0 = omega arith in
+      insert-lacks _ _ (takes-number s 0 32 _ _ _ (omega arith) refl ∙ lacks-flag s 32 _ _ (omega arith) ∙ ap (short 0) z)
+
+  -- by the number v of the event, and the byte after it
+  module _ (v : ℕ) (there : 5 ≤ length s) (ev : v ≡ field (bitsOf s) 0 32) (byte : getD s 4 0 < 256) where
+    kept : getD s 4 0 % 128 ≡ field (bitsOf s) 33 7
+    kept =
+        let z : getD s 4 0 / 1 % 128 ≡ getD s 4 0 % 128 = omega arith in
+        sym (field-in s 4 (omega arith) byte 1 7 0 refl ∙ z)
+
+    cancel : (c : Bool) → eqb (getD s 4 0 / 128) 1 ≡ c → eqb (field (bitsOf s) 32 1) 1 ≡ c
+    cancel c e = ap (λ (x : ℕ). eqb x 1) (sym (flag-of s 4 (getD s 4 0) (omega arith) refl byte)) ∙ e
+
+    pub a-cancel : 128 ≤ getD s 4 0
+        → InsertRead.Got (record { «splice_event_id» = v; reserved = getD s 4 0 % 128; «splice_detail» = SpliceInsert.Cancel }) ≡ insertRead (parse insert (bitsOf s) 0)
     unfolding insert
-    no-cancel x e = insert-lacks _ x (goes-number s 0 32 _ _ n (omega arith) en ∙ stops-flag s _ _ _ x e)
+    a-cancel on =
+        let z : getD s 4 0 / 128 ≡ 1 = omega arith in
+        insert-got _ _ [] 40 (takes-number s 0 32 v _ _ (omega arith) ev ∙ takes-flag s 32 true _ _ (omega arith) (cancel true (ap (λ (x : ℕ). eqb x 1) z)) ∙ takes-number s 33 7 _ _ _ (omega arith) kept)
 
-    module _ (f : Flag) (ef : Flagged.Got f ≡ flaggedOf (parse bit (bitsOf s) (place (n .next)))) where
-      pub no-kept : (x : Short) → Taken.Lacks x ≡ takenOf (parse (number 7) (bitsOf s) (place (f .next))) → InsertRead.Lacks x ≡ insertRead (parse insert (bitsOf s) 0)
+    module _ (off : getD s 4 0 < 128) where
+      fronted : parse insert (bitsOf s) 0 ≡ parse (inside active activeOf λ a. done (record {
+        value = record { «splice_event_id» = v; reserved = getD s 4 0 % 128; «splice_detail» = SpliceInsert.Insert (a .value) };
+        components = a .components;
+      })) (bitsOf s) 40
       unfolding insert
-      no-kept x e = insert-lacks _ x (goes-number s 0 32 _ _ n (omega arith) en ∙ goes-flag s _ _ _ f ef ∙ stops-number s _ 7 _ _ x e)
+      fronted =
+          let z : getD s 4 0 / 128 ≡ 0 = omega arith in
+          takes-number s 0 32 v _ _ (omega arith) ev ∙ takes-flag s 32 false _ _ (omega arith) (cancel false (ap (λ (x : ℕ). eqb x 1) z)) ∙ takes-number s 33 7 _ _ _ (omega arith) kept
 
-      module _ (k : Number) (ek : Taken.Got k ≡ takenOf (parse (number 7) (bitsOf s) (place (f .next)))) where
-        pub a-cancel : f .set ≡ true
-            → InsertRead.Got (record { «splice_event_id» = n .value; reserved = k .value; «splice_detail» = SpliceInsert.Cancel }) ≡ insertRead (parse insert (bitsOf s) 0)
-        unfolding insert
-        a-cancel t =
-            insert-got _ _ [] (place (k .next))
-            (goes-number s 0 32 _ _ n (omega arith) en ∙ goes-flag s _ _ _ f ef ∙ goes-number s _ 7 _ _ k (omega arith) ek ∙ rw t)
+      pub no-active : (x : Short) → ActiveRead.Lacks x ≡ activeRead (parse active (bitsOf s) 40) → InsertRead.Lacks x ≡ insertRead (parse insert (bitsOf s) 0)
+      no-active x e = insert-lacks _ x (fronted ∙ lacks-in active activeOf _ (bitsOf s) _ _ _ (lacks-active _ x e))
 
-        module _ (off : f .set ≡ false) where
-          fronted : parse insert (bitsOf s) 0 ≡ parse (inside active activeOf λ a. done (record {
-            value = record { «splice_event_id» = n .value; reserved = k .value; «splice_detail» = SpliceInsert.Insert (a .value) };
-            components = a .components;
-          })) (bitsOf s) (place (k .next))
-          unfolding insert
-          fronted = goes-number s 0 32 _ _ n (omega arith) en ∙ goes-flag s _ _ _ f ef ∙ goes-number s _ 7 _ _ k (omega arith) ek ∙ rw off
-
-          pub no-active : (x : Short) → ActiveRead.Lacks x ≡ activeRead (parse active (bitsOf s) (place (k .next))) → InsertRead.Lacks x ≡ insertRead (parse insert (bitsOf s) 0)
-          no-active x e = insert-lacks _ x (fronted ∙ lacks-in active activeOf _ (bitsOf s) _ _ _ (lacks-active _ x e))
-
-          pub an-insert : (i : Insert) → ActiveRead.Got i ≡ activeRead (parse active (bitsOf s) (place (k .next)))
-              → InsertRead.Got (record { «splice_event_id» = n .value; reserved = k .value; «splice_detail» = SpliceInsert.Insert i }) ≡ insertRead (parse insert (bitsOf s) 0)
-          an-insert i e =
-              let g = got-active (parse active (bitsOf s) (place (k .next))) i e in
-              insert-got _ _ (g .list) (g .end) (fronted ∙ takes-in active activeOf _ (bitsOf s) _ _ _ (g .is))
+      pub an-insert : (i : Insert) → ActiveRead.Got i ≡ activeRead (parse active (bitsOf s) 40)
+          → InsertRead.Got (record { «splice_event_id» = v; reserved = getD s 4 0 % 128; «splice_detail» = SpliceInsert.Insert i }) ≡ insertRead (parse insert (bitsOf s) 0)
+      an-insert i e =
+          let g = got-active (parse active (bitsOf s) 40) i e in
+          insert-got _ _ (g .list) (g .end) (fronted ∙ takes-in active activeOf _ (bitsOf s) _ _ _ (g .is))

@@ -1,7 +1,6 @@
 -- What the private readers of an insert answer. No public contract cites this.
-use Prim.Native.Nat.{ℕ}
+use Prim.Native.Nat.{ℕ, _/_}
 use mathlib.Core.List.{List, []}
-use Rattle.table.specs.Cursor.{cursorAt}
 use Rattle.table.specs.Table.{Answer, got, short}
 use lib.Seq.{sets}
 use Rattle.command.specs.Command.{array}
@@ -19,19 +18,19 @@ use Rattle.command.specs.declared.insert.ModedRead.{ModedRead}
 use Rattle.command.specs.declared.insert.SpliceMode.{SpliceMode}
 
 unfoldable pub componentRead : Answer ComponentSplice → ComponentRead
-componentRead (got c at) = ComponentRead.Got (record { component = c; next = cursorAt at })
+componentRead (got c at) = ComponentRead.Got (record { component = c; next = at / 8 })
 componentRead (short expected actual) = ComponentRead.Lacks (record { expected = expected; actual = actual })
 
 unfoldable pub skimmedOf : Answer (List ComponentSplice) → Skimmed
-skimmedOf (got cs at) = Skimmed.Got (cursorAt at)
+skimmedOf (got cs at) = Skimmed.Got (at / 8)
 skimmedOf (short expected actual) = Skimmed.Lacks (record { expected = expected; actual = actual })
 
 unfoldable pub breakRead : Answer Break → BreakRead
-breakRead (got d at) = BreakRead.Got (record { duration = d; next = cursorAt at })
+breakRead (got d at) = BreakRead.Got (record { duration = d; next = at / 8 })
 breakRead (short expected actual) = BreakRead.Lacks (record { expected = expected; actual = actual })
 
 unfoldable pub modedRead : Answer (WithComponents SpliceMode) → ModedRead
-modedRead (got m at) = ModedRead.Got (record { mode = m .value; next = cursorAt at })
+modedRead (got m at) = ModedRead.Got (record { mode = m .value; next = at / 8 })
 modedRead (short expected actual) = ModedRead.Lacks (record { expected = expected; actual = actual })
 
 unfoldable pub activeRead : Answer (WithComponents Insert) → ActiveRead

@@ -2,13 +2,11 @@
 ghost use mathlib.Core.Path.{_≡_};
 ghost use Rattle.command.specs.Insert.{blank, component};
 ghost use mathlib.Core.List.{[]};
-ghost use Prim.Native.Nat.{_≤_};
+ghost use Prim.Native.Nat.{_*_, _≤_};
 ghost use Rattle.command.specs.Command.{array, componentsOf};
 ghost use Rattle.command.specs.Walk.{componentRead, skimmedOf, listIn};
 ghost use Rattle.table.specs.Bits.{bitsOf};
-ghost use Rattle.table.specs.Cursor.{place};
 ghost use Rattle.table.specs.Table.{list, parse};
-ghost use Rattle.table.proofs.Steppings.{Settled};
 use crate::insert::InsertRead;
 use crate::insert::SpliceInsert;
 use crate::insert::SpliceMode;
@@ -16,9 +14,7 @@ use crate::insert::read_insert;
 use crate::insert::read_time_unless;
 use header::time::SpliceTime;
 use header::time::TimeRead;
-use table::cursor::Cursor;
 use table::cursor::Short;
-use table::cursor::Taken;
 use table::numbers::bits;
 
 pub struct ComponentSplice {
@@ -26,10 +22,10 @@ pub struct ComponentSplice {
     pub splice_time: SpliceTime,
 }
 
-// A component and the cursor after it.
+// A component and the place of the byte after it.
 pub struct Component {
     pub component: ComponentSplice,
-    pub next: Cursor,
+    pub next: usize,
 }
 
 pub enum ComponentRead {
@@ -37,30 +33,32 @@ pub enum ComponentRead {
     Lacks(Short),
 }
 
-// The cursor after components that are all there.
+// The place of the byte after components that are all there.
 pub enum Skimmed {
-    Got(Cursor),
+    Got(usize),
     Lacks(Short),
 }
 
-pub(crate) fn read_component(s: &[u8], c: Cursor, immediate: bool) -> ComponentRead
-    ensures { λ r. ⌜ r ≡ componentRead (parse (component immediate) (bitsOf (now (s .entry))) (place c)) ⌝ }
+pub(crate) fn read_component(s: &[u8], at: usize, immediate: bool) -> ComponentRead
+    ensures { λ r. ⌜ r ≡ componentRead (parse (component immediate) (bitsOf (now (s .entry))) (at * 8)) ⌝ }
 {
-    let tag = match c.take(s, 8) {
-        Taken::Got(n) => n,
-        Taken::Lacks(e) => return ComponentRead::Lacks(e),
-    };
-    let next = tag.next;
-    match read_time_unless(s, next, immediate) {
+    if s.len() <= at {
+        return ComponentRead::Lacks(Short {
+            expected: 1,
+            actual: 0,
+        });
+    }
+    let component_tag = s[at];
+    match read_time_unless(s, at + 1, immediate) {
         TimeRead::Got(t) => {
             let splice_time = t.time;
             let next = t.next;
             ComponentRead::Got(Component {
                 component: ComponentSplice {
-                    component_tag: tag.value as u8,
+                    component_tag,
                     splice_time,
                 },
-                next,
+                next: next.byte,
             })
         }
         TimeRead::Lacks(e) => ComponentRead::Lacks(e),
@@ -68,11 +66,10 @@ pub(crate) fn read_component(s: &[u8], c: Cursor, immediate: bool) -> ComponentR
 }
 
 // Past `count` components, each of which is there.
-pub(crate) fn skim(s: &[u8], c: Cursor, count: usize, immediate: bool) -> Skimmed
-    requires { ⌜ Settled c ⌝ }
-    ensures { λ r. ⌜ r ≡ skimmedOf (parse (list count blank (component immediate)) (bitsOf (now (s .entry))) (place c)) ⌝ }
+pub(crate) fn skim(s: &[u8], first: usize, count: usize, immediate: bool) -> Skimmed
+    ensures { λ r. ⌜ r ≡ skimmedOf (parse (list count blank (component immediate)) (bitsOf (now (s .entry))) (first * 8)) ⌝ }
 {
-    let mut at = c;
+    let mut at = first;
     let mut ahead = count;
     while 0 < ahead {
         match read_component(s, at, immediate) {
@@ -97,12 +94,12 @@ pub fn blanks() -> [ComponentSplice; 255]
 }
 
 // `count` components in their array, blank past them.
-fn fill(s: &[u8], c: Cursor, count: usize, immediate: bool) -> [ComponentSplice; 255]
+fn fill(s: &[u8], first: usize, count: usize, immediate: bool) -> [ComponentSplice; 255]
     requires { ⌜ count ≤ 255 ⌝ }
-    ensures { λ r. ⌜ r ≡ array (listIn (parse (list count blank (component immediate)) (bitsOf (now (s .entry))) (place c))) ⌝ }
+    ensures { λ r. ⌜ r ≡ array (listIn (parse (list count blank (component immediate)) (bitsOf (now (s .entry))) (first * 8))) ⌝ }
 {
     let mut out = blanks();
-    let mut at = c;
+    let mut at = first;
     let mut i: usize = 0;
     while i < count {
         match read_component(s, at, immediate) {
@@ -136,6 +133,5 @@ pub fn read_components(payload: &[u8]) -> [ComponentSplice; 255]
         SpliceMode::Components(n) => n,
         SpliceMode::Program(_) => return blanks(),
     };
-    let first = Cursor { byte: 7, bit: 0 };
-    fill(payload, first, count as usize, bits(payload, 5, 3, 1) == 1)
+    fill(payload, 7, count as usize, bits(payload, 5, 3, 1) == 1)
 }

@@ -2,6 +2,8 @@
 ghost use mathlib.Core.Path.{_≡_};
 ghost use mathlib.Core.List.{List};
 ghost use mathlib.Core.Bool.{true};
+ghost use Prim.Native.Nat.{_*_, _≤_};
+ghost use lib.ListN.{length};
 ghost use Rattle.command.specs.Insert.{timeUnless, breakDuration, moded, ending, active, insert};
 ghost use Rattle.command.specs.Walk.{breakRead, modedRead, activeRead, insertRead};
 ghost use Rattle.header.specs.Time.{timeRead};
@@ -9,9 +11,7 @@ ghost use Rattle.command.specs.declared.components.ComponentSplice.{Comp
 ghost use Rattle.names.specs.declared.flags.NetworkIndicator.{NetworkIndicator};
 ghost use Rattle.names.specs.declared.flags.ReturnMode.{ReturnMode};
 ghost use Rattle.table.specs.Bits.{pick, bitsOf};
-ghost use Rattle.table.specs.Cursor.{place};
 ghost use Rattle.table.specs.Table.{parse};
-ghost use Rattle.table.proofs.Steppings.{Settled};
 use crate::components::Skimmed;
 use crate::components::skim;
 use header::time::SpliceTime;
@@ -21,10 +21,10 @@ use header::time::read_splice_time;
 use names::flags::NetworkIndicator;
 use names::flags::ReturnMode;
 use table::cursor::Cursor;
-use table::cursor::Flagged;
 use table::cursor::Short;
-use table::cursor::Skipped;
-use table::cursor::Taken;
+use table::numbers::big_endian;
+use table::numbers::time33;
+use table::numbers::wide;
 
 // By program, or by as many components; they are read on demand.
 pub enum SpliceMode {
@@ -67,9 +67,10 @@ pub enum InsertRead {
     Lacks(Short),
 }
 
+// A part of an insert and the place of the byte after it: each part starts and ends with a byte.
 struct Moded {
     pub mode: SpliceMode,
-    pub next: Cursor,
+    pub next: usize,
 }
 
 enum ModedRead {
@@ -79,7 +80,7 @@ enum ModedRead {
 
 struct Broken {
     pub duration: Break,
-    pub next: Cursor,
+    pub next: usize,
 }
 
 enum BreakRead {
@@ -110,11 +111,11 @@ fn returning(automatic: bool) -> ReturnMode
     ReturnMode::Manual
 }
 
-// A splice_time() unless the splice is immediate.
-pub(crate) fn read_time_unless(s: &[u8], c: Cursor, immediate: bool) -> TimeRead
-    requires { ⌜ Settled c ⌝ }
-    ensures { λ r. ⌜ r ≡ timeRead (parse (timeUnless immediate) (bitsOf (now (s .entry))) (place c)) ⌝ }
+// A splice_time() unless the splice is immediate, from a byte on.
+pub(crate) fn read_time_unless(s: &[u8], at: usize, immediate: bool) -> TimeRead
+    ensures { λ r. ⌜ r ≡ timeRead (parse (timeUnless immediate) (bitsOf (now (s .entry))) (at * 8)) ⌝ }
 {
+    let c = Cursor { byte: at, bit: 0 };
     if immediate {
         return TimeRead::Got(Timed {
             time: SpliceTime::Immediate,
@@ -124,179 +125,160 @@ pub(crate) fn read_time_unless(s: &[u8], c: Cursor, immediate: bool) -> TimeRead
     read_splice_time(s, c)
 }
 
-fn read_mode(s: &[u8], c: Cursor, program: bool, immediate: bool) -> ModedRead
-    requires { ⌜ Settled c ⌝ }
-    ensures { λ r. ⌜ r ≡ modedRead (parse (moded program immediate) (bitsOf (now (s .entry))) (place c)) ⌝ }
+fn read_mode(s: &[u8], at: usize, program: bool, immediate: bool) -> ModedRead
+    ensures { λ r. ⌜ r ≡ modedRead (parse (moded program immediate) (bitsOf (now (s .entry))) (at * 8)) ⌝ }
 {
     if program {
-        return match read_time_unless(s, c, immediate) {
+        return match read_time_unless(s, at, immediate) {
             TimeRead::Got(t) => {
                 let time = t.time;
                 let next = t.next;
                 ModedRead::Got(Moded {
                     mode: SpliceMode::Program(time),
-                    next,
+                    next: next.byte,
                 })
             }
             TimeRead::Lacks(e) => ModedRead::Lacks(e),
         };
     }
-    let count = match c.take(s, 8) {
-        Taken::Got(n) => n,
-        Taken::Lacks(e) => return ModedRead::Lacks(e),
-    };
-    let first = count.next;
-    match skim(s, first, count.value as usize, immediate) {
+    if s.len() <= at {
+        return ModedRead::Lacks(Short {
+            expected: 1,
+            actual: 0,
+        });
+    }
+    let count = s[at];
+    match skim(s, at + 1, count as usize, immediate) {
         Skimmed::Got(next) => ModedRead::Got(Moded {
-            mode: SpliceMode::Components(count.value as u8),
+            mode: SpliceMode::Components(count),
             next,
         }),
         Skimmed::Lacks(e) => ModedRead::Lacks(e),
     }
 }
 
-fn read_lasting(s: &[u8], c: Cursor) -> BreakRead
-    ensures { λ r. ⌜ r ≡ breakRead (parse (breakDuration true) (bitsOf (now (s .entry))) (place c)) ⌝ }
+fn read_lasting(s: &[u8], at: usize) -> BreakRead
+    ensures { λ r. ⌜ r ≡ breakRead (parse (breakDuration true) (bitsOf (now (s .entry))) (at * 8)) ⌝ }
 {
-    let automatic = match c.flag(s) {
-        Flagged::Got(f) => f,
-        Flagged::Lacks(e) => return BreakRead::Lacks(e),
-    };
-    let c = automatic.next;
-    let c = match c.skip(s, 6) {
-        Skipped::Got(c) => c,
-        Skipped::Lacks(e) => return BreakRead::Lacks(e),
-    };
-    let ticks = match c.take(s, 33) {
-        Taken::Got(n) => n,
-        Taken::Lacks(e) => return BreakRead::Lacks(e),
-    };
-    let next = ticks.next;
+    if s.len() <= at {
+        return BreakRead::Lacks(Short {
+            expected: 0,
+            actual: 0,
+        });
+    }
+    let left = s.len() - at;
+    if left < 5 {
+        return BreakRead::Lacks(Short {
+            expected: 4,
+            actual: left - 1,
+        });
+    }
+    let first = wide(s[at]);
     BreakRead::Got(Broken {
         duration: Break::Lasts(SpliceDuration {
-            return_mode: returning(automatic.set),
-            duration: ticks.value,
+            return_mode: returning(first / 128 == 1),
+            duration: time33(s, at),
         }),
-        next,
+        next: at + 5,
     })
 }
 
 // A break_duration() if it is flagged.
-fn read_break(s: &[u8], c: Cursor, flagged: bool) -> BreakRead
-    requires { ⌜ Settled c ⌝ }
-    ensures { λ r. ⌜ r ≡ breakRead (parse (breakDuration flagged) (bitsOf (now (s .entry))) (place c)) ⌝ }
+fn read_break(s: &[u8], at: usize, flagged: bool) -> BreakRead
+    ensures { λ r. ⌜ r ≡ breakRead (parse (breakDuration flagged) (bitsOf (now (s .entry))) (at * 8)) ⌝ }
 {
     if flagged {
-        return read_lasting(s, c);
+        return read_lasting(s, at);
     }
     BreakRead::Got(Broken {
         duration: Break::Absent,
-        next: c,
+        next: at,
     })
 }
 
 // From the duration on. The answer is the same whichever components stand beside the mode.
-fn read_ending(s: &[u8], c: Cursor, out: bool, mode: SpliceMode, flagged: bool) -> ActiveRead
-    requires { ⌜ Settled c ⌝ }
-    ensures { λ r. ⌜ ((cs : List ComponentSplice) → r ≡ activeRead (parse (ending out (record { value = mode; components = cs }) flagged) (bitsOf (now (s .entry))) (place c))) ⌝ }
+fn read_ending(s: &[u8], at: usize, out: bool, mode: SpliceMode, flagged: bool) -> ActiveRead
+    requires { ⌜ at ≤ length (now s) ⌝ }
+    ensures { λ r. ⌜ ((cs : List ComponentSplice) → r ≡ activeRead (parse (ending out (record { value = mode; components = cs }) flagged) (bitsOf (now (s .entry))) (at * 8))) ⌝ }
 {
-    let broken = match read_break(s, c, flagged) {
+    let broken = match read_break(s, at, flagged) {
         BreakRead::Got(b) => b,
         BreakRead::Lacks(e) => return ActiveRead::Lacks(e),
     };
     let duration = broken.duration;
-    let c = broken.next;
-    let program_id = match c.take(s, 16) {
-        Taken::Got(n) => n,
-        Taken::Lacks(e) => return ActiveRead::Lacks(e),
-    };
-    let c = program_id.next;
-    let avail = match c.take(s, 8) {
-        Taken::Got(n) => n,
-        Taken::Lacks(e) => return ActiveRead::Lacks(e),
-    };
-    let c = avail.next;
-    let expected = match c.take(s, 8) {
-        Taken::Got(n) => n,
-        Taken::Lacks(e) => return ActiveRead::Lacks(e),
-    };
+    let at = broken.next;
+    let left = s.len() - at;
+    if left < 2 {
+        return ActiveRead::Lacks(Short {
+            expected: 2,
+            actual: left,
+        });
+    }
+    if left < 4 {
+        return ActiveRead::Lacks(Short {
+            expected: 1,
+            actual: 0,
+        });
+    }
     ActiveRead::Got(Insert {
         network_indicator: indicator(out),
         splice_mode: mode,
         duration,
-        unique_program_id: program_id.value as u16,
-        avail_num: avail.value as u8,
-        avails_expected: expected.value as u8,
+        unique_program_id: big_endian(s, at, 2) as u16,
+        avail_num: s[at + 2],
+        avails_expected: s[at + 3],
     })
 }
 
-// What is not cancelled.
-fn read_active(s: &[u8], c: Cursor) -> ActiveRead
-    ensures { λ r. ⌜ r ≡ activeRead (parse active (bitsOf (now (s .entry))) (place c)) ⌝ }
+// What is not cancelled, from a byte on.
+fn read_active(s: &[u8], at: usize) -> ActiveRead
+    ensures { λ r. ⌜ r ≡ activeRead (parse active (bitsOf (now (s .entry))) (at * 8)) ⌝ }
 {
-    let out = match c.flag(s) {
-        Flagged::Got(f) => f,
-        Flagged::Lacks(e) => return ActiveRead::Lacks(e),
-    };
-    let c = out.next;
-    let program = match c.flag(s) {
-        Flagged::Got(f) => f,
-        Flagged::Lacks(e) => return ActiveRead::Lacks(e),
-    };
-    let c = program.next;
-    let flagged = match c.flag(s) {
-        Flagged::Got(f) => f,
-        Flagged::Lacks(e) => return ActiveRead::Lacks(e),
-    };
-    let c = flagged.next;
-    let immediate = match c.flag(s) {
-        Flagged::Got(f) => f,
-        Flagged::Lacks(e) => return ActiveRead::Lacks(e),
-    };
-    let c = immediate.next;
-    let c = match c.skip(s, 4) {
-        Skipped::Got(c) => c,
-        Skipped::Lacks(e) => return ActiveRead::Lacks(e),
-    };
-    let moded = match read_mode(s, c, program.set, immediate.set) {
+    if s.len() <= at {
+        return ActiveRead::Lacks(Short {
+            expected: 0,
+            actual: 0,
+        });
+    }
+    let flags = wide(s[at]);
+    let program = flags / 64 % 2 == 1;
+    let immediate = flags / 16 % 2 == 1;
+    let moded = match read_mode(s, at + 1, program, immediate) {
         ModedRead::Got(m) => m,
         ModedRead::Lacks(e) => return ActiveRead::Lacks(e),
     };
     let mode = moded.mode;
-    let c = moded.next;
-    read_ending(s, c, out.set, mode, flagged.set)
+    let next = moded.next;
+    read_ending(s, next, flags / 128 == 1, mode, flags / 32 % 2 == 1)
 }
 
 // The insert of a payload.
 pub fn read_insert(s: &[u8]) -> InsertRead
     ensures { λ r. ⌜ r ≡ insertRead (parse insert (bitsOf (now (s .entry))) 0) ⌝ }
 {
-    let c = Cursor { byte: 0, bit: 0 };
-    let event = match c.take(s, 32) {
-        Taken::Got(n) => n,
-        Taken::Lacks(e) => return InsertRead::Lacks(e),
-    };
-    let c = event.next;
-    let cancel = match c.flag(s) {
-        Flagged::Got(f) => f,
-        Flagged::Lacks(e) => return InsertRead::Lacks(e),
-    };
-    let c = cancel.next;
-    let kept = match c.take(s, 7) {
-        Taken::Got(n) => n,
-        Taken::Lacks(e) => return InsertRead::Lacks(e),
-    };
-    let c = kept.next;
-    let splice_event_id = event.value as u32;
-    let reserved = kept.value as u8;
-    if cancel.set {
+    if s.len() < 4 {
+        return InsertRead::Lacks(Short {
+            expected: 4,
+            actual: s.len(),
+        });
+    }
+    if s.len() < 5 {
+        return InsertRead::Lacks(Short {
+            expected: 0,
+            actual: 0,
+        });
+    }
+    let splice_event_id = big_endian(s, 0, 4) as u32;
+    let flags = s[4];
+    let reserved = flags % 128;
+    if 128 <= flags {
         return InsertRead::Got(Insertion {
             splice_event_id,
             reserved,
             splice_detail: SpliceInsert::Cancel,
         });
     }
-    match read_active(s, c) {
+    match read_active(s, 5) {
         ActiveRead::Got(i) => InsertRead::Got(Insertion {
             splice_event_id,
             reserved,

@@ -82,8 +82,8 @@ fn read_splice_insert(s: &[u8]) -> CommandRead
     ensures { λ r. ⌜ r ≡ read (λ x. SpliceCommand.SpliceInsert (x .value)) (parse insert (bitsOf (now (s .entry))) 0) ⌝ }
 {
     match read_insert(s) {
-        InsertRead::Got(i) => CommandRead::Is(SpliceCommand::SpliceInsert(i)),
-        InsertRead::Lacks(_) => CommandRead::Malformed,
+        InsertRead::Got(i) => return CommandRead::Is(SpliceCommand::SpliceInsert(i)),
+        InsertRead::Lacks(_) => return CommandRead::Malformed,
     }
 }
 
@@ -91,12 +91,13 @@ fn read_splice_insert(s: &[u8]) -> CommandRead
 pub fn read_command(kind: u8, payload: &[u8]) -> CommandRead
     ensures { λ r. ⌜ r ≡ commandOf kind (now (payload .entry)) ⌝ }
 {
+    // A return in each arm: answers that meet behind a match are copied there.
     match kind {
-        0x00 => read_empty(payload, SpliceCommand::SpliceNull),
-        0x05 => read_splice_insert(payload),
-        0x06 => read_time_signal(payload),
-        0x07 => read_empty(payload, SpliceCommand::BandwidthReservation),
-        0xFF => read_private(payload),
-        _ => CommandRead::UnknownType,
+        0x00 => return read_empty(payload, SpliceCommand::SpliceNull),
+        0x05 => return read_splice_insert(payload),
+        0x06 => return read_time_signal(payload),
+        0x07 => return read_empty(payload, SpliceCommand::BandwidthReservation),
+        0xFF => return read_private(payload),
+        _ => return CommandRead::UnknownType,
     }
 }

@@ -17,6 +17,7 @@ use Rattle.crc.specs.Crc.{crcOf}
 use Rattle.header.specs.Header.{headerOf}
 use Rattle.header.specs.declared.header.HeaderRead.{HeaderRead}
 use Rattle.header.specs.declared.header.SpliceInfoHeader.{SpliceInfoHeader}
+use Rattle.header.proofs.Headers.{low-part}
 use Rattle.table.specs.Bits.{bitsOf, field}
 use Rattle.table.specs.declared.View.{View}
 use Rattle.table.proofs.Reading.{bits-are}
@@ -60,6 +61,10 @@ module _ (s : List ℕ) where
   pub size-is : (v : ℕ) → v ≡ field (bitsOf s) 92 12 % 2 ^ 64 → (v ≡ commandLength s) × (v < 2 ^ 12)
   unfolding commandLength
   size-is v e = bits-are s 92 12 v (omega arith) e
+
+  pub size-of : (v : ℕ) → 18 ≤ length s → v ≡ field (bitsOf s) 88 16 % 2 ^ 64 → v % 4096 ≡ commandLength s
+  unfolding commandLength
+  size-of v h e = low-part s 88 4 12 v (omega arith) (omega arith) e
 
   pub extent-is : (n v : ℕ) → n ≡ commandLength s → v ≡ field (bitsOf s) ((14 + n) * 8) 16 % 2 ^ 64 → (v ≡ loopLength s) × (v < 2 ^ 16)
   unfolding loopLength

@@ -105,7 +105,7 @@ fn read_layout(s: &[u8]) -> SectionRead
     if bits(s, 4, 0, 1) == 1 {
         return SectionRead::Refused(Refusal::Encrypted);
     }
-    let size = bits(s, 11, 4, 12) as usize;
+    let size = (big_endian(s, 11, 2) % 4096) as usize;
     if s.len() - 18 < size {
         return SectionRead::Refused(Refusal::CommandTooLong);
     }

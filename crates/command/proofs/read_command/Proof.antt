@@ -43,13 +43,13 @@ read-command-spec =
     tie.close
     (tie.spec
     read-empty-requires
-    read-splice-insert-requires
-    read-time-signal-requires
-    read-empty-requires-2
-    read-private-requires
     returns
+    read-splice-insert-requires
     returns-2
+    read-time-signal-requires
     returns-3
+    read-empty-requires-2
     returns-4
+    read-private-requires
     returns-5
     returns-6)

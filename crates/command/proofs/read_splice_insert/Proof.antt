@@ -26,4 +26,4 @@ returns-2 c = let r = c .before .before in no-insertion _ _ (sym (c .enum-told .
 
 pub read-splice-insert-spec : {M : Type 1} → statement M
 read-splice-insert-spec =
-    tie.close (tie.spec read-insert-requires enum-known-i enum-told returns returns-2)
+    tie.close (tie.spec read-insert-requires enum-known-i returns enum-told returns-2)

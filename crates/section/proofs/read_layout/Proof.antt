@@ -1,7 +1,7 @@
 -- `section::read_layout`, refusal by refusal.
 use mathlib.Core.Path.{_≡_, refl, ap, sym, _∙_}
 use native.Mathlib.Omega.{arith}
-use Rattle.section.proofs.Frame.{size-is, extent-is, is-encrypted, is-command-long, is-loopless, is-loop-long, has-parts}
+use Rattle.section.proofs.Frame.{size-of, extent-is, is-encrypted, is-command-long, is-loopless, is-loop-long, has-parts}
 use borrow.Author.Needs.{needs}
 use Rattle.section.proofs.read_layout.Statement.{statement}
 use Rattle.section.proofs.read_layout.Tie as tie
@@ -16,8 +16,8 @@ returns c =
     let a = b .before .before .args in
     is-encrypted (a .s .now) _ (b .bits .ensures) (i₁ .if1 .taken)
 
-bits-requires-2 : tie.Need-bits-requires-2
-bits-requires-2 c κs = search needs
+big-endian-requires : tie.Need-big-endian-requires
+big-endian-requires c κs = search needs
 
 sub-if2 : tie.Need-sub-if2
 sub-if2 c = search needs
@@ -29,7 +29,7 @@ returns-2 c =
     let i₁ = n .before in
     let b = i₁ .before in
     let a = b .before .before .args in
-    is-command-long (a .s .now) _ (b .bits .ensures) (i₁ .if1 .left) _ (size-is (a .s .now) _ (n .bits2 .ensures) .0) (i₂ .if2 .taken)
+    is-command-long (a .s .now) _ (b .bits .ensures) (i₁ .if1 .left) _ (size-of (a .s .now) _ (b .before .before .pre .0) (n .big-endian .ensures)) (i₂ .if2 .taken)
 
 sub-room : tie.Need-sub-room
 sub-room c = search needs
@@ -45,13 +45,13 @@ returns-3 c =
     let i₁ = n .before in
     let b = i₁ .before in
     let a = b .before .before .args in
-    is-loopless (a .s .now) _ (b .bits .ensures) (i₁ .if1 .left) _ (size-is (a .s .now) _ (n .bits2 .ensures) .0) (i₂ .if2 .left) (i₃ .if3 .taken)
+    is-loopless (a .s .now) _ (b .bits .ensures) (i₁ .if1 .left) _ (size-of (a .s .now) _ (b .before .before .pre .0) (n .big-endian .ensures)) (i₂ .if2 .left) (i₃ .if3 .taken)
 
 add-big-endian : tie.Need-add-big-endian
 add-big-endian c = search needs
 
-big-endian-requires : tie.Need-big-endian-requires
-big-endian-requires c κs = search needs
+big-endian-requires-2 : tie.Need-big-endian-requires-2
+big-endian-requires-2 c κs = search needs
 
 add-if4 : tie.Need-add-if4
 add-if4 c =
@@ -62,7 +62,7 @@ add-if4 c =
     let i₁ = n .before in
     let b = i₁ .before in
     let a = b .before .before .args in
-    omega (arith, extent-is (a .s .now) _ _ (size-is (a .s .now) _ (n .bits2 .ensures) .0) (m .big-endian .ensures) .1)
+    omega (arith, extent-is (a .s .now) _ _ (size-of (a .s .now) _ (b .before .before .pre .0) (n .big-endian .ensures)) (m .big-endian2 .ensures) .1)
 
 returns-4 : tie.Need-returns-4
 returns-4 c =
@@ -74,7 +74,7 @@ returns-4 c =
     let i₁ = n .before in
     let b = i₁ .before in
     let a = b .before .before .args in
-    is-loop-long (a .s .now) _ (b .bits .ensures) (i₁ .if1 .left) _ (size-is (a .s .now) _ (n .bits2 .ensures) .0) (i₂ .if2 .left) (i₃ .if3 .left) _ (extent-is (a .s .now) _ _ (size-is (a .s .now) _ (n .bits2 .ensures) .0) (m .big-endian .ensures) .0) (i₄ .if4 .taken)
+    is-loop-long (a .s .now) _ (b .bits .ensures) (i₁ .if1 .left) _ (size-of (a .s .now) _ (b .before .before .pre .0) (n .big-endian .ensures)) (i₂ .if2 .left) (i₃ .if3 .left) _ (extent-is (a .s .now) _ _ (size-of (a .s .now) _ (b .before .before .pre .0) (n .big-endian .ensures)) (m .big-endian2 .ensures) .0) (i₄ .if4 .taken)
 
 read-parts-requires : tie.Need-read-parts-requires
 read-parts-requires c κs =
@@ -86,7 +86,7 @@ read-parts-requires c κs =
     let i₁ = n .before in
     let b = i₁ .before in
     let a = b .before .before .args in
-    (omega arith, size-is (a .s .now) _ (n .bits2 .ensures) .0, extent-is (a .s .now) _ _ (size-is (a .s .now) _ (n .bits2 .ensures) .0) (m .big-endian .ensures) .0)
+    (omega arith, size-of (a .s .now) _ (b .before .before .pre .0) (n .big-endian .ensures), extent-is (a .s .now) _ _ (size-of (a .s .now) _ (b .before .before .pre .0) (n .big-endian .ensures)) (m .big-endian2 .ensures) .0)
 
 returns-5 : tie.Need-returns-5
 returns-5 c =
@@ -98,7 +98,7 @@ returns-5 c =
     let i₁ = n .before in
     let b = i₁ .before in
     let a = b .before .before .args in
-    has-parts (a .s .now) _ (b .bits .ensures) (i₁ .if1 .left) _ (size-is (a .s .now) _ (n .bits2 .ensures) .0) (i₂ .if2 .left) (i₃ .if3 .left) _ (extent-is (a .s .now) _ _ (size-is (a .s .now) _ (n .bits2 .ensures) .0) (m .big-endian .ensures) .0) _ (i₄ .if4 .left) (c .read-parts .ensures)
+    has-parts (a .s .now) _ (b .bits .ensures) (i₁ .if1 .left) _ (size-of (a .s .now) _ (b .before .before .pre .0) (n .big-endian .ensures)) (i₂ .if2 .left) (i₃ .if3 .left) _ (extent-is (a .s .now) _ _ (size-of (a .s .now) _ (b .before .before .pre .0) (n .big-endian .ensures)) (m .big-endian2 .ensures) .0) _ (i₄ .if4 .left) (c .read-parts .ensures)
 
 pub read-layout-spec : {M : Type 1} → statement M
 read-layout-spec =
@@ -106,14 +106,14 @@ read-layout-spec =
     (tie.spec
     bits-requires
     returns
-    bits-requires-2
+    big-endian-requires
     sub-if2
     returns-2
     sub-room
     sub-room-2
     returns-3
     add-big-endian
-    big-endian-requires
+    big-endian-requires-2
     add-if4
     returns-4
     read-parts-requires

@@ -1,11 +1,10 @@
 -- `command::components::fill`: what is ahead, stored behind what is there, gives what the whole gives.
-use Prim.Native.Nat.{ℕ, suc, _+_, _-_, _≤_}
+use Prim.Native.Nat.{ℕ, suc, _+_, _*_, _-_, _≤_}
 use mathlib.Core.List.{[]}
 use mathlib.Core.Path.{_≡_, sym, _∙_}
 use native.Mathlib.Omega.{arith}
 use lib.ListN.{length, length-set}
 use Rattle.table.specs.Bits.{bitsOf}
-use Rattle.table.specs.Cursor.{place}
 use Rattle.table.specs.Table.{list, parse}
 use Rattle.command.specs.Command.{array}
 use Rattle.command.specs.Insert.{blank, component}
@@ -15,11 +14,11 @@ use Rattle.command.proofs.components.fill.Statement.{statement}
 use Rattle.command.proofs.components.fill.Tie as tie
 
 abbrev Inv-loop : tie.InvT-loop
-Inv-loop s count immediate out₀ at₀ i₀ out at i =
-    (i ≤ count) × (length out ≡ 255) × (filled out i (parse (list (count - i) blank (component immediate)) (bitsOf s) (place at)) ≡ filled (array []) 0 (parse (list count blank (component immediate)) (bitsOf s) (place at₀)))
+Inv-loop s first count immediate out₀ at₀ i₀ out at i =
+    (i ≤ count) × (length out ≡ 255) × (filled out i (parse (list (count - i) blank (component immediate)) (bitsOf s) (at * 8)) ≡ filled (array []) 0 (parse (list count blank (component immediate)) (bitsOf s) (first * 8)))
 
 abbrev μ-loop : tie.MeasureT-loop
-μ-loop s count immediate out₀ at₀ i₀ out at i = count - i
+μ-loop s first count immediate out₀ at₀ i₀ out at i = count - i
 
 blanks-requires : tie.Need-blanks-requires Inv-loop μ-loop
 blanks-requires c κs = omega arith
@@ -59,8 +58,8 @@ returns c =
     let st = l .before .before .before in
     let a = st .args in
     let n : a .count - l .loop .i ≡ suc (a .count - l .loop .i - 1) = omega arith in
-    b .blanks2 .ensures ∙ fill-lacks (a .s .now) (a .immediate) (l .loop .out) (l .loop .i) (a .count - l .loop .i - 1) (place (l .loop .at)) _ (sym (t .enum-told .given .1) ∙ r .read-component .ensures)
-    ∙ rw n at (l .loop .inv .2) ∙ fill-start (a .s .now) (a .immediate) (a .count) (place (a .c)) (st .pre)
+    b .blanks2 .ensures ∙ fill-lacks (a .s .now) (a .immediate) (l .loop .out) (l .loop .i) (a .count - l .loop .i - 1) (l .loop .at * 8) _ (sym (t .enum-told .given .1) ∙ r .read-component .ensures)
+    ∙ rw n at (l .loop .inv .2) ∙ fill-start (a .s .now) (a .immediate) (a .count) (a .first * 8) (st .pre)
 
 add-i : tie.Need-add-i Inv-loop μ-loop
 add-i c = omega arith
@@ -70,7 +69,7 @@ loop-less c = omega arith
 
 loop-again : tie.Need-loop-again Inv-loop μ-loop
 loop-again c =
-    let y = c .before .before .before in
+    let y = c .before .before in
     let r = y .before .before in
     let l = r .before .before in
     let st = l .before .before .before in
@@ -78,7 +77,7 @@ loop-again c =
     let n : a .count - l .loop .i ≡ suc (a .count - (l .loop .i + 1)) = omega arith in (
       omega arith,
       length-set (l .loop .out) (l .loop .i) _ ∙ l .loop .inv .1,
-      fill-turn (a .s .now) (a .immediate) (l .loop .out) (l .loop .i) (a .count - (l .loop .i + 1)) (place (l .loop .at)) _ (sym (y .y .given .1) ∙ r .read-component .ensures) ∙ rw n at (l .loop .inv .2),
+      fill-turn (a .s .now) (a .immediate) (l .loop .out) (l .loop .i) (a .count - (l .loop .i + 1)) (l .loop .at) _ (sym (y .y .given .1) ∙ r .read-component .ensures) ∙ rw n at (l .loop .inv .2),
     )
 
 returns-2 : tie.Need-returns-2 Inv-loop μ-loop
@@ -87,7 +86,7 @@ returns-2 c =
     let st = l .before .before .before in
     let a = st .args in
     let n : a .count - l .loop .i ≡ 0 = omega arith in
-    fill-end (a .s .now) (a .immediate) (l .loop .out) (l .loop .i) (place (l .loop .at)) ∙ rw n at (l .loop .inv .2) ∙ fill-start (a .s .now) (a .immediate) (a .count) (place (a .c)) (st .pre)
+    fill-end (a .s .now) (a .immediate) (l .loop .out) (l .loop .i) (l .loop .at * 8) ∙ rw n at (l .loop .inv .2) ∙ fill-start (a .s .now) (a .immediate) (a .count) (a .first * 8) (st .pre)
 
 pub fill-spec : {M : Type 1} → statement M
 fill-spec =

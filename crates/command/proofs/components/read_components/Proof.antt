@@ -1,6 +1,5 @@
 -- `command::components::read_components`: the components lie from byte 7 on, as many as the mode says.
 use mathlib.Core.Path.{_≡_, sym, _∙_}
-use Rattle.table.specs.Cursor.{place}
 use Rattle.command.proofs.Filling.{none-malformed, of-cancel, of-program, of-components}
 use borrow.Author.Needs.{needs}
 use Rattle.command.proofs.components.read_components.Statement.{statement}
@@ -73,7 +72,6 @@ fill-requires : tie.Need-fill-requires
 fill-requires c κs = search needs
 
 returns-4 : tie.Need-returns-4
-unfolding place
 returns-4 c =
     let y = c in
     let v = y .before in

@@ -1,26 +1,23 @@
 -- `command::components::skim`: what is ahead gives what the whole gives.
-use Prim.Native.Nat.{ℕ, suc, _-_}
+use Prim.Native.Nat.{ℕ, suc, _*_, _-_}
 use mathlib.Core.Path.{_≡_, refl, sym, _∙_}
 use native.Mathlib.Omega.{arith}
 use Rattle.table.specs.Bits.{bitsOf}
-use Rattle.table.specs.Cursor.{place}
 use Rattle.table.specs.Table.{list, parse}
-use Rattle.table.proofs.Steppings.{Settled}
 use Rattle.command.specs.Insert.{blank, component}
 use Rattle.command.specs.Walk.{skimmedOf}
-use Rattle.command.proofs.Answers.{got-component}
 use Rattle.command.proofs.Walking.{turn, turn-lacks, all-skimmed}
 use Rattle.command.proofs.components.skim.Statement.{statement}
 use Rattle.command.proofs.components.skim.Tie as tie
 
 abbrev Inv-loop : tie.InvT-loop
-Inv-loop s count immediate at₀ ahead₀ at ahead = Settled at × (skimmedOf (parse (list ahead blank (component immediate)) (bitsOf s) (place at)) ≡ skimmedOf (parse (list count blank (component immediate)) (bitsOf s) (place at₀)))
+Inv-loop s first count immediate at₀ ahead₀ at ahead = skimmedOf (parse (list ahead blank (component immediate)) (bitsOf s) (at * 8)) ≡ skimmedOf (parse (list count blank (component immediate)) (bitsOf s) (first * 8))
 
 abbrev μ-loop : tie.MeasureT-loop
-μ-loop s count immediate at₀ ahead₀ at ahead = ahead
+μ-loop s first count immediate at₀ ahead₀ at ahead = ahead
 
 loop-holds : tie.Need-loop-holds Inv-loop μ-loop
-loop-holds c = (c .before .pre, refl)
+loop-holds c = refl
 
 read-component-requires : tie.Need-read-component-requires Inv-loop μ-loop
 read-component-requires c κs = omega arith
@@ -38,7 +35,7 @@ returns c =
     let l = r .before .before in
     let a = l .before .before .args in
     let n : l .loop .ahead ≡ suc (l .loop .ahead - 1) = omega arith in
-    turn-lacks (a .s .now) (a .immediate) (l .loop .ahead - 1) (place (l .loop .at)) _ (sym (e .e .given .1) ∙ r .read-component .ensures) ∙ rw n at (l .loop .inv .1)
+    turn-lacks (a .s .now) (a .immediate) (l .loop .ahead - 1) (l .loop .at * 8) _ (sym (e .e .given .1) ∙ r .read-component .ensures) ∙ rw n at (l .loop .inv)
 
 sub-ahead : tie.Need-sub-ahead Inv-loop μ-loop
 sub-ahead c = omega arith
@@ -48,20 +45,19 @@ loop-less c = omega arith
 
 loop-again : tie.Need-loop-again Inv-loop μ-loop
 loop-again c =
-    let y = c .before .before in
+    let y = c .before in
     let r = y .before .before in
     let l = r .before .before in
     let a = l .before .before .args in
     let n : l .loop .ahead ≡ suc (l .loop .ahead - 1) = omega arith in
-    let e = (sym (y .y .given .1) ∙ r .read-component .ensures) in
-    (got-component _ _ e .1, turn (a .s .now) (a .immediate) (l .loop .ahead - 1) (place (l .loop .at)) _ e ∙ rw n at (l .loop .inv .1))
+    turn (a .s .now) (a .immediate) (l .loop .ahead - 1) (l .loop .at) _ (sym (y .y .given .1) ∙ r .read-component .ensures) ∙ rw n at (l .loop .inv)
 
 returns-2 : tie.Need-returns-2 Inv-loop μ-loop
 returns-2 c =
     let l = c .before in
     let a = l .before .before .args in
     let n : l .loop .ahead ≡ 0 = omega arith in
-    all-skimmed (a .s .now) (a .immediate) (l .loop .at) (l .loop .inv .0) ∙ rw n at (l .loop .inv .1)
+    all-skimmed (a .s .now) (a .immediate) (l .loop .at) ∙ rw n at (l .loop .inv)
 
 pub skim-spec : {M : Type 1} → statement M
 skim-spec =

@@ -1,19 +1,18 @@
 -- `command::insert::read_time_unless` meets its contract.
-use mathlib.Core.Path.{_∙_}
-use Rattle.table.specs.Cursor.{place}
 use Rattle.command.proofs.Walking.{at-once, at-a-time}
 use borrow.Author.Needs.{needs}
 use Rattle.command.proofs.insert.read_time_unless.Statement.{statement}
 use Rattle.command.proofs.insert.read_time_unless.Tie as tie
 
 returns : tie.Need-returns
-returns c = let a = c .before .before .args in rw (c .if1 .taken) (at-once (a .s .now) (a .c) (c .before .before .pre))
+returns c = let a = c .before .before .args in rw (c .if1 .taken) (at-once (a .s .now) (a .at))
 
 read-splice-time-requires : tie.Need-read-splice-time-requires
 read-splice-time-requires c κs = search needs
 
 returns-2 : tie.Need-returns-2
-returns-2 c = let a = c .before .before .before .args in c .read-splice-time .ensures ∙ rw (c .before .if1 .left) (at-a-time (a .s .now) (place (a .c)))
+returns-2 c =
+    let a = c .before .before .before .args in rw (c .before .if1 .left) (at-a-time (a .s .now) (a .at) _ (c .read-splice-time .ensures))
 
 pub read-time-unless-spec : {M : Type 1} → statement M
 read-time-unless-spec = tie.close (tie.spec returns read-splice-time-requires returns-2)
