@@ -118,6 +118,10 @@ a-canonical-section-is-what-is-written-of-its-items s x a e c = (loopIn s x, ite
 pub writing-back-splits-no-mid : (s : List ℕ) (x : Section) → AllBytes s → sectionOf s ≡ SectionRead.Is x → canonicalSection s ≡ true → All (KeepsUpid (loopIn s x)) (itemsOf (loopIn s x))
 writing-back-splits-no-mid = items-written.keeps-upids
 
+-- such a section is that of above: it is canonical, so it is what is written of its items, and its MID with a part of 8 bytes and one of 12 is kept whole
+pub the-section-with-eight-and-twelve-is-canonical : AllBytes eightAndTwelve × (canonicalSection eightAndTwelve ≡ true)
+the-section-with-eight-and-twelve-is-canonical = worked.both-canonical
+
 -- "reading what the writer wrote gives what it was handed": the header, with the command's length and type worked out; the command; the loop's bytes; and what is
 -- written is canonical. (An array has 255 places, and a count is a byte.)
 pub what-is-written-reads-back : (h : SpliceInfoHeader) (c : SpliceCommand) (places : List ComponentSplice) (lent loop b : List ℕ) → length places ≡ 255 → Countable c
