@@ -32,6 +32,7 @@ use Rattle.descriptor.specs.Segmentation.{
   headOf,
   frontOf,
   backOf,
+  insertFrom,
   Segmentation,
   segmentation,
   byProgram,
@@ -49,7 +50,7 @@ use Rattle.descriptor.specs.declared.segmentation.SegmentationUpid.{Segmentatio
 use Rattle.descriptor.specs.declared.segmentation.SubSegments.{SubSegments}
 use Rattle.descriptor_form.specs.Parts.{deliveryFields, componentFields, componentsFields, modeFields, durationFields, upidFields, subFields, backFields, flagFields, headFields, insertFields, segmentFields}
 use Rattle.descriptor_form.specs.Writing as writing
-use Rattle.descriptor_form.specs.Writing.{writtenDetail}
+use Rattle.descriptor_form.specs.Writing.{writtenInsert, writtenDetail}
 
 -- the fields of a table inside another, and then those of the outer one
 in-fields : {X Y : Type 0} (t : Table Y) (q : X → Y) (k : Y → Table X) (x : X) (at : ℕ) (fs gs : List Field) → walk t (q x) at .fields ≡ fs
@@ -106,19 +107,7 @@ flag-fields p k x at fs e = ap (λ (b : Bool). bits 1 (flagNumber (p x)) ∷ wal
 
 -- an insert as its table has it: each flag as its part says, and this UPID as it is written
 abbrev pub flagged : SegmentationInsert → SegmentationUpid → SegmentationInsert
-flagged i upid = record {
-  «program_segmentation_flag» = byProgram (i .«segmentation_mode»);
-  «segmentation_duration_flag» = lasting (i .«segmentation_duration»);
-  «delivery_not_restricted_flag» = unrestricted (i .«delivery_restrictions»);
-  «delivery_restrictions» = i .«delivery_restrictions»;
-  «segmentation_mode» = i .«segmentation_mode»;
-  «segmentation_duration» = i .«segmentation_duration»;
-  «segmentation_upid» = upid;
-  «segmentation_type_id» = i .«segmentation_type_id»;
-  «segment_num» = i .«segment_num»;
-  «segments_expected» = i .«segments_expected»;
-  «sub_segments» = i .«sub_segments»;
-}
+flagged i upid = insertFrom (frontOf (Insert (writtenInsert i))) upid (backOf (Insert i))
 
 module _ (i : SegmentationInsert) (upid : SegmentationUpid) (cs : List ModeComponent) (fits : length cs ≡ countOf (i .«segmentation_mode»)) where
   abbrev fore : Fore

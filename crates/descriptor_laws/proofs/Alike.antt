@@ -22,7 +22,7 @@ use Rattle.upid.specs.Upid.{checkOf}
 use Rattle.upid.proofs.Walks.{empty}
 use Rattle.descriptor.specs.Plain.{avail, dtmf, time, privateBytes}
 use Rattle.descriptor.specs.Segmentation as table
-use Rattle.descriptor.specs.Segmentation.{agrees, countOf, fairDetail, fairFront, frontOf, head, segmentation}
+use Rattle.descriptor.specs.Segmentation.{agrees, backOf, countOf, fairDetail, fairFront, frontOf, head, insertFrom, segmentation}
 use Rattle.descriptor.specs.Views.{detailViews, descriptorViews}
 use Rattle.descriptor.specs.declared.Descriptor.{Descriptor}
 use Rattle.descriptor.specs.declared.Descriptor.the-variants.{Avail, Dtmf, Segmentation, Time, Reserved}
@@ -87,19 +87,7 @@ viewIn (Reserved tag own) = own
 
 -- the same with another view
 abbrev insertAt : View → SegmentationInsert → SegmentationInsert
-insertAt v i = record {
-  «program_segmentation_flag» = i .«program_segmentation_flag»;
-  «segmentation_duration_flag» = i .«segmentation_duration_flag»;
-  «delivery_not_restricted_flag» = i .«delivery_not_restricted_flag»;
-  «delivery_restrictions» = i .«delivery_restrictions»;
-  «segmentation_mode» = i .«segmentation_mode»;
-  «segmentation_duration» = i .«segmentation_duration»;
-  «segmentation_upid» = record { kind = i .«segmentation_upid» .kind; bytes = v };
-  «segmentation_type_id» = i .«segmentation_type_id»;
-  «segment_num» = i .«segment_num»;
-  «segments_expected» = i .«segments_expected»;
-  «sub_segments» = i .«sub_segments»;
-}
+insertAt v i = insertFrom (frontOf (Insert i)) (record { kind = i .«segmentation_upid» .kind; bytes = v }) (backOf (Insert i))
 
 abbrev detailAt : View → SegmentationDetail → SegmentationDetail
 detailAt v Cancel = Cancel

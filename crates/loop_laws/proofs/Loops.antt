@@ -92,6 +92,11 @@ module _ (loop : List ℕ) (offset : ℕ) (t : List ℕ) (a : At loop offset t) 
     pub is : stepOf loop offset .item ≡ Is read
     pub writes : descriptorMade read (stepOf loop offset .identifier) (readingOf loop offset .beside) loop ≡ made t
     pub places : componentsOf read ≤ length (readingOf loop offset .beside .components)
+    -- the piece alone is read as the same, with its view counted from its payload's first byte
+    pub own : Descriptor
+    pub alone : wholeIn t .read ≡ DescriptorRead.Is own
+    pub moves : read ≡ movedDescriptor (offset + 6) own
+    pub view : SameView (drop 6 t) (viewIn own) loop (viewIn (movedDescriptor (offset + 6) own))
 
   pub back-at : AllBytes t → Back
   back-at all =
@@ -111,6 +116,10 @@ module _ (loop : List ℕ) (offset : ℕ) (t : List ℕ) (a : At loop offset t) 
         is = item-is ∙ ap (itemAt base) (ap (λ (x : WholeDescriptor). x .read) (w .whole));
         writes = ap₂ (λ (i : List ℕ) (c : Beside). descriptorMade there i c loop) identifier-is beside-is ∙ m;
         places = subst (λ (c : Beside). componentsOf there ≤ length (c .components)) (sym beside-is) (omega (arith, moved-count base d, w .places));
+        own = d;
+        alone = ap (λ (x : WholeDescriptor). x .read) (w .whole);
+        moves = refl;
+        view = v;
       }
 
   -- the item is what the piece was written of
@@ -137,6 +146,10 @@ module _ (loop : List ℕ) (offset : ℕ) (t : List ℕ) (a : At loop offset t) 
         };
       }
 
+-- what is written of the item is the piece
+pub written-at : (loop : List ℕ) (offset : ℕ) (t : List ℕ) (a : At loop offset t) → Back loop offset t a → writtenAt loop (listed loop offset) ≡ made t
+written-at loop o t a b = ap (λ (y : Item). itemMade loop y (stepOf loop o .identifier) (readingOf loop o .beside)) (b .is) ∙ b .writes
+
 -- ---- all of them
 
 module _ (loop : List ℕ) (fits : length loop ≤ 4076) where
@@ -145,8 +158,13 @@ module _ (loop : List ℕ) (fits : length loop ≤ 4076) where
   join-back end none = refl
   join-back (item {offset = o} {t = t} {ts = ts} {xs = xs} a i) (more h hs) =
       let b = back-at loop o t a h in
-      let m : writtenAt loop (listed loop o) ≡ made t = ap (λ (y : Item). itemMade loop y (stepOf loop o .identifier) (readingOf loop o .beside)) (b .is) ∙ b .writes in
-      ap₂ (λ (p q : Made). p followed-by q) m (join-back i hs)
+      ap₂ (λ (p q : Made). p followed-by q) (written-at loop o t a b) (join-back i hs)
+
+  -- what holds of each item where a piece stands holds of all
+  pub every-item : {P : Listed → Type 0} {offset : ℕ} {ts : List (List ℕ)} {xs : List Listed} → Items loop fits offset ts xs → All AllBytes ts
+      → ((o : ℕ) (t : List ℕ) → At loop o t → AllBytes t → P (listed loop o)) → All P xs
+  every-item end none f = none
+  every-item (item {offset = o} {t = t} a i) (more h hs) f = more (f o t a h) (every-item i hs f)
 
 -- ---- loops with the same items
 

@@ -38,7 +38,7 @@ run-of-run s b m a n h = part-of-front a n m (drop b s) h ∙ ap (take n) (drop-
 
 -- ---- values and counts
 
-kind-stays : (base : ℕ) (u : SegmentationUpid) → movedUpid base u .kind ≡ u .kind
+pub kind-stays : (base : ℕ) (u : SegmentationUpid) → movedUpid base u .kind ≡ u .kind
 kind-stays base u = go (eqb (u .kind) 0 || eqb (u .kind) 10)
   where
     go : (t : Bool) → (let there : SegmentationUpid = cond t u (record { kind = u .kind; bytes = moved base (u .bytes) }) in there .kind) ≡ u .kind

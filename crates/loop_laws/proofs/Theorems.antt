@@ -16,7 +16,7 @@ use Rattle.loop_laws.proofs.Loops.{all-pieces, join-back, one-cut, give
 use Rattle.loop_laws.proofs.Pieces.{Canonical, canonical-cut, items-cut}
 
 -- the canonical descriptors of a canonical loop
-cut : (loop : List ℕ) → canonicalLoop loop ≡ true → (ts : List (List ℕ)) × All Canonical ts × (joined ts ≡ loop)
+pub cut : (loop : List ℕ) → canonicalLoop loop ≡ true → (ts : List (List ℕ)) × All Canonical ts × (joined ts ≡ loop)
 unfolding canonicalLoop
 cut loop c = canonical-cut (length loop) loop c
 

@@ -29,14 +29,16 @@ use Rattle.descriptor.specs.declared.Descriptor.{Descriptor}
 use Rattle.descriptor.specs.declared.DescriptorRead.{DescriptorRead}
 use Rattle.descriptor.specs.declared.segmentation.SegmentationDetail.{SegmentationDetail}
 use Rattle.descriptor.specs.declared.segmentation.SegmentationUpid.{SegmentationUpid}
+use Rattle.descriptor_laws.proofs.Reported.{mid-is-written, eidr-is-written}
 use Rattle.items.proofs.Places.{all-into, all-map}
 use Rattle.items.proofs.Steps.{Clause, long, ended, last, small, entire}
 use Rattle.items.specs.Items.{itemAt, readAt, wholeAt}
 use Rattle.items.specs.Place.{moved, movedUpid, movedDetail, movedDescriptor}
 use Rattle.items.specs.declared.Step.{Step}
+use Rattle.loop_laws.proofs.Places.{run-of-run, kind-stays}
 use Rattle.theorems.specs.Identifiers.{Identifier, OneRun, inLent, detailUpids, descriptorUpids, upidsOf, partView, upidStart, besidesOf, Announced, Unsplit}
-use Rattle.theorems.proofs.Runs.{run-of-run, viewed-is, viewed-inside, length-viewed, length-run, lent-run, getD-run}
-use Rattle.theorems.proofs.Upids.{upidsRead, Source, sources, mid-is-written, eidr-is-written}
+use Rattle.theorems.proofs.Runs.{viewed-is, viewed-inside, length-viewed, length-run, lent-run, getD-run}
+use Rattle.theorems.proofs.Upids.{upidsRead, Source, sources}
 
 -- ---- the UPIDs of an item
 
@@ -103,13 +105,6 @@ module _ (s : List ℕ) (i : Identifier) (r : OneRun s i) where
       }
 
 -- ---- a UPID that is found in an item
-
-kind-stays : (base : ℕ) (u : SegmentationUpid) → movedUpid base u .kind ≡ u .kind
-kind-stays base u = go (eqb (u .kind) 0 || eqb (u .kind) 10)
-  where
-    go : (t : Bool) → (let there : SegmentationUpid = cond t u (record { kind = u .kind; bytes = moved base (u .bytes) }) in there .kind) ≡ u .kind
-    go true = refl
-    go false = refl
 
 -- a MID has bytes
 some-bytes : (bytes : List ℕ) → checkOf 13 bytes ≡ Fine 13 → 1 ≤ length bytes

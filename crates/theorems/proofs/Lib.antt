@@ -10,4 +10,5 @@ pub mod Sections
 pub mod Worked
 pub mod InsertsRead
 pub mod WrittenBack
+pub mod ItemsWritten
 pub mod Theorems

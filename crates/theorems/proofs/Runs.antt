@@ -1,32 +1,23 @@
 -- Runs of runs. Assumes nothing.
---     run-of-run        a run of a run
 --     viewed-is         a view that lies in the lent bytes
 --     length-run        a run has as many bytes as it says
 --     section-run       a view of the section
 --     lent-run          a view of a run
 --     getD-run          a byte of a run
-use Prim.Native.Nat.{ℕ, zero, suc, _+_, _≤_, _<_}
+use Prim.Native.Nat.{ℕ, _+_, _≤_, _<_}
 use mathlib.Core.Bool.{Bool, true, false}
-use mathlib.Core.List.{List, [], _∷_}
+use mathlib.Core.List.{List, []}
 use mathlib.Core.Path.{_≡_, refl, ap, _∙_}
 use native.Mathlib.Omega.{arith}
 use lib.Dec.{leb}
 use lib.ListN.{length, take, drop, getD, length-take, length-drop}
-use lib.Seq.{take-take, drop-drop, getD-take, getD-drop}
+use lib.Seq.{getD-take, getD-drop}
 use borrow.Author.Tests.{le-leb, leb-true}
+use Rattle.loop_laws.proofs.Places.{run-of-run}
 use Rattle.table.specs.Bits.{pick}
 use Rattle.table.specs.Lent.{viewed}
 use Rattle.table.specs.declared.View.{View}
 use Rattle.theorems.specs.Identifiers.{Identifier, OneRun, inSection, inLent}
-
-part-of-front : (a n m : ℕ) (l : List ℕ) → a + n ≤ m → take n (drop a (take m l)) ≡ take n (drop a l)
-part-of-front zero n m l h = take-take n m l (omega arith)
-part-of-front (suc a) n zero l h = absurd (omega arith)
-part-of-front (suc a) n (suc m) [] h = refl
-part-of-front (suc a) n (suc m) (x ∷ l) h = part-of-front a n m l (omega arith)
-
-pub run-of-run : (s : List ℕ) (b m a n : ℕ) → a + n ≤ m → take n (drop a (take m (drop b s))) ≡ take n (drop (b + a) s)
-run-of-run s b m a n h = part-of-front a n m (drop b s) h ∙ ap (take n) (drop-drop a b s)
 
 module _ (lent : List ℕ) (v : View) where
   pub viewed-is : v .at + v .len ≤ length lent → viewed lent v ≡ take (v .len) (drop (v .at) lent)

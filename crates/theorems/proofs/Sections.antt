@@ -119,7 +119,7 @@ module _ (s : List ℕ) (x : Section) (e : sectionOf s ≡ SectionRead.Is x) whe
   pub loop-run : OneRun s (inSection s (x .descriptors))
   loop-run = section-run s (x .descriptors) (omega (arith, loop-size .0, loop-size .1, laid s x e .fits))
 
-  loop-short : length (loopIn s x) ≤ 4076
+  pub loop-short : length (loopIn s x) ≤ 4076
   loop-short = omega (arith, length-run s (inSection s (x .descriptors)) loop-run, loop-size .1, laid s x e .fits, laid s x e .short)
 
   command-runs : (k : ℕ) (c : SpliceCommand) → 14 + commandLength s ≤ length s → commandOf k (commandBytes s) ≡ CommandRead.Is c → All (OneRun s) (identifiersOfCommand s (moved 14 c))

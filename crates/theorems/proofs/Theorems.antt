@@ -1,9 +1,9 @@
--- The product's demands, over the definitions. A reader needs specs/Rows.antt, specs/Identifiers.antt and specs/Sections.antt beside this file, and for the part on
--- writing the definitions of `section_writer` and `command_writer`; the proofs stand in the other files of this folder. That each public contract fixes its answer is
+-- The product's demands, over the definitions. A reader needs specs/Rows.antt, specs/Identifiers.antt, specs/Sections.antt and specs/Written.antt beside this file, and for the
+-- part on writing the definitions of `section_writer` and `command_writer`, and those of `loop_laws` (specs/Loops.antt) for the loop by its items; the proofs stand in the other files of this folder. That each public contract fixes its answer is
 -- stated for each function in FixedAnswers.antt, FixedAtBoundary.antt and FixedAtWriter.antt. Assumes nothing.
 use Prim.Native.Nat.{ℕ, _≤_}
 use mathlib.Core.Bool.{true}
-use mathlib.Core.List.{List, [], _∷_}
+use mathlib.Core.List.{List, [], _∷_, map}
 use mathlib.Core.Path.{_≡_}
 use lib.ListN.{length}
 use Rattle.command.specs.Command.{private, array, componentsOf}
@@ -16,6 +16,7 @@ use Rattle.command_writer.specs.Survey.{Countable}
 use Rattle.header.specs.declared.header.SpliceInfoHeader.{SpliceInfoHeader}
 use Rattle.items.specs.Cover.{Covered}
 use Rattle.items.specs.Items.{itemsOf}
+use Rattle.loop_laws.specs.Loops.{joinedMade, loopMade, SameItems, Given, givenMade, GivenTypes, ItemsBack}
 use Rattle.section.proofs.Acceptance as acceptance
 use Rattle.section.proofs.Acceptance.{None}
 use Rattle.section.specs.Section.{commandType, commandBytes, loopLength, conditions, first, sectionOf, numberOf}
@@ -33,6 +34,8 @@ use Rattle.upid.specs.Cover.{All}
 use Rattle.theorems.specs.Identifiers.{OneRun, inSection, loopIn, identifiersOf, midsOf, Unsplit}
 use Rattle.theorems.specs.Rows.{Holds, rows}
 use Rattle.theorems.specs.Sections.{EmptyCommand, spliceNull, eight, twelve, both, eightAndTwelve, Identified}
+use Rattle.theorems.specs.Written.{KeepsUpid}
+use Rattle.theorems.proofs.ItemsWritten as items-written
 use Rattle.theorems.proofs.RowsHold as rows-hold
 use Rattle.theorems.proofs.Sections as sections
 use Rattle.theorems.proofs.Worked as worked
@@ -105,11 +108,34 @@ pub a-canonical-section-is-what-is-written-of-its-reading : (s : List ℕ) (x : 
     → sectionMade (x .header) (commandMade (x .command) (componentsOf (commandBytes s)) s) (kindOf (x .command)) (loopIn s x) ≡ made s
 a-canonical-section-is-what-is-written-of-its-reading = written-back.section-back
 
+-- and its loop is what is written of its items: "each item's descriptor, joined in order as the loop, then the section"
+pub a-canonical-section-is-what-is-written-of-its-items : (s : List ℕ) (x : Section) → AllBytes s → sectionOf s ≡ SectionRead.Is x → canonicalSection s ≡ true
+    → (loop : List ℕ) × (loopMade (loopIn s x) ≡ made loop) × (sectionMade (x .header) (commandMade (x .command) (componentsOf (commandBytes s)) s) (kindOf (x .command)) loop ≡ made s)
+a-canonical-section-is-what-is-written-of-its-items s x a e c = (loopIn s x, items-written.loop-written s x e a c, written-back.section-back s x a e c)
+
+-- The incident, when it is written back: each item of a canonical section is written again, and what is written, read alone, has the same UPID. So each MID
+-- has the same bytes and the same parts, at every level.
+pub writing-back-splits-no-mid : (s : List ℕ) (x : Section) → AllBytes s → sectionOf s ≡ SectionRead.Is x → canonicalSection s ≡ true → All (KeepsUpid (loopIn s x)) (itemsOf (loopIn s x))
+writing-back-splits-no-mid = items-written.keeps-upids
+
+-- such a section is that of above: it is canonical, so it is what is written of its items, and its MID with a part of 8 bytes and one of 12 is kept whole
+pub the-section-with-eight-and-twelve-is-canonical : AllBytes eightAndTwelve × (canonicalSection eightAndTwelve ≡ true)
+the-section-with-eight-and-twelve-is-canonical = worked.both-canonical
+
 -- "reading what the writer wrote gives what it was handed": the header, with the command's length and type worked out; the command; the loop's bytes; and what is
 -- written is canonical. (An array has 255 places, and a count is a byte.)
 pub what-is-written-reads-back : (h : SpliceInfoHeader) (c : SpliceCommand) (places : List ComponentSplice) (lent loop b : List ℕ) → length places ≡ 255 → Countable c
     → sectionMade h (commandMade c places lent) (kindOf c) loop ≡ made b → ReadsBack h c places lent loop b
 what-is-written-reads-back = written-back.section-reads
+
+-- A loop that is the join of what is written of descriptors: these are the items that are read, in order, with equal values and equal bytes in their views. (What
+-- the types say of each: `GivenTypes`.)
+pub what-is-written-of-descriptors-reads-back : (gs : List Given) (h : SpliceInfoHeader) (c : SpliceCommand) (places : List ComponentSplice) (lent loop b : List ℕ) → length places ≡ 255 → Countable c
+    → All GivenTypes gs → joinedMade (map givenMade gs) ≡ made loop → sectionMade h (commandMade c places lent) (kindOf c) loop ≡ made b
+    → ReadsBack h c places lent loop b × ItemsBack (loopBytes b) (itemsOf (loopBytes b)) gs
+what-is-written-of-descriptors-reads-back gs h c places lent loop b n k types m e =
+    let r = written-back.section-reads h c places lent loop b n k e in
+    (r, items-written.items-read gs h c places lent loop b types m r)
 
 -- its insert's components, as the payload's reader answers them
 pub an-inserts-components-read-back : (i : Insertion) (places : List ComponentSplice) (lent b : List ℕ) → length places ≡ 255 → Countable (SpliceCommand.SpliceInsert i)
@@ -125,3 +151,8 @@ private-bytes-read-back = views.private-bytes-back
 pub canonical-sections-of-one-reading-are-one : (s r : List ℕ) (x y : Section) → AllBytes s → AllBytes r → sectionOf s ≡ SectionRead.Is x → sectionOf r ≡ SectionRead.Is y
     → canonicalSection s ≡ true → canonicalSection r ≡ true → SameAround s r → loopBytes s ≡ loopBytes r → s ≡ r
 canonical-sections-of-one-reading-are-one = writer.no-other-section
+
+-- the same by the items: equal header and command, and descriptors in order with equal values and equal bytes in their views
+pub canonical-sections-of-the-same-items-are-one : (s r : List ℕ) (x y : Section) → AllBytes s → AllBytes r → sectionOf s ≡ SectionRead.Is x → sectionOf r ≡ SectionRead.Is y
+    → canonicalSection s ≡ true → canonicalSection r ≡ true → SameAround s r → SameItems (loopIn s x) (loopIn r y) (itemsOf (loopIn s x)) (itemsOf (loopIn r y)) → s ≡ r
+canonical-sections-of-the-same-items-are-one = items-written.one-of-items

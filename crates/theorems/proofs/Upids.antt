@@ -1,28 +1,19 @@
 -- The UPID of a segmentation descriptor that is read, and the one that is written in its payload. Assumes nothing.
 --     sources          each UPID of a reading has one that is written, which was checked
---     mid-is-written   a MID was written as one
---     eidr-is-written  an EIDR was written as one, with 12 bytes
-use Prim.Native.Nat.{ℕ, zero, suc, _+_}
-use mathlib.Core.Bool.{Bool, true, false, cond, not, _&&_}
+use Prim.Native.Nat.{ℕ}
+use mathlib.Core.Bool.{Bool, true, false}
 use mathlib.Core.List.{List, [], _∷_}
-use mathlib.Core.Path.{_≡_, refl, ap, sym, _∙_}
-use native.Mathlib.Omega.{arith}
+use mathlib.Core.Path.{_≡_, refl, ap, _∙_}
 use lib.Dec.{eqb, ltb}
-use lib.ListN.{length, drop}
-use borrow.Author.Tests.{eqb-true, eqb-false}
-use Rattle.table.proofs.Lists.{zero-one}
+use lib.ListN.{length}
 use Rattle.table.proofs.Steps.{takes-in}
 use Rattle.table.specs.Bits.{pick, bitsOf}
 use Rattle.table.specs.Lent.{viewed}
 use Rattle.table.specs.Table.{Answer, got, short, parse}
 use Rattle.table.specs.declared.View.{View}
-use Rattle.upid.proofs.Laws.{read-mid, read-plain}
 use Rattle.upid.specs.Cover.{All, none, more}
-use Rattle.upid.specs.Text.{textOf}
 use Rattle.upid.specs.Upid as upid
-use Rattle.upid.specs.Upid.{checkOf, readOf, walkOf, plainOf, _then_, lengthOf, isText, reportedOf}
-use Rattle.upid.specs.declared.Refusal.{Refusal}
-use Rattle.upid.specs.declared.Refusal.the-variants.{TooLong, Mismatch, NotText, WrongLength}
+use Rattle.upid.specs.Upid.{checkOf}
 use Rattle.upid.specs.declared.UpidRead.{UpidRead}
 use Rattle.upid.specs.declared.UpidRead.the-variants.{Fine, Refused}
 use Rattle.descriptor.specs.Descriptor.{_andThen_, reportedUpid, ifFine, availOf, dtmfOf, timeOf, reservedOf, inserted, insertOf, segmentationOf, isCuei, cueiOf, descriptorOf}
@@ -119,78 +110,3 @@ module _ (s : List ℕ) where
       picked (eqb tag 2) _ _ (λ t. in-segmentation) λ t.
       picked (eqb tag 3) _ _ (λ t. in-time) λ t. in-reserved tag)
       (λ t. in-reserved tag)
-
--- ---- what was written, by what is reported
-
--- a UPID that reports another type than 0 is no None
-some-read : (k : ℕ) (bytes : List ℕ) (q : ℕ) → checkOf k bytes ≡ Fine q → (q ≡ 0 → ⊥) → readOf k 0 bytes ≡ Fine q
-unfolding checkOf
-some-read k bytes q e some = go (ltb 255 (length bytes)) (eqb (length bytes) 0) (readOf k 0 bytes) e
-  where
-    go : (t u : Bool) (r : UpidRead) → cond t (Refused TooLong) (cond u (Fine 0) r) ≡ Fine q → r ≡ Fine q
-    go true u r h = zero-one cc
-    go false true r h = absurd (some cc)
-    go false false r h = h
-
-then-last : (a b : UpidRead) (q : ℕ) → a then b ≡ Fine q → b ≡ Fine q
-unfolding _then_
-then-last (Fine k) b q e = e
-then-last (Refused r) b q e = zero-one cc
-
-long-last : (t : Bool) (r : Refusal) (b : UpidRead) (q : ℕ) → cond t (Refused r) b ≡ Fine q → b ≡ Fine q
-long-last true r b q e = zero-one cc
-long-last false r b q e = e
-
--- a MID reports 13
-walk-reports : (n start : ℕ) (bytes : List ℕ) (q : ℕ) → walkOf n start bytes ≡ Fine q → q ≡ 13
-unfolding walkOf
-walk-reports zero start bytes q e = cc
-walk-reports (suc n) start [] q e = cc
-walk-reports (suc n) start (k ∷ []) q e = zero-one cc
-walk-reports (suc n) start (k ∷ (l ∷ rest)) q e = walk-reports n (start + (2 + l)) (drop l rest) q (then-last _ _ q (long-last (ltb (length rest) l) _ _ q e))
-
-plain-reports : (k start : ℕ) (bytes : List ℕ) (q : ℕ) → plainOf k start bytes ≡ Fine q → (reportedOf k ≡ q) × ((lengthOf k ≡ 0 → ⊥) → length bytes ≡ lengthOf k)
-unfolding plainOf
-plain-reports k start bytes q e = go (eqb k 0) (eqb (lengthOf k) 0) (eqb (length bytes) (lengthOf k)) (isText k && not (textOf bytes)) refl refl e
-  where
-    go : (a b c d : Bool) → eqb (lengthOf k) 0 ≡ b → eqb (length bytes) (lengthOf k) ≡ c
-        → cond a (Refused Mismatch) (cond b (Fine (reportedOf k)) (cond (not c) (Refused (WrongLength k (lengthOf k) (length bytes)))
-        (cond d (Refused (NotText k (record { at = start; len = length bytes }))) (Fine (reportedOf k))))) ≡ Fine q
-        → (reportedOf k ≡ q) × ((lengthOf k ≡ 0 → ⊥) → length bytes ≡ lengthOf k)
-    go true b c d eb ec h = zero-one cc
-    go false true c d eb ec h = (cc, λ some. absurd (some (eqb-true _ _ eb)))
-    go false false true true eb ec h = zero-one cc
-    go false false true false eb ec h = (cc, λ some. eqb-true _ _ ec)
-    go false false false d eb ec h = zero-one cc
-
-reported-is : (k q : ℕ) → reportedOf k ≡ q → (q ≡ 6 → ⊥) → k ≡ q
-unfolding reportedOf
-reported-is k q e other = go (eqb k 5) e
-  where
-    go : (t : Bool) → cond t 6 k ≡ q → k ≡ q
-    go true h = absurd (other (sym h))
-    go false h = h
-
-pub mid-is-written : (k : ℕ) (bytes : List ℕ) → checkOf k bytes ≡ Fine 13 → k ≡ 13
-mid-is-written k bytes e = go (eqb k 13) refl
-  where
-    go : (t : Bool) → eqb k 13 ≡ t → k ≡ 13
-    go true t = eqb-true k 13 t
-    go false t =
-        let r : readOf k 0 bytes ≡ Fine 13 = some-read k bytes 13 e (λ z. omega arith) in
-        reported-is k 13 (plain-reports k 0 bytes 13 (sym (read-plain k 0 bytes (eqb-false k 13 t)) ∙ r) .0) (λ z. omega arith)
-
-pub eidr-is-written : (k : ℕ) (bytes : List ℕ) → checkOf k bytes ≡ Fine 10 → (k ≡ 10) × (length bytes ≡ 12)
-unfolding readOf lengthOf
-eidr-is-written k bytes e = go (eqb k 13) refl
-  where
-    r : readOf k 0 bytes ≡ Fine 10
-    r = some-read k bytes 10 e (λ z. omega arith)
-
-    go : (t : Bool) → eqb k 13 ≡ t → (k ≡ 10) × (length bytes ≡ 12)
-    go true t = absurd (let z = walk-reports (length bytes) 0 bytes 10 (sym (read-mid k 0 bytes (eqb-true k 13 t)) ∙ r) in omega arith)
-    go false t =
-        let p = plain-reports k 0 bytes 10 (sym (read-plain k 0 bytes (eqb-false k 13 t)) ∙ r) in
-        let is : k ≡ 10 = reported-is k 10 (p .0) (λ z. omega arith) in
-        let n : lengthOf k ≡ 12 = rw is in
-        (is, p .1 (λ z. omega (arith, n)) ∙ n)

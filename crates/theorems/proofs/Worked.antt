@@ -1,19 +1,20 @@
 -- Sections that are worked out. Assumes nothing.
 use Prim.Native.Nat.{ℕ, _+_, _-_, _≤_}
-use mathlib.Core.Bool.{false}
+use mathlib.Core.Bool.{Bool, true, false, _&&_}
 use mathlib.Core.List.{List, [], _∷_}
 use mathlib.Core.Path.{_≡_, refl, _∙_}
 use native.Mathlib.Omega.{arith}
-use lib.Dec.{eqb}
+use lib.Dec.{ltb, eqb}
 use lib.ListN.{length, getD}
-use borrow.Author.Tests.{lt-ltb, le-ltb, eq-eqb}
+use borrow.Author.Tests.{ltb-true, lt-ltb, le-ltb, eq-eqb}
 use Rattle.command.specs.Command as command
 use Rattle.command.specs.Command.{commandOf}
 use Rattle.command.specs.declared.CommandRead.{CommandRead}
 use Rattle.command.specs.declared.SpliceCommand.{SpliceCommand}
 use Rattle.crc.specs.Crc.{crcOf, messageBits, bits, crcBits, crcBit}
 use Rattle.descriptor.specs.Descriptor.{descriptorOf, cueiOf, isCuei, segmentationOf, insertOf, inserted}
-use Rattle.descriptor.specs.Segmentation.{deliveryRestrictions, mode, duration, writtenUpid, parts, front, subSegments, back, head}
+use Rattle.descriptor.specs.Segmentation.{deliveryRestrictions, mode, duration, writtenUpid, parts, front, subSegments, back, head, segmentation}
+use Rattle.descriptor_form.specs.Canonical.{canonicalBy, canonicalUpid, canonicalSegmentation, canonicalPayload, canonicalDescriptor, canonicalFrom, canonicalLoop}
 use Rattle.header.specs.Header.{headerOf, headerRead, spliceHeader}
 use Rattle.header.specs.Time.{spliceTime}
 use Rattle.header.specs.declared.time.SpliceTime.{SpliceTime}
@@ -24,7 +25,9 @@ use Rattle.section.proofs.Acceptance.{refusals-in-order, accepted-if-none}
 use Rattle.section.specs.Section.{commandLength, commandType, commandBytes, roomAfter, loopLength, loopPlace, moved, accepted, laidOut, sectionOf, numberOf}
 use Rattle.section.specs.declared.Section.{Section}
 use Rattle.section.specs.declared.SectionRead.{SectionRead}
-use Rattle.table.specs.Bits.{bitsOf, field}
+use Rattle.section_writer.specs.Canonical.{canonicalFrame, canonicalCommand, canonicalSection}
+use Rattle.table.proofs.Lists.{and-true}
+use Rattle.table.specs.Bits.{bitsOf, field, AllBytes}
 use Rattle.table.specs.Lent.{viewed}
 use Rattle.table.specs.Table.{number, bit, reserved, part, remaining}
 use Rattle.upid.specs.Text.{textOf, done, step, within}
@@ -122,3 +125,18 @@ both-whole = record {
   accepted = refl;
   identified = refl;
 }
+
+-- ---- that section is canonical
+
+allBelow256 : List ℕ → Bool
+allBelow256 [] = true
+allBelow256 (b ∷ bs) = ltb b 256 && allBelow256 bs
+
+are-bytes : (s : List ℕ) → allBelow256 s ≡ true → AllBytes s
+unfolding allBelow256
+are-bytes [] e = tt
+are-bytes (b ∷ s) e = let i = and-true (ltb b 256) _ e in (ltb-true b 256 (i .0), are-bytes s (i .1))
+
+pub both-canonical : AllBytes eightAndTwelve × (canonicalSection eightAndTwelve ≡ true)
+unfolding eightAndTwelve allBelow256 canonicalSection canonicalFrame canonicalCommand canonicalLoop canonicalFrom canonicalDescriptor canonicalPayload canonicalSegmentation canonicalBy canonicalUpid numberOf sectionOf laidOut accepted moved commandLength commandType commandBytes roomAfter loopLength loopPlace crcOf messageBits bits crcBits crcBit headerOf headerRead spliceHeader spliceTime commandOf isCuei segmentation head front parts deliveryRestrictions mode duration writtenUpid back subSegments number bit reserved part remaining viewed checkOf readOf walkOf _then_ plainOf lengthOf isText reportedOf textOf done step within
+both-canonical = (are-bytes eightAndTwelve refl, refl)

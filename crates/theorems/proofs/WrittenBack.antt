@@ -22,6 +22,7 @@ use Rattle.command_writer.specs.Survey.{Countable}
 use Rattle.descriptor_form.specs.Canonical.{canonicalBy}
 use Rattle.header.specs.Time.{spliceTime}
 use Rattle.header.specs.declared.header.SpliceInfoHeader.{SpliceInfoHeader}
+use Rattle.loop_laws.proofs.Places.{run-of-run}
 use Rattle.section.specs.Section.{commandLength, commandType, commandBytes, moved, sectionOf}
 use Rattle.section.specs.declared.Section.{Section}
 use Rattle.section.specs.declared.SectionRead.{SectionRead}
@@ -39,7 +40,6 @@ use Rattle.table.specs.Lent.{viewed}
 use Rattle.table.specs.Table.{number, part, remaining, Answer, got, short, parse}
 use Rattle.table.specs.Writing.{walk, Made, made, make}
 use Rattle.theorems.proofs.InsertsRead.{insert-has}
-use Rattle.theorems.proofs.Runs.{run-of-run}
 
 none : (p : List ℕ) → eqb (length p) 0 ≡ true → p ≡ []
 none [] e = refl

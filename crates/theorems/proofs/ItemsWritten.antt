@@ -1,0 +1,126 @@
+-- A section's loop, written of its items. Assumes nothing.
+--     loop-written      of a canonical section's loop, the items written and joined are the loop
+--     keeps-upids       each of its items keeps its UPID
+--     one-of-items      two canonical sections with the same items
+--     items-read        descriptors that are written, joined and put in a section are its items
+use Prim.Native.Nat.{ℕ, _+_, _≤_}
+use mathlib.Core.Bool.{Bool, true, false, _&&_}
+use mathlib.Core.List.{List, [], _∷_, map}
+use mathlib.Core.Path.{_≡_, refl, ap, ap₂, sym, subst, _∙_}
+use lib.Dec.{leb}
+use lib.ListN.{length, take, drop}
+use Rattle.command.specs.declared.SpliceCommand.{SpliceCommand}
+use Rattle.command.specs.declared.components.ComponentSplice.{ComponentSplice}
+use Rattle.descriptor.specs.declared.Descriptor.{Descriptor}
+use Rattle.descriptor.specs.declared.segmentation.SegmentationDetail.{SegmentationDetail}
+use Rattle.descriptor.specs.declared.whole.Beside.{Beside}
+use Rattle.descriptor_form.specs.Canonical.{canonicalLoop}
+use Rattle.descriptor_laws.proofs.Alike.{SameView, viewIn, detailView}
+use Rattle.header.specs.declared.header.SpliceInfoHeader.{SpliceInfoHeader}
+use Rattle.items.specs.Items.{stepOf, Listed, listed, itemsOf}
+use Rattle.items.specs.Place.{movedUpid, movedDetail, movedDescriptor}
+use Rattle.items.specs.declared.Item.{Item}
+use Rattle.loop_laws.proofs.Loops.{all-pieces, back-at, beside-is, written-at, every-item}
+use Rattle.loop_laws.proofs.Pieces.{At, items-cut}
+use Rattle.loop_laws.proofs.Places.{kind-stays}
+use Rattle.loop_laws.proofs.Theorems.{cut, a-canonical-loop-is-what-is-written-of-its-items, canonical-loops-of-the-same-items-are-one, descriptors-written-in-order-are-the-items-of-a-canonical-loop}
+use Rattle.loop_laws.specs.Loops.{joinedMade, loopMade, SameItems, Given, givenMade, GivenTypes, ItemsBack}
+use Rattle.section.specs.Section.{commandType, commandBytes, sectionOf}
+use Rattle.section.specs.declared.Section.{Section}
+use Rattle.section.specs.declared.SectionRead.{SectionRead}
+use Rattle.section_writer.proofs.Numbers.{bytes-take, bytes-drop}
+use Rattle.section_writer.proofs.Theorems.{no-other-section}
+use Rattle.section_writer.proofs.Whole.{ReadsBack}
+use Rattle.section_writer.specs.Canonical.{loopBytes, canonicalFrame, canonicalCommand, canonicalSection, SameAround}
+use Rattle.table.proofs.Lists.{and-true}
+use Rattle.table.specs.Bits.{pick, AllBytes}
+use Rattle.table.specs.Lent.{viewed}
+use Rattle.table.specs.Writing.{made}
+use Rattle.table.specs.declared.View.{View}
+use Rattle.upid.specs.Cover.{All}
+use Rattle.upid.specs.Upid.{upidOf, partsIn}
+use Rattle.theorems.specs.Identifiers.{loopIn, detailUpids, descriptorUpids, upidsOf}
+use Rattle.theorems.specs.Written.{UpidHeld, heldIn, KeepsUpid}
+use Rattle.theorems.proofs.Framed.{laid}
+use Rattle.theorems.proofs.Sections.{loop-short}
+
+-- ---- the loop of a section
+
+all-viewed : (s : List ℕ) (v : View) → AllBytes s → AllBytes (viewed s v)
+unfolding viewed
+all-viewed s v a = go (leb (v .at + v .len) (length s))
+  where
+    go : (t : Bool) → AllBytes (pick t (take (v .len) (drop (v .at) s)) [])
+    go true = bytes-take (v .len) (drop (v .at) s) (bytes-drop (v .at) s a)
+    go false = tt
+
+loop-canonical : (s : List ℕ) → canonicalSection s ≡ true → canonicalLoop (loopBytes s) ≡ true
+unfolding canonicalSection
+loop-canonical s c = and-true (canonicalCommand (commandType s) (commandBytes s)) _ (and-true (canonicalFrame s) _ c .1) .1
+
+module _ (s : List ℕ) (x : Section) (e : sectionOf s ≡ SectionRead.Is x) where
+  loop-here : loopIn s x ≡ loopBytes s
+  loop-here = ap (viewed s) (laid s x e .place)
+
+  module _ (a : AllBytes s) (c : canonicalSection s ≡ true) where
+    here-canonical : canonicalLoop (loopIn s x) ≡ true
+    here-canonical = ap canonicalLoop loop-here ∙ loop-canonical s c
+
+    pub loop-written : loopMade (loopIn s x) ≡ made (loopIn s x)
+    loop-written = a-canonical-loop-is-what-is-written-of-its-items (loopIn s x) (all-viewed s (x .descriptors) a) (loop-short s x e) here-canonical
+
+-- ---- each item keeps its UPID
+
+module _ (p loop : List ℕ) (base : ℕ) where
+  detail-held : (d : SegmentationDetail) → SameView p (detailView d) loop (detailView (movedDetail base d)) → map (heldIn p) (detailUpids d) ≡ map (heldIn loop) (detailUpids (movedDetail base d))
+  detail-held SegmentationDetail.Cancel h = refl
+  detail-held (SegmentationDetail.Insert i) h = ap (λ (u : UpidHeld). u ∷ []) (ap₂ held (sym (kind-stays base (i .«segmentation_upid»))) (h .bytes))
+    where
+      held : ℕ → List ℕ → UpidHeld
+      held k b = record { kind = k; bytes = b; parts = partsIn (upidOf k b) }
+
+  descriptor-held : (d : Descriptor) → SameView p (viewIn d) loop (viewIn (movedDescriptor base d)) → map (heldIn p) (descriptorUpids d) ≡ map (heldIn loop) (descriptorUpids (movedDescriptor base d))
+  descriptor-held (Descriptor.Avail x) h = refl
+  descriptor-held (Descriptor.Dtmf x) h = refl
+  descriptor-held (Descriptor.Segmentation x) h = detail-held (x .«descriptor_detail») h
+  descriptor-held (Descriptor.Time x) h = refl
+  descriptor-held (Descriptor.Reserved tag own) h = refl
+
+keeps-upid : (loop : List ℕ) (offset : ℕ) (t : List ℕ) → At loop offset t → AllBytes t → KeepsUpid loop (listed loop offset)
+keeps-upid loop offset t a all =
+    let b = back-at loop offset t a all in
+    record {
+      written = t;
+      writes = written-at loop offset t a b;
+      again = b .own;
+      reading = b .alone;
+      upids = descriptor-held (drop 6 t) loop (offset + 6) (b .own) (b .view) ∙ ap (λ (i : Item). map (heldIn loop) (upidsOf i)) (sym (b .is ∙ ap Item.Is (b .moves)));
+      eidr = sym (ap (λ (c : Beside). c .eidr) (beside-is loop offset t a));
+    }
+
+pub keeps-upids : (s : List ℕ) (x : Section) → AllBytes s → sectionOf s ≡ SectionRead.Is x → canonicalSection s ≡ true → All (KeepsUpid (loopIn s x)) (itemsOf (loopIn s x))
+keeps-upids s x a e c =
+    let loop : List ℕ = loopIn s x in
+    let t = cut loop (here-canonical s x e a c) in
+    every-item loop (loop-short s x e) (items-cut loop (loop-short s x e) (t .1) (t .2)) (all-pieces (t .0) (subst AllBytes (sym (t .2)) (all-viewed s (x .descriptors) a))) (keeps-upid loop)
+
+-- ---- equal readings
+
+pub one-of-items : (s r : List ℕ) (x y : Section) → AllBytes s → AllBytes r → sectionOf s ≡ SectionRead.Is x → sectionOf r ≡ SectionRead.Is y → canonicalSection s ≡ true → canonicalSection r ≡ true
+    → SameAround s r → SameItems (loopIn s x) (loopIn r y) (itemsOf (loopIn s x)) (itemsOf (loopIn r y)) → s ≡ r
+one-of-items s r x y a b e f c d around items =
+    let l : loopIn s x ≡ loopIn r y =
+    canonical-loops-of-the-same-items-are-one (loopIn s x) (loopIn r y) (all-viewed s (x .descriptors) a) (all-viewed r (y .descriptors) b) (loop-short s x e) (loop-short r y f)
+    (here-canonical s x e a c) (here-canonical r y f b d) items in
+    no-other-section s r x y a b e f c d around (sym (loop-here s x e) ∙ l ∙ loop-here r y f)
+
+-- ---- written of descriptors, then read
+
+pub items-read : (gs : List Given) (h : SpliceInfoHeader) (c : SpliceCommand) (places : List ComponentSplice) (lent loop b : List ℕ) → All GivenTypes gs → joinedMade (map givenMade gs) ≡ made loop
+    → ReadsBack h c places lent loop b → ItemsBack (loopBytes b) (itemsOf (loopBytes b)) gs
+items-read gs h c places lent loop b types m r = go _ (r .reads)
+  where
+    go : (x : Section) → sectionOf b ≡ SectionRead.Is x → ItemsBack (loopBytes b) (itemsOf (loopBytes b)) gs
+    go x e =
+        let fits : length loop ≤ 4076 = subst (λ (l : List ℕ). length l ≤ 4076) (loop-here b x e ∙ r .loops) (loop-short b x e) in
+        subst (λ (l : List ℕ). ItemsBack l (itemsOf l) gs) (sym (r .loops)) (descriptors-written-in-order-are-the-items-of-a-canonical-loop gs loop types fits m .1)

@@ -1,0 +1,34 @@
+-- What is kept when the items of a section are written again. These are definitions.
+use Prim.Native.Nat.{ℕ}
+use mathlib.Core.List.{List, map}
+use mathlib.Core.Path.{_≡_}
+use lib.ListN.{drop}
+use Rattle.descriptor.specs.declared.Descriptor.{Descriptor}
+use Rattle.descriptor.specs.declared.DescriptorRead.{DescriptorRead}
+use Rattle.descriptor.specs.declared.segmentation.SegmentationUpid.{SegmentationUpid}
+use Rattle.descriptor_laws.specs.Trips.{wholeIn}
+use Rattle.items.specs.Items.{readingOf, Listed}
+use Rattle.loop_laws.specs.Loops.{writtenAt}
+use Rattle.table.specs.Lent.{viewed}
+use Rattle.table.specs.Writing.{made}
+use Rattle.upid.specs.Upid.{upidOf, partsIn}
+use Rattle.upid.specs.declared.Part.{Part}
+use Rattle.theorems.specs.Identifiers.{descriptorUpids, upidsOf}
+
+-- a UPID with a view of lent bytes: its reported type, its bytes, and the parts, at every level, that are read of them
+pub record UpidHeld : Type 0 where
+  pub kind : ℕ
+  pub bytes : List ℕ
+  pub parts : List Part
+
+abbrev pub heldIn : List ℕ → SegmentationUpid → UpidHeld
+heldIn lent u = record { kind = u .kind; bytes = viewed lent (u .bytes); parts = partsIn (upidOf (u .kind) (viewed lent (u .bytes))) }
+
+-- An item of a loop is written again, and what is written, read alone, has the same UPID: its type, its bytes and its parts, and the EIDR beside it.
+pub record KeepsUpid (loop : List ℕ) (y : Listed) : Type 0 where
+  pub written : List ℕ
+  pub writes : writtenAt loop y ≡ made written
+  pub again : Descriptor
+  pub reading : wholeIn written .read ≡ DescriptorRead.Is again
+  pub upids : map (heldIn (drop 6 written)) (descriptorUpids again) ≡ map (heldIn loop) (upidsOf (y .step .item))
+  pub eidr : wholeIn written .beside .eidr ≡ readingOf loop (y .offset) .beside .eidr
