@@ -5,7 +5,7 @@
 --     same-made       equal readings, of both of which something is written, are alike: so it is the same
 use Prim.Native.Nat.{ℕ, _+_, _≤_}
 use mathlib.Core.Bool.{Bool, true, false, cond, not, _&&_, _||_}
-use mathlib.Core.List.{List, [], _∷_, _++_}
+use mathlib.Core.List.{List, [], _∷_}
 use mathlib.Core.Path.{_≡_, refl, ap, ap₂, sym, subst, _∙_}
 use native.Mathlib.Omega.{arith}
 use lib.Dec.{leb, eqb}
@@ -14,14 +14,13 @@ use borrow.Author.Tests.{eqb-true, le-leb, leb-true}
 use Rattle.table.specs.Bits.{pick}
 use Rattle.table.specs.Lent.{viewed}
 use Rattle.table.specs.Table as fields
-use Rattle.table.specs.Writing.{Field, walk, seen, Content, number, bytes, count, contents, Made, made, refused, makeOf, make}
+use Rattle.table.specs.Writing.{walk, seen, number, bytes, count, contents, Made, made, refused, makeOf, make}
 use Rattle.table.specs.declared.View.{View}
 use Rattle.table.proofs.Lists.{zero-one, and-true}
 use Rattle.table.proofs.Structure as laws
 use Rattle.upid.specs.Upid.{checkOf}
 use Rattle.upid.proofs.Walks.{empty}
 use Rattle.descriptor.specs.Plain.{avail, dtmf, time, privateBytes}
-use Rattle.descriptor.specs.Segmentation as table
 use Rattle.descriptor.specs.Segmentation.{agrees, backOf, countOf, fairDetail, fairFront, frontOf, head, insertFrom, segmentation}
 use Rattle.descriptor.specs.Views.{detailViews, descriptorViews}
 use Rattle.descriptor.specs.declared.Descriptor.{Descriptor}
@@ -36,28 +35,8 @@ use Rattle.descriptor.specs.declared.segmentation.SegmentationUpid.{Segmentatio
 use Rattle.descriptor.specs.declared.whole.Beside.{Beside}
 use Rattle.descriptor_form.specs.Parts.{upidFields, numberIn}
 use Rattle.descriptor_form.specs.Same.{SameReading, noView, viewless, viewlessDetail, bytesOfViews, componentsOf}
-use Rattle.descriptor_form.specs.Writing.{
-  cuei,
-  framedMade,
-  allZero,
-  alone,
-  fairReserved,
-  accepts,
-  fairUpid,
-  fairSegment,
-  segmentationMade,
-  payloadMade,
-  descriptorMade,
-  tagOf,
-  identifierOf,
-  upidIn,
-  upidSource,
-  written,
-  writtenDetail,
-  writtenKind,
-  writtenUpid,
-}
-use Rattle.descriptor_form.proofs.Fields.{flagged, insert-fields}
+use Rattle.descriptor_form.specs.Writing.{framedMade, allZero, alone, fairReserved, accepts, fairUpid, fairSegment, segmentationMade, payloadMade, descriptorMade, tagOf, identifierOf, upidIn, upidSource, writtenDetail, writtenKind, writtenUpid}
+use Rattle.descriptor_form.proofs.Fields.{insert-fields}
 use Rattle.descriptor_form.proofs.Making.{all-fair, by-table, counted, zero-view}
 use Rattle.descriptor_laws.proofs.PlainLaws.{viewed-at}
 use Rattle.descriptor_laws.proofs.PlainTrips.{unframed}

@@ -2,17 +2,16 @@
 --     same-make       fields that hold the same make the same bytes
 --     insert-makes    of an insert: only its UPID's fields have a view
 --     upid-found      of an insert that reads back: the UPID's bytes
-use Prim.Native.Nat.{ℕ, zero, suc, _+_, _^_}
+use Prim.Native.Nat.{ℕ, _+_, _^_}
 use mathlib.Core.Bool.{Bool, true, false, _&&_}
 use mathlib.Core.List.{List, [], _∷_, _++_}
 use mathlib.Core.Path.{_≡_, refl, ap, ap₂, sym, _∙_}
-use lib.Dec.{leb, ltb}
+use lib.Dec.{ltb}
 use lib.ListN.{length, take, drop}
-use Rattle.table.specs.Bits.{pick, bytesOf}
-use Rattle.table.specs.Writing.{Field, bits, run, rest, seen, within, Content, number, bytes, count, content, contents, print, Made, made, makeOf}
+use Rattle.table.specs.Bits.{bytesOf}
+use Rattle.table.specs.Writing.{Field, bits, run, rest, seen, within, Content, number, bytes, count, content, contents, print, made, makeOf}
 use Rattle.table.proofs.Lists.{zero-one, and-true}
 use Rattle.table.proofs.Structure as laws
-use Rattle.descriptor.specs.Segmentation.{byProgram, lasting, unrestricted}
 use Rattle.descriptor.specs.declared.segmentation.DeliveryRestrictionFlags.{DeliveryRestrictionFlags}
 use Rattle.descriptor.specs.declared.segmentation.ModeComponent.{ModeComponent}
 use Rattle.descriptor.specs.declared.segmentation.SegmentationDuration.{SegmentationDuration}
@@ -20,7 +19,7 @@ use Rattle.descriptor.specs.declared.segmentation.SegmentationInsert.{Segmentat
 use Rattle.descriptor.specs.declared.segmentation.SegmentationMode.{SegmentationMode}
 use Rattle.descriptor.specs.declared.segmentation.SegmentationUpid.{SegmentationUpid}
 use Rattle.descriptor.specs.declared.segmentation.SubSegments.{SubSegments}
-use Rattle.descriptor_form.specs.Parts.{headFields, flagFields, deliveryFields, componentsFields, modeFields, durationFields, upidFields, subFields, backFields}
+use Rattle.descriptor_form.specs.Parts.{deliveryFields, componentsFields, modeFields, durationFields, upidFields, subFields, backFields}
 use Rattle.descriptor_form.proofs.Fields.{foreFields}
 use Rattle.descriptor_form.proofs.Refusals.{seen-append}
 

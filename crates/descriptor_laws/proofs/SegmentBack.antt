@@ -1,17 +1,16 @@
 -- A segmentation descriptor: what is written of it reads back equal to what was handed in, and is canonical.
-use Prim.Native.Nat.{ℕ, _+_, _*_, _≤_}
+use Prim.Native.Nat.{ℕ, _+_, _≤_}
 use mathlib.Core.Bool.{Bool, true, false, cond, not, _&&_, _||_}
-use mathlib.Core.List.{List, [], _∷_, _++_}
+use mathlib.Core.List.{List, [], _∷_}
 use mathlib.Core.Path.{_≡_, refl, ap, ap₂, sym, _∙_}
 use native.Mathlib.Omega.{arith}
 use lib.Dec.{eqb}
 use lib.ListN.{length, take, drop, replicate, length-drop}
 use lib.Seq.{length-take-le, take-all, take-at}
-use borrow.Author.Tests.{eqb-true, eqb-false, eq-eqb, ne-eqb, not-true}
-use Rattle.table.specs.Bits.{pick, bitsOf, AllBytes}
+use borrow.Author.Tests.{eqb-true, eqb-false, ne-eqb, not-true}
+use Rattle.table.specs.Bits.{pick, AllBytes}
 use Rattle.table.specs.Lent.{viewed}
-use Rattle.table.specs.Table.{Answer, got, parse}
-use Rattle.table.specs.Writing.{walk, contents, made}
+use Rattle.table.specs.Writing.{contents, made}
 use Rattle.table.specs.declared.View.{View}
 use Rattle.table.proofs.Lists.{zero-one, and-true}
 use Rattle.table.proofs.Structure as laws
@@ -21,11 +20,9 @@ use Rattle.upid.specs.declared.UpidRead.the-variants.{Fine, Refused}
 use Rattle.upid.proofs.Theorems.{eidr-is-held-by-value}
 use Rattle.descriptor.specs.Descriptor.{isCuei, cueiOf, descriptorOf, reportedUpid, ifFine, segmentationOf}
 use Rattle.descriptor.specs.Segmentation as table
-use Rattle.descriptor.specs.Segmentation.{agrees, byProgram, blankUpid, countOf, fairDetail, fairFront, frontOf, backOf, insertFrom, lasting, segmentation, unrestricted}
-use Rattle.descriptor.specs.Views.{upidViews}
+use Rattle.descriptor.specs.Segmentation.{agrees, byProgram, countOf, fairDetail, fairFront, frontOf, lasting, segmentation, unrestricted}
 use Rattle.descriptor.specs.Whole.{filled, besideIn, besideOf}
 use Rattle.descriptor.specs.declared.Descriptor.the-variants.{Segmentation}
-use Rattle.descriptor.specs.declared.DescriptorRead.{DescriptorRead}
 use Rattle.descriptor.specs.declared.DescriptorRead.the-variants.{Is}
 use Rattle.descriptor.specs.declared.segmentation.ModeComponent.{ModeComponent}
 use Rattle.descriptor.specs.declared.segmentation.SegmentationDescriptor.{SegmentationDescriptor}
@@ -34,19 +31,18 @@ use Rattle.descriptor.specs.declared.segmentation.SegmentationDetail.the-varian
 use Rattle.descriptor.specs.declared.segmentation.SegmentationInsert.{SegmentationInsert}
 use Rattle.descriptor.specs.declared.segmentation.SegmentationUpid.{SegmentationUpid}
 use Rattle.descriptor.specs.declared.whole.Beside.{Beside}
-use Rattle.descriptor.proofs.SegmentationLaws.{segmentationStructure, segmentationMoved, upidAt, upidPlace}
+use Rattle.descriptor.proofs.SegmentationLaws.{segmentationStructure, upidAt, upidPlace}
 use Rattle.descriptor_form.specs.Canonical.{canonicalUpid, canonicalSegmentation, canonicalPayload, canonicalDescriptor}
 use Rattle.descriptor_form.specs.Parts.{numberIn}
 use Rattle.descriptor_form.specs.Same.{SameReading, viewlessDetail, bytesOfViews}
-use Rattle.descriptor_form.specs.Writing.{cuei, allZero, accepts, fairUpid, segmentationMade, payloadMade, descriptorMade, upidIn, upidSource, written, writtenDetail, writtenKind, writtenUpid}
+use Rattle.descriptor_form.specs.Writing.{cuei, allZero, accepts, fairUpid, segmentationMade, payloadMade, descriptorMade, upidSource, written, writtenKind, writtenUpid}
 use Rattle.descriptor_form.proofs.Fields.{flagged, insert-fields}
-use Rattle.descriptor_form.proofs.Making.{all-fair, by-table, counted, count-written, zero-view}
+use Rattle.descriptor_form.proofs.Making.{all-fair, by-table, counted, zero-view}
 use Rattle.descriptor_laws.proofs.Canon.{framed-canonical}
 use Rattle.descriptor_laws.proofs.PlainLaws.{viewed-at}
 use Rattle.descriptor_laws.proofs.PlainTrips.{ReadsBack, unframed, zeros}
 use Rattle.descriptor_laws.proofs.Remade.{withUpid, upid-found}
 use Rattle.descriptor_laws.proofs.Reported.{check-none, reports}
-use Rattle.descriptor_laws.proofs.SegmentRead.{detailRead}
 use Rattle.descriptor_laws.proofs.SegmentTrips.{segmentation-write-read}
 
 -- ---- views

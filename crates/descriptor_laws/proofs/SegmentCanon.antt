@@ -2,20 +2,19 @@
 --     segmentation-counted      as many components as the count says
 --     segment-read-write        the payload
 use Prim.Native.Nat.{ℕ, zero, suc, _+_, _*_, _-_, _≤_}
-use mathlib.Core.Bool.{Bool, true, false, cond, not, _&&_, _||_}
-use mathlib.Core.List.{List, [], _∷_, _++_}
+use mathlib.Core.Bool.{Bool, true, false, cond, _&&_}
+use mathlib.Core.List.{List, [], _∷_}
 use mathlib.Core.Path.{_≡_, refl, ap, ap₂, sym, subst, _∙_}
 use native.Mathlib.Omega.{arith}
 use lib.Dec.{leb, eqb}
 use lib.ListN.{length, take, drop, replicate, length-append}
 use lib.Seq.{take-all}
-use borrow.Author.Tests.{eqb-true, eqb-false, eq-eqb, ne-eqb, le-leb, leb-true}
+use borrow.Author.Tests.{eqb-true, eqb-false, ne-eqb, le-leb, leb-true}
 use Rattle.table.specs.Bits.{pick, bitsOf, AllBytes}
 use Rattle.table.specs.Lent.{viewed}
 use Rattle.table.specs.Table.{Table, inside, bit, list, Answer, got, short, parse}
 use Rattle.table.specs.Table as fields
-use Rattle.table.specs.Writing.{Field, walk, seen, contents, Content, number, bytes, made, makeOf, make}
-use Rattle.table.specs.declared.View.{View}
+use Rattle.table.specs.Writing.{walk, seen, contents, number, bytes, made, makeOf, make}
 use Rattle.table.proofs.Lists.{zero-one, and-true}
 use Rattle.table.proofs.Steps.{onward, parse-inside}
 use Rattle.table.proofs.Structure as laws
@@ -25,28 +24,7 @@ use Rattle.upid.specs.declared.UpidRead.the-variants.{Fine, Refused}
 use Rattle.upid.proofs.Walks.{check-short}
 use Rattle.descriptor.specs.Descriptor.{reportedUpid, ifFine, segmentationOf}
 use Rattle.descriptor.specs.Segmentation as table
-use Rattle.descriptor.specs.Segmentation.{
-  agrees,
-  component,
-  blankComponent,
-  countOf,
-  Moded,
-  mode,
-  duration,
-  deliveryRestrictions,
-  Fore,
-  parts,
-  front,
-  Head,
-  head,
-  back,
-  frontOf,
-  backOf,
-  fairDetail,
-  fairFront,
-  insertFrom,
-  segmentation,
-}
+use Rattle.descriptor.specs.Segmentation.{component, blankComponent, countOf, Moded, mode, duration, deliveryRestrictions, Fore, parts, front, Head, head, back, frontOf, backOf, fairDetail, fairFront, insertFrom, segmentation}
 use Rattle.descriptor.specs.Whole.{filled, besideIn, besideOf}
 use Rattle.descriptor.specs.declared.Descriptor.the-variants.{Segmentation}
 use Rattle.descriptor.specs.declared.DescriptorRead.the-variants.{Is}
@@ -55,19 +33,18 @@ use Rattle.descriptor.specs.declared.segmentation.SegmentationDescriptor.{Segme
 use Rattle.descriptor.specs.declared.segmentation.SegmentationDetail.{SegmentationDetail}
 use Rattle.descriptor.specs.declared.segmentation.SegmentationDetail.the-variants.{Cancel, Insert}
 use Rattle.descriptor.specs.declared.segmentation.SegmentationInsert.{SegmentationInsert}
-use Rattle.descriptor.specs.declared.segmentation.SegmentationMode.{SegmentationMode}
 use Rattle.descriptor.specs.declared.segmentation.SegmentationUpid.{SegmentationUpid}
 use Rattle.descriptor.specs.declared.whole.Beside.{Beside}
 use Rattle.descriptor.proofs.SegmentationLaws.{Counted}
 use Rattle.descriptor_form.specs.Canonical.{canonicalBy, canonicalUpid, canonicalSegmentation, upidCanonical}
 use Rattle.descriptor_form.specs.Parts.{upidFields}
-use Rattle.descriptor_form.specs.Writing.{allZero, accepts, fairUpid, fairSegment, segmentationMade, upidIn, upidSource, written, writtenKind, writtenUpid}
+use Rattle.descriptor_form.specs.Writing.{allZero, accepts, fairUpid, fairSegment, segmentationMade, upidIn, upidSource, writtenKind, writtenUpid}
 use Rattle.descriptor_form.proofs.Fields.{flagged, insert-fields}
 use Rattle.descriptor_laws.proofs.PlainLaws.{viewed-at}
 use Rattle.descriptor_laws.proofs.Remade.{withUpid, insert-makes, upid-seen}
 use Rattle.descriptor_laws.proofs.Reported.{check-none, reports, eidr-is-written}
 use Rattle.descriptor_laws.proofs.SegmentBack.{viewed-length, viewed-none, flags-agree, counted-again}
-use Rattle.descriptor_laws.proofs.SegmentRead.{after, detailRead, segmentation-read}
+use Rattle.descriptor_laws.proofs.SegmentRead.{after, segmentation-read}
 use Rattle.descriptor_laws.proofs.SegmentTrips.{segmentation-read-write}
 
 -- ---- as many components as the count says

@@ -1,24 +1,23 @@
 -- A whole descriptor: its frame, by identifier and tag, and what stands beside it.
 --     reads-as          what reads back by its payload reads back as a whole
 --     whole-back        a canonical descriptor is what is written of its reading
-use Prim.Native.Nat.{ℕ, zero, suc, _+_, _-_, _≤_, _<_}
-use mathlib.Core.Bool.{Bool, true, false, not, _&&_}
-use mathlib.Core.List.{List, [], _∷_, _++_}
+use Prim.Native.Nat.{ℕ, zero, suc, _+_, _≤_}
+use mathlib.Core.Bool.{Bool, true, false, _&&_}
+use mathlib.Core.List.{List, [], _∷_}
 use mathlib.Core.Path.{_≡_, refl, ap, ap₂, sym, subst, _∙_}
 use native.Mathlib.Omega.{arith}
 use lib.Dec.{leb, ltb, eqb}
-use lib.ListN.{length, take, drop, getD, replicate, length-append, length-drop}
+use lib.ListN.{length, take, drop, getD, length-drop}
 use lib.Seq.{length-take-le, take-at, drop-at}
-use borrow.Author.Tests.{eqb-true, eqb-false, ne-eqb, le-leb, le-ltb, leb-true}
+use borrow.Author.Tests.{eqb-true, eqb-false, le-leb, le-ltb, leb-true}
 use Rattle.table.specs.Bits.{pick, AllBytes}
 use Rattle.table.specs.Writing.{made}
-use Rattle.table.proofs.Lists.{zero-one, and-true}
-use Rattle.descriptor.specs.Descriptor.{isCuei, cueiOf, descriptorOf, reservedOf}
+use Rattle.table.proofs.Lists.{and-true}
+use Rattle.descriptor.specs.Descriptor.{isCuei, descriptorOf, reservedOf}
 use Rattle.descriptor.specs.Plain.{avail, dtmf, time, privateBytes}
 use Rattle.descriptor.specs.Whole.{besideRead, identifierRead, wholeOf}
 use Rattle.descriptor.specs.declared.Descriptor.{Descriptor}
 use Rattle.descriptor.specs.declared.Descriptor.the-variants.{Avail, Dtmf, Segmentation, Time, Reserved}
-use Rattle.descriptor.specs.declared.DescriptorRead.{DescriptorRead}
 use Rattle.descriptor.specs.declared.DescriptorRead.the-variants.{Is}
 use Rattle.descriptor.specs.declared.whole.Beside.{Beside}
 use Rattle.descriptor.specs.declared.whole.WholeDescriptor.{WholeDescriptor}

@@ -1,6 +1,5 @@
 -- What the round trips of descriptors say. These are definitions.
 use Prim.Native.Nat.{ℕ, _≤_}
-use mathlib.Core.Bool.{true}
 use mathlib.Core.List.{List}
 use mathlib.Core.Path.{_≡_}
 use lib.ListN.{length, take, drop, getD}
@@ -10,7 +9,6 @@ use Rattle.descriptor.specs.declared.Descriptor.{Descriptor}
 use Rattle.descriptor.specs.declared.DescriptorRead.the-variants.{Is}
 use Rattle.descriptor.specs.declared.whole.Beside.{Beside}
 use Rattle.descriptor.specs.declared.whole.WholeDescriptor.{WholeDescriptor}
-use Rattle.descriptor_form.specs.Canonical.{canonicalDescriptor}
 use Rattle.descriptor_form.specs.Same.{SameReading, componentsOf}
 
 -- the reading of a whole descriptor's bytes: tag, length, identifier of 4, payload. Its views count from the payload's first byte

@@ -2,8 +2,8 @@
 --     join-back      what is written of the items, joined, is the loop
 --     one-cut        loops with the same items are cut into the same descriptors
 --     given-back     what is written of descriptors, joined, has them as its items
-use Prim.Native.Nat.{ℕ, zero, suc, _+_, _-_, _≤_}
-use mathlib.Core.Bool.{Bool, true, false}
+use Prim.Native.Nat.{ℕ, _+_, _-_, _≤_}
+use mathlib.Core.Bool.{true}
 use mathlib.Core.List.{List, [], _∷_, _++_, map}
 use mathlib.Core.Path.{_≡_, refl, ap, ap₂, sym, subst, _∙_}
 use native.Mathlib.Omega.{arith}
@@ -13,18 +13,15 @@ use Rattle.table.specs.Writing.{Made, made, refused}
 use Rattle.table.specs.declared.View.{View}
 use Rattle.table.proofs.Lists.{zero-one}
 use Rattle.upid.specs.Cover.{All, none, more}
-use Rattle.descriptor.specs.Descriptor.{descriptorOf}
 use Rattle.descriptor.specs.Views.{descriptorViews, readViews}
 use Rattle.descriptor.specs.Whole.{wholeOf}
 use Rattle.descriptor.specs.declared.Descriptor.{Descriptor}
 use Rattle.descriptor.specs.declared.DescriptorRead.{DescriptorRead}
-use Rattle.descriptor.specs.declared.DescriptorRead.the-variants as read
-use Rattle.descriptor.specs.declared.segmentation.ModeComponent.{ModeComponent}
 use Rattle.descriptor.specs.declared.whole.Beside.{Beside}
 use Rattle.descriptor.specs.declared.whole.WholeDescriptor.{WholeDescriptor}
 use Rattle.descriptor.proofs.Insides.{read-inside}
 use Rattle.descriptor_form.specs.Canonical.{canonicalLoop}
-use Rattle.descriptor_form.specs.Same.{SameReading, bytesOfViews, componentsOf}
+use Rattle.descriptor_form.specs.Same.{bytesOfViews, componentsOf}
 use Rattle.descriptor_form.specs.Writing.{descriptorMade}
 use Rattle.descriptor_laws.specs.Trips.{wholeIn, ReadAs}
 use Rattle.descriptor_laws.proofs.Alike.{SameView, viewIn, NoneTold, made-told, alike-made, same-made}
@@ -34,26 +31,9 @@ use Rattle.items.specs.Cover.{joined}
 use Rattle.items.specs.Items.{itemAt, stepOf, readingOf, Listed, listed, itemsOf}
 use Rattle.items.specs.Place.{movedDescriptor}
 use Rattle.items.specs.declared.Item.{Item}
-use Rattle.items.specs.declared.Item.the-variants.{End, Refused, Is}
-use Rattle.items.specs.declared.Step.{Step}
+use Rattle.items.specs.declared.Item.the-variants.{Is}
 use Rattle.items.specs.declared.reading.Reading.{Reading}
-use Rattle.loop_laws.specs.Loops.{
-  itemMade,
-  writtenAt,
-  _followed-by_,
-  joinedMade,
-  SameItem,
-  SameItems,
-  done,
-  pair,
-  Given,
-  givenMade,
-  GivenTypes,
-  ItemBack,
-  ItemsBack,
-  over,
-  back,
-}
+use Rattle.loop_laws.specs.Loops.{itemMade, writtenAt, _followed-by_, joinedMade, SameItems, done, pair, Given, givenMade, GivenTypes, ItemBack, ItemsBack, over, back}
 use Rattle.loop_laws.proofs.Pieces.{Canonical, cut-canonical, At, Items, end, item, items-cut}
 use Rattle.loop_laws.proofs.Places.{moved-values, moved-count, moved-view, moved-bytes}
 

@@ -3,23 +3,21 @@
 --     cut-canonical    and the other way round
 --     items-cut        the items of such a loop
 use Prim.Native.Nat.{ℕ, zero, suc, _+_, _-_, _≤_, _<_}
-use mathlib.Core.Bool.{Bool, true, false, _&&_}
-use mathlib.Core.List.{List, [], _∷_, _++_, append-assoc}
+use mathlib.Core.Bool.{Bool, true, _&&_}
+use mathlib.Core.List.{List, [], _∷_, _++_}
 use mathlib.Core.Path.{_≡_, refl, ap, ap₂, sym, subst, _∙_}
 use native.Mathlib.Omega.{arith}
 use lib.Dec.{leb, eqb}
 use lib.ListN.{length, take, drop, getD, length-append, length-drop, take-append-drop}
 use lib.Seq.{take-at, drop-at, take-append-le, drop-append-le, drop-drop, getD-drop}
 use borrow.Author.Tests.{leb-true, eqb-true}
-use Rattle.table.specs.Bits.{AllBytes}
-use Rattle.table.proofs.Lists.{zero-one, and-true, append-nil}
+use Rattle.table.proofs.Lists.{zero-one, and-true}
 use Rattle.upid.specs.Cover.{All, none, more}
 use Rattle.descriptor.specs.Whole.{wholeOf}
 use Rattle.descriptor_form.specs.Canonical.{canonicalDescriptor, canonicalFrom, canonicalLoop}
 use Rattle.descriptor_laws.specs.Trips.{wholeIn}
 use Rattle.items.specs.Cover.{joined}
 use Rattle.items.specs.Items.{stepOf, readingOf, Listed, listed, itemsOf}
-use Rattle.items.specs.declared.Step.{Step}
 use Rattle.items.specs.declared.reading.Reading.{Reading}
 use Rattle.items.proofs.Lists.{rest, rest-end, rest-more, items-rest}
 use Rattle.items.proofs.Readings.{placed, reading-whole}

@@ -1,7 +1,7 @@
 -- A descriptor whose payload lies in a loop: the same with its view counted from the loop's first byte.
 --     run-of-run       a run of a run
 --     moved-values, moved-count, moved-view, moved-bytes
-use Prim.Native.Nat.{ℕ, zero, suc, _+_, _-_, _≤_}
+use Prim.Native.Nat.{ℕ, zero, suc, _+_, _≤_}
 use mathlib.Core.Bool.{Bool, true, false, cond, _||_}
 use mathlib.Core.List.{List, [], _∷_, map}
 use mathlib.Core.Path.{_≡_, refl, ap, ap₂, sym, _∙_}
@@ -19,7 +19,6 @@ use Rattle.descriptor.specs.declared.Descriptor.the-variants.{Avail, Dtmf, Segm
 use Rattle.descriptor.specs.declared.DescriptorRead.the-variants as read
 use Rattle.descriptor.specs.declared.segmentation.SegmentationDetail.{SegmentationDetail}
 use Rattle.descriptor.specs.declared.segmentation.SegmentationDetail.the-variants.{Cancel, Insert}
-use Rattle.descriptor.specs.declared.segmentation.SegmentationInsert.{SegmentationInsert}
 use Rattle.descriptor.specs.declared.segmentation.SegmentationUpid.{SegmentationUpid}
 use Rattle.descriptor_form.specs.Same.{viewless, viewlessDetail, bytesOfViews, componentsOf}
 use Rattle.descriptor_laws.proofs.Alike.{SameView, viewIn, detailView, DetailTold, NoneTold, by-bytes, both-none, no-views}

@@ -5,11 +5,9 @@
 --     eidr-of        an EIDR of an item
 --     beside-runs    the identifier beside an item
 use Prim.Native.Nat.{ℕ, _+_, _-_, _≤_}
-use mathlib.Core.Bool.{Bool, true, false, cond, _||_}
 use mathlib.Core.List.{List, [], _∷_, map}
 use mathlib.Core.Path.{_≡_, refl, ap, sym, _∙_}
 use native.Mathlib.Omega.{arith}
-use lib.Dec.{eqb}
 use lib.ListN.{length, take, drop, getD, length-take, length-drop}
 use Rattle.table.specs.Bits.{bitsOf}
 use Rattle.table.specs.Lent.{viewed}

@@ -4,7 +4,7 @@
 --     one-of-items      two canonical sections with the same items
 --     items-read        descriptors that are written, joined and put in a section are its items
 use Prim.Native.Nat.{ℕ, _+_, _≤_}
-use mathlib.Core.Bool.{Bool, true, false, _&&_}
+use mathlib.Core.Bool.{Bool, true, false}
 use mathlib.Core.List.{List, [], _∷_, map}
 use mathlib.Core.Path.{_≡_, refl, ap, ap₂, sym, subst, _∙_}
 use lib.Dec.{leb}
@@ -17,8 +17,8 @@ use Rattle.descriptor.specs.declared.whole.Beside.{Beside}
 use Rattle.descriptor_form.specs.Canonical.{canonicalLoop}
 use Rattle.descriptor_laws.proofs.Alike.{SameView, viewIn, detailView}
 use Rattle.header.specs.declared.header.SpliceInfoHeader.{SpliceInfoHeader}
-use Rattle.items.specs.Items.{stepOf, Listed, listed, itemsOf}
-use Rattle.items.specs.Place.{movedUpid, movedDetail, movedDescriptor}
+use Rattle.items.specs.Items.{listed, itemsOf}
+use Rattle.items.specs.Place.{movedDetail, movedDescriptor}
 use Rattle.items.specs.declared.Item.{Item}
 use Rattle.loop_laws.proofs.Loops.{all-pieces, back-at, beside-is, written-at, every-item}
 use Rattle.loop_laws.proofs.Pieces.{At, items-cut}
