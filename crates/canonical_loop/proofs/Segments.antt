@@ -6,10 +6,10 @@ use mathlib.Core.Path.{_≡_, refl, ap, ap₂, sym, _∙_}
 use native.Mathlib.Omega.{arith}
 use lib.Dec.{leb, eqb}
 use lib.ListN.{length, getD, take, drop}
-use borrow.Author.Tests.{leb-true, le-leb, lt-leb, eqb-true, eqb-false, eq-eqb, ne-eqb}
+use borrow.Author.Tests.{leb-true, le-leb, eqb-true, eqb-false, eq-eqb, ne-eqb}
 use Rattle.table.specs.Bits.{pick, bitsOf, field}
 use Rattle.table.specs.Lent.{viewed}
-use Rattle.table.specs.Table.{Table, done, must, inside, list, uimsbf, Answer, got, short, parse, canonical}
+use Rattle.table.specs.Table.{Table, done, inside, list, uimsbf, Answer, got, short, parse, canonical}
 use Rattle.table.proofs.Fields.{byte-field, field-in}
 use Rattle.table.proofs.Lists.{zero-one, and-true}
 use Rattle.upid.specs.Upid.{checkOf}
@@ -59,7 +59,6 @@ use Rattle.canonical_loop.proofs.Through.{
   under,
   over,
   drops,
-  same-test,
   leb-bytes,
   eqb-bytes,
 }
