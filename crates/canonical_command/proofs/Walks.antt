@@ -83,9 +83,6 @@ module _ {X : Type 0} (s : List ℕ) (at : ℕ) where
     unfolding reserved
     fails-ones f = record { other = λ x m g. rw (f .other x m (reads-ones s at w t x m g .1)) (and-false (eqb (field (bitsOf s) at w) (2 ^ w - 1))) }
 
-    pub lacks-ones : length s * 8 < at + w → Fails (ones w t) s at
-    lacks-ones h = record { other = λ x m g. absurd (omega (arith, reads-ones s at w t x m g .0)) }
-
   -- ---- what the canonical form asks besides
   module _ (b : Bool) (t : Table X) where
     pub stands-must : (m : ℕ) → b ≡ true → Stands t s at m → Stands (must b t) s at m
