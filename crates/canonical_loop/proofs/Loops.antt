@@ -1,12 +1,13 @@
 -- A loop of canonical descriptors, one after the other.
 --     from-any                       any number from the count of the bytes on says the same
+--     loop-first                     the first descriptor, and those after it
 --     loop-few, loop-over, ..        what the walk answers: what is left says what the whole says
 use Prim.Native.Nat.{ℕ, zero, suc, _+_, _-_, _<_, _≤_}
 use mathlib.Core.Bool.{Bool, true, false, not, _&&_}
 use mathlib.Core.List.{List, [], _∷_}
-use mathlib.Core.Path.{_≡_, refl, ap, ap₂, sym, _∙_}
+use mathlib.Core.Path.{_≡_, refl, ap, sym, _∙_}
 use native.Mathlib.Omega.{arith}
-use lib.Dec.{leb, eqb}
+use lib.Dec.{leb}
 use lib.ListN.{length, getD, take, drop, length-take, length-drop, drop-of-length-le}
 use lib.Seq.{drop-drop, getD-drop, getD-take}
 use borrow.Author.Tests.{lt-leb, ne-eqb, not-true, not-false}
@@ -25,10 +26,10 @@ from-any (suc n) (suc m) (b ∷ bs) h k =
     let d = length-drop t (b ∷ bs) in
     ap (λ (x : Bool). canonicalDescriptor (take t (b ∷ bs)) && x) (from-any n m (drop t (b ∷ bs)) (omega (arith, d)) (omega (arith, d)))
 
-one : (l : List ℕ) → 0 < length l → canonicalLoop l ≡ canonicalDescriptor (take (getD l 1 0 + 2) l) && canonicalLoop (drop (getD l 1 0 + 2) l)
+pub loop-first : (l : List ℕ) → 0 < length l → canonicalLoop l ≡ canonicalDescriptor (take (getD l 1 0 + 2) l) && canonicalLoop (drop (getD l 1 0 + 2) l)
 unfolding canonicalLoop canonicalFrom
-one [] h = absurd (omega arith)
-one (b ∷ bs) h =
+loop-first [] h = absurd (omega arith)
+loop-first (b ∷ bs) h =
     let t : ℕ = getD (b ∷ bs) 1 0 + 2 in
     let d = length-drop t (b ∷ bs) in
     ap (λ (x : Bool). canonicalDescriptor (take t (b ∷ bs)) && x) (from-any (length bs) (length (drop t (b ∷ bs))) (drop t (b ∷ bs)) (omega (arith, d)) (omega arith))
@@ -55,7 +56,7 @@ module _ (s : List ℕ) (at : ℕ) (inside : at < length s) (t : ℕ) (et : t �
 
   first : canonicalLoop (drop at s) ≡ canonicalDescriptor (take t (drop at s)) && canonicalLoop (drop (at + t) s)
   first =
-      one (drop at s) (omega (arith, left))
+      loop-first (drop at s) (omega (arith, left))
       ∙ ap (λ (n : ℕ). canonicalDescriptor (take n (drop at s)) && canonicalLoop (drop n (drop at s))) size
       ∙ ap (λ (l : List ℕ). canonicalDescriptor (take t (drop at s)) && canonicalLoop l) (drop-drop t at s)
 

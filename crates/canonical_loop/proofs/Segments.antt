@@ -6,10 +6,10 @@ use mathlib.Core.Path.{_≡_, refl, ap, ap₂, sym, _∙_}
 use native.Mathlib.Omega.{arith}
 use lib.Dec.{leb, eqb}
 use lib.ListN.{length, getD, take, drop}
-use borrow.Author.Tests.{leb-true, le-leb, lt-leb, eqb-true, eqb-false, eq-eqb, ne-eqb}
+use borrow.Author.Tests.{leb-true, le-leb, eqb-true, eqb-false, eq-eqb, ne-eqb}
 use Rattle.table.specs.Bits.{pick, bitsOf, field}
 use Rattle.table.specs.Lent.{viewed}
-use Rattle.table.specs.Table.{Table, done, must, inside, list, uimsbf, Answer, got, short, parse, canonical}
+use Rattle.table.specs.Table.{Table, done, inside, list, uimsbf, Answer, got, short, parse, canonical}
 use Rattle.table.proofs.Fields.{byte-field, field-in}
 use Rattle.table.proofs.Lists.{zero-one, and-true}
 use Rattle.upid.specs.Upid.{checkOf}
@@ -59,10 +59,13 @@ use Rattle.canonical_loop.proofs.Through.{
   under,
   over,
   drops,
-  same-test,
   leb-bytes,
   eqb-bytes,
 }
+
+and-tt : (b : Bool) → b && true ≡ b
+and-tt true = refl
+and-tt false = refl
 
 through-pick : {X : Type 0} (b : Bool) (t u : Table X) (bs : List ℕ) (at : ℕ) (f : X → ℕ → Bool) → through (pick b t u) bs at f ≡ pick b (through t bs at f) (through u bs at f)
 through-pick true t u bs at f = refl
@@ -157,10 +160,6 @@ module _ (s : List ℕ) where
   unfolding canonicalUpid viewed
   upid-test k n at h = rw (le-leb (at + n) (length s) h) (go (eqb n 0) refl)
     where
-      and-tt : (b : Bool) → b && true ≡ b
-      and-tt true = refl
-      and-tt false = refl
-
       go : (b : Bool) → eqb n 0 ≡ b → accepts (checkOf k (take n (drop at s))) && pick b (eqb k 0) true ≡ pick b (eqb k 0) (accepts (checkOf k (take n (drop at s))))
       go true e =
           let z : take n (drop at s) ≡ [] = ap (λ (i : ℕ). take i (drop at s)) (eqb-true n 0 e) in
@@ -410,7 +409,3 @@ module _ (s : List ℕ) (byte : (k : ℕ) → getD s k 0 < 256) where
       (ap (λ (u : Bool). eqb 40 (length s * 8) && u) none-fits ∙ and-tt (eqb 40 (length s * 8)) ∙ eqb-bytes 40 5 (length s) refl)
       (through-in front _ _ (bitsOf s) 40 whole
       ∙ front-through s byte _ (λ x m. through-in back _ _ (bitsOf s) (m * 8) whole ∙ back-at s m _ (canonicalUpid s (x .front .«segmentation_upid»)) (λ b i. refl))))
-    where
-      and-tt : (b : Bool) → b && true ≡ b
-      and-tt true = refl
-      and-tt false = refl

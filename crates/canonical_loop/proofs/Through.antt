@@ -11,7 +11,7 @@ use lib.Dec.{leb, eqb}
 use lib.ListN.{length, drop, getD}
 use borrow.Author.Tests.{leb-true, le-leb, eqb-true, eq-eqb}
 use Rattle.table.specs.Bits.{pick, bitsOf, field}
-use Rattle.table.specs.Table.{Table, done, must, inside, number, bit, reserved, part, remaining, list, uimsbf, flag, ones, Answer, got, short, parse, canonical}
+use Rattle.table.specs.Table.{Table, must, inside, number, bit, reserved, part, remaining, list, uimsbf, flag, ones, Answer, got, short, parse, canonical}
 use Rattle.table.specs.declared.View.{View}
 use Rattle.table.proofs.Bits.{length-bits}
 use Rattle.table.proofs.Lists.{and-true}

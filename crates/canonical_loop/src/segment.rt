@@ -1,7 +1,7 @@
 // The payload of a segmentation descriptor.
 ghost use mathlib.Core.Path.{_≡_};
 ghost use Prim.Native.Nat.{_+_, _*_, _≤_};
-ghost use lib.ListN.{length, getD};
+ghost use lib.ListN.{length};
 ghost use Rattle.descriptor_form.specs.Canonical.{canonicalSegmentation};
 ghost use Rattle.descriptor_form.specs.Writing.{accepts};
 ghost use Rattle.upid.specs.Upid.{checkOf};

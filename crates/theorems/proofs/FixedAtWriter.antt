@@ -16,6 +16,8 @@ use Rattle.descriptor_form.proofs.segment.refusal_of_segmentation.Reads as refu
 use Rattle.descriptor_form.proofs.segment.mode_size.Reads as mode-size
 use Rattle.descriptor_form.proofs.segment.duration_size.Reads as duration-size
 use Rattle.descriptor_form.proofs.segment.sub_size.Reads as sub-size
+use Rattle.canonical_loop.proofs.is_canonical_descriptor.Reads as is-canonical-descriptor
+use Rattle.canonical_loop.proofs.is_canonical_loop.Reads as is-canonical-loop
 use Rattle.descriptor_writer.proofs.write_descriptor.Reads as write-descriptor
 use Rattle.command_writer.proofs.measure_command.Reads as measure-command
 use Rattle.command_writer.proofs.put_command.Reads as put-command
@@ -80,6 +82,14 @@ duration-size-is-fixed = record { takes-any = λ κ a. tt; one-answer = λ κ a 
 
 pub sub-size-is-fixed : Fixed sub-size.Asked sub-size.Learnt
 sub-size-is-fixed = record { takes-any = λ κ a. tt; one-answer = λ κ a x y e f p q. p .0 ∙ sym (q .0) }
+
+-- ---- canonical_loop: the canonical form of a descriptor and of a loop, as tests
+
+pub is-canonical-descriptor-is-fixed : Fixed is-canonical-descriptor.Asked is-canonical-descriptor.Learnt
+is-canonical-descriptor-is-fixed = record { takes-any = λ κ a. tt; one-answer = λ κ a x y e f p q. p ∙ sym q }
+
+pub is-canonical-loop-is-fixed : Fixed is-canonical-loop.Asked is-canonical-loop.Learnt
+is-canonical-loop-is-fixed = record { takes-any = λ κ a. tt; one-answer = λ κ a x y e f p q. p ∙ sym q }
 
 -- ---- descriptor_writer
 
