@@ -12,7 +12,7 @@ use Rattle.command.specs.Insert.{insert}
 use Rattle.command.specs.declared.Private.{Private}
 use Rattle.descriptor_form.specs.Canonical.{canonicalBy}
 use Rattle.header.specs.Time.{spliceTime}
-use Rattle.table.specs.Bits.{pick, bitsOf, field}
+use Rattle.table.specs.Bits.{bitsOf, field}
 use Rattle.table.specs.Table.{number, part, remaining, got, canonical}
 use Rattle.table.proofs.Steps.{takes-number, takes-remaining, takes-part}
 use Rattle.canonical_command.specs.Canonical.{canonicalCommand}

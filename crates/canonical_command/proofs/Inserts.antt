@@ -3,7 +3,6 @@ use Prim.Native.Nat.{ℕ, suc, _+_, _*_, _-_, _/_, _%_, _^_, _<_, _≤_}
 use mathlib.Core.Bool.{Bool, true, false, not}
 use mathlib.Core.List.{List, []}
 use mathlib.Core.Path.{_≡_, refl, ap, sym, _∙_}
-use native.Mathlib.Nat.{add-zero}
 use native.Mathlib.Omega.{arith}
 use lib.Dec.{ltb, eqb}
 use lib.ListN.{length, getD}
@@ -16,7 +15,7 @@ use Rattle.command.specs.declared.insert.SpliceMode.{SpliceMode}
 use Rattle.header.specs.Time.{spliceTime}
 use Rattle.header.specs.declared.time.SpliceTime.the-variants.{Immediate}
 use Rattle.table.specs.Bits.{pick, bitsOf, field}
-use Rattle.table.specs.Table.{Table, done, inside, ones, list}
+use Rattle.table.specs.Table.{Table, inside, ones, list}
 use Rattle.table.proofs.Fields.{field-in, byte-field}
 use Rattle.canonical_command.specs.Walk.{Stands, Fails, Told}
 use Rattle.canonical_command.specs.declared.Form.{Form}

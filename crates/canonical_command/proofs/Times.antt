@@ -1,5 +1,5 @@
 -- splice_time() and the fields that it shares with break_duration(), by the byte that they begin with.
-use Prim.Native.Nat.{ℕ, _+_, _*_, _/_, _%_, _^_, _<_, _≤_}
+use Prim.Native.Nat.{ℕ, _+_, _*_, _/_, _%_, _<_, _≤_}
 use mathlib.Core.Bool.{Bool, true, false}
 use mathlib.Core.List.{List}
 use mathlib.Core.Path.{_≡_, refl, ap, sym, _∙_}
@@ -11,7 +11,7 @@ use borrow.Author.Tests.{ltb-true, ltb-false}
 use Rattle.header.specs.Time.{spliceTime, ticks}
 use Rattle.header.specs.declared.time.SpliceTime.the-variants.{Unspecified, At}
 use Rattle.table.specs.Bits.{bitsOf, field}
-use Rattle.table.specs.Table.{Table, done, uimsbf, ones}
+use Rattle.table.specs.Table.{done, uimsbf, ones}
 use Rattle.table.proofs.Fields.{field-in}
 use Rattle.canonical_command.specs.Walk.{Stands, Fails}
 use Rattle.canonical_command.proofs.Walks.{stands-done, stands-number, lacks-number, stands-flag, fails-flag, lacks-flag, stands-ones, fails-one, fails-ones}

@@ -5,7 +5,7 @@
 --     by-table, not-by-table     what a walk from the first bit on says of the whole payload
 use Prim.Native.Nat.{ℕ, suc, _+_, _*_, _-_, _^_, _<_, _≤_}
 use mathlib.Core.Bool.{Bool, true, false, _&&_, and-true, and-false}
-use mathlib.Core.List.{List, _∷_}
+use mathlib.Core.List.{List}
 use mathlib.Core.Path.{_≡_, refl, ap, sym, _∙_}
 use native.Mathlib.Omega.{arith}
 use lib.Dec.{eqb}
@@ -82,9 +82,6 @@ module _ {X : Type 0} (s : List ℕ) (at : ℕ) where
     pub fails-ones : Fails t s (at + w) → Fails (ones w t) s at
     unfolding reserved
     fails-ones f = record { other = λ x m g. rw (f .other x m (reads-ones s at w t x m g .1)) (and-false (eqb (field (bitsOf s) at w) (2 ^ w - 1))) }
-
-    pub lacks-ones : length s * 8 < at + w → Fails (ones w t) s at
-    lacks-ones h = record { other = λ x m g. absurd (omega (arith, reads-ones s at w t x m g .0)) }
 
   -- ---- what the canonical form asks besides
   module _ (b : Bool) (t : Table X) where

@@ -1,8 +1,8 @@
 -- What `is_canonical_section` and `write_section` answer, return by return.
-use Prim.Native.Nat.{ℕ, _+_, _*_, _-_, _^_, _%_, _≤_}
+use Prim.Native.Nat.{ℕ, _+_, _-_, _^_, _%_, _≤_}
 use mathlib.Core.Bool.{Bool, true, false, not}
 use mathlib.Core.List.{List}
-use mathlib.Core.Path.{_≡_, refl, ap, ap₂, sym, _∙_}
+use mathlib.Core.Path.{_≡_, ap, ap₂, sym, _∙_}
 use native.Mathlib.Omega.{arith}
 use lib.ListN.{length, getD, take, drop}
 use borrow.Author.Tests.{le-leb, not-true, not-false}
@@ -16,8 +16,7 @@ use Rattle.table.specs.Bits.{bitsOf, field}
 use Rattle.table.specs.Lent.{viewed}
 use Rattle.table.specs.Writing.{Made}
 use Rattle.table.proofs.Reading.{bits-are}
-use Rattle.section_writer.specs.Canonical.{loopBytes, canonicalFrame, canonicalSection}
-use Rattle.section_writer.specs.Frame.{sectionLength}
+use Rattle.section_writer.specs.Canonical.{canonicalFrame, canonicalSection}
 use Rattle.section_writer.specs.Writing.{madeIf, sectionMade}
 use Rattle.section_writer.proofs.Forms.{Framed, framed}
 

@@ -11,7 +11,7 @@ use mathlib.Core.Path.{_≡_, refl, ap, ap₂, sym, _∙_}
 use native.Mathlib.Omega.{arith}
 use lib.Dec.{eqb, ltb}
 use lib.ListN.{length, getD, take, drop, length-drop}
-use borrow.Author.Tests.{ltb-false, le-ltb, eqb-true, eqb-false, eq-eqb, ne-eqb, not-false, le-leb}
+use borrow.Author.Tests.{ltb-false, le-ltb, eqb-false, eq-eqb, ne-eqb, not-false, le-leb}
 use Rattle.command.specs.Command as command
 use Rattle.command.specs.declared.CommandRead.{CommandRead}
 use Rattle.command.specs.declared.SpliceCommand.{SpliceCommand}
@@ -28,7 +28,7 @@ use Rattle.table.specs.Lent.{viewed}
 use Rattle.table.specs.Writing.{Made, made, refused}
 use Rattle.table.proofs.Bits.{length-bits}
 use Rattle.table.proofs.Fields.{field-add}
-use Rattle.table.proofs.Lists.{and-true, zero-one}
+use Rattle.table.proofs.Lists.{zero-one}
 use Rattle.table.proofs.Reading.{field-lt}
 use Rattle.section_writer.specs.Canonical.{loopBytes, canonicalFrame}
 use Rattle.section_writer.specs.Frame.{headed, headerBytes, opening, sectionLength, head, measured, body, frame, numbersFit, fairHead}

@@ -1,7 +1,5 @@
 -- `canonical_command::pass_time`: by how many bytes are left, and by the first of them.
-use Prim.Native.Nat.{_+_, _≤_}
 use native.Mathlib.Omega.{arith}
-use lib.ListN.{length}
 use Rattle.canonical_command.proofs.Times.{no-time, unspecified, no-form, no-ticks, specified}
 use borrow.Author.Needs.{needs}
 use Rattle.canonical_command.proofs.pass_time.Statement.{statement}
