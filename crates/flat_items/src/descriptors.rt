@@ -1,15 +1,21 @@
 // What an item of a loop is.
 ghost use mathlib.Core.Path.{_≡_};
+ghost use Rattle.descriptor.specs.declared.Descriptor.the-variants.{Avail, Dtmf, Time, Reserved};
+ghost use Rattle.descriptor.specs.declared.segmentation.SegmentationDetail.the-variants.{Cancel, Insert};
 ghost use Rattle.flat_items.specs.FlatItem.{flatTimeDescriptor, bareItem, segmentationItem, flatDescriptor, flatItem};
 use crate::segmentations::FlatSegmentation;
 use crate::segmentations::bare_segmentation;
 use crate::segmentations::whole_segmentation;
 use descriptor::Descriptor;
+use descriptor::plain::AvailDescriptor;
+use descriptor::plain::DTMFDescriptor;
 use descriptor::plain::TimeDescriptor;
 use descriptor::segmentation::SegmentationDetail;
+use descriptor::segmentation::SegmentationInsert;
 use flat::FlatView;
 use flat::flat_view;
 use items::Item;
+use table::View;
 
 #[repr(C)]
 pub struct FlatTimeDescriptor {
@@ -59,66 +65,80 @@ fn bare_item(kind: u64) -> FlatItem
     }
 }
 
-fn segmentation_item(event: u64, detail: SegmentationDetail) -> FlatItem
-    ensures { λ r. ⌜ r ≡ segmentationItem event detail ⌝ }
+fn avail_item(x: AvailDescriptor) -> FlatItem
+    ensures { λ r. ⌜ r ≡ flatDescriptor (Avail x) ⌝ }
 {
-    match detail {
-        SegmentationDetail::Cancel => {
-            let mut out = bare_item(3);
-            out.segmentation = bare_segmentation(event, 1);
-            out
-        }
-        SegmentationDetail::Insert(i) => {
-            let upid = i.segmentation_upid;
-            let bytes = upid.bytes;
-            let mut out = bare_item(4);
-            out.segmentation = whole_segmentation(event, i);
-            out.bytes = flat_view(bytes);
-            out
-        }
-    }
+    let mut out = bare_item(1);
+    out.provider_avail_id = x.provider_avail_id as u64;
+    out
 }
 
-fn flat_descriptor(d: Descriptor) -> FlatItem
-    ensures { λ r. ⌜ r ≡ flatDescriptor d ⌝ }
+fn dtmf_item(x: DTMFDescriptor) -> FlatItem
+    ensures { λ r. ⌜ r ≡ flatDescriptor (Dtmf x) ⌝ }
 {
-    match d {
-        Descriptor::Avail(x) => {
-            let mut out = bare_item(1);
-            out.provider_avail_id = x.provider_avail_id as u64;
-            out
-        }
-        Descriptor::Dtmf(x) => {
-            let chars = x.dtmf_chars;
-            let mut out = bare_item(2);
-            out.preroll = x.preroll as u64;
-            out.bytes = flat_view(chars);
-            out
-        }
-        Descriptor::Segmentation(x) => {
-            let detail = x.descriptor_detail;
-            segmentation_item(x.segmentation_event_id as u64, detail)
-        }
-        Descriptor::Time(x) => {
-            let mut out = bare_item(5);
-            out.time = flat_time_descriptor(x);
-            out
-        }
-        Descriptor::Reserved { tag, private_bytes } => {
-            let mut out = bare_item(6);
-            out.splice_descriptor_tag = tag as u64;
-            out.bytes = flat_view(private_bytes);
-            out
-        }
-    }
+    let chars = x.dtmf_chars;
+    let mut out = bare_item(2);
+    out.preroll = x.preroll as u64;
+    out.bytes = flat_view(chars);
+    out
 }
 
+fn cancelled_item(event: u64) -> FlatItem
+    ensures { λ r. ⌜ r ≡ segmentationItem event Cancel ⌝ }
+{
+    let mut out = bare_item(3);
+    out.segmentation = bare_segmentation(event, 1);
+    out
+}
+
+fn insert_item(event: u64, i: SegmentationInsert) -> FlatItem
+    ensures { λ r. ⌜ r ≡ segmentationItem event (Insert i) ⌝ }
+{
+    let upid = i.segmentation_upid;
+    let bytes = upid.bytes;
+    let mut out = bare_item(4);
+    out.segmentation = whole_segmentation(event, i);
+    out.bytes = flat_view(bytes);
+    out
+}
+
+fn time_item(x: TimeDescriptor) -> FlatItem
+    ensures { λ r. ⌜ r ≡ flatDescriptor (Time x) ⌝ }
+{
+    let mut out = bare_item(5);
+    out.time = flat_time_descriptor(x);
+    out
+}
+
+fn reserved_item(tag: u8, private_bytes: View) -> FlatItem
+    ensures { λ r. ⌜ r ≡ flatDescriptor (Reserved tag «private_bytes») ⌝ }
+{
+    let mut out = bare_item(6);
+    out.splice_descriptor_tag = tag as u64;
+    out.bytes = flat_view(private_bytes);
+    out
+}
+
+// Each arm returns: its words are then stored where they go, and are not merged with those of the other arms.
 pub(crate) fn flat_item(item: Item) -> FlatItem
     ensures { λ r. ⌜ r ≡ flatItem item ⌝ }
 {
     match item {
-        Item::End => bare_item(0),
-        Item::Refused(_) => bare_item(7),
-        Item::Is(d) => flat_descriptor(d),
+        Item::End => return bare_item(0),
+        Item::Refused(_) => return bare_item(7),
+        Item::Is(d) => match d {
+            Descriptor::Avail(x) => return avail_item(x),
+            Descriptor::Dtmf(x) => return dtmf_item(x),
+            Descriptor::Segmentation(x) => {
+                let event = x.segmentation_event_id as u64;
+                let detail = x.descriptor_detail;
+                match detail {
+                    SegmentationDetail::Cancel => return cancelled_item(event),
+                    SegmentationDetail::Insert(i) => return insert_item(event, i),
+                }
+            }
+            Descriptor::Time(x) => return time_item(x),
+            Descriptor::Reserved { tag, private_bytes } => return reserved_item(tag, private_bytes),
+        },
     }
 }

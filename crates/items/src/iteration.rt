@@ -8,9 +8,9 @@ use crate::ItemRefusal;
 use crate::Step;
 use crate::place::move_descriptor;
 use crate::place::move_refusal;
+use descriptor::Descriptor;
 use descriptor::DescriptorRead;
 use descriptor::read_descriptor;
-use descriptor::whole::identifier_of;
 use upid::Refusal;
 
 fn wide(b: u8) -> usize
@@ -51,16 +51,27 @@ fn whole(bytes: &[u8], offset: usize, len: usize) -> Step
     ];
     let start = offset + 6;
     let next = offset + (len + 2);
-    let read = read_descriptor(tag, id, &bytes[start..next]);
-    let identifier = identifier_of(read, id);
-    let item = match read {
-        DescriptorRead::Is(d) => Item::Is(move_descriptor(d, start)),
-        DescriptorRead::Refused(r) => Item::Refused(ItemRefusal::Other(move_refusal(r, start))),
-    };
-    Step {
-        item,
-        identifier,
-        next,
+    match read_descriptor(tag, id, &bytes[start..next]) {
+        DescriptorRead::Refused(r) => {
+            let refusal = ItemRefusal::Other(move_refusal(r, start));
+            return plain(Item::Refused(refusal), next);
+        }
+        DescriptorRead::Is(d) => match d {
+            Descriptor::Avail(_) => return plain(Item::Is(d), next),
+            Descriptor::Dtmf(_) => return plain(Item::Is(move_descriptor(d, start)), next),
+            Descriptor::Segmentation(_) => return plain(Item::Is(move_descriptor(d, start)), next),
+            Descriptor::Time(_) => return plain(Item::Is(d), next),
+            Descriptor::Reserved {
+                tag: _,
+                private_bytes: _,
+            } => {
+                return Step {
+                    item: Item::Is(move_descriptor(d, start)),
+                    identifier: id,
+                    next,
+                };
+            }
+        },
     }
 }
 
