@@ -12,6 +12,7 @@ use crate::headers::FlatHeader;
 use crate::headers::flat_header;
 use crate::headers::no_header;
 use section::Refusal;
+use section::Section;
 use section::SectionRead;
 
 #[repr(C)]
@@ -41,26 +42,38 @@ fn number(r: Refusal) -> u64
     }
 }
 
+// A refused section: its number alone.
+pub fn no_section(r: Refusal) -> FlatSection
+    ensures { λ x. ⌜ x ≡ flatSectionRead (SectionRead.Refused r) ⌝ }
+{
+    FlatSection {
+        refusal: number(r),
+        header: no_header(0),
+        command: no_command(0, 0),
+        descriptors: FlatView { at: 0, len: 0 },
+    }
+}
+
+// One that is read.
+pub fn flat_section(x: Section) -> FlatSection
+    ensures { λ r. ⌜ r ≡ flatSectionRead (SectionRead.Is x) ⌝ }
+{
+    let header = x.header;
+    let command = x.command;
+    let descriptors = x.descriptors;
+    FlatSection {
+        refusal: 0,
+        header: flat_header(header),
+        command: flat_command(command),
+        descriptors: flat_view(descriptors),
+    }
+}
+
 pub fn flat_section_read(read: SectionRead) -> FlatSection
     ensures { λ r. ⌜ r ≡ flatSectionRead read ⌝ }
 {
     match read {
-        SectionRead::Is(x) => {
-            let header = x.header;
-            let command = x.command;
-            let descriptors = x.descriptors;
-            FlatSection {
-                refusal: 0,
-                header: flat_header(header),
-                command: flat_command(command),
-                descriptors: flat_view(descriptors),
-            }
-        }
-        SectionRead::Refused(r) => FlatSection {
-            refusal: number(r),
-            header: no_header(0),
-            command: no_command(0, 0),
-            descriptors: FlatView { at: 0, len: 0 },
-        },
+        SectionRead::Is(x) => flat_section(x),
+        SectionRead::Refused(r) => no_section(r),
     }
 }

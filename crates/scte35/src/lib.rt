@@ -15,6 +15,7 @@ ghost use Rattle.items.specs.Items.{stepOf, readingOf};
 ghost use Rattle.section.specs.Section.{sectionOf};
 ghost use Rattle.upid.specs.Upid.{upidOf};
 ghost use Rattle.scte35.specs.FlatNumber.{timeFrom};
+use command::SpliceCommand;
 use command::components::read_components;
 use command::read_command;
 use crc::crc32;
@@ -27,7 +28,8 @@ use flat::headers::FlatHeader;
 use flat::headers::flat_adjusted;
 use flat::headers::flat_header_read;
 use flat::sections::FlatSection;
-use flat::sections::flat_section_read;
+use flat::sections::flat_section;
+use flat::sections::no_section;
 use flat_items::beside::FlatBeside;
 use flat_items::beside::flat_beside;
 use flat_items::steps::FlatStep;
@@ -39,6 +41,7 @@ use header::time::SpliceTime;
 use header::time::adjusted_time;
 use items::iteration::step;
 use items::reading::read_item;
+use section::SectionRead;
 use section::read_section;
 use upid::read_upid;
 
@@ -67,7 +70,20 @@ pub extern "C" fn scte35_header(s: &[u8], at: usize) -> FlatHeader
 pub extern "C" fn scte35_section(s: &[u8], at: usize) -> FlatSection
     ensures { λ r. ⌜ r ≡ flatSectionRead (sectionOf (drop at (now (s .entry)))) ⌝ }
 {
-    flat_section_read(read_section(rest(s, at)))
+    // An arm with a return for each kind of command: answers that meet behind a match are held word by word and then copied.
+    match read_section(rest(s, at)) {
+        SectionRead::Is(x) => {
+            let command = x.command;
+            match command {
+                SpliceCommand::SpliceNull => return flat_section(x),
+                SpliceCommand::SpliceInsert(_) => return flat_section(x),
+                SpliceCommand::TimeSignal(_) => return flat_section(x),
+                SpliceCommand::BandwidthReservation => return flat_section(x),
+                SpliceCommand::PrivateCommand(_) => return flat_section(x),
+            }
+        }
+        SectionRead::Refused(r) => return no_section(r),
+    }
 }
 
 // The command of a type, in its payload.
