@@ -9,6 +9,7 @@ use native.Mathlib.Omega.{arith}
 use lib.Dec.{eqb}
 use lib.ListN.{length}
 use borrow.Author.Tests.{eqb-true, eq-eqb}
+use Rattle.canonical_command.specs.Canonical.{canonicalCommand}
 use Rattle.command.specs.Command.{private}
 use Rattle.command.specs.Fair.{fairInsert}
 use Rattle.command.specs.Insert.{WithComponents, insert}
@@ -25,7 +26,7 @@ use Rattle.table.specs.Bits.{pick, bitsOf, AllBytes}
 use Rattle.table.specs.Table.{Table, Answer, got, short, parse, canonical}
 use Rattle.table.specs.Writing.{Same, made, make}
 use Rattle.table.proofs.Lists.{and-true, append-nil, zero-one}
-use Rattle.section_writer.specs.Canonical.{canonicalCommand, sameAnswers, SameBy, SameCommand}
+use Rattle.section_writer.specs.Canonical.{sameAnswers, SameBy, SameCommand}
 
 -- ---- a table's canonical form, made and undone
 by-table : {X : Type 0} (t : Table X) (b : List ℕ) (x : X) → parse t (bitsOf (b ++ [])) 0 ≡ got x (length b * 8) → canonical t (bitsOf (b ++ [])) 0 ≡ true → canonicalBy t b ≡ true

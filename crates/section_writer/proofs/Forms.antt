@@ -1,4 +1,4 @@
--- What `is_canonical_frame` answers, return by return.
+-- What `is_canonical_frame` answers, return by return; and what its answer says of a section.
 use Prim.Native.Nat.{ℕ, _+_, _-_, _^_, _%_}
 use mathlib.Core.Bool.{true, false}
 use mathlib.Core.List.{List}
@@ -6,13 +6,14 @@ use mathlib.Core.Path.{_≡_, refl, ap, sym, _∙_}
 use native.Mathlib.Omega.{arith}
 use lib.Dec.{eqb}
 use lib.ListN.{length}
-use borrow.Author.Tests.{eq-eqb, ne-eqb}
+use borrow.Author.Tests.{eqb-true, eq-eqb, ne-eqb}
 use Rattle.section.specs.Section.{commandLength, loopLength, loopPlace, sectionOf, numberOf}
 use Rattle.section.specs.declared.Refusal.{Refusal}
 use Rattle.section.specs.declared.Section.{Section}
 use Rattle.section.specs.declared.SectionRead.{SectionRead}
 use Rattle.table.specs.Bits.{bitsOf, field}
 use Rattle.table.specs.declared.View.{View}
+use Rattle.table.proofs.Lists.{and-true}
 use Rattle.table.proofs.Reading.{bits-are}
 use Rattle.section_writer.specs.Canonical.{canonicalFrame}
 use Rattle.section_writer.specs.Frame.{sectionLength}
@@ -70,3 +71,17 @@ module _ (s : List ℕ) where
           no-spare-byte q =
               let z : length s ≡ sectionLength (commandLength s) (loopLength s) = omega (arith, q, loop-at .0, loop-at .1) in
               rw (e, is-high, is-low, eq-eqb (length s) (sectionLength (commandLength s) (loopLength s)) z)
+
+-- ---- what the canonical form of a frame says
+pub record Framed (s : List ℕ) : Type 0 where
+  pub high : field (bitsOf s) 8 4 ≡ 0b0011
+  pub low : field (bitsOf s) 12 12 ≡ length s - 3
+  pub exact : length s ≡ sectionLength (commandLength s) (loopLength s)
+
+pub framed : (s : List ℕ) → canonicalFrame s ≡ true → Framed s
+unfolding canonicalFrame
+framed s e =
+    let a = and-true (eqb (numberOf (sectionOf s)) 0) _ e in
+    let b = and-true (eqb (field (bitsOf s) 8 4) 0b0011) _ (a .1) in
+    let c = and-true (eqb (field (bitsOf s) 12 12) (length s - 3)) _ (b .1) in
+    record { high = eqb-true _ _ (b .0); low = eqb-true _ _ (c .0); exact = eqb-true _ _ (c .1) }

@@ -13,3 +13,4 @@ pub mod Rows
 pub mod Views
 pub mod Answers
 pub mod Whole
+pub mod Sections

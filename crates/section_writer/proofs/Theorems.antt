@@ -9,6 +9,7 @@ use mathlib.Core.List.{List}
 use mathlib.Core.Path.{_≡_, refl, ap, sym, _∙_}
 use native.Mathlib.Omega.{arith}
 use lib.ListN.{length, drop}
+use Rattle.canonical_command.specs.Canonical.{canonicalCommand}
 use Rattle.command.specs.Command as command
 use Rattle.command.specs.declared.CommandRead.{CommandRead}
 use Rattle.command.specs.declared.SpliceCommand.{SpliceCommand}
@@ -23,7 +24,7 @@ use Rattle.section.specs.declared.SectionRead.{SectionRead}
 use Rattle.table.specs.Bits.{AllBytes}
 use Rattle.table.specs.Writing.{Made, made}
 use Rattle.table.proofs.Lists.{and-true}
-use Rattle.section_writer.specs.Canonical.{loopBytes, canonicalFrame, canonicalCommand, canonicalSection, sameHeaders, SameAround}
+use Rattle.section_writer.specs.Canonical.{loopBytes, canonicalFrame, canonicalSection, sameHeaders, SameAround}
 use Rattle.section_writer.specs.Frame.{headed, frame}
 use Rattle.section_writer.specs.Writing.{madeIf, sectionMade}
 use Rattle.section_writer.proofs.Commands.{one-command}

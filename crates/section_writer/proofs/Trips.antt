@@ -11,7 +11,7 @@ use mathlib.Core.Path.{_≡_, refl, ap, ap₂, sym, _∙_}
 use native.Mathlib.Omega.{arith}
 use lib.Dec.{eqb, ltb}
 use lib.ListN.{length, getD, take, drop, length-drop}
-use borrow.Author.Tests.{ltb-false, le-ltb, eqb-true, eqb-false, eq-eqb, ne-eqb, not-false, le-leb}
+use borrow.Author.Tests.{ltb-false, le-ltb, eqb-false, eq-eqb, ne-eqb, not-false, le-leb}
 use Rattle.command.specs.Command as command
 use Rattle.command.specs.declared.CommandRead.{CommandRead}
 use Rattle.command.specs.declared.SpliceCommand.{SpliceCommand}
@@ -28,12 +28,13 @@ use Rattle.table.specs.Lent.{viewed}
 use Rattle.table.specs.Writing.{Made, made, refused}
 use Rattle.table.proofs.Bits.{length-bits}
 use Rattle.table.proofs.Fields.{field-add}
-use Rattle.table.proofs.Lists.{and-true, zero-one}
+use Rattle.table.proofs.Lists.{zero-one}
 use Rattle.table.proofs.Reading.{field-lt}
 use Rattle.section_writer.specs.Canonical.{loopBytes, canonicalFrame}
 use Rattle.section_writer.specs.Frame.{headed, headerBytes, opening, sectionLength, head, measured, body, frame, numbersFit, fairHead}
 use Rattle.section_writer.specs.Writing.{conditions, unless, madeIf}
 use Rattle.section_writer.proofs.Backs.{opening-is, frame-again, own, own-is, headed-own}
+use Rattle.section_writer.proofs.Forms.{Framed, framed}
 use Rattle.section_writer.proofs.Frames.{crc, length-frame, behind-three, frame-loop, frame-accepted, frame-command-length, frame-loop-length}
 use Rattle.section_writer.proofs.Heads.{Fitting}
 use Rattle.section_writer.proofs.Numbers.{number-at, field-behind}
@@ -156,17 +157,14 @@ module _ (s : List ℕ) (x : Section) (a : AllBytes s) (p : Parts s x) where
 
 pub section-read-write : (s : List ℕ) (x : Section) → AllBytes s → sectionOf s ≡ SectionRead.Is x → canonicalFrame s ≡ true
     → madeIf true (x .header) (made (commandBytes s)) (commandType s) (loopBytes s) ≡ made s
-unfolding canonicalFrame madeIf bytesIn refusalIn viewed loopPlace
+unfolding madeIf bytesIn refusalIn viewed loopPlace
 section-read-write s x a e c =
     let p = parts-of s x e in
-    let c₁ = and-true (eqb (numberOf (sectionOf s)) 0) _ c in
-    let c₂ = and-true (eqb (field (bitsOf s) 8 4) 0b0011) _ (c₁ .1) in
-    let c₃ = and-true (eqb (field (bitsOf s) 12 12) (length s - 3)) _ (c₂ .1) in
-    let exact : length s ≡ sectionLength (commandLength s) (loopLength s) = eqb-true _ _ (c₃ .1) in
+    let w = framed s c in
     let loop = take (loopLength s) (drop (16 + commandLength s) s) in
-    let l : loopBytes s ≡ loop = rw (le-leb (16 + commandLength s + loopLength s) (length s) (omega (arith, exact))) in
+    let l : loopBytes s ≡ loop = rw (le-leb (16 + commandLength s + loopLength s) (length s) (omega (arith, w .exact))) in
     let f : s ≡ frame (x .header) (commandType s) (commandBytes s) loop =
-    frame-again s a (p .long) (p .short) exact (x .header) (p .first) (p .crc) (eqb-true _ _ (c₂ .0)) (eqb-true _ _ (c₃ .0)) (p .header) in
+    frame-again s a (p .long) (p .short) (w .exact) (x .header) (p .first) (p .crc) (w .high) (w .low) (p .header) in
     let n : sectionLength (length (commandBytes s)) (length loop) ≤ 4096 = omega (arith, ap length f, length-frame (x .header) (commandType s) (commandBytes s) loop, p .short) in
     let z = no-refusal (x .header) 0 (length (commandBytes s)) (length loop) true (λ q. omega arith) (λ q. omega arith) (is-fitting (x .header) (read-fits s x a p)) (λ q. omega arith) (read-fair s x a p) n refl in
     rw (l, ← z, ← f)

@@ -7,6 +7,7 @@ use mathlib.Core.List.{List, [], _∷_, _++_}
 use mathlib.Core.Path.{_≡_, refl, ap, sym, _∙_}
 use native.Mathlib.Omega.{arith}
 use lib.ListN.{length}
+use Rattle.canonical_command.specs.Canonical.{canonicalCommand}
 use Rattle.command.specs.Command.{private, read, empty, commandOf}
 use Rattle.command.specs.Fair.{fairInsert}
 use Rattle.command.specs.Insert.{WithComponents, insert}
@@ -32,7 +33,7 @@ use Rattle.table.specs.Bits.{pick, bitsOf, bytesOf}
 use Rattle.table.specs.Table.{got, parse}
 use Rattle.table.specs.Writing.{Field, seen, within, contents, print, walk, Made, made, refused, makeOf, make}
 use Rattle.table.proofs.Lists.{append-nil, zero-one}
-use Rattle.section_writer.specs.Canonical.{loopBytes, canonicalCommand, canonicalSection}
+use Rattle.section_writer.specs.Canonical.{loopBytes, canonicalSection}
 use Rattle.section_writer.specs.Frame.{headed}
 use Rattle.section_writer.specs.Writing.{kindOf, sectionMade, madeIf}
 use Rattle.section_writer.proofs.Commands.{null-canonical, bandwidth-canonical, time-canonical, insert-canonical, private-canonical}

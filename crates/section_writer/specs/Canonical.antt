@@ -1,13 +1,14 @@
 -- The canonical form of a section, and when two sections have equal readings. 01, "Canonical form and writer".
 use Prim.Native.Nat.{ℕ, _-_}
-use mathlib.Core.Bool.{Bool, false, _&&_}
+use mathlib.Core.Bool.{Bool, _&&_}
 use mathlib.Core.List.{List}
 use mathlib.Core.Path.{_≡_}
 use lib.Dec.{eqb}
 use lib.ListN.{length, drop}
+use Rattle.canonical_command.specs.Canonical.{canonicalCommand}
 use Rattle.command.specs.Command.{private}
 use Rattle.command.specs.Insert.{insert}
-use Rattle.descriptor_form.specs.Canonical.{canonicalBy, canonicalLoop}
+use Rattle.descriptor_form.specs.Canonical.{canonicalLoop}
 use Rattle.header.specs.Header.{headerOf}
 use Rattle.header.specs.Time.{spliceTime}
 use Rattle.header.specs.declared.header.HeaderRead.{HeaderRead}
@@ -33,16 +34,6 @@ canonicalFrame s =
     && (eqb (field (bitsOf s) 12 12) (length s - 3)
     -- "no spare byte in .. section"
     && eqb (length s) (sectionLength (commandLength s) (loopLength s))))
-
--- Of a command, by its type: "every reserved bit 1; no spare byte in command". That "an insert by components with count 0 has immediate 0" is in its table.
-unfoldable pub canonicalCommand : ℕ → List ℕ → Bool
-canonicalCommand kind payload =
-    pick (eqb kind 0x00) (eqb (length payload) 0)
-    (pick (eqb kind 0x05) (canonicalBy insert payload)
-    (pick (eqb kind 0x06) (canonicalBy spliceTime payload)
-    (pick (eqb kind 0x07) (eqb (length payload) 0)
-    (pick (eqb kind 0xff) (canonicalBy private payload)
-    false))))
 
 -- the whole; of the loop: "no spare byte in .. descriptor ..; no refused item; a UPID empty at top level has type 0"
 unfoldable pub canonicalSection : List ℕ → Bool

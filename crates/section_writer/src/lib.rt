@@ -4,13 +4,15 @@ ghost use mathlib.Core.Bool.{true};
 ghost use Prim.Native.Nat.{_+_, _^_, _<_, _≤_};
 ghost use lib.ListN.{length, take};
 ghost use Rattle.section_writer.specs.Frame.{head, sectionLength, numbersFit, fairHead};
-ghost use Rattle.section_writer.specs.Canonical.{canonicalFrame};
+ghost use Rattle.section_writer.specs.Canonical.{canonicalFrame, canonicalSection};
 ghost use Rattle.command_writer.specs.Made.{commandMade};
 ghost use Rattle.pen.specs.Written.{answerOf, laterOf};
-ghost use Rattle.section_writer.specs.Writing.{conditions, kindOf, madeIf};
+ghost use Rattle.section_writer.specs.Writing.{conditions, kindOf, madeIf, sectionMade};
 ghost use Rattle.section.specs.Section.{first};
 ghost use Rattle.section_writer.specs.Walk.{frontNumber, backNumber, tail};
 ghost use Rattle.table.specs.Lent.{stored};
+use canonical_command::is_canonical_command;
+use canonical_loop::is_canonical_loop;
 use command::SpliceCommand;
 use command::components::ComponentSplice;
 use command_writer::measure_command;
@@ -144,9 +146,8 @@ fn kind_of(command: SpliceCommand) -> u8
     }
 }
 
-// A section from the target's first byte on, or a refusal: 31 to 36. `lent` are the bytes that the command's views refer to; whether the loop is canonical
-// (35) is handed in.
-pub fn write_section_if(
+// A section from the target's first byte on, or a refusal: 31 to 36; whether the loop is canonical (35) is handed in. No byte is stored before the last test.
+fn write_section_if(
     canonical: bool,
     header: SpliceInfoHeader,
     command: SpliceCommand,
@@ -174,6 +175,30 @@ pub fn write_section_if(
     Written::Wrote(length)
 }
 
+// A section from the target's first byte on, or a refusal: 31 to 36. `lent` are the bytes that the command's views refer to.
+pub fn write_section(
+    header: SpliceInfoHeader,
+    command: SpliceCommand,
+    components: [ComponentSplice; 255],
+    lent: &[u8],
+    descriptors: &[u8],
+    target: &mut [u8],
+) -> Written
+    ensures answer { λ r. ⌜ r ≡ answerOf (sectionMade header (commandMade command components (now (lent .entry))) (kindOf command) (now (descriptors .entry))) (now (target .entry)) ⌝ }
+    ensures bytes { λ _. ⌜ now (target .exit) ≡ laterOf (sectionMade header (commandMade command components (now (lent .entry))) (kindOf command) (now (descriptors .entry))) (now (target .entry)) ⌝ }
+{
+    let canonical = is_canonical_loop(descriptors);
+    write_section_if(
+        canonical,
+        header,
+        command,
+        components,
+        lent,
+        descriptors,
+        target,
+    )
+}
+
 // ---- the canonical form
 
 // What the canonical form asks of a section around its command and its loop.
@@ -197,4 +222,21 @@ pub fn is_canonical_frame(s: &[u8]) -> bool
         return false;
     }
     true
+}
+
+// Is the section canonical: its frame, its command and its loop?
+pub fn is_canonical_section(s: &[u8]) -> bool
+    ensures { λ r. ⌜ r ≡ canonicalSection (now (s .entry)) ⌝ }
+{
+    if !is_canonical_frame(s) {
+        return false;
+    }
+    // All parts are there, and the CRC follows the loop at once.
+    let end = 14 + bits(s, 11, 4, 12) as usize;
+    if !is_canonical_command(s[13], &s[14..end]) {
+        return false;
+    }
+    let from = end + 2;
+    let to = s.len() - 4;
+    is_canonical_loop(&s[from..to])
 }

@@ -20,8 +20,10 @@ use Rattle.descriptor_writer.proofs.write_descriptor.Reads as write-descriptor
 use Rattle.command_writer.proofs.measure_command.Reads as measure-command
 use Rattle.command_writer.proofs.put_command.Reads as put-command
 use Rattle.command_writer.proofs.write_command.Reads as write-command
-use Rattle.section_writer.proofs.write_section_if.Reads as write-section-if
+use Rattle.canonical_command.proofs.is_canonical_command.Reads as is-canonical-command
+use Rattle.section_writer.proofs.write_section.Reads as write-section
 use Rattle.section_writer.proofs.is_canonical_frame.Reads as is-canonical-frame
+use Rattle.section_writer.proofs.is_canonical_section.Reads as is-canonical-section
 use Rattle.theorems.specs.FixedAnswers.{Fixed, FixedIn}
 
 -- ---- pen: stores at any bit
@@ -101,13 +103,21 @@ write-command-is-fixed = record { takes-any = λ κ a. tt; one-answer = λ κ a 
 pub write-command-fixes-the-target : FixedIn write-command.Asked write-command.Learnt (λ κ answer after. now (after .1 .1 .1 .0))
 write-command-fixes-the-target = record { takes-any = λ κ a. tt; seen = λ κ a x y e f p q. p .1 ∙ sym (q .1) }
 
+-- ---- canonical_command
+
+pub is-canonical-command-is-fixed : Fixed is-canonical-command.Asked is-canonical-command.Learnt
+is-canonical-command-is-fixed = record { takes-any = λ κ a. tt; one-answer = λ κ a x y e f p q. p ∙ sym q }
+
 -- ---- section_writer
 
-pub write-section-if-is-fixed : Fixed write-section-if.Asked write-section-if.Learnt
-write-section-if-is-fixed = record { takes-any = λ κ a. tt; one-answer = λ κ a x y e f p q. p .0 ∙ sym (q .0) }
+pub write-section-is-fixed : Fixed write-section.Asked write-section.Learnt
+write-section-is-fixed = record { takes-any = λ κ a. tt; one-answer = λ κ a x y e f p q. p .0 ∙ sym (q .0) }
 
-pub write-section-if-fixes-the-target : FixedIn write-section-if.Asked write-section-if.Learnt (λ κ answer after. now (after .1 .1 .1 .1 .1 .1 .0))
-write-section-if-fixes-the-target = record { takes-any = λ κ a. tt; seen = λ κ a x y e f p q. p .1 ∙ sym (q .1) }
+pub write-section-fixes-the-target : FixedIn write-section.Asked write-section.Learnt (λ κ answer after. now (after .1 .1 .1 .1 .1 .0))
+write-section-fixes-the-target = record { takes-any = λ κ a. tt; seen = λ κ a x y e f p q. p .1 ∙ sym (q .1) }
 
 pub is-canonical-frame-is-fixed : Fixed is-canonical-frame.Asked is-canonical-frame.Learnt
 is-canonical-frame-is-fixed = record { takes-any = λ κ a. tt; one-answer = λ κ a x y e f p q. p ∙ sym q }
+
+pub is-canonical-section-is-fixed : Fixed is-canonical-section.Asked is-canonical-section.Learnt
+is-canonical-section-is-fixed = record { takes-any = λ κ a. tt; one-answer = λ κ a x y e f p q. p ∙ sym q }

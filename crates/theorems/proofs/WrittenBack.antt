@@ -8,6 +8,7 @@ use lib.Dec.{leb, eqb}
 use lib.ListN.{length, replicate, take, drop, length-take, length-drop}
 use lib.Seq.{take-at, length-take-le}
 use borrow.Author.Tests.{eqb-true, le-leb, leb-true}
+use Rattle.canonical_command.specs.Canonical.{canonicalCommand}
 use Rattle.command.proofs.InsertLeads.{Counted}
 use Rattle.command.specs.Command.{private, read, empty, commandOf, array, componentsIn, componentsOf}
 use Rattle.command.specs.Insert.{WithComponents, insert, blank, count, insertOf}
@@ -29,7 +30,7 @@ use Rattle.section_writer.proofs.Numbers.{bytes-take, bytes-drop}
 use Rattle.section_writer.proofs.Parts.{parts-of}
 use Rattle.section_writer.proofs.Theorems.{section-is-written-back}
 use Rattle.section_writer.proofs.Whole.{Held, ReadsBack, whole-reads-back}
-use Rattle.section_writer.specs.Canonical.{canonicalFrame, canonicalCommand, canonicalSection}
+use Rattle.section_writer.specs.Canonical.{canonicalFrame, canonicalSection}
 use Rattle.section_writer.specs.Writing.{kindOf, sectionMade}
 use Rattle.table.proofs.Lists.{zero-one, and-true}
 use Rattle.table.proofs.Structure.{wrote}

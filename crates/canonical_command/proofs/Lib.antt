@@ -1,0 +1,4 @@
+pub mod Walks
+pub mod Times
+pub mod Inserts
+pub mod Commands

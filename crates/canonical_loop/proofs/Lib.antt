@@ -1,0 +1,5 @@
+pub mod Through
+pub mod Plains
+pub mod Segments
+pub mod Tests
+pub mod Loops
