@@ -1,13 +1,13 @@
 -- The components of an insert, from their words. Assumes nothing.
-use Prim.Native.Nat.{ℕ, zero, suc, _+_, _-_, _%_, _<_, _≤_}
+use Prim.Native.Nat.{ℕ, _%_, _<_, _≤_}
 use mathlib.Core.Bool.{Bool, true, false, _&&_}
-use mathlib.Core.List.{List, [], _∷_, _++_}
-use mathlib.Core.Path.{_≡_, refl, ap, sym, _∙_}
-use native.Mathlib.Nat.{sub-zero, zero-sub, suc-sub-suc, zero-add, mod-eq-of-lt, mod-lt}
+use mathlib.Core.List.{List, []}
+use mathlib.Core.Path.{_≡_, refl, sym}
+use native.Mathlib.Nat.{mod-eq-of-lt, mod-lt}
 use native.Mathlib.Omega.{arith}
 use lib.Dec.{eqb, ltb, lit<}
-use lib.ListN.{length, drop, replicate}
-use lib.Seq.{paste, take-all}
+use lib.ListN.{length}
+use lib.Seq.{paste}
 use borrow.Author.Tests.{ltb-true, ltb-false, eq-eqb, ne-eqb}
 use Rattle.command.specs.Command.{array}
 use Rattle.command.specs.Insert.{blank}
@@ -15,7 +15,7 @@ use Rattle.command.specs.declared.components.ComponentSplice.{ComponentSplice}
 use Rattle.flat.specs.FlatCommand.{flatComponent}
 use Rattle.flat_writer.specs.CommandWords.{componentFrom, componentWords, ownComponent}
 use Rattle.flat_writer.specs.Words.{word, same}
-use Rattle.flat_writer.proofs.Words.{and-unit, word-drop, word-drop-two}
+use Rattle.flat_writer.proofs.Words.{and-unit, word-drop, word-drop-two, filled-front}
 
 -- ---- one component
 module _ (words : List ℕ) where
@@ -50,11 +50,6 @@ module _ (words : List ℕ) where
   own-none h a b c = rw (narrow h, word-drop words 1, ne-eqb (word words 1) 1 a, ne-eqb (word words 1) 3 c, ne-eqb (word words 1) 2 b)
 
 -- ---- their array
-drop-replicate : {A : Type 0} (i n : ℕ) (a : A) → drop i (replicate n a) ≡ replicate (n - i) a
-drop-replicate zero n a = rw sub-zero
-drop-replicate (suc i) zero a = rw zero-sub
-drop-replicate (suc i) (suc n) a = rw suc-sub-suc (drop-replicate i n a)
-
 pub filled-array : (out s : List ComponentSplice) (i n : ℕ) → length s ≡ n → n ≡ i → out ≡ paste (array []) 0 s i → out ≡ array s
 unfolding array
-filled-array out s i n l e p = p ∙ rw (← e, zero-add n, take-all n s (omega arith), drop-replicate n 255 blank, l)
+filled-array out s i n l e p = filled-front 255 blank out s i n l e p

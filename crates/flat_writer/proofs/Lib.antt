@@ -1,2 +1,3 @@
 pub mod Components
+pub mod Refusals
 pub mod Words

@@ -3,13 +3,13 @@ use Prim.Native.Nat.{ℕ, zero, suc, _+_, _-_, _*_, _/_, _^_, _<_, _≤_}
 use mathlib.Core.Bool.{Bool, true, false, _&&_}
 use mathlib.Core.List.{List, [], _∷_, _++_}
 use mathlib.Core.Path.{_≡_, refl, ap, sym, _∙_}
-use native.Mathlib.Nat.{add-zero, add-comm, zero-mul, suc-mul, div-eq-of-lt, div-add-mod', mod-lt}
+use native.Mathlib.Nat.{sub-zero, zero-sub, suc-sub-suc, zero-add, add-zero, add-comm, zero-mul, suc-mul, div-eq-of-lt, div-add-mod', mod-lt}
 use native.Mathlib.Numerals.{add-one}
 use native.Mathlib.Omega.{arith}
 use lib.Dec.{eqb, ltb, leb, leb·suc-zero}
-use lib.ListN.{length, getD, drop, drop-of-length-le}
+use lib.ListN.{length, getD, drop, replicate, drop-of-length-le}
 use lib.Pow.{pow-pos, pow-mono}
-use lib.Seq.{drop-cons, drop-drop, getD-drop}
+use lib.Seq.{drop-cons, drop-drop, getD-drop, paste, take-all}
 use borrow.Author.Tests.{ltb-true, ltb-false, lt-ltb, le-ltb, eq-eqb, ne-eqb}
 use Rattle.pen.specs.Written.{answerOf, laterOf}
 use Rattle.pen.specs.declared.Written.{Written}
@@ -45,11 +45,11 @@ and-unit true = refl
 and-unit false = refl
 
 -- ---- the words' own refusal, test by test
-pub first-wide : (a b c d : Bool) → a ≡ false → 32 ≡ refusalOf (a && b) (c && d)
-first-wide a b c d e = rw e
+pub first-wide : (a b c : Bool) → a ≡ false → 32 ≡ refusalOf (a && b) c
+first-wide a b c e = rw e
 
-pub second-wide : (a b c d : Bool) → a ≡ true → b ≡ false → 32 ≡ refusalOf (a && b) (c && d)
-second-wide a b c d e f = rw (e, f)
+pub second-wide : (a b c : Bool) → a ≡ true → b ≡ false → 32 ≡ refusalOf (a && b) c
+second-wide a b c e f = rw (e, f)
 
 pub first-other : (a b c d : Bool) → a ≡ true → b ≡ true → c ≡ false → 33 ≡ refusalOf (a && b) (c && d)
 first-other a b c d e f g = rw (e, f, g)
@@ -59,6 +59,12 @@ second-other a b c d e f g h = rw (e, f, g, h)
 
 pub no-refusal : (a b c d : Bool) → a ≡ true → b ≡ true → c ≡ true → d ≡ true → 0 ≡ refusalOf (a && b) (c && d)
 no-refusal a b c d e f g h = rw (e, f, g, h)
+
+pub both-fit : (a b c : Bool) → a ≡ true → b ≡ true → c ≡ false → 33 ≡ refusalOf (a && b) c
+both-fit a b c e f g = rw (e, f, g)
+
+pub all-own : (a b c : Bool) → a ≡ true → b ≡ true → c ≡ true → 0 ≡ refusalOf (a && b) c
+all-own a b c e f g = rw (e, f, g)
 
 pub refusal-small : (a b : Bool) → refusalOf a b ≤ 33
 refusal-small true true = omega arith
@@ -143,6 +149,15 @@ places-at f k (suc n) words zero z h = rw (zero-mul k)
 places-at f k (suc n) words (suc i) z h =
     let e : suc i * k ≡ k + i * k = suc-mul i k ∙ add-comm (i * k) k in
     ap (λ (m : ℕ). f (drop m words)) e ∙ ap f (sym (drop-drop (i * k) k words)) ∙ places-at f k n (drop k words) i z (omega arith)
+
+-- ---- an array that is blank past what stands in it
+drop-replicate : {A : Type 0} (i n : ℕ) (a : A) → drop i (replicate n a) ≡ replicate (n - i) a
+drop-replicate zero n a = rw sub-zero
+drop-replicate (suc i) zero a = rw zero-sub
+drop-replicate (suc i) (suc n) a = rw suc-sub-suc (drop-replicate i n a)
+
+pub filled-front : {A : Type 0} (size : ℕ) (z : A) (out s : List A) (i n : ℕ) → length s ≡ n → n ≡ i → out ≡ paste (replicate size z) 0 s i → out ≡ s ++ replicate (size - length s) z
+filled-front size z out s i n l e p = p ∙ rw (← e, zero-add n, take-all n s (omega arith), drop-replicate n size z, l)
 
 -- ---- a writer of words, over the value that they make
 pub later-nil : (m : Made) → laterOf m [] ≡ []

@@ -1,7 +1,7 @@
 // Commands.
 ghost use mathlib.Core.Path.{_≡_};
 ghost use Rattle.flat_writer.specs.CommandWords.{modeIn, breakIn, insertIn, commandIn, modeFrom, breakFrom, insertFrom, insertionFrom, commandFrom, commandWords, countIn};
-ghost use Rattle.flat_writer.specs.CommandWords.{commandGiven, commandRefusal, commandWordsMade};
+ghost use Rattle.flat_writer.specs.CommandWords.{componentsFrom, commandGiven, commandRefusal, commandWordsMade};
 ghost use Rattle.flat_writer.specs.Words.{flatWritten};
 ghost use Rattle.pen.specs.Written.{answerOf, laterOf};
 use crate::FlatWritten;
@@ -17,6 +17,7 @@ use crate::word_at;
 use command::CommandRead;
 use command::Private;
 use command::SpliceCommand;
+use command::components::ComponentSplice;
 use command::insert::Break;
 use command::insert::Insert;
 use command::insert::Insertion;
@@ -254,6 +255,13 @@ pub fn command_given(words: &[u64]) -> SpliceCommand
     command_from(command_in(words))
 }
 
+// Its components, as many as it has.
+pub fn components_given(c: SpliceCommand, words: &[u64]) -> [ComponentSplice; 255]
+    ensures { λ r. ⌜ r ≡ componentsFrom (countIn c) (now (words .entry)) ⌝ }
+{
+    components_from(count_in(c) as usize, words)
+}
+
 // Refusals 32 and 33 of the words themselves; 0 for none.
 pub fn command_refusal(c: SpliceCommand, words: &[u64], components: &[u64]) -> u64
     ensures { λ r. ⌜ r ≡ commandRefusal c (now (words .entry)) (now (components .entry)) ⌝ }
@@ -309,7 +317,7 @@ pub fn write_command_words(
     ensures bytes { λ _. ⌜ now (target .exit) ≡ laterOf (commandWordsMade (now (words .entry)) (now (components .entry)) (now (lent .entry))) (now (target .entry)) ⌝ }
 {
     let command = command_given(words);
-    let places = components_from(count_in(command) as usize, components);
+    let places = components_given(command, components);
     let refusal = command_refusal(command, words, components);
     if 0 < refusal {
         return lower_refusal(

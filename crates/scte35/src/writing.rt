@@ -1,8 +1,10 @@
 // The writers. They take words, those of the C structs in their order: a word past the end counts as 0, and words past the struct's end are not looked at.
 ghost use mathlib.Core.Path.{_≡_};
+ghost use Rattle.flat_item_writer.specs.ItemWords.{descriptorWordsMade};
 ghost use Rattle.flat_writer.specs.CommandWords.{commandWordsMade};
 ghost use Rattle.flat_writer.specs.Words.{flatWritten};
 ghost use Rattle.pen.specs.Written.{answerOf, laterOf};
+use flat_item_writer::write_descriptor_words;
 use flat_writer::FlatWritten;
 use flat_writer::commands::write_command_words;
 
@@ -18,4 +20,18 @@ pub extern "C" fn scte35_write_command(
     ensures bytes { λ _. ⌜ now (target .exit) ≡ laterOf (commandWordsMade (now (command .entry)) (now (components .entry)) (now (lent .entry))) (now (target .entry)) ⌝ }
 {
     write_command_words(command, components, lent, target)
+}
+
+// A descriptor: the words of a step and of what stands beside its item, and the bytes that its view names.
+#[no_mangle]
+pub extern "C" fn scte35_write_descriptor(
+    step: &[u64],
+    beside: &[u64],
+    lent: &[u8],
+    target: &mut [u8],
+) -> FlatWritten
+    ensures answer { λ r. ⌜ r ≡ flatWritten (answerOf (descriptorWordsMade (now (step .entry)) (now (beside .entry)) (now (lent .entry))) (now (target .entry))) ⌝ }
+    ensures bytes { λ _. ⌜ now (target .exit) ≡ laterOf (descriptorWordsMade (now (step .entry)) (now (beside .entry)) (now (lent .entry))) (now (target .entry)) ⌝ }
+{
+    write_descriptor_words(step, beside, lent, target)
 }

@@ -8,6 +8,7 @@ use Rattle.flat.specs.FlatCommand.{flatCommand, flatCommandRead}
 use Rattle.flat_writer.specs.Words.{within, same}
 use Rattle.flat_writer.specs.CommandWords.{countIn, commandWords, commandWidths, splicesWithin, ownSplices, commandRefusal}
 use Rattle.flat_writer.proofs.Words.{first-wide, second-wide, first-other, second-other, no-refusal}
+use mathlib.Core.Bool.{_&&_}
 use Rattle.flat_writer.proofs.commands.command_refusal.Statement.{statement}
 use Rattle.flat_writer.proofs.commands.command_refusal.Tie as tie
 
@@ -41,7 +42,7 @@ returns : tie.Need-returns
 unfolding commandRefusal
 returns c =
     let a = c .before .before .before .before .before .before .args in
-    first-wide (within commandWidths (a .words .now)) (splicesWithin (countIn (a .c)) (a .components .now)) (same (commandWords (flatCommand (a .c))) (a .words .now)) (ownSplices (countIn (a .c)) (a .components .now)) (sym (fits (c .before)) ∙ not-true _ (c .if1 .taken))
+    first-wide (within commandWidths (a .words .now)) (splicesWithin (countIn (a .c)) (a .components .now)) (same (commandWords (flatCommand (a .c))) (a .words .now) && ownSplices (countIn (a .c)) (a .components .now)) (sym (fits (c .before)) ∙ not-true _ (c .if1 .taken))
 
 splices-within-requires : tie.Need-splices-within-requires
 splices-within-requires c κs = search needs
@@ -50,7 +51,7 @@ returns-2 : tie.Need-returns-2
 unfolding commandRefusal
 returns-2 c =
     let a = c .before .before .before .before .before .before .before .before .args in
-    second-wide (within commandWidths (a .words .now)) (splicesWithin (countIn (a .c)) (a .components .now)) (same (commandWords (flatCommand (a .c))) (a .words .now)) (ownSplices (countIn (a .c)) (a .components .now)) (sym (fits (c .before .before .before)) ∙ not-false _ (c .before .before .if1 .left)) (sym (all-fit (c .before)) ∙ not-true _ (c .if2 .taken))
+    second-wide (within commandWidths (a .words .now)) (splicesWithin (countIn (a .c)) (a .components .now)) (same (commandWords (flatCommand (a .c))) (a .words .now) && ownSplices (countIn (a .c)) (a .components .now)) (sym (fits (c .before .before .before)) ∙ not-false _ (c .before .before .if1 .left)) (sym (all-fit (c .before)) ∙ not-true _ (c .if2 .taken))
 
 flat-command-read-requires : tie.Need-flat-command-read-requires
 flat-command-read-requires c κs = search needs

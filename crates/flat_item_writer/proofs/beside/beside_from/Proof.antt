@@ -1,0 +1,18 @@
+-- `flat_item_writer::beside::beside_from` meets its contract. Assumes nothing.
+use borrow.Author.Needs.{needs}
+use Rattle.flat_item_writer.specs.ItemWords.{besideFrom}
+use Rattle.flat_item_writer.proofs.beside.beside_from.Statement.{statement}
+use Rattle.flat_item_writer.proofs.beside.beside_from.Tie as tie
+
+places-from-requires : tie.Need-places-from-requires
+places-from-requires c κs = search needs
+
+eidr-from-requires : tie.Need-eidr-from-requires
+eidr-from-requires c κs = search needs
+
+returns : tie.Need-returns
+unfolding besideFrom
+returns c = rw (c .eidr-from .ensures, c .before .places-from .ensures)
+
+pub beside-from-spec : {M : Type 1} → statement M
+beside-from-spec = tie.close (tie.spec places-from-requires eidr-from-requires returns)

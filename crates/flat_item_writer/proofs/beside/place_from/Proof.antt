@@ -1,0 +1,21 @@
+-- `flat_item_writer::beside::place_from` meets its contract. Assumes nothing.
+use borrow.Author.Needs.{needs}
+use Rattle.flat_item_writer.specs.ItemWords.{placeFrom}
+use Rattle.flat_item_writer.proofs.beside.place_from.Statement.{statement}
+use Rattle.flat_item_writer.proofs.beside.place_from.Tie as tie
+
+word-at-requires : tie.Need-word-at-requires
+word-at-requires c κs = search needs
+
+cast-t4 : tie.Need-cast-t4
+cast-t4 c = search needs
+
+word-at-requires-2 : tie.Need-word-at-requires-2
+word-at-requires-2 c κs = search needs
+
+returns : tie.Need-returns
+unfolding placeFrom
+returns c = rw (c .word-at2 .ensures, c .before .word-at .ensures)
+
+pub place-from-spec : {M : Type 1} → statement M
+place-from-spec = tie.close (tie.spec word-at-requires cast-t4 word-at-requires-2 returns)

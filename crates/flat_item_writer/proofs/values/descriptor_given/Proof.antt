@@ -1,0 +1,18 @@
+-- `flat_item_writer::values::descriptor_given` meets its contract. Assumes nothing.
+use borrow.Author.Needs.{needs}
+use mathlib.Core.Path.{_≡_, refl, ap, ap₂, sym, _∙_}
+use Rattle.flat_item_writer.specs.ItemWords.{descriptorFrom}
+use Rattle.flat_item_writer.proofs.values.descriptor_given.Statement.{statement}
+use Rattle.flat_item_writer.proofs.values.descriptor_given.Tie as tie
+
+item-in-requires : tie.Need-item-in-requires
+item-in-requires c κs = search needs
+
+descriptor-from-requires : tie.Need-descriptor-from-requires
+descriptor-from-requires c κs = search needs
+
+returns : tie.Need-returns
+returns c = c .descriptor-from .ensures ∙ ap descriptorFrom (c .before .item-in .ensures)
+
+pub descriptor-given-spec : {M : Type 1} → statement M
+descriptor-given-spec = tie.close (tie.spec item-in-requires descriptor-from-requires returns)

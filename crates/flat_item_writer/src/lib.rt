@@ -1,0 +1,135 @@
+// The descriptor writer over the C boundary: an item from the words of its step, and of what stands beside it.
+ghost use mathlib.Core.Path.{_≡_};
+ghost use Rattle.flat_item_writer.specs.ItemWords.{countIn, ownItem, descriptorRefusal, descriptorWordsMade};
+ghost use Rattle.flat_writer.specs.Words.{flatWritten};
+ghost use Rattle.pen.specs.Written.{answerOf, laterOf};
+use crate::beside::beside_from;
+use crate::beside::beside_within;
+use crate::beside::identifier_from;
+use crate::values::descriptor_given;
+use crate::values::item_words;
+use descriptor::Descriptor;
+use descriptor::segmentation::SegmentationDetail;
+use descriptor::segmentation::SegmentationMode;
+use descriptor_writer::write_descriptor;
+use flat_items::steps::flat_step;
+use flat_writer::FlatWritten;
+use flat_writer::are_same;
+use flat_writer::are_within;
+use flat_writer::flat_written;
+use flat_writer::lower_refusal;
+use flat_writer::words_from;
+use items::Item;
+use items::Step;
+
+pub mod beside;
+pub mod values;
+
+// How many components it has.
+fn count_in(d: Descriptor) -> u8
+    ensures { λ r. ⌜ r ≡ countIn d ⌝ }
+{
+    let segmentation = match d {
+        Descriptor::Avail(_) => return 0,
+        Descriptor::Dtmf(_) => return 0,
+        Descriptor::Segmentation(x) => x,
+        Descriptor::Time(_) => return 0,
+        Descriptor::Reserved {
+            tag: _,
+            private_bytes: _,
+        } => return 0,
+    };
+    let detail = segmentation.descriptor_detail;
+    let insert = match detail {
+        SegmentationDetail::Cancel => return 0,
+        SegmentationDetail::Insert(i) => i,
+    };
+    let mode = insert.segmentation_mode;
+    match mode {
+        SegmentationMode::Program => 0,
+        SegmentationMode::Component(n) => n,
+    }
+}
+
+// Refusal 33: are the words of the item those of its own flat form?
+fn is_own_item(d: Descriptor, words: &[u64]) -> bool
+    ensures { λ r. ⌜ r ≡ ownItem d (now (words .entry)) ⌝ }
+{
+    let step = flat_step(Step {
+        item: Item::Is(d),
+        identifier: [0; 4],
+        next: 0,
+    });
+    let item = step.item;
+    let own = item_words(item);
+    are_same(&own, words_from(words, 6))
+}
+
+// Refusals 32 and 33 of the words themselves; 0 for none.
+pub fn descriptor_refusal(d: Descriptor, words: &[u64], beside: &[u64]) -> u64
+    ensures { λ r. ⌜ r ≡ descriptorRefusal d (now (words .entry)) (now (beside .entry)) ⌝ }
+{
+    let widths: [u64; 28] = [
+        32,
+        64,
+        32,
+        8,
+        32,
+        1,
+        1,
+        1,
+        1,
+        1,
+        1,
+        1,
+        2,
+        8,
+        40,
+        8,
+        8,
+        8,
+        8,
+        1,
+        8,
+        8,
+        48,
+        32,
+        16,
+        8,
+        64,
+        64,
+    ];
+    if !are_within(&widths, words_from(words, 5)) {
+        return 32;
+    }
+    if !beside_within(count_in(d) as usize, beside) {
+        return 32;
+    }
+    if !is_own_item(d, words) {
+        return 33;
+    }
+    0
+}
+
+// A descriptor from the target's first byte on, or a refusal: 31 to 34 or 36.
+pub fn write_descriptor_words(
+    words: &[u64],
+    beside: &[u64],
+    lent: &[u8],
+    target: &mut [u8],
+) -> FlatWritten
+    ensures answer { λ r. ⌜ r ≡ flatWritten (answerOf (descriptorWordsMade (now (words .entry)) (now (beside .entry)) (now (lent .entry))) (now (target .entry))) ⌝ }
+    ensures bytes { λ _. ⌜ now (target .exit) ≡ laterOf (descriptorWordsMade (now (words .entry)) (now (beside .entry)) (now (lent .entry))) (now (target .entry)) ⌝ }
+{
+    let d = descriptor_given(words);
+    let identifier = identifier_from(words);
+    let aside = beside_from(count_in(d) as usize, beside);
+    let refusal = descriptor_refusal(d, words, beside);
+    if 0 < refusal {
+        return lower_refusal(
+            refusal,
+            write_descriptor(d, identifier, aside, lent, &mut target[0..0]),
+        );
+    }
+    flat_written(write_descriptor(d, identifier, aside, lent, target))
+}

@@ -1,0 +1,55 @@
+-- The header that words make, and the section of header, command and loop. 01, "Refusal numbers", 32 and 33. These are definitions.
+use Prim.Native.Nat.{ℕ, _%_}
+use mathlib.Core.List.{List, [], _∷_}
+use lib.Dec.{eqb, ltb}
+use Rattle.command_writer.specs.Made.{commandMade}
+use Rattle.flat.specs.Flat.{flatHeader}
+use Rattle.flat.specs.declared.headers.FlatHeader.{FlatHeader}
+use Rattle.flat_writer.specs.CommandWords.{commandGiven, countIn, componentsFrom, commandRefusal}
+use Rattle.flat_writer.specs.Words.{word, within, same, refusalOf, noLess}
+use Rattle.header.specs.declared.header.SpliceInfoHeader.{SpliceInfoHeader}
+use Rattle.names.specs.Algorithm.{algorithmOf}
+use Rattle.names.specs.declared.command.SpliceCommandType.{SpliceCommandType}
+use Rattle.section_writer.specs.Writing.{sectionMade, kindOf}
+use Rattle.table.specs.Bits.{pick}
+use Rattle.table.specs.Writing.{Made}
+
+-- ---- struct scte35_header: of its words, the command's length and type, which the writer works out, are not looked at
+unfoldable pub headerFrom : List ℕ → SpliceInfoHeader
+headerFrom words =
+    record {
+      «protocol_version» = word words 1 % 256;
+      «encrypted_packet» = eqb (word words 2) 1;
+      «encryption_algorithm» = algorithmOf (word words 3 % 256);
+      «pts_adjustment» = word words 4;
+      «cw_index» = word words 5 % 256;
+      tier = word words 6 % 65536;
+      «splice_command_length» = 0;
+      «splice_command_type» = SpliceCommandType.SpliceNull;
+    }
+
+unfoldable pub headerWords : FlatHeader → List ℕ
+headerWords h =
+    h .refusal ∷ h .«protocol_version» ∷ h .«encrypted_packet» ∷ h .«encryption_algorithm» ∷ h .«pts_adjustment» ∷ h .«cw_index» ∷ h .tier ∷ []
+
+-- in the same order
+unfoldable pub headerWidths : List ℕ
+headerWidths = 64 ∷ 8 ∷ 1 ∷ 6 ∷ 33 ∷ 8 ∷ 12 ∷ []
+
+-- the number of the words' own refusal
+unfoldable pub headerRefusal : List ℕ → ℕ
+headerRefusal words = refusalOf (within headerWidths words) (same (headerWords (flatHeader (headerFrom words))) words)
+
+-- ---- the section
+-- the lower of two refusals, of which 0 is none
+abbrev pub either : ℕ → ℕ → ℕ
+either m n = pick (eqb m 0) n (pick (eqb n 0) m (pick (ltb n m) n m))
+
+-- the bytes, or the number of a refusal: 31 to 35
+unfoldable pub sectionWordsMade : List ℕ → List ℕ → List ℕ → List ℕ → List ℕ → Made
+sectionWordsMade header command components lent loop =
+    noLess
+    (either (headerRefusal header) (commandRefusal (commandGiven command) command components))
+    (sectionMade (headerFrom header) (commandMade (commandGiven command) (componentsFrom (countIn (commandGiven command)) components) lent)
+    (kindOf (commandGiven command))
+    loop)

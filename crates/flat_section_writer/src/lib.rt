@@ -1,0 +1,106 @@
+// The section writer over the C boundary: a section from the words of a header, of a command and of its components.
+ghost use mathlib.Core.Path.{_≡_};
+ghost use Rattle.flat_section_writer.specs.SectionWords.{headerFrom, headerWords, headerRefusal, either, sectionWordsMade};
+ghost use Rattle.flat_writer.specs.Words.{flatWritten};
+ghost use Rattle.pen.specs.Written.{answerOf, laterOf};
+use flat::headers::FlatHeader;
+use flat::headers::flat_header_read;
+use flat_writer::FlatWritten;
+use flat_writer::are_same;
+use flat_writer::are_within;
+use flat_writer::commands::command_given;
+use flat_writer::commands::command_refusal;
+use flat_writer::commands::components_given;
+use flat_writer::flat_written;
+use flat_writer::lower_refusal;
+use flat_writer::word_at;
+use header::header::HeaderRead;
+use header::header::SpliceInfoHeader;
+use names::algorithm::EncryptionAlgorithm;
+use names::command::SpliceCommandType;
+use section_writer::write_section;
+
+// The header that words make. Its command length and type are the writer's to work out.
+fn header_from(words: &[u64]) -> SpliceInfoHeader
+    ensures { λ r. ⌜ r ≡ headerFrom (now (words .entry)) ⌝ }
+{
+    SpliceInfoHeader {
+        protocol_version: (word_at(words, 1) % 256) as u8,
+        encrypted_packet: word_at(words, 2) == 1,
+        encryption_algorithm: EncryptionAlgorithm::from_id((word_at(words, 3) % 256) as u8),
+        pts_adjustment: word_at(words, 4),
+        cw_index: (word_at(words, 5) % 256) as u8,
+        tier: (word_at(words, 6) % 65536) as u16,
+        splice_command_length: 0,
+        splice_command_type: SpliceCommandType::SpliceNull,
+    }
+}
+
+fn header_words(h: FlatHeader) -> [u64; 7]
+    ensures { λ r. ⌜ r ≡ headerWords h ⌝ }
+{
+    [
+        h.refusal,
+        h.protocol_version,
+        h.encrypted_packet,
+        h.encryption_algorithm,
+        h.pts_adjustment,
+        h.cw_index,
+        h.tier,
+    ]
+}
+
+// Refusals 32 and 33 of the words of a header; 0 for none.
+fn header_refusal(words: &[u64]) -> u64
+    ensures { λ r. ⌜ r ≡ headerRefusal (now (words .entry)) ⌝ }
+{
+    let widths: [u64; 7] = [64, 8, 1, 6, 33, 8, 12];
+    if !are_within(&widths, words) {
+        return 32;
+    }
+    let own = header_words(flat_header_read(HeaderRead::Header(header_from(words))));
+    if !are_same(&own, words) {
+        return 33;
+    }
+    0
+}
+
+fn either_refusal(m: u64, n: u64) -> u64
+    ensures { λ r. ⌜ r ≡ either m n ⌝ }
+{
+    if m == 0 {
+        return n;
+    }
+    if n == 0 {
+        return m;
+    }
+    if n < m { n } else { m }
+}
+
+// A section from the target's first byte on, or a refusal: 31 to 36.
+pub fn write_section_words(
+    header: &[u64],
+    command: &[u64],
+    components: &[u64],
+    lent: &[u8],
+    descriptors: &[u8],
+    target: &mut [u8],
+) -> FlatWritten
+    ensures answer { λ r. ⌜ r ≡ flatWritten (answerOf (sectionWordsMade (now (header .entry)) (now (command .entry)) (now (components .entry)) (now (lent .entry)) (now (descriptors .entry))) (now (target .entry))) ⌝ }
+    ensures bytes { λ _. ⌜ now (target .exit) ≡ laterOf (sectionWordsMade (now (header .entry)) (now (command .entry)) (now (components .entry)) (now (lent .entry)) (now (descriptors .entry))) (now (target .entry)) ⌝ }
+{
+    let h = header_from(header);
+    let c = command_given(command);
+    let places = components_given(c, components);
+    let refusal = either_refusal(
+        header_refusal(header),
+        command_refusal(c, command, components),
+    );
+    if 0 < refusal {
+        return lower_refusal(
+            refusal,
+            write_section(h, c, places, lent, descriptors, &mut target[0..0]),
+        );
+    }
+    flat_written(write_section(h, c, places, lent, descriptors, target))
+}
