@@ -45,11 +45,12 @@ use section::SectionRead;
 use section::read_section;
 use upid::read_upid;
 
+pub mod canonical;
 pub mod numbers;
 pub mod writing;
 
 // The bytes from an offset on.
-fn rest(s: &[u8], at: usize) -> &[u8]
+pub(crate) fn rest(s: &[u8], at: usize) -> &[u8]
     ensures { λ r. ⌜ now r ≡ drop at (now (s .entry)) ⌝ }
 {
     let end = s.len();

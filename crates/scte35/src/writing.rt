@@ -1,10 +1,12 @@
 // The writers. They take words, those of the C structs in their order: a word past the end counts as 0, and words past the struct's end are not looked at.
 ghost use mathlib.Core.Path.{_≡_};
 ghost use Rattle.flat_item_writer.specs.ItemWords.{descriptorWordsMade};
+ghost use Rattle.flat_section_writer.specs.SectionWords.{sectionWordsMade};
 ghost use Rattle.flat_writer.specs.CommandWords.{commandWordsMade};
 ghost use Rattle.flat_writer.specs.Words.{flatWritten};
 ghost use Rattle.pen.specs.Written.{answerOf, laterOf};
 use flat_item_writer::write_descriptor_words;
+use flat_section_writer::write_section_words;
 use flat_writer::FlatWritten;
 use flat_writer::commands::write_command_words;
 
@@ -34,4 +36,20 @@ pub extern "C" fn scte35_write_descriptor(
     ensures bytes { λ _. ⌜ now (target .exit) ≡ laterOf (descriptorWordsMade (now (step .entry)) (now (beside .entry)) (now (lent .entry))) (now (target .entry)) ⌝ }
 {
     write_descriptor_words(step, beside, lent, target)
+}
+
+// A section: the words of a header, of a command and of its components, the bytes that the command's view names, and the loop's bytes.
+#[no_mangle]
+pub extern "C" fn scte35_write_section(
+    header: &[u64],
+    command: &[u64],
+    components: &[u64],
+    lent: &[u8],
+    descriptors: &[u8],
+    target: &mut [u8],
+) -> FlatWritten
+    ensures answer { λ r. ⌜ r ≡ flatWritten (answerOf (sectionWordsMade (now (header .entry)) (now (command .entry)) (now (components .entry)) (now (lent .entry)) (now (descriptors .entry))) (now (target .entry))) ⌝ }
+    ensures bytes { λ _. ⌜ now (target .exit) ≡ laterOf (sectionWordsMade (now (header .entry)) (now (command .entry)) (now (components .entry)) (now (lent .entry)) (now (descriptors .entry))) (now (target .entry)) ⌝ }
+{
+    write_section_words(header, command, components, lent, descriptors, target)
 }

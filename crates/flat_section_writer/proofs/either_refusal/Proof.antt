@@ -1,23 +1,19 @@
+-- `flat_section_writer::either_refusal`, case by case. Assumes nothing.
+use borrow.Author.Tests.{lt-ltb, le-ltb, eq-eqb, ne-eqb}
 use Rattle.flat_section_writer.proofs.either_refusal.Statement.{statement}
 use Rattle.flat_section_writer.proofs.either_refusal.Tie as tie
-use Rattle.flat_section_writer.proofs.either_refusal.Reads as reads
-use Rattle.flat_section_writer.proofs.either_refusal.Lts as lts
 
--- src/lib.rt:72:9
 returns : tie.Need-returns
-returns c = ?
+returns c = rw (eq-eqb _ _ (c .if1 .taken))
 
--- src/lib.rt:75:9
 returns-2 : tie.Need-returns-2
-returns-2 c = ?
+returns-2 c = rw (ne-eqb _ _ (c .before .if1 .left), eq-eqb _ _ (c .if2 .taken))
 
--- src/lib.rt:68:1
 returns-3 : tie.Need-returns-3
-returns-3 c = ?
+returns-3 c = rw (ne-eqb _ _ (c .before .before .if1 .left), ne-eqb _ _ (c .before .if2 .left), lt-ltb _ _ (c .if3 .taken))
 
--- src/lib.rt:68:1
 returns-4 : tie.Need-returns-4
-returns-4 c = ?
+returns-4 c = rw (ne-eqb _ _ (c .before .before .if1 .left), ne-eqb _ _ (c .before .if2 .left), le-ltb _ _ (c .if3 .left))
 
 pub either-refusal-spec : {M : Type 1} → statement M
 either-refusal-spec = tie.close (tie.spec returns returns-2 returns-3 returns-4)

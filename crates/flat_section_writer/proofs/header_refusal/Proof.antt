@@ -1,53 +1,57 @@
+-- `flat_section_writer::header_refusal`, test by test. Assumes nothing.
 use borrow.Author.Needs.{needs}
+use mathlib.Core.Path.{_≡_, refl, ap, ap₂, sym, _∙_}
+use borrow.Author.Tests.{not-true, not-false}
+use Rattle.flat.specs.Flat.{flatHeader, flatHeaderRead}
+use Rattle.flat_writer.specs.Words.{within, same}
+use Rattle.flat_section_writer.specs.SectionWords.{headerFrom, headerWords, headerWidths, headerRefusal}
+use mathlib.Core.List.{List}
+use Prim.Native.Nat.{ℕ}
 use Rattle.flat_section_writer.proofs.header_refusal.Statement.{statement}
 use Rattle.flat_section_writer.proofs.header_refusal.Tie as tie
-use Rattle.flat_section_writer.proofs.header_refusal.Reads as reads
-use Rattle.flat_section_writer.proofs.header_refusal.Lts as lts
-use Rattle.flat.proofs.headers.flat_header_read.Reads as flat-header-read-reads
-use Rattle.flat_section_writer.proofs.header_from.Reads as header-from-reads
-use Rattle.flat_section_writer.proofs.header_words.Reads as header-words-reads
-use Rattle.flat_writer.proofs.are_same.Reads as are-same-reads
-use Rattle.flat_writer.proofs.are_within.Reads as are-within-reads
 
--- src/lib.rt:58:20
+fits : (k : tie.After-are-within) → k .are-within .result ≡ within headerWidths (k .before .before .before .args .words .now)
+unfolding headerWidths
+fits k = k .are-within .ensures
+
+own : (k : tie.After-are-same) → let a = k .before .before .before .before .before .before .before .before .before .args in k .are-same .result ≡ same (headerWords (flatHeader (headerFrom (a .words .now)))) (a .words .now)
+unfolding flatHeaderRead
+own k =
+    let e = k .before .before .before .flat-header-read .ensures ∙ ap flatHeader (k .before .before .before .before .header-from .ensures) in
+    k .are-same .ensures ∙ ap (λ (l : List ℕ). same l (k .before .before .before .before .before .before .before .before .before .args .words .now)) (k .before .before .header-words .ensures ∙ ap headerWords e)
+
 slice-aggregate-are-within : tie.Need-slice-aggregate-are-within
 slice-aggregate-are-within c = search needs
 
--- src/lib.rt:58:9
 are-within-requires : tie.Need-are-within-requires
 are-within-requires c κs = search needs
 
--- src/lib.rt:59:9
 returns : tie.Need-returns
-returns c = ?
+unfolding headerRefusal
+returns c = rw (sym (fits (c .before)) ∙ not-true _ (c .if1 .taken))
 
--- src/lib.rt:61:64
 header-from-requires : tie.Need-header-from-requires
 header-from-requires c κs = search needs
 
--- src/lib.rt:61:28
 flat-header-read-requires : tie.Need-flat-header-read-requires
 flat-header-read-requires c κs = search needs
 
--- src/lib.rt:61:15
 header-words-requires : tie.Need-header-words-requires
 header-words-requires c κs = search needs
 
--- src/lib.rt:62:18
 slice-aggregate-are-same : tie.Need-slice-aggregate-are-same
 slice-aggregate-are-same c = search needs
 
--- src/lib.rt:62:9
 are-same-requires : tie.Need-are-same-requires
 are-same-requires c κs = search needs
 
--- src/lib.rt:63:9
 returns-2 : tie.Need-returns-2
-returns-2 c = ?
+unfolding headerRefusal
+returns-2 c = rw (sym (fits (c .before .before .before .before .before .before .before)) ∙ not-false _ (c .before .before .before .before .before .before .if1 .left), sym (own (c .before)) ∙ not-true _ (c .if2 .taken))
 
--- src/lib.rt:54:1
 returns-3 : tie.Need-returns-3
-returns-3 c = ?
+unfolding headerRefusal
+returns-3 c = rw (sym (fits (c .before .before .before .before .before .before .before)) ∙ not-false _ (c .before .before .before .before .before .before .if1 .left), sym (own (c .before)) ∙ not-false _ (c .if2 .left))
 
 pub header-refusal-spec : {M : Type 1} → statement M
 header-refusal-spec =

@@ -1,11 +1,12 @@
+-- `flat_section_writer::header_words` meets its contract. Assumes nothing.
+use mathlib.Core.Path.{refl}
+use Rattle.flat_section_writer.specs.SectionWords.{headerWords}
 use Rattle.flat_section_writer.proofs.header_words.Statement.{statement}
 use Rattle.flat_section_writer.proofs.header_words.Tie as tie
-use Rattle.flat_section_writer.proofs.header_words.Reads as reads
-use Rattle.flat_section_writer.proofs.header_words.Lts as lts
 
--- src/lib.rt:39:1
 returns : tie.Need-returns
-returns c = ?
+unfolding headerWords
+returns c = refl
 
 pub header-words-spec : {M : Type 1} → statement M
 header-words-spec = tie.close (tie.spec returns)
