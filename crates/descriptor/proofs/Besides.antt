@@ -46,6 +46,7 @@ use Rattle.descriptor.specs.declared.front.Front.{Front}
 use Rattle.descriptor.specs.declared.segmentation.ModeComponent.{ModeComponent}
 use Rattle.descriptor.specs.declared.segmentation.SegmentationDetail.the-variants.{Cancel, Insert}
 use Rattle.descriptor.specs.declared.segmentation.SegmentationMode.{SegmentationMode}
+use Rattle.descriptor.specs.declared.segmentation.SegmentationUpid.{SegmentationUpid}
 use Rattle.descriptor.specs.declared.whole.Beside.{Beside}
 use Rattle.descriptor.proofs.Insides.{reads-in}
 
@@ -116,6 +117,10 @@ module _ (s : List ℕ) (f : Front) (cs : List ModeComponent) (m : ℕ) (e : par
   -- where there are components, there are seven bytes before them
   pub components-from : (n : ℕ) → f .«segmentation_mode» ≡ SegmentationMode.Component n → 7 ≤ length s
   components-from n is = let t : (m : ℕ) × (parse (list n blankComponent component) (bitsOf s) 56 ≡ got cs m) × (n < 256) × (56 ≤ length s * 8) = there-as (SegmentationMode.Component n) is in omega (arith, t .3)
+
+-- the EIDR of a UPID, by whichever name it has
+pub eidr-as : (s : List ℕ) {u v : SegmentationUpid} → u ≡ v → eidrOf (v .kind) (viewed s (v .bytes)) ≡ eidrOf (u .kind) (viewed s (u .bytes))
+eidr-as s e = rw e
 
 -- ---- an array that is filled
 list-length : (n : ℕ) (bs : List ℕ) (at : ℕ) (cs : List ModeComponent) (m : ℕ) → parse (list n blankComponent component) bs at ≡ got cs m → length cs ≡ n
@@ -210,10 +215,10 @@ module _ (s : List ℕ) where
         rw g
 
     module _ (off : h .cancel ≡ false) where
-      pub beside-no-front : (x : Short) → parse front (bitsOf s) 40 ≡ short (x .expected) (x .actual) → blankBeside ≡ besideOf s
+      pub beside-no-front : (x a : ℕ) → parse front (bitsOf s) 40 ≡ short x a → blankBeside ≡ besideOf s
       unfolding segmentation
-      beside-no-front x e =
-          nothing x (takes-in head _ _ (bitsOf s) 0 h 40 eh ∙ rw off (lacks-in front _ _ (bitsOf s) 40 (x .expected) (x .actual) e))
+      beside-no-front x a e =
+          nothing (record { expected = x; actual = a }) (takes-in head _ _ (bitsOf s) 0 h 40 eh ∙ rw off (lacks-in front _ _ (bitsOf s) 40 x a e))
 
       module _ (f : Front) (cs : List ModeComponent) (j : ℕ) (ef : parse front (bitsOf s) 40 ≡ got (record { front = f; components = cs }) j) where
         pub beside-no-back : (x : Short) → parse back (bitsOf s) j ≡ short (x .expected) (x .actual) → blankBeside ≡ besideOf s

@@ -24,7 +24,9 @@ use Rattle.descriptor.specs.declared.back.SubSegmentsRead.{SubSegmentsRe
 use Rattle.descriptor.specs.declared.front.ComponentRead.{ComponentRead}
 use Rattle.descriptor.specs.declared.front.ComponentsPassed.{ComponentsPassed}
 use Rattle.descriptor.specs.declared.front.DurationRead.{DurationRead}
+use Rattle.descriptor.specs.declared.front.Front.{Front}
 use Rattle.descriptor.specs.declared.front.FrontRead.{FrontRead}
+use Rattle.descriptor.specs.declared.front.MainRead.{MainRead}
 use Rattle.descriptor.specs.declared.front.ModeRead.{ModeRead}
 use Rattle.descriptor.specs.declared.front.WrittenRead.{WrittenRead}
 use Rattle.descriptor.specs.declared.octet.Octet.{Octet}
@@ -89,6 +91,12 @@ upidRead (WrittenRead.Lacks e) r = r ≡ short (e .expected) (e .actual)
 abbrev pub frontRead : FrontRead → Answer Fore → Type 0
 frontRead (FrontRead.Got x) r = (cs : List ModeComponent) × (r ≡ got (record { front = x .front; components = cs }) (x .next * 8))
 frontRead (FrontRead.Lacks e) r = r ≡ short (e .expected) (e .actual)
+
+-- of the same reading the mode and the UPID alone
+abbrev pub mainRead : MainRead → Answer Fore → Type 0
+mainRead (MainRead.Got x) r =
+    (f : Front) × (cs : List ModeComponent) × (r ≡ got (record { front = f; components = cs }) (x .next * 8)) × (f .«segmentation_mode» ≡ x .mode) × (f .«segmentation_upid» ≡ x .upid)
+mainRead MainRead.Lacks r = (expected : ℕ) × (actual : ℕ) × (r ≡ short expected actual)
 
 abbrev pub headRead : HeadRead → Answer Head → Type 0
 headRead (HeadRead.Got x) r = r ≡ got (record { event = x .event; cancel = x .cancel }) 40

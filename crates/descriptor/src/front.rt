@@ -3,7 +3,7 @@ ghost use mathlib.Core.Path.{_≡_};
 ghost use Prim.Native.Nat.{_+_, _*_, _≤_, _<_};
 ghost use lib.ListN.{length};
 ghost use Rattle.descriptor.specs.Segmentation.{deviceOf, blankComponent, component, mode, duration, writtenUpid, front};
-ghost use Rattle.descriptor.specs.Walk.{restrictionsIn, lackedOf, componentRead, componentsPassed, modeRead, durationRead, upidRead, frontRead};
+ghost use Rattle.descriptor.specs.Walk.{restrictionsIn, lackedOf, componentRead, componentsPassed, modeRead, durationRead, upidRead, mainRead, frontRead};
 ghost use Rattle.table.specs.Bits.{bitsOf};
 ghost use Rattle.table.specs.Table.{list, parse};
 use crate::octet::number40;
@@ -85,6 +85,18 @@ pub(crate) struct Fronted {
 pub(crate) enum FrontRead {
     Got(Fronted),
     Lacks(Short),
+}
+
+// What stands beside a descriptor goes by these.
+pub(crate) struct Main {
+    pub mode: SegmentationMode,
+    pub upid: SegmentationUpid,
+    pub next: usize,
+}
+
+pub(crate) enum MainRead {
+    Got(Main),
+    Lacks,
 }
 
 // The value that two bits stand for: each of their numbers has a name.
@@ -239,6 +251,35 @@ fn read_written_upid(s: &[u8], at: usize) -> WrittenRead
             bytes: View { at: start, len },
         },
         next: start + len,
+    })
+}
+
+// Of these fields the mode and the UPID as it is written, for those who ask for no more.
+pub(crate) fn read_main(s: &[u8], at: usize) -> MainRead
+    ensures { λ r. ⌜ mainRead r (parse front (bitsOf (now (s .entry))) (at * 8)) ⌝ }
+{
+    if s.len() <= at {
+        return MainRead::Lacks;
+    }
+    let flags = s[at];
+    let moded = match read_mode(s, at + 1, flags / 128 % 2 == 1) {
+        ModeRead::Got(m) => m,
+        ModeRead::Lacks(_) => return MainRead::Lacks,
+    };
+    let lasting = match read_duration(s, moded.next, flags / 64 % 2 == 1) {
+        DurationRead::Got(d) => d,
+        DurationRead::Lacks(_) => return MainRead::Lacks,
+    };
+    let written = match read_written_upid(s, lasting.next) {
+        WrittenRead::Got(u) => u,
+        WrittenRead::Lacks(_) => return MainRead::Lacks,
+    };
+    let mode = moded.mode;
+    let upid = written.upid;
+    MainRead::Got(Main {
+        mode,
+        upid,
+        next: written.next,
     })
 }
 

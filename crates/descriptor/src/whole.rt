@@ -12,9 +12,9 @@ use crate::DescriptorRead;
 use crate::back::BackRead;
 use crate::back::read_back;
 use crate::front::ComponentRead;
-use crate::front::FrontRead;
+use crate::front::MainRead;
 use crate::front::read_component;
-use crate::front::read_front;
+use crate::front::read_main;
 use crate::octet::size;
 use crate::read_descriptor;
 use crate::segmentation::HeadRead;
@@ -90,20 +90,19 @@ pub fn read_beside(payload: &[u8]) -> Beside
     if head.cancel {
         return blank_beside();
     }
-    let fronted = match read_front(payload, 5) {
-        FrontRead::Got(f) => f,
-        FrontRead::Lacks(_) => return blank_beside(),
+    let main = match read_main(payload, 5) {
+        MainRead::Got(f) => f,
+        MainRead::Lacks => return blank_beside(),
     };
-    match read_back(payload, fronted.next) {
+    match read_back(payload, main.next) {
         BackRead::Got(_) => {}
         BackRead::Lacks(_) => return blank_beside(),
     }
-    let front = fronted.front;
-    let written = front.segmentation_upid;
+    let written = main.upid;
     let bytes = written.bytes;
     let part = view(payload, bytes);
     let eidr = eidr(written.kind, part);
-    let mode = front.segmentation_mode;
+    let mode = main.mode;
     match mode {
         SegmentationMode::Program => Beside {
             components: no_components(),

@@ -75,21 +75,13 @@ fn whole(bytes: &[u8], offset: usize, len: usize) -> Step
     }
 }
 
-// The item at an offset of a loop, and where the next one starts.
-pub fn step(bytes: &[u8], offset: usize) -> Step
+// An item of which at least six bytes are there, by its length.
+fn by_length(bytes: &[u8], offset: usize) -> Step
+    requires { ⌜ (offset + 6 ≤ length (now bytes)) × (length (now bytes) ≤ 4076) ⌝ }
     ensures { λ r. ⌜ r ≡ stepOf (now (bytes .entry)) offset ⌝ }
 {
     let end = bytes.len();
-    if 4076 < end {
-        return plain(Item::Refused(ItemRefusal::Other(Refusal::TooLong)), end);
-    }
-    if end <= offset {
-        return plain(Item::End, end);
-    }
     let left = end - offset;
-    if left < 6 {
-        return plain(lacks(2, 0), end);
-    }
     let len = wide(bytes[offset + 1]);
     if left < len + 2 {
         return plain(lacks(len + 2, 0), end);
@@ -101,6 +93,23 @@ pub fn step(bytes: &[u8], offset: usize) -> Step
         return plain(lacks(6, len + 2), offset + (len + 2));
     }
     whole(bytes, offset, len)
+}
+
+// The item at an offset of a loop, and where the next one starts.
+pub fn step(bytes: &[u8], offset: usize) -> Step
+    ensures { λ r. ⌜ r ≡ stepOf (now (bytes .entry)) offset ⌝ }
+{
+    let end = bytes.len();
+    if 4076 < end {
+        return plain(Item::Refused(ItemRefusal::Other(Refusal::TooLong)), end);
+    }
+    if end <= offset {
+        return plain(Item::End, end);
+    }
+    if end - offset < 6 {
+        return plain(lacks(2, 0), end);
+    }
+    by_length(bytes, offset)
 }
 
 // How many items a loop has, or refusal 2.

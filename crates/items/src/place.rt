@@ -51,11 +51,25 @@ fn move_insert(insert: SegmentationInsert, base: usize) -> SegmentationInsert
     requires { ⌜ Movable base (upidViews (insert .«segmentation_upid»)) ⌝ }
     ensures { λ r. ⌜ r ≡ movedInsert base insert ⌝ }
 {
-    let mut out = insert;
     let upid = insert.segmentation_upid;
-    let there = move_upid(upid, base);
-    out.segmentation_upid = there;
-    out
+    let delivery_restrictions = insert.delivery_restrictions;
+    let segmentation_mode = insert.segmentation_mode;
+    let segmentation_duration = insert.segmentation_duration;
+    let segmentation_type_id = insert.segmentation_type_id;
+    let sub_segments = insert.sub_segments;
+    SegmentationInsert {
+        program_segmentation_flag: insert.program_segmentation_flag,
+        segmentation_duration_flag: insert.segmentation_duration_flag,
+        delivery_not_restricted_flag: insert.delivery_not_restricted_flag,
+        delivery_restrictions,
+        segmentation_mode,
+        segmentation_duration,
+        segmentation_upid: move_upid(upid, base),
+        segmentation_type_id,
+        segment_num: insert.segment_num,
+        segments_expected: insert.segments_expected,
+        sub_segments,
+    }
 }
 
 // A descriptor whose payload lies at `base` of the loop.

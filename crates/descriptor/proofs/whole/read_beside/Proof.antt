@@ -1,8 +1,9 @@
 -- `descriptor::whole::read_beside`: the table's parts in turn, then its components from their first byte on.
 use mathlib.Core.Path.{ap, _∙_}
+use native.Mathlib.Omega.{arith}
 use Rattle.upid.specs.Upid.{eidrOf}
-use Rattle.descriptor.specs.Walk.{frontRead, backRead, headRead}
-use Rattle.descriptor.proofs.Besides.{components-from, beside-no-head, beside-cancelled, beside-no-front, beside-no-back, beside-program, beside-components}
+use Rattle.descriptor.specs.Walk.{mainRead, backRead, headRead}
+use Rattle.descriptor.proofs.Besides.{components-from, eidr-as, beside-no-head, beside-cancelled, beside-no-front, beside-no-back, beside-program, beside-components}
 use Rattle.descriptor.proofs.Parts.{told}
 use Rattle.descriptor.proofs.Segmentations.{front-inside}
 use borrow.Author.Needs.{needs}
@@ -39,8 +40,8 @@ returns-2 c =
     let a = read-head .before .before .args in
     c .blank-beside2 .ensures ∙ beside-cancelled (a .payload .now) _ (told headRead _ _ _ (h .h .given .1) (read-head .read-head .ensures)) (if1 .if1 .taken)
 
-read-front-requires : tie.Need-read-front-requires
-read-front-requires c κs = search needs
+read-main-requires : tie.Need-read-main-requires
+read-main-requires c κs = search needs
 
 enum-known-f : tie.Need-enum-known-f
 enum-known-f c = search needs
@@ -54,20 +55,20 @@ blank-beside-requires-3 c κs = search needs
 returns-3 : tie.Need-returns-3
 returns-3 c =
     let enum-told2 = c .before in
-    let read-front = enum-told2 .before .before in
-    let if1 = read-front .before in
+    let read-main = enum-told2 .before .before in
+    let if1 = read-main .before in
     let h = if1 .before .before in
     let read-head = h .before .before in
     let a = read-head .before .before .args in
-    c .blank-beside3 .ensures ∙ beside-no-front (a .payload .now) _ (told headRead _ _ _ (h .h .given .1) (read-head .read-head .ensures)) (if1 .if1 .left) _ (told frontRead _ _ _ (enum-told2 .enum-told2 .given .1) (read-front .read-front .ensures))
+    c .blank-beside3 .ensures ∙ beside-no-front (a .payload .now) _ (told headRead _ _ _ (h .h .given .1) (read-head .read-head .ensures)) (if1 .if1 .left) _ _ (told mainRead _ _ _ (enum-told2 .enum-told2 .given .1) (read-main .read-main .ensures) .2)
 
 read-back-requires : tie.Need-read-back-requires
 read-back-requires c κs =
     let f = c .before in
-    let read-front = f .before .before in
-    let a = read-front .before .before .before .before .before .before .before .args in
-    let g = told frontRead _ _ _ (f .f .given .1) (read-front .read-front .ensures) in
-    front-inside (a .payload .now) 5 _ _ (g .1)
+    let read-main = f .before .before in
+    let a = read-main .before .before .before .before .before .before .before .args in
+    let g = told mainRead _ _ _ (f .f .given .1) (read-main .read-main .ensures) in
+    front-inside (a .payload .now) 5 _ _ (g .2)
 
 enum-told-3 : tie.Need-enum-told-3
 enum-told-3 c = search needs
@@ -83,13 +84,13 @@ returns-4 c =
     let enum-told4 = c .before in
     let read-back = enum-told4 .before .before in
     let f = read-back .before .before in
-    let read-front = f .before .before in
-    let if1 = read-front .before in
+    let read-main = f .before .before in
+    let if1 = read-main .before in
     let h = if1 .before .before in
     let read-head = h .before .before in
     let a = read-head .before .before .args in
-    let g = told frontRead _ _ _ (f .f .given .1) (read-front .read-front .ensures) in
-    c .blank-beside4 .ensures ∙ beside-no-back (a .payload .now) _ (told headRead _ _ _ (h .h .given .1) (read-head .read-head .ensures)) (if1 .if1 .left) _ _ _ (g .1) _ (told backRead _ _ _ (enum-told4 .enum-told4 .given .1) (read-back .read-back .ensures))
+    let g = told mainRead _ _ _ (f .f .given .1) (read-main .read-main .ensures) in
+    c .blank-beside4 .ensures ∙ beside-no-back (a .payload .now) _ (told headRead _ _ _ (h .h .given .1) (read-head .read-head .ensures)) (if1 .if1 .left) _ _ _ (g .2) _ (told backRead _ _ _ (enum-told4 .enum-told4 .given .1) (read-back .read-back .ensures))
 
 view-requires : tie.Need-view-requires
 view-requires c κs = search needs
@@ -110,43 +111,43 @@ list-components-requires : tie.Need-list-components-requires
 list-components-requires c κs =
     let mode = c .before in
     let view = mode .before .before .before in
-    let f = view .before .before .before .before .before .before .before .before in
-    let read-front = f .before .before in
-    let a = read-front .before .before .before .before .before .before .before .args in
-    let g = told frontRead _ _ _ (f .f .given .1) (read-front .read-front .ensures) in
-    components-from (a .payload .now) _ _ _ (g .1) _ (mode .mode .given .1)
+    let f = view .before .before .before .before .before .before .before in
+    let read-main = f .before .before in
+    let a = read-main .before .before .before .before .before .before .before .args in
+    let g = told mainRead _ _ _ (f .f .given .1) (read-main .read-main .ensures) in
+    omega (arith, components-from (a .payload .now) _ _ _ (g .2) _ (g .3 ∙ mode .mode .given .1))
 
 returns-5 : tie.Need-returns-5
 returns-5 c =
     let enum-told5 = c .before in
     let eidr = enum-told5 .before .before in
     let view = eidr .before in
-    let enum-told3 = view .before .before .before .before in
+    let enum-told3 = view .before .before .before in
     let read-back = enum-told3 .before .before in
     let f = read-back .before .before in
-    let read-front = f .before .before in
-    let if1 = read-front .before in
+    let read-main = f .before .before in
+    let if1 = read-main .before in
     let h = if1 .before .before in
     let read-head = h .before .before in
     let a = read-head .before .before .args in
-    let g = told frontRead _ _ _ (f .f .given .1) (read-front .read-front .ensures) in
-    beside-program (a .payload .now) _ (told headRead _ _ _ (h .h .given .1) (read-head .read-head .ensures)) (if1 .if1 .left) _ _ _ (g .1) _ _ (told backRead _ _ _ (enum-told3 .enum-told3 .given .1) (read-back .read-back .ensures) .1) _ (eidr .eidr .ensures ∙ ap (eidrOf _) (view .view .ensures)) (enum-told5 .enum-told5 .given .1) _ (c .no-components .ensures)
+    let g = told mainRead _ _ _ (f .f .given .1) (read-main .read-main .ensures) in
+    beside-program (a .payload .now) _ (told headRead _ _ _ (h .h .given .1) (read-head .read-head .ensures)) (if1 .if1 .left) _ _ _ (g .2) _ _ (told backRead _ _ _ (enum-told3 .enum-told3 .given .1) (read-back .read-back .ensures) .1) _ (eidr .eidr .ensures ∙ ap (eidrOf _) (view .view .ensures) ∙ eidr-as (a .payload .now) (g .4)) (g .3 ∙ enum-told5 .enum-told5 .given .1) _ (c .no-components .ensures)
 
 returns-6 : tie.Need-returns-6
 returns-6 c =
     let mode = c .before .before in
     let eidr = mode .before .before in
     let view = eidr .before in
-    let enum-told3 = view .before .before .before .before in
+    let enum-told3 = view .before .before .before in
     let read-back = enum-told3 .before .before in
     let f = read-back .before .before in
-    let read-front = f .before .before in
-    let if1 = read-front .before in
+    let read-main = f .before .before in
+    let if1 = read-main .before in
     let h = if1 .before .before in
     let read-head = h .before .before in
     let a = read-head .before .before .args in
-    let g = told frontRead _ _ _ (f .f .given .1) (read-front .read-front .ensures) in
-    beside-components (a .payload .now) _ (told headRead _ _ _ (h .h .given .1) (read-head .read-head .ensures)) (if1 .if1 .left) _ _ _ (g .1) _ _ (told backRead _ _ _ (enum-told3 .enum-told3 .given .1) (read-back .read-back .ensures) .1) _ (eidr .eidr .ensures ∙ ap (eidrOf _) (view .view .ensures)) _ (mode .mode .given .1) _ (c .list-components .ensures)
+    let g = told mainRead _ _ _ (f .f .given .1) (read-main .read-main .ensures) in
+    beside-components (a .payload .now) _ (told headRead _ _ _ (h .h .given .1) (read-head .read-head .ensures)) (if1 .if1 .left) _ _ _ (g .2) _ _ (told backRead _ _ _ (enum-told3 .enum-told3 .given .1) (read-back .read-back .ensures) .1) _ (eidr .eidr .ensures ∙ ap (eidrOf _) (view .view .ensures) ∙ eidr-as (a .payload .now) (g .4)) _ (g .3 ∙ mode .mode .given .1) _ (c .list-components .ensures)
 
 pub read-beside-spec : {M : Type 1} → statement M
 read-beside-spec =
@@ -159,7 +160,7 @@ read-beside-spec =
     returns
     blank-beside-requires-2
     returns-2
-    read-front-requires
+    read-main-requires
     enum-known-f
     enum-told-2
     blank-beside-requires-3
