@@ -8,8 +8,7 @@ use native.Mathlib.Omega.{arith}
 use lib.Dec.{eqb}
 use lib.ListN.{length, getD}
 use Rattle.header.specs.Time.{spliceTime, timeRead}
-use Rattle.header.specs.declared.time.SpliceTime.{SpliceTime}
-use Rattle.header.specs.declared.time.SpliceTime.the-variants.{Immediate, Unspecified}
+use Rattle.header.specs.declared.time.SpliceTime.the-variants.{Immediate}
 use Rattle.header.specs.declared.time.TimeRead.{TimeRead}
 use Rattle.header.specs.declared.time.Timed.{Timed}
 use Rattle.header.proofs.Headers.{flag-of}
@@ -18,7 +17,7 @@ use Rattle.names.specs.declared.flags.NetworkIndicator.{NetworkIndicator}
 use Rattle.names.specs.declared.flags.ReturnMode.{ReturnMode}
 use Rattle.table.specs.Bits.{pick, bitsOf, field}
 use Rattle.table.specs.Cursor.{place, cursorAt}
-use Rattle.table.specs.Table.{Table, done, inside, list, Answer, got, short, parse}
+use Rattle.table.specs.Table.{done, inside, list, Answer, got, short, parse}
 use Rattle.table.specs.declared.cursor.Cursor.{Cursor}
 use Rattle.table.specs.declared.cursor.Short.{Short}
 use Rattle.table.proofs.Bits.{length-bits}

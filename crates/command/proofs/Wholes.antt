@@ -1,19 +1,16 @@
 -- A part of an insert that starts with a byte ends with one.
 use Prim.Native.Nat.{ℕ, zero, suc, _+_, _%_}
 use mathlib.Core.Bool.{Bool, true, false}
-use mathlib.Core.List.{List, []}
-use mathlib.Core.Path.{_≡_, sym, _∙_}
+use mathlib.Core.List.{List}
+use mathlib.Core.Path.{_≡_}
 use native.Mathlib.Omega.{arith}
 use lib.Dec.{eqb}
 use Rattle.header.specs.Time.{spliceTime, ticks}
-use Rattle.header.specs.declared.time.SpliceTime.{SpliceTime}
 use Rattle.header.specs.declared.time.SpliceTime.the-variants.{Unspecified, At}
 use Rattle.table.specs.Bits.{pick, bitsOf, field}
 use Rattle.table.specs.Table.{done, list, uimsbf, ones, Answer, got, parse}
 use Rattle.table.proofs.Steps.{reads-in, reads-number, reads-flag, reads-ones}
-use Rattle.command.specs.Insert.{WithComponents, timeUnless, component, blank, moded, breakDuration}
-use Rattle.command.specs.declared.components.ComponentSplice.{ComponentSplice}
-use Rattle.command.specs.declared.insert.SpliceMode.{SpliceMode}
+use Rattle.command.specs.Insert.{timeUnless, component, blank, moded, breakDuration}
 
 -- what was read ends where a byte does
 abbrev pub Whole : {X : Type 0} → Answer X → Type 0
