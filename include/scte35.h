@@ -1,5 +1,5 @@
 /*
- * Reading SCTE 35 sections: the functions of libscte35.a (rt staticlib scte35), for x86-64 Linux.
+ * Reading and writing SCTE 35 sections: the functions of libscte35.a (rt staticlib scte35), for x86-64 Linux.
  *
  * Every function takes any bytes and any numbers, and returns. `s` points to `n` bytes that the function only reads; nothing is kept. A reader at an
  * offset reads s[at] .. s[n - 1], and nothing where `at` lies past the end. Every answer is a struct of 64-bit words:
@@ -9,6 +9,8 @@
  *
  * Named numbers (types, algorithms, flags) are their numbers. A view names bytes by their place: it counts from s[at], those of a step from the loop's
  * first byte; where there are no bytes it is 0, 0. What belongs to another kind of command or item is 0.
+ *
+ * A writer takes the same structs, so that what was read is written back as it is; see "writing" below.
  */
 #ifndef SCTE35_H
 #define SCTE35_H
@@ -228,6 +230,75 @@ struct scte35_upid {
 /* the UPID of a type as written, whose bytes begin at the offset and go to the end */
 struct scte35_upid scte35_upid(uint8_t type, const uint8_t *s, size_t n, size_t at);
 
+/* ---- writing
+ *
+ * A writer takes the words of the readers' structs, the bytes that their views refer to (`lent`), and a target, which must not overlap any of them. It
+ * writes target[0] .. target[length - 1] and no other byte; where it refuses, no byte at all. A word past the end of what is handed in counts as 0.
+ *
+ * What is written is canonical: every reserved bit is 1, no byte is spare, and all lengths, the command's type and the CRC are worked out. To write a
+ * section that was read, write each item's descriptor (lent: the loop), one behind the other, and with them as its loop the section (lent: the section).
+ */
+
+struct scte35_written {
+    uint64_t refusal; /* the first of 31 to 36 that applies */
+    uint64_t length; /* how many bytes were written */
+};
+
+enum {
+    SCTE35_OUTSIDE_LENT = 31, /* a view reaches outside the lent bytes */
+    SCTE35_TOO_LARGE = 32, /* a word exceeds its field; more than 7 DTMF characters or 255 bytes of a UPID */
+    SCTE35_NOT_CANONICAL = 33, /* a value that no canonical section has, or words that no reader gives */
+    SCTE35_TOO_LONG = 34, /* a descriptor's length over 254, a section over 4,096 */
+    SCTE35_LOOP_NOT_CANONICAL = 35,
+    SCTE35_TARGET_TOO_SHORT = 36
+};
+
+/* a command's payload. Of the components the places up to the insert's own count are looked at, no other word */
+struct scte35_written scte35_write_command(const uint64_t *command, size_t command_words, const uint64_t *components, size_t components_words,
+                                           const uint8_t *lent, size_t lent_length, uint8_t *target, size_t target_length);
+
+/* an item's descriptor. Of the step its refusal, values and next offset are not looked at; of what stands beside it the places up to the item's own
+ * count are, and the EIDR */
+struct scte35_written scte35_write_descriptor(const uint64_t *step, size_t step_words, const uint64_t *beside, size_t beside_words,
+                                              const uint8_t *lent, size_t lent_length, uint8_t *target, size_t target_length);
+
+/* a section around a loop of canonical descriptors. The header's command length and type are not looked at */
+struct scte35_written scte35_write_section(const uint64_t *header, size_t header_words, const uint64_t *command, size_t command_words,
+                                           const uint64_t *components, size_t components_words, const uint8_t *lent, size_t lent_length,
+                                           const uint8_t *descriptors, size_t descriptors_length, uint8_t *target, size_t target_length);
+
+/* 1 where all bytes from the offset on are a canonical section, a loop of canonical descriptors (or of none), or one canonical descriptor; else 0 */
+uint64_t scte35_is_canonical_section(const uint8_t *s, size_t n, size_t at);
+uint64_t scte35_is_canonical_loop(const uint8_t *s, size_t n, size_t at);
+uint64_t scte35_is_canonical_descriptor(const uint8_t *s, size_t n, size_t at);
+
+/* ---- the same writers over the structs. `components` and `beside` may be null: there are none */
+
+/* the words of a struct of this file */
+#define SCTE35_ALL_WORDS(x) (const uint64_t *)(x), (x) ? sizeof *(x) / sizeof(uint64_t) : 0
+
+static inline struct scte35_written scte35_put_command(const struct scte35_command *command, const struct scte35_insert_components *components,
+                                                       const uint8_t *lent, size_t lent_length, uint8_t *target, size_t target_length)
+{
+    return scte35_write_command(SCTE35_ALL_WORDS(command), SCTE35_ALL_WORDS(components), lent, lent_length, target, target_length);
+}
+
+static inline struct scte35_written scte35_put_descriptor(const struct scte35_step *step, const struct scte35_item_components *beside,
+                                                          const uint8_t *lent, size_t lent_length, uint8_t *target, size_t target_length)
+{
+    return scte35_write_descriptor(SCTE35_ALL_WORDS(step), SCTE35_ALL_WORDS(beside), lent, lent_length, target, target_length);
+}
+
+static inline struct scte35_written scte35_put_section(const struct scte35_header *header, const struct scte35_command *command,
+                                                       const struct scte35_insert_components *components, const uint8_t *lent, size_t lent_length,
+                                                       const uint8_t *descriptors, size_t descriptors_length, uint8_t *target, size_t target_length)
+{
+    return scte35_write_section(SCTE35_ALL_WORDS(header), SCTE35_ALL_WORDS(command), SCTE35_ALL_WORDS(components), lent, lent_length,
+                                descriptors, descriptors_length, target, target_length);
+}
+
+#undef SCTE35_ALL_WORDS
+
 /* ---- numbers */
 
 struct scte35_adjusted_time {
@@ -271,6 +342,7 @@ SCTE35_WORDS(scte35_item, 27);
 SCTE35_WORDS(scte35_step, 6 + 27);
 SCTE35_WORDS(scte35_item_components, 5 + 255 * 2 + 12);
 SCTE35_WORDS(scte35_upid, 18 + 127 * 4);
+SCTE35_WORDS(scte35_written, 2);
 SCTE35_WORDS(scte35_adjusted_time, 3);
 SCTE35_WORDS(scte35_number, 3);
 

@@ -1,4 +1,4 @@
-/* main HEX: what a section says. */
+/* main HEX: what a section says, and whether it is what is written of its reading. Ends with 1 where a canonical section is not. */
 #include <inttypes.h>
 #include <stdio.h>
 #include <string.h>
@@ -45,6 +45,34 @@ static void print_item(const uint8_t *loop, struct scte35_step x)
     printf("\n");
 }
 
+/* Every item of the loop as its descriptor, one behind the other: their length, or 0 and the refusal of the first that is refused. */
+static struct scte35_written write_loop(const uint8_t *loop, size_t n, uint8_t *target, size_t room)
+{
+    struct scte35_written all = {0, 0};
+    for (uint64_t at = 0; at < n;) {
+        struct scte35_step item = scte35_step(loop, n, at);
+        struct scte35_item_components beside = scte35_item_components(loop, n, at);
+        struct scte35_written one = scte35_put_descriptor(&item, &beside, loop, n, target + all.length, room - all.length);
+        if (one.refusal)
+            return one;
+        all.length += one.length;
+        at = item.next;
+    }
+    return all;
+}
+
+/* The section that is written of a reading: header, command and each item. */
+static struct scte35_written write_back(const uint8_t *s, size_t n, const struct scte35_section *x, uint8_t *target, size_t room)
+{
+    static uint8_t loop[4096];
+    struct scte35_written items = write_loop(s + x->descriptors.at, x->descriptors.len, loop, sizeof loop);
+    if (items.refusal)
+        return items;
+    /* the command stands behind 14 bytes; the components of anything but an insert are not looked at */
+    struct scte35_insert_components components = scte35_insert_components(s, n, 14);
+    return scte35_put_section(&x->header, &x->command, &components, s, n, loop, items.length, target, room);
+}
+
 int main(int argc, char **argv)
 {
     static uint8_t s[4097];
@@ -65,5 +93,13 @@ int main(int argc, char **argv)
         print_item(loop, item);
         at = item.next;
     }
-    return 0;
+    static uint8_t target[4096];
+    struct scte35_written w = write_back(s, n, &x, target, sizeof target);
+    int same = !w.refusal && w.length == n && !memcmp(target, s, n);
+    int canonical = scte35_is_canonical_section(s, n, 0) == 1;
+    if (w.refusal)
+        printf("writing refused %" PRIu64 "\n", w.refusal);
+    else
+        printf("written back: %s; the section read is %scanonical\n", same ? "the same" : "another", canonical ? "" : "not ");
+    return same != canonical;
 }

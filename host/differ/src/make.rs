@@ -1,40 +1,9 @@
 //! Well-formed parts, from which the inputs are made; what is wrong with an input is put in afterwards.
+use crate::bits::Bits;
 use crate::rng::Rng;
 use mpeg2ts_reader::mpegts_crc::sum32;
 
 pub const CUEI: [u8; 4] = *b"CUEI";
-
-/// Fields one after another, high bit first.
-#[derive(Default)]
-struct Bits {
-    bytes: Vec<u8>,
-    used: u32,
-}
-
-impl Bits {
-    fn put(mut self, width: u32, value: u64) -> Bits {
-        for k in (0..width).rev() {
-            if self.used % 8 == 0 {
-                self.bytes.push(0);
-            }
-            let last = self.bytes.len() - 1;
-            self.bytes[last] |= ((value >> k & 1) as u8) << (7 - self.used % 8);
-            self.used += 1;
-        }
-        self
-    }
-
-    fn flag(self, set: bool) -> Bits {
-        self.put(1, set.into())
-    }
-
-    fn all(mut self, bytes: &[u8]) -> Bits {
-        for b in bytes {
-            self = self.put(8, u64::from(*b));
-        }
-        self
-    }
-}
 
 /// The bytes and their CRC.
 pub fn closed(mut body: Vec<u8>) -> Vec<u8> {

@@ -1,4 +1,4 @@
-//! SCTE 35 cue sections, read by proved code: `libscte35.a` behind types of Rust. Every function takes any bytes and answers.
+//! SCTE 35 cue sections, read and written by proved code: `libscte35.a` behind types of Rust. Every function takes any bytes and answers.
 //!
 //! ```
 //! # let bytes = [];
@@ -11,6 +11,22 @@
 //!     Err(refusal) => println!("{refusal}"),
 //! }
 //! ```
+//!
+//! What was read is what the writers take: a section's items one behind the other, as its loop, and then the section.
+//!
+//! ```
+//! # use scte35::*;
+//! # fn written(section: Section<'_>) -> Result<Vec<u8>, Box<dyn std::error::Error + '_>> {
+//! let mut descriptors = [0; 4096];
+//! let mut end = 0;
+//! for item in section.descriptors {
+//!     end += write_descriptor(&item?, &mut descriptors[end..])?;
+//! }
+//! let mut target = [0; 4096];
+//! let length = write_section(&Section { descriptors: SpliceDescriptors(&descriptors[..end]), ..section }, &mut target)?;
+//! # Ok(target[..length].to_vec())
+//! # }
+//! ```
 mod command;
 mod flags;
 mod header;
@@ -19,14 +35,16 @@ mod names;
 pub mod raw;
 mod refusal;
 mod upid;
+mod write;
 
 pub use command::{read_command, ComponentSplice, InsertDetail, SpliceCommand, SpliceDuration, SpliceInsert, SpliceMode};
 pub use flags::{DeviceRestrictions, NetworkIndicator, ReturnMode};
 pub use header::{read_header, SpliceInfoHeader, SpliceTime};
 pub use items::{step, DeliveryRestrictions, Items, ModeComponent, SegmentationDetail, SpliceDescriptor, SpliceDescriptors, Step, SubSegments};
 pub use names::{EncryptionAlgorithm, SegmentationTypeId, SegmentationUpidType, SpliceCommandType};
-pub use refusal::{HeaderTooShort, ItemRefusal, NotInField, SectionRefusal, TimeTooLarge};
+pub use refusal::{HeaderTooShort, ItemRefusal, NotInField, SectionRefusal, TimeTooLarge, WriteRefusal};
 pub use upid::{read_upid, Mid, Part, Upid};
+pub use write::{is_canonical_descriptor, is_canonical_loop, is_canonical_section, write_command, write_descriptor, write_section};
 
 /// The bytes that a view names.
 fn view<'a>(lent: &'a [u8], v: &raw::View) -> &'a [u8] {

@@ -1,9 +1,23 @@
 //! The C functions, as `include/scte35.h` declares them. Every struct is words of 64 bits; a slice is its address and length. For those
 //! who count instructions or want the bare words: everybody else uses the functions of the crate itself.
 
+// Each struct is words and nothing else, so all bits 0 is one, and it is a slice of words.
 macro_rules! words {
     ($($(#[$doc:meta])* $name:ident { $($field:ident: $type:ty),* $(,)? })*) => {
-        $($(#[$doc])* #[repr(C)] #[derive(Debug, Clone, Copy, PartialEq, Eq)] pub struct $name { $(pub $field: $type),* })*
+        $($(#[$doc])* #[repr(C)] #[derive(Debug, Clone, Copy, PartialEq, Eq)] pub struct $name { $(pub $field: $type),* }
+
+        impl $name {
+            pub const ZERO: Self = unsafe { std::mem::zeroed() };
+
+            /// The words one after the other, as the writers take them.
+            pub fn words(&self) -> &[u64] {
+                unsafe { std::slice::from_raw_parts(std::ptr::from_ref(self).cast(), words::<Self>()) }
+            }
+
+            pub fn words_mut(&mut self) -> &mut [u64] {
+                unsafe { std::slice::from_raw_parts_mut(std::ptr::from_mut(self).cast(), words::<Self>()) }
+            }
+        })*
     };
 }
 
@@ -84,6 +98,7 @@ words! {
     Upid { refusal: u64, values: [u64; 3], kind: u64, eidr: [u64; 12], count: u64, parts: [Part; 127] }
     AdjustedTime { refusal: u64, kind: u64, ticks: u64 }
     Number { refusal: u64, class: u64, number: u64 }
+    Written { refusal: u64, length: u64 }
 }
 
 extern "C" {
@@ -96,6 +111,43 @@ extern "C" {
     fn scte35_upid(kind: u8, s: *const u8, n: usize, at: usize) -> Upid;
     fn scte35_crc(s: *const u8, n: usize, at: usize) -> u32;
     fn scte35_adjusted_time(kind: u64, ticks: u64, pts_adjustment: u64) -> AdjustedTime;
+    fn scte35_write_command(
+        command: *const u64,
+        command_words: usize,
+        components: *const u64,
+        components_words: usize,
+        lent: *const u8,
+        lent_length: usize,
+        target: *mut u8,
+        target_length: usize,
+    ) -> Written;
+    fn scte35_write_descriptor(
+        step: *const u64,
+        step_words: usize,
+        beside: *const u64,
+        beside_words: usize,
+        lent: *const u8,
+        lent_length: usize,
+        target: *mut u8,
+        target_length: usize,
+    ) -> Written;
+    fn scte35_write_section(
+        header: *const u64,
+        header_words: usize,
+        command: *const u64,
+        command_words: usize,
+        components: *const u64,
+        components_words: usize,
+        lent: *const u8,
+        lent_length: usize,
+        descriptors: *const u8,
+        descriptors_length: usize,
+        target: *mut u8,
+        target_length: usize,
+    ) -> Written;
+    fn scte35_is_canonical_section(s: *const u8, n: usize, at: usize) -> u64;
+    fn scte35_is_canonical_loop(s: *const u8, n: usize, at: usize) -> u64;
+    fn scte35_is_canonical_descriptor(s: *const u8, n: usize, at: usize) -> u64;
     fn scte35_algorithm(n: u8) -> Number;
     fn scte35_command_type(n: u8) -> Number;
     fn scte35_upid_type(n: u8) -> Number;
@@ -105,8 +157,8 @@ extern "C" {
     fn scte35_device_restrictions(n: u8) -> Number;
 }
 
-// Each of these functions takes any bytes and any numbers, reads nothing but the bytes lent, keeps nothing, and returns: that is
-// proved of it. So each call below is safe for every argument.
+// Each of these functions takes any bytes and any numbers, reads nothing but what is lent, writes nothing but a target's bytes, keeps
+// nothing, and returns: that is proved of it. So each call below is safe for every argument.
 
 macro_rules! over_bytes {
     ($($name:ident = $function:ident -> $answer:ty;)*) => {
@@ -133,6 +185,9 @@ over_bytes! {
     step = scte35_step -> Step;
     item_components = scte35_item_components -> ItemComponents;
     crc = scte35_crc -> u32;
+    is_canonical_section = scte35_is_canonical_section -> u64;
+    is_canonical_loop = scte35_is_canonical_loop -> u64;
+    is_canonical_descriptor = scte35_is_canonical_descriptor -> u64;
 }
 
 of_numbers! {
@@ -160,6 +215,58 @@ pub fn adjusted_time(kind: u64, ticks: u64, pts_adjustment: u64) -> AdjustedTime
     unsafe { scte35_adjusted_time(kind, ticks, pts_adjustment) }
 }
 
+#[inline]
+pub fn write_command(command: &[u64], components: &[u64], lent: &[u8], target: &mut [u8]) -> Written {
+    unsafe {
+        scte35_write_command(
+            command.as_ptr(),
+            command.len(),
+            components.as_ptr(),
+            components.len(),
+            lent.as_ptr(),
+            lent.len(),
+            target.as_mut_ptr(),
+            target.len(),
+        )
+    }
+}
+
+#[inline]
+pub fn write_descriptor(step: &[u64], beside: &[u64], lent: &[u8], target: &mut [u8]) -> Written {
+    unsafe {
+        scte35_write_descriptor(
+            step.as_ptr(),
+            step.len(),
+            beside.as_ptr(),
+            beside.len(),
+            lent.as_ptr(),
+            lent.len(),
+            target.as_mut_ptr(),
+            target.len(),
+        )
+    }
+}
+
+#[inline]
+pub fn write_section(header: &[u64], command: &[u64], components: &[u64], lent: &[u8], descriptors: &[u8], target: &mut [u8]) -> Written {
+    unsafe {
+        scte35_write_section(
+            header.as_ptr(),
+            header.len(),
+            command.as_ptr(),
+            command.len(),
+            components.as_ptr(),
+            components.len(),
+            lent.as_ptr(),
+            lent.len(),
+            descriptors.as_ptr(),
+            descriptors.len(),
+            target.as_mut_ptr(),
+            target.len(),
+        )
+    }
+}
+
 const fn words<T>() -> usize {
     std::mem::size_of::<T>() / 8
 }
@@ -178,4 +285,5 @@ const _: () = {
     assert!(words::<Upid>() == 18 + 127 * 4);
     assert!(words::<AdjustedTime>() == 3);
     assert!(words::<Number>() == 3);
+    assert!(words::<Written>() == 2);
 };

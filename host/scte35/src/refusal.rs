@@ -1,4 +1,4 @@
-//! What a reader refuses, and why. `number` is the number of the rules (docs, "Refusal numbers").
+//! What a reader or a writer refuses, and why. `number` is the number of the rules (docs, "Refusal numbers").
 use crate::names::SegmentationUpidType;
 use std::fmt;
 
@@ -75,6 +75,34 @@ impl ItemRefusal<'_> {
     }
 }
 
+/// Why a value is not written: the first of these that applies. The target is then as it was.
+#[derive(Debug, Clone, Copy, PartialEq, Eq, Hash)]
+pub enum WriteRefusal {
+    /// a view reaches outside the lent bytes; here, where bytes are slices, none does
+    OutsideLent,
+    /// a number or a count exceeds its field, so do more than 7 DTMF characters or 255 bytes of a UPID
+    TooLarge,
+    /// a value that no canonical section has
+    NotCanonical,
+    /// a descriptor's length over 254, or a section over 4,096 bytes
+    TooLong,
+    /// the descriptor loop handed in is not canonical
+    LoopNotCanonical,
+    /// the target is shorter than what is to be written
+    TargetTooShort,
+}
+
+impl WriteRefusal {
+    pub(crate) const ALL: [WriteRefusal; 6] = {
+        use WriteRefusal::*;
+        [OutsideLent, TooLarge, NotCanonical, TooLong, LoopNotCanonical, TargetTooShort]
+    };
+
+    pub fn number(self) -> u8 {
+        31 + Self::ALL.iter().position(|r| *r == self).expect("all are listed") as u8
+    }
+}
+
 /// A header alone of under 11 bytes (refusal 5).
 #[derive(Debug, Clone, Copy, PartialEq, Eq, Hash)]
 pub struct HeaderTooShort;
@@ -99,6 +127,12 @@ impl fmt::Display for ItemRefusal<'_> {
     }
 }
 
+impl fmt::Display for WriteRefusal {
+    fn fmt(&self, f: &mut fmt::Formatter<'_>) -> fmt::Result {
+        write!(f, "not written, {}: {self:?}", self.number())
+    }
+}
+
 impl fmt::Display for HeaderTooShort {
     fn fmt(&self, f: &mut fmt::Formatter<'_>) -> fmt::Result {
         f.write_str("a splice header has 11 bytes")
@@ -119,6 +153,7 @@ impl fmt::Display for TimeTooLarge {
 
 impl std::error::Error for SectionRefusal {}
 impl std::error::Error for ItemRefusal<'_> {}
+impl std::error::Error for WriteRefusal {}
 impl std::error::Error for HeaderTooShort {}
 impl std::error::Error for NotInField {}
 impl std::error::Error for TimeTooLarge {}

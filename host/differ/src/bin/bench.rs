@@ -1,6 +1,6 @@
 //! bench SIDE HEX TURNS ROUNDS: one section, read that many times with all its items. SIDE: `here` (the C functions), `api` (the Rust interface
-//! over them), `section` (the C function of a section alone), `crate`. Prints nanoseconds a turn, of the best round. `host/bench` counts the
-//! instructions of the function `bench_SIDE` and of what it calls.
+//! over them), `section` (the C function of a section alone), `crate`; or `write`: read once, and written back that many times by the C functions.
+//! Prints nanoseconds a turn, of the best round. `host/bench` counts the instructions of the function `bench_SIDE` and of what it calls.
 use mpeg2ts_reader::psi::{SectionCommonHeader, WholeCompactSyntaxPayloadParser};
 use std::hint::black_box;
 use std::time::Instant;
@@ -64,25 +64,77 @@ fn bench_crate(section: &[u8]) {
     processor.section(&mut Context, &SectionCommonHeader::new(&section[..3]), section);
 }
 
-fn main() {
-    let words: Vec<String> = std::env::args().collect();
-    let side: fn(&[u8]) = match words[1].as_str() {
-        "here" => bench_here,
-        "api" => bench_api,
-        "section" => bench_section,
-        "crate" => bench_crate,
-        _ => panic!("here, api, section or crate"),
-    };
-    let section = differ::answer::unhex(&words[2]);
-    let turns: u32 = words[3].parse().expect("a number of turns");
-    let rounds: u32 = words[4].parse().expect("a number of rounds");
+/// What the C functions read of a section.
+struct Read {
+    section: Vec<u8>,
+    head: scte35::raw::Section,
+    components: scte35::raw::InsertComponents,
+    items: Vec<(scte35::raw::Step, scte35::raw::ItemComponents)>,
+}
+
+impl Read {
+    fn new(section: Vec<u8>) -> Read {
+        let head = scte35::raw::section(&section, 0);
+        let components = scte35::raw::insert_components(&section, 14);
+        let mut read = Read { section, head, components, items: vec![] };
+        let mut offset = 0;
+        while offset < read.descriptors().len() {
+            let (step, beside) = (scte35::raw::step(read.descriptors(), offset), scte35::raw::item_components(read.descriptors(), offset));
+            offset = step.next as usize;
+            read.items.push((step, beside));
+        }
+        read
+    }
+
+    fn descriptors(&self) -> &[u8] {
+        let place = self.head.descriptors;
+        &self.section[place.at as usize..][..place.len as usize]
+    }
+}
+
+/// Every item as its descriptor, one behind the other, then the section around them; its length.
+#[no_mangle]
+#[inline(never)]
+fn bench_write(read: &Read, joined: &mut [u8; 4096], target: &mut [u8; 4096]) -> u64 {
+    let mut end = 0;
+    for (step, beside) in &read.items {
+        end += scte35::raw::write_descriptor(step.words(), beside.words(), read.descriptors(), &mut joined[end..]).length as usize;
+    }
+    let (header, command, components) = (read.head.header.words(), read.head.command.words(), read.components.words());
+    scte35::raw::write_section(header, command, components, &read.section, &joined[..end], target).length
+}
+
+/// Nanoseconds a turn, of the best round.
+fn best(turns: u32, rounds: u32, mut turn: impl FnMut()) -> f64 {
     let mut best = f64::MAX;
     for _ in 0..rounds {
         let start = Instant::now();
-        for _ in 0..turns {
-            black_box(side)(black_box(&section));
-        }
+        (0..turns).for_each(|_| turn());
         best = best.min(start.elapsed().as_nanos() as f64 / f64::from(turns));
     }
-    println!("{best:.1}");
+    best
+}
+
+fn main() {
+    let words: Vec<String> = std::env::args().collect();
+    let section = differ::answer::unhex(&words[2]);
+    let turns: u32 = words[3].parse().expect("a number of turns");
+    let rounds: u32 = words[4].parse().expect("a number of rounds");
+    let reading = |side: fn(&[u8])| best(turns, rounds, || black_box(side)(black_box(&section)));
+    let took = match words[1].as_str() {
+        "here" => reading(bench_here),
+        "api" => reading(bench_api),
+        "section" => reading(bench_section),
+        "crate" => reading(bench_crate),
+        "write" => {
+            let (read, mut joined, mut target) = (Read::new(section.clone()), [0; 4096], [0; 4096]);
+            let took = best(turns, rounds, || {
+                black_box(bench_write(black_box(&read), &mut joined, &mut target));
+            });
+            assert_eq!(&target[..section.len()], section, "the samples are canonical");
+            took
+        }
+        _ => panic!("here, api, section, crate or write"),
+    };
+    println!("{took:.1}");
 }
