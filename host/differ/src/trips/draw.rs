@@ -182,7 +182,7 @@ pub fn item(rng: &mut Rng) -> Item {
                 1 => rng.pick(&[0, 249, 250]),
                 _ => rng.below(30),
             };
-            let identifier = if rng.bit() { *b"CUEI" } else { [rng.pick(&[b'C', b'X', 0]), b'U', rng.byte(), rng.pick(&[b'I', b'J'])] };
+            let identifier = if rng.bit() { *b"CUEI" } else { [rng.pick(b"CX\0"), b'U', rng.byte(), rng.pick(b"IJ")] };
             // one of "CUEI" has tag 4 and over
             let least = if identifier == *b"CUEI" { 4 } else { 0 };
             Item::Reserved { tag: rng.between(least, 255) as u8, identifier, bytes: rng.bytes(length) }
