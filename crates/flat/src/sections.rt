@@ -13,7 +13,6 @@ use crate::headers::flat_header;
 use crate::headers::no_header;
 use section::Refusal;
 use section::Section;
-use section::SectionRead;
 
 #[repr(C)]
 pub struct FlatSection {
@@ -66,14 +65,5 @@ pub fn flat_section(x: Section) -> FlatSection
         header: flat_header(header),
         command: flat_command(command),
         descriptors: flat_view(descriptors),
-    }
-}
-
-pub fn flat_section_read(read: SectionRead) -> FlatSection
-    ensures { λ r. ⌜ r ≡ flatSectionRead read ⌝ }
-{
-    match read {
-        SectionRead::Is(x) => flat_section(x),
-        SectionRead::Refused(r) => no_section(r),
     }
 }

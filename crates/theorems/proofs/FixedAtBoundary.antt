@@ -7,7 +7,6 @@ use Rattle.flat.proofs.headers.flat_header_read.Reads as flat-header-read
 use Rattle.flat.proofs.headers.flat_adjusted.Reads as flat-adjusted
 use Rattle.flat.proofs.components.flat_splices.Reads as flat-splices
 use Rattle.flat.proofs.sections.flat_section.Reads as flat-section
-use Rattle.flat.proofs.sections.flat_section_read.Reads as flat-section-read
 use Rattle.flat.proofs.sections.no_section.Reads as no-section
 use Rattle.flat_items.proofs.beside.flat_beside.Reads as flat-beside
 use Rattle.flat_items.proofs.upids.flat_upid.Reads as flat-upid
@@ -55,9 +54,6 @@ flat-section-is-fixed = record { takes-any = λ κ a. tt; one-answer = λ κ a x
 
 pub no-section-is-fixed : Fixed no-section.Asked no-section.Learnt
 no-section-is-fixed = record { takes-any = λ κ a. tt; one-answer = λ κ a x y e f p q. p ∙ sym q }
-
-pub flat-section-read-is-fixed : Fixed flat-section-read.Asked flat-section-read.Learnt
-flat-section-read-is-fixed = record { takes-any = λ κ a. tt; one-answer = λ κ a x y e f p q. p ∙ sym q }
 
 -- ---- flat_items: those of items and UPIDs
 

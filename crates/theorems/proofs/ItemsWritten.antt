@@ -9,6 +9,7 @@ use mathlib.Core.List.{List, [], _∷_, map}
 use mathlib.Core.Path.{_≡_, refl, ap, ap₂, sym, subst, _∙_}
 use lib.Dec.{leb}
 use lib.ListN.{length, take, drop}
+use Rattle.canonical_command.specs.Canonical.{canonicalCommand}
 use Rattle.command.specs.declared.SpliceCommand.{SpliceCommand}
 use Rattle.command.specs.declared.components.ComponentSplice.{ComponentSplice}
 use Rattle.descriptor.specs.declared.Descriptor.{Descriptor}
@@ -31,7 +32,7 @@ use Rattle.section.specs.declared.SectionRead.{SectionRead}
 use Rattle.section_writer.proofs.Numbers.{bytes-take, bytes-drop}
 use Rattle.section_writer.proofs.Theorems.{no-other-section}
 use Rattle.section_writer.proofs.Whole.{ReadsBack}
-use Rattle.section_writer.specs.Canonical.{loopBytes, canonicalFrame, canonicalCommand, canonicalSection, SameAround}
+use Rattle.section_writer.specs.Canonical.{loopBytes, canonicalFrame, canonicalSection, SameAround}
 use Rattle.table.proofs.Lists.{and-true}
 use Rattle.table.specs.Bits.{pick, AllBytes}
 use Rattle.table.specs.Lent.{viewed}

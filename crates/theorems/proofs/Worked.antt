@@ -7,6 +7,7 @@ use native.Mathlib.Omega.{arith}
 use lib.Dec.{ltb, eqb}
 use lib.ListN.{length, getD}
 use borrow.Author.Tests.{ltb-true, lt-ltb, le-ltb, eq-eqb}
+use Rattle.canonical_command.specs.Canonical.{canonicalCommand}
 use Rattle.command.specs.Command as command
 use Rattle.command.specs.Command.{commandOf}
 use Rattle.command.specs.declared.CommandRead.{CommandRead}
@@ -25,7 +26,7 @@ use Rattle.section.proofs.Acceptance.{refusals-in-order, accepted-if-none}
 use Rattle.section.specs.Section.{commandLength, commandType, commandBytes, roomAfter, loopLength, loopPlace, moved, accepted, laidOut, sectionOf, numberOf}
 use Rattle.section.specs.declared.Section.{Section}
 use Rattle.section.specs.declared.SectionRead.{SectionRead}
-use Rattle.section_writer.specs.Canonical.{canonicalFrame, canonicalCommand, canonicalSection}
+use Rattle.section_writer.specs.Canonical.{canonicalFrame, canonicalSection}
 use Rattle.table.proofs.Lists.{and-true}
 use Rattle.table.specs.Bits.{bitsOf, field, AllBytes}
 use Rattle.table.specs.Lent.{viewed}
