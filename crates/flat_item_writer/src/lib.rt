@@ -7,6 +7,7 @@ use crate::beside::beside_from;
 use crate::beside::beside_within;
 use crate::beside::identifier_from;
 use crate::values::descriptor_given;
+use crate::values::item_widths;
 use crate::values::item_words;
 use descriptor::Descriptor;
 use descriptor::segmentation::SegmentationDetail;
@@ -69,36 +70,7 @@ fn is_own_item(d: Descriptor, words: &[u64]) -> bool
 pub fn descriptor_refusal(d: Descriptor, words: &[u64], beside: &[u64]) -> u64
     ensures { λ r. ⌜ r ≡ descriptorRefusal d (now (words .entry)) (now (beside .entry)) ⌝ }
 {
-    let widths: [u64; 28] = [
-        32,
-        64,
-        32,
-        8,
-        32,
-        1,
-        1,
-        1,
-        1,
-        1,
-        1,
-        1,
-        2,
-        8,
-        40,
-        8,
-        8,
-        8,
-        8,
-        1,
-        8,
-        8,
-        48,
-        32,
-        16,
-        8,
-        64,
-        64,
-    ];
+    let widths = item_widths();
     if !are_within(&widths, words_from(words, 5)) {
         return 32;
     }

@@ -1,6 +1,6 @@
 // Items.
 ghost use mathlib.Core.Path.{_≡_};
-ghost use Rattle.flat_item_writer.specs.ItemWords.{restrictionsIn, subSegmentsIn, segmentationIn, itemIn, itemWords, deviceFrom, restrictionsFrom};
+ghost use Rattle.flat_item_writer.specs.ItemWords.{restrictionsIn, subSegmentsIn, segmentationIn, itemIn, itemWords, itemWidths, deviceFrom, restrictionsFrom};
 ghost use Rattle.flat_item_writer.specs.ItemWords.{deliveryFrom, modeFrom, durationFrom, subSegmentsFrom, insertFrom, descriptorFrom, descriptorGiven};
 use descriptor::Descriptor;
 use descriptor::plain::AvailDescriptor;
@@ -128,6 +128,42 @@ pub(crate) fn item_words(i: FlatItem) -> [u64; 27]
         i.splice_descriptor_tag,
         bytes.at,
         bytes.len,
+    ]
+}
+
+// How many bits the identifier and each of those words may have.
+pub(crate) fn item_widths() -> [u64; 28]
+    ensures { λ r. ⌜ r ≡ itemWidths ⌝ }
+{
+    [
+        32, // identifier
+        64, // kind
+        32, // provider_avail_id
+        8, // preroll
+        32, // segmentation_event_id
+        1, // segmentation_event_cancel_indicator
+        1, // program_segmentation_flag
+        1, // segmentation_duration_flag
+        1, // delivery_not_restricted_flag
+        1, // web_delivery_allowed_flag
+        1, // no_regional_blackout_flag
+        1, // archive_allowed_flag
+        2, // device_restrictions
+        8, // component_count
+        40, // segmentation_duration
+        8, // segmentation_upid_type
+        8, // segmentation_type_id
+        8, // segment_num
+        8, // segments_expected
+        1, // present
+        8, // sub_segment_num
+        8, // sub_segments_expected
+        48, // tai_seconds
+        32, // tai_nanoseconds
+        16, // utc_offset
+        8, // splice_descriptor_tag
+        64, // bytes.at
+        64, // bytes.len
     ]
 }
 

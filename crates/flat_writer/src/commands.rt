@@ -1,6 +1,6 @@
 // Commands.
 ghost use mathlib.Core.Path.{_≡_};
-ghost use Rattle.flat_writer.specs.CommandWords.{modeIn, breakIn, insertIn, commandIn, modeFrom, breakFrom, insertFrom, insertionFrom, commandFrom, commandWords, countIn};
+ghost use Rattle.flat_writer.specs.CommandWords.{modeIn, breakIn, insertIn, commandIn, modeFrom, breakFrom, insertFrom, insertionFrom, commandFrom, commandWords, commandWidths, countIn};
 ghost use Rattle.flat_writer.specs.CommandWords.{componentsFrom, commandGiven, commandRefusal, commandWordsMade};
 ghost use Rattle.flat_writer.specs.Words.{flatWritten};
 ghost use Rattle.pen.specs.Written.{answerOf, laterOf};
@@ -128,6 +128,35 @@ fn command_words(c: FlatCommand) -> [u64; 21]
         c.identifier,
         bytes.at,
         bytes.len,
+    ]
+}
+
+// And how many bits each of them may have.
+fn command_widths() -> [u64; 21]
+    ensures { λ r. ⌜ r ≡ commandWidths ⌝ }
+{
+    [
+        64, // refusal
+        8, // splice_command_type
+        32, // splice_event_id
+        1, // splice_event_cancel_indicator
+        7, // reserved
+        1, // out_of_network_indicator
+        1, // program_splice_flag
+        2, // splice_time.kind
+        33, // splice_time.ticks
+        8, // component_count
+        1, // duration_flag
+        1, // auto_return
+        33, // duration
+        16, // unique_program_id
+        8, // avail_num
+        8, // avails_expected
+        2, // splice_time.kind
+        33, // splice_time.ticks
+        32, // identifier
+        64, // private_bytes.at
+        64, // private_bytes.len
     ]
 }
 
@@ -266,29 +295,7 @@ pub fn components_given(c: SpliceCommand, words: &[u64]) -> [ComponentSplice; 25
 pub fn command_refusal(c: SpliceCommand, words: &[u64], components: &[u64]) -> u64
     ensures { λ r. ⌜ r ≡ commandRefusal c (now (words .entry)) (now (components .entry)) ⌝ }
 {
-    let widths: [u64; 21] = [
-        64,
-        8,
-        32,
-        1,
-        7,
-        1,
-        1,
-        2,
-        33,
-        8,
-        1,
-        1,
-        33,
-        16,
-        8,
-        8,
-        2,
-        33,
-        32,
-        64,
-        64,
-    ];
+    let widths = command_widths();
     let count = count_in(c) as usize;
     if !are_within(&widths, words) {
         return 32;

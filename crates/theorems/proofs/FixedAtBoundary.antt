@@ -1,5 +1,6 @@
--- Every public function of the C boundary fixes its answer, and asks nothing of the caller, as FixedAnswers.antt has it of the readers. Assumes nothing.
+-- Every public function of the C boundary fixes its answer and its target's later bytes, and asks nothing of the caller, as FixedAnswers.antt has it of the readers. Assumes nothing.
 use mathlib.Core.Path.{_≡_, sym, _∙_}
+use denote.Ref.{now}
 use Rattle.flat.proofs.flat_flag.Reads as flat-flag
 use Rattle.flat.proofs.flat_view.Reads as flat-view
 use Rattle.flat.proofs.commands.flat_command_read.Reads as flat-command-read
@@ -11,6 +12,19 @@ use Rattle.flat.proofs.sections.no_section.Reads as no-section
 use Rattle.flat_items.proofs.beside.flat_beside.Reads as flat-beside
 use Rattle.flat_items.proofs.upids.flat_upid.Reads as flat-upid
 use Rattle.flat_items.proofs.steps.flat_step.Reads as flat-step
+use Rattle.flat_writer.proofs.flat_written.Reads as flat-written
+use Rattle.flat_writer.proofs.lower_refusal.Reads as lower-refusal
+use Rattle.flat_writer.proofs.word_at.Reads as word-at
+use Rattle.flat_writer.proofs.words_from.Reads as words-from
+use Rattle.flat_writer.proofs.are_within.Reads as are-within
+use Rattle.flat_writer.proofs.are_same.Reads as are-same
+use Rattle.flat_writer.proofs.commands.command_given.Reads as command-given
+use Rattle.flat_writer.proofs.commands.components_given.Reads as components-given
+use Rattle.flat_writer.proofs.commands.command_refusal.Reads as command-refusal
+use Rattle.flat_writer.proofs.commands.write_command_words.Reads as write-command-words
+use Rattle.flat_item_writer.proofs.descriptor_refusal.Reads as descriptor-refusal
+use Rattle.flat_item_writer.proofs.write_descriptor_words.Reads as write-descriptor-words
+use Rattle.flat_section_writer.proofs.write_section_words.Reads as write-section-words
 use Rattle.scte35.proofs.scte35_header.Reads as scte35-header
 use Rattle.scte35.proofs.scte35_section.Reads as scte35-section
 use Rattle.scte35.proofs.scte35_command.Reads as scte35-command
@@ -27,7 +41,13 @@ use Rattle.scte35.proofs.numbers.scte35_segmentation_type.Reads as scte35-segme
 use Rattle.scte35.proofs.numbers.scte35_network_indicator.Reads as scte35-network-indicator
 use Rattle.scte35.proofs.numbers.scte35_return_mode.Reads as scte35-return-mode
 use Rattle.scte35.proofs.numbers.scte35_device_restrictions.Reads as scte35-device-restrictions
-use Rattle.theorems.specs.FixedAnswers.{Fixed}
+use Rattle.scte35.proofs.writing.scte35_write_command.Reads as scte35-write-command
+use Rattle.scte35.proofs.writing.scte35_write_descriptor.Reads as scte35-write-descriptor
+use Rattle.scte35.proofs.writing.scte35_write_section.Reads as scte35-write-section
+use Rattle.scte35.proofs.canonical.scte35_is_canonical_section.Reads as scte35-is-canonical-section
+use Rattle.scte35.proofs.canonical.scte35_is_canonical_loop.Reads as scte35-is-canonical-loop
+use Rattle.scte35.proofs.canonical.scte35_is_canonical_descriptor.Reads as scte35-is-canonical-descriptor
+use Rattle.theorems.specs.FixedAnswers.{Fixed, FixedIn}
 
 -- ---- flat: the flat forms of headers, commands and sections
 
@@ -65,6 +85,56 @@ flat-upid-is-fixed = record { takes-any = λ κ a. tt; one-answer = λ κ a x y 
 
 pub flat-step-is-fixed : Fixed flat-step.Asked flat-step.Learnt
 flat-step-is-fixed = record { takes-any = λ κ a. tt; one-answer = λ κ a x y e f p q. p ∙ sym q }
+
+-- ---- flat_writer, flat_item_writer, flat_section_writer: the writers from words. A slice that is handed back is fixed in its words.
+
+pub flat-written-is-fixed : Fixed flat-written.Asked flat-written.Learnt
+flat-written-is-fixed = record { takes-any = λ κ a. tt; one-answer = λ κ a x y e f p q. p ∙ sym q }
+
+pub lower-refusal-is-fixed : Fixed lower-refusal.Asked lower-refusal.Learnt
+lower-refusal-is-fixed = record { takes-any = λ κ a. tt; one-answer = λ κ a x y e f p q. p ∙ sym q }
+
+pub word-at-is-fixed : Fixed word-at.Asked word-at.Learnt
+word-at-is-fixed = record { takes-any = λ κ a. tt; one-answer = λ κ a x y e f p q. p ∙ sym q }
+
+pub words-from-is-fixed : FixedIn words-from.Asked words-from.Learnt (λ κ answer after. now answer)
+words-from-is-fixed = record { takes-any = λ κ a. tt; seen = λ κ a x y e f p q. p ∙ sym q }
+
+pub are-within-is-fixed : Fixed are-within.Asked are-within.Learnt
+are-within-is-fixed = record { takes-any = λ κ a. tt; one-answer = λ κ a x y e f p q. p ∙ sym q }
+
+pub are-same-is-fixed : Fixed are-same.Asked are-same.Learnt
+are-same-is-fixed = record { takes-any = λ κ a. tt; one-answer = λ κ a x y e f p q. p ∙ sym q }
+
+pub command-given-is-fixed : Fixed command-given.Asked command-given.Learnt
+command-given-is-fixed = record { takes-any = λ κ a. tt; one-answer = λ κ a x y e f p q. p ∙ sym q }
+
+pub components-given-is-fixed : Fixed components-given.Asked components-given.Learnt
+components-given-is-fixed = record { takes-any = λ κ a. tt; one-answer = λ κ a x y e f p q. p ∙ sym q }
+
+pub command-refusal-is-fixed : Fixed command-refusal.Asked command-refusal.Learnt
+command-refusal-is-fixed = record { takes-any = λ κ a. tt; one-answer = λ κ a x y e f p q. p ∙ sym q }
+
+pub write-command-words-is-fixed : Fixed write-command-words.Asked write-command-words.Learnt
+write-command-words-is-fixed = record { takes-any = λ κ a. tt; one-answer = λ κ a x y e f p q. p .0 ∙ sym (q .0) }
+
+pub write-command-words-fixes-the-target : FixedIn write-command-words.Asked write-command-words.Learnt (λ κ answer after. now (after .1 .1 .1 .0))
+write-command-words-fixes-the-target = record { takes-any = λ κ a. tt; seen = λ κ a x y e f p q. p .1 ∙ sym (q .1) }
+
+pub descriptor-refusal-is-fixed : Fixed descriptor-refusal.Asked descriptor-refusal.Learnt
+descriptor-refusal-is-fixed = record { takes-any = λ κ a. tt; one-answer = λ κ a x y e f p q. p ∙ sym q }
+
+pub write-descriptor-words-is-fixed : Fixed write-descriptor-words.Asked write-descriptor-words.Learnt
+write-descriptor-words-is-fixed = record { takes-any = λ κ a. tt; one-answer = λ κ a x y e f p q. p .0 ∙ sym (q .0) }
+
+pub write-descriptor-words-fixes-the-target : FixedIn write-descriptor-words.Asked write-descriptor-words.Learnt (λ κ answer after. now (after .1 .1 .1 .0))
+write-descriptor-words-fixes-the-target = record { takes-any = λ κ a. tt; seen = λ κ a x y e f p q. p .1 ∙ sym (q .1) }
+
+pub write-section-words-is-fixed : Fixed write-section-words.Asked write-section-words.Learnt
+write-section-words-is-fixed = record { takes-any = λ κ a. tt; one-answer = λ κ a x y e f p q. p .0 ∙ sym (q .0) }
+
+pub write-section-words-fixes-the-target : FixedIn write-section-words.Asked write-section-words.Learnt (λ κ answer after. now (after .1 .1 .1 .1 .1 .0))
+write-section-words-fixes-the-target = record { takes-any = λ κ a. tt; seen = λ κ a x y e f p q. p .1 ∙ sym (q .1) }
 
 -- ---- scte35: the exported functions
 
@@ -115,3 +185,30 @@ scte35-return-mode-is-fixed = record { takes-any = λ κ a. tt; one-answer = λ 
 
 pub scte35-device-restrictions-is-fixed : Fixed scte35-device-restrictions.Asked scte35-device-restrictions.Learnt
 scte35-device-restrictions-is-fixed = record { takes-any = λ κ a. tt; one-answer = λ κ a x y e f p q. p ∙ sym q }
+
+pub scte35-write-command-is-fixed : Fixed scte35-write-command.Asked scte35-write-command.Learnt
+scte35-write-command-is-fixed = record { takes-any = λ κ a. tt; one-answer = λ κ a x y e f p q. p .0 ∙ sym (q .0) }
+
+pub scte35-write-command-fixes-the-target : FixedIn scte35-write-command.Asked scte35-write-command.Learnt (λ κ answer after. now (after .1 .1 .1 .0))
+scte35-write-command-fixes-the-target = record { takes-any = λ κ a. tt; seen = λ κ a x y e f p q. p .1 ∙ sym (q .1) }
+
+pub scte35-write-descriptor-is-fixed : Fixed scte35-write-descriptor.Asked scte35-write-descriptor.Learnt
+scte35-write-descriptor-is-fixed = record { takes-any = λ κ a. tt; one-answer = λ κ a x y e f p q. p .0 ∙ sym (q .0) }
+
+pub scte35-write-descriptor-fixes-the-target : FixedIn scte35-write-descriptor.Asked scte35-write-descriptor.Learnt (λ κ answer after. now (after .1 .1 .1 .0))
+scte35-write-descriptor-fixes-the-target = record { takes-any = λ κ a. tt; seen = λ κ a x y e f p q. p .1 ∙ sym (q .1) }
+
+pub scte35-write-section-is-fixed : Fixed scte35-write-section.Asked scte35-write-section.Learnt
+scte35-write-section-is-fixed = record { takes-any = λ κ a. tt; one-answer = λ κ a x y e f p q. p .0 ∙ sym (q .0) }
+
+pub scte35-write-section-fixes-the-target : FixedIn scte35-write-section.Asked scte35-write-section.Learnt (λ κ answer after. now (after .1 .1 .1 .1 .1 .0))
+scte35-write-section-fixes-the-target = record { takes-any = λ κ a. tt; seen = λ κ a x y e f p q. p .1 ∙ sym (q .1) }
+
+pub scte35-is-canonical-section-is-fixed : Fixed scte35-is-canonical-section.Asked scte35-is-canonical-section.Learnt
+scte35-is-canonical-section-is-fixed = record { takes-any = λ κ a. tt; one-answer = λ κ a x y e f p q. p ∙ sym q }
+
+pub scte35-is-canonical-loop-is-fixed : Fixed scte35-is-canonical-loop.Asked scte35-is-canonical-loop.Learnt
+scte35-is-canonical-loop-is-fixed = record { takes-any = λ κ a. tt; one-answer = λ κ a x y e f p q. p ∙ sym q }
+
+pub scte35-is-canonical-descriptor-is-fixed : Fixed scte35-is-canonical-descriptor.Asked scte35-is-canonical-descriptor.Learnt
+scte35-is-canonical-descriptor-is-fixed = record { takes-any = λ κ a. tt; one-answer = λ κ a x y e f p q. p ∙ sym q }

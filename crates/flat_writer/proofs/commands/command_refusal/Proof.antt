@@ -1,6 +1,7 @@
 -- `flat_writer::commands::command_refusal`, test by test. Assumes nothing.
 use borrow.Author.Needs.{needs}
 use Prim.Native.Nat.{ℕ}
+use mathlib.Core.Bool.{_&&_}
 use mathlib.Core.List.{List}
 use mathlib.Core.Path.{_≡_, refl, ap, ap₂, sym, _∙_}
 use borrow.Author.Tests.{not-true, not-false}
@@ -8,23 +9,24 @@ use Rattle.flat.specs.FlatCommand.{flatCommand, flatCommandRead}
 use Rattle.flat_writer.specs.Words.{within, same}
 use Rattle.flat_writer.specs.CommandWords.{countIn, commandWords, commandWidths, splicesWithin, ownSplices, commandRefusal}
 use Rattle.flat_writer.proofs.Words.{first-wide, second-wide, first-other, second-other, no-refusal}
-use mathlib.Core.Bool.{_&&_}
 use Rattle.flat_writer.proofs.commands.command_refusal.Statement.{statement}
 use Rattle.flat_writer.proofs.commands.command_refusal.Tie as tie
 
-fits : (k : tie.After-are-within) → let a = k .before .before .before .before .before .args in k .are-within .result ≡ within commandWidths (a .words .now)
-unfolding commandWidths
-fits k = k .are-within .ensures
+fits : (k : tie.After-are-within) → let a = k .before .before .before .before .before .before .args in k .are-within .result ≡ within commandWidths (a .words .now)
+fits k = k .are-within .ensures ∙ ap (λ (l : List ℕ). within l (k .before .before .before .before .before .before .args .words .now)) (k .before .before .before .command-widths .ensures)
 
-all-fit : (k : tie.After-splices-within) → let a = k .before .before .before .before .before .before .before .args in k .splices-within .result ≡ splicesWithin (countIn (a .c)) (a .components .now)
-all-fit k = k .splices-within .ensures ∙ ap (λ (n : ℕ). splicesWithin n (k .before .before .before .before .before .before .before .args .components .now)) (k .before .before .before .before .count-in .ensures)
+all-fit : (k : tie.After-splices-within) → let a = k .before .before .before .before .before .before .before .before .args in k .splices-within .result ≡ splicesWithin (countIn (a .c)) (a .components .now)
+all-fit k = k .splices-within .ensures ∙ ap (λ (n : ℕ). splicesWithin n (k .before .before .before .before .before .before .before .before .args .components .now)) (k .before .before .before .before .count-in .ensures)
 
-own : (k : tie.After-are-same) → let a = k .before .before .before .before .before .before .before .before .before .before .before .before .args in k .are-same .result ≡ same (commandWords (flatCommand (a .c))) (a .words .now)
+own : (k : tie.After-are-same) → let a = k .before .before .before .before .before .before .before .before .before .before .before .before .before .args in k .are-same .result ≡ same (commandWords (flatCommand (a .c))) (a .words .now)
 unfolding flatCommandRead
-own k = k .are-same .ensures ∙ ap (λ (l : List ℕ). same l (k .before .before .before .before .before .before .before .before .before .before .before .before .args .words .now)) (k .before .before .command-words .ensures ∙ ap commandWords (k .before .before .before .flat-command-read .ensures))
+own k = k .are-same .ensures ∙ ap (λ (l : List ℕ). same l (k .before .before .before .before .before .before .before .before .before .before .before .before .before .args .words .now)) (k .before .before .command-words .ensures ∙ ap commandWords (k .before .before .before .flat-command-read .ensures))
 
-all-own : (k : tie.After-own-splices) → let a = k .before .before .before .before .before .before .before .before .before .before .before .before .before .before .args in k .own-splices .result ≡ ownSplices (countIn (a .c)) (a .components .now)
-all-own k = k .own-splices .ensures ∙ ap (λ (n : ℕ). ownSplices n (k .before .before .before .before .before .before .before .before .before .before .before .before .before .before .args .components .now)) (k .before .before .before .before .before .before .before .before .before .before .before .count-in .ensures)
+all-own : (k : tie.After-own-splices) → let a = k .before .before .before .before .before .before .before .before .before .before .before .before .before .before .before .args in k .own-splices .result ≡ ownSplices (countIn (a .c)) (a .components .now)
+all-own k = k .own-splices .ensures ∙ ap (λ (n : ℕ). ownSplices n (k .before .before .before .before .before .before .before .before .before .before .before .before .before .before .before .args .components .now)) (k .before .before .before .before .before .before .before .before .before .before .before .count-in .ensures)
+
+command-widths-requires : tie.Need-command-widths-requires
+command-widths-requires c κs = search needs
 
 count-in-requires : tie.Need-count-in-requires
 count-in-requires c κs = search needs
@@ -41,7 +43,7 @@ are-within-requires c κs = search needs
 returns : tie.Need-returns
 unfolding commandRefusal
 returns c =
-    let a = c .before .before .before .before .before .before .args in
+    let a = c .before .before .before .before .before .before .before .args in
     first-wide (within commandWidths (a .words .now)) (splicesWithin (countIn (a .c)) (a .components .now)) (same (commandWords (flatCommand (a .c))) (a .words .now) && ownSplices (countIn (a .c)) (a .components .now)) (sym (fits (c .before)) ∙ not-true _ (c .if1 .taken))
 
 splices-within-requires : tie.Need-splices-within-requires
@@ -50,7 +52,7 @@ splices-within-requires c κs = search needs
 returns-2 : tie.Need-returns-2
 unfolding commandRefusal
 returns-2 c =
-    let a = c .before .before .before .before .before .before .before .before .args in
+    let a = c .before .before .before .before .before .before .before .before .before .args in
     second-wide (within commandWidths (a .words .now)) (splicesWithin (countIn (a .c)) (a .components .now)) (same (commandWords (flatCommand (a .c))) (a .words .now) && ownSplices (countIn (a .c)) (a .components .now)) (sym (fits (c .before .before .before)) ∙ not-false _ (c .before .before .if1 .left)) (sym (all-fit (c .before)) ∙ not-true _ (c .if2 .taken))
 
 flat-command-read-requires : tie.Need-flat-command-read-requires
@@ -68,7 +70,7 @@ are-same-requires c κs = search needs
 returns-3 : tie.Need-returns-3
 unfolding commandRefusal
 returns-3 c =
-    let a = c .before .before .before .before .before .before .before .before .before .before .before .before .before .args in
+    let a = c .before .before .before .before .before .before .before .before .before .before .before .before .before .before .args in
     first-other (within commandWidths (a .words .now)) (splicesWithin (countIn (a .c)) (a .components .now)) (same (commandWords (flatCommand (a .c))) (a .words .now)) (ownSplices (countIn (a .c)) (a .components .now)) (sym (fits (c .before .before .before .before .before .before .before .before)) ∙ not-false _ (c .before .before .before .before .before .before .before .if1 .left)) (sym (all-fit (c .before .before .before .before .before .before)) ∙ not-false _ (c .before .before .before .before .before .if2 .left)) (sym (own (c .before)) ∙ not-true _ (c .if3 .taken))
 
 own-splices-requires : tie.Need-own-splices-requires
@@ -77,19 +79,20 @@ own-splices-requires c κs = search needs
 returns-4 : tie.Need-returns-4
 unfolding commandRefusal
 returns-4 c =
-    let a = c .before .before .before .before .before .before .before .before .before .before .before .before .before .before .before .args in
+    let a = c .before .before .before .before .before .before .before .before .before .before .before .before .before .before .before .before .args in
     second-other (within commandWidths (a .words .now)) (splicesWithin (countIn (a .c)) (a .components .now)) (same (commandWords (flatCommand (a .c))) (a .words .now)) (ownSplices (countIn (a .c)) (a .components .now)) (sym (fits (c .before .before .before .before .before .before .before .before .before .before)) ∙ not-false _ (c .before .before .before .before .before .before .before .before .before .if1 .left)) (sym (all-fit (c .before .before .before .before .before .before .before .before)) ∙ not-false _ (c .before .before .before .before .before .before .before .if2 .left)) (sym (own (c .before .before .before)) ∙ not-false _ (c .before .before .if3 .left)) (sym (all-own (c .before)) ∙ not-true _ (c .if4 .taken))
 
 returns-5 : tie.Need-returns-5
 unfolding commandRefusal
 returns-5 c =
-    let a = c .before .before .before .before .before .before .before .before .before .before .before .before .before .before .before .args in
+    let a = c .before .before .before .before .before .before .before .before .before .before .before .before .before .before .before .before .args in
     no-refusal (within commandWidths (a .words .now)) (splicesWithin (countIn (a .c)) (a .components .now)) (same (commandWords (flatCommand (a .c))) (a .words .now)) (ownSplices (countIn (a .c)) (a .components .now)) (sym (fits (c .before .before .before .before .before .before .before .before .before .before)) ∙ not-false _ (c .before .before .before .before .before .before .before .before .before .if1 .left)) (sym (all-fit (c .before .before .before .before .before .before .before .before)) ∙ not-false _ (c .before .before .before .before .before .before .before .if2 .left)) (sym (own (c .before .before .before)) ∙ not-false _ (c .before .before .if3 .left)) (sym (all-own (c .before)) ∙ not-false _ (c .if4 .left))
 
 pub command-refusal-spec : {M : Type 1} → statement M
 command-refusal-spec =
     tie.close
     (tie.spec
+    command-widths-requires
     count-in-requires
     cast-count
     slice-aggregate-are-within
