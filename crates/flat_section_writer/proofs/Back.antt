@@ -1,12 +1,12 @@
 -- The words of a header's flat form make the header again, but for its command length and type, which the writer works out. Assumes nothing.
-use Prim.Native.Nat.{ℕ, _<_}
+use Prim.Native.Nat.{_<_}
 use mathlib.Core.Bool.{Bool, true, false}
 use mathlib.Core.Path.{_≡_, refl}
 use native.Mathlib.Nat.{mod-eq-of-lt}
 use lib.Dec.{eqb}
 use Rattle.flat.specs.Flat.{flatFlag, flatHeader}
 use Rattle.header.specs.declared.header.SpliceInfoHeader.{SpliceInfoHeader}
-use Rattle.names.specs.Algorithm.{algorithmNumber, algorithmOf, fairAlgorithm}
+use Rattle.names.specs.Algorithm.{algorithmNumber, fairAlgorithm}
 use Rattle.names.specs.Command.{commandOf}
 use Rattle.names.proofs.Algorithms.{algorithm-laws}
 use Rattle.section_writer.specs.Frame.{headed}
