@@ -1,3 +1,4 @@
+pub mod Back
 pub mod Components
 pub mod Refusals
 pub mod Words

@@ -16,7 +16,7 @@ use Rattle.pen.specs.declared.Written.{Written}
 use Rattle.table.specs.Bits.{pick}
 use Rattle.table.specs.Writing.{Made, made, refused}
 use Rattle.flat_writer.specs.Walk.{lower}
-use Rattle.flat_writer.specs.Words.{word, within, same, placesOf, eachPlace, refusalOf, lowest, noLess, flatWritten}
+use Rattle.flat_writer.specs.Words.{within, same, placesOf, eachPlace, refusalOf, lowest, noLess, flatWritten}
 
 -- ---- a width
 pub within-64 : (width x : ℕ) → x < 2 ^ 64 → 64 ≤ width → true ≡ ltb x (2 ^ width)

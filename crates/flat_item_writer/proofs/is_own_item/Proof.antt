@@ -1,6 +1,6 @@
 -- `flat_item_writer::is_own_item` meets its contract. Assumes nothing.
 use borrow.Author.Needs.{needs}
-use mathlib.Core.Path.{_≡_, refl, ap, ap₂, sym, _∙_}
+use mathlib.Core.Path.{ap, ap₂, _∙_}
 use Rattle.flat_items.specs.FlatItem.{flatStep, flatItem}
 use Rattle.flat_items.specs.declared.steps.FlatStep.{FlatStep}
 use Rattle.flat_writer.specs.Words.{same}

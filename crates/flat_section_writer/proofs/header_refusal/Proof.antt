@@ -1,6 +1,6 @@
 -- `flat_section_writer::header_refusal`, test by test. Assumes nothing.
 use borrow.Author.Needs.{needs}
-use mathlib.Core.Path.{_≡_, refl, ap, ap₂, sym, _∙_}
+use mathlib.Core.Path.{_≡_, ap, sym, _∙_}
 use borrow.Author.Tests.{not-true, not-false}
 use Rattle.flat.specs.Flat.{flatHeader, flatHeaderRead}
 use Rattle.flat_writer.specs.Words.{within, same}

@@ -1,6 +1,5 @@
 -- `flat_writer::is_within`: what lies over the width is 0. Assumes nothing.
 use borrow.Author.Needs.{needs}
-use mathlib.Core.Path.{_≡_, refl, ap, ap₂, sym, _∙_}
 use Rattle.flat_writer.proofs.Words.{within-64, within-shift}
 use Rattle.flat_writer.proofs.is_within.Statement.{statement}
 use Rattle.flat_writer.proofs.is_within.Tie as tie

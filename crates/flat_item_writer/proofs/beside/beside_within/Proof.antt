@@ -1,7 +1,6 @@
 -- `flat_item_writer::beside::beside_within`, test by test. Assumes nothing.
 use borrow.Author.Needs.{needs}
-use mathlib.Core.Bool.{Bool, _&&_}
-use mathlib.Core.Path.{_≡_, refl, ap, ap₂, sym, _∙_}
+use mathlib.Core.Path.{ap, sym, _∙_}
 use lib.ListN.{replicate}
 use borrow.Author.Tests.{not-true, not-false}
 use Rattle.flat_writer.specs.Words.{within}

@@ -1,8 +1,8 @@
 -- `flat_item_writer::beside::places_from`: the first places stand in the array. Assumes nothing.
-use Prim.Native.Nat.{ℕ, _+_, _-_, _*_, _≤_}
-use mathlib.Core.Path.{_≡_, refl, ap, ap₂, sym, _∙_}
+use Prim.Native.Nat.{_-_, _*_, _≤_}
+use mathlib.Core.Path.{_≡_, ap, sym, _∙_}
 use native.Mathlib.Omega.{arith}
-use lib.ListN.{length, drop, replicate, length-replicate, length-set}
+use lib.ListN.{length, replicate, length-replicate, length-set}
 use lib.Seq.{paste, paste-zero, drop-drop}
 use Rattle.descriptor.specs.Segmentation.{blankComponent}
 use Rattle.descriptor.specs.Whole.{blanks, blankBeside, filled}

@@ -1,6 +1,6 @@
 -- `flat_item_writer::values::descriptor_given` meets its contract. Assumes nothing.
 use borrow.Author.Needs.{needs}
-use mathlib.Core.Path.{_≡_, refl, ap, ap₂, sym, _∙_}
+use mathlib.Core.Path.{ap, _∙_}
 use Rattle.flat_item_writer.specs.ItemWords.{descriptorFrom}
 use Rattle.flat_item_writer.proofs.values.descriptor_given.Statement.{statement}
 use Rattle.flat_item_writer.proofs.values.descriptor_given.Tie as tie

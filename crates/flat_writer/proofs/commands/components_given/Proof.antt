@@ -1,7 +1,7 @@
 -- `flat_writer::commands::components_given` meets its contract. Assumes nothing.
 use borrow.Author.Needs.{needs}
 use Prim.Native.Nat.{ℕ}
-use mathlib.Core.Path.{_≡_, refl, ap, ap₂, sym, _∙_}
+use mathlib.Core.Path.{ap, _∙_}
 use Rattle.flat_writer.specs.CommandWords.{componentsFrom}
 use Rattle.flat_writer.proofs.commands.components_given.Statement.{statement}
 use Rattle.flat_writer.proofs.commands.components_given.Tie as tie

@@ -1,9 +1,9 @@
 -- `flat_writer::splices::components_from`: the first places stand in the array. Assumes nothing.
-use Prim.Native.Nat.{ℕ, _+_, _-_, _*_, _≤_}
-use mathlib.Core.List.{List, []}
-use mathlib.Core.Path.{_≡_, refl, ap, ap₂, sym, _∙_}
+use Prim.Native.Nat.{_-_, _*_, _≤_}
+use mathlib.Core.List.{[]}
+use mathlib.Core.Path.{_≡_, ap, sym, _∙_}
 use native.Mathlib.Omega.{arith}
-use lib.ListN.{length, drop, length-set}
+use lib.ListN.{length, length-set}
 use lib.Seq.{paste, paste-zero, drop-drop}
 use Rattle.command.specs.Command.{array}
 use Rattle.command.specs.Insert.{blank}
@@ -13,7 +13,6 @@ use Rattle.flat_writer.specs.Words.{placesOf}
 use Rattle.flat_writer.specs.CommandWords.{splicesIn, componentFrom, componentsFrom}
 use Rattle.flat_writer.proofs.Words.{places-length, places-at}
 use Rattle.flat_writer.proofs.Components.{filled-array}
-use lib.ListN.{length, drop}
 use Rattle.flat_writer.proofs.splices.components_from.Statement.{statement}
 use Rattle.flat_writer.proofs.splices.components_from.Tie as tie
 

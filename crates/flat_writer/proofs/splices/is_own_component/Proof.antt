@@ -1,11 +1,11 @@
 -- `flat_writer::splices::is_own_component`, by tag and kind. Assumes nothing.
 use borrow.Author.Needs.{needs}
-use mathlib.Core.Path.{_≡_, refl, ap, ap₂, sym, _∙_}
+use mathlib.Core.Path.{ap, sym, _∙_}
 use native.Mathlib.Omega.{arith}
 use Rattle.flat_writer.proofs.Components.{own-wide, own-timed, own-none}
 use Prim.Native.Nat.{ℕ}
 use lib.Dec.{eqb}
-use Rattle.flat_writer.proofs.Components.{own-wide, own-timed, own-blank, own-none}
+use Rattle.flat_writer.proofs.Components.{own-blank}
 use Rattle.flat_writer.proofs.splices.is_own_component.Statement.{statement}
 use Rattle.flat_writer.proofs.splices.is_own_component.Tie as tie
 

@@ -1,0 +1,155 @@
+-- What a reader of C answers is what a writer of C takes: the words of a step over a descriptor make the descriptor again, if its numbers are of their types, its
+-- flags say what their parts say, and its type number is not one that has a name. Assumes nothing.
+use Prim.Native.Nat.{ℕ, _%_, _^_, _<_}
+use mathlib.Core.Bool.{Bool, true, false}
+use mathlib.Core.List.{_∷_}
+use mathlib.Core.Path.{_≡_, refl, ap, _∙_}
+use native.Mathlib.Nat.{mod-eq-of-lt}
+use lib.Dec.{eqb}
+use Rattle.descriptor.specs.Segmentation.{byProgram, lasting, unrestricted}
+use Rattle.descriptor.specs.declared.Descriptor.{Descriptor}
+use Rattle.descriptor.specs.declared.segmentation.DeliveryRestrictionFlags.{DeliveryRestrictionFlags}
+use Rattle.descriptor.specs.declared.segmentation.SegmentationDetail.{SegmentationDetail}
+use Rattle.descriptor.specs.declared.segmentation.SegmentationDuration.{SegmentationDuration}
+use Rattle.descriptor.specs.declared.segmentation.SegmentationInsert.{SegmentationInsert}
+use Rattle.descriptor.specs.declared.segmentation.SegmentationMode.{SegmentationMode}
+use Rattle.descriptor.specs.declared.segmentation.SubSegments.{SubSegments}
+use Rattle.flat.specs.Flat.{flatFlag}
+use Rattle.flat_items.specs.FlatItem.{flatRestrictions, flatSubSegments, wholeSegmentation, bareSegmentation, segmentationItem, flatDescriptor}
+use Rattle.flat_items.specs.declared.descriptors.FlatItem.{FlatItem}
+use Rattle.names.specs.Flags.{restrictionsBits}
+use Rattle.names.specs.Segmentation.{segmentationNumber, fairSegmentation}
+use Rattle.names.specs.declared.flags.DeviceRestrictions.{DeviceRestrictions}
+use Rattle.names.proofs.Segmentations.{segmentation-laws}
+use Rattle.table.specs.declared.View.{View}
+use Rattle.flat_item_writer.specs.ItemWords.{restrictionsIn, subSegmentsIn, segmentationIn, itemIn, itemWords, deviceFrom, restrictionsFrom, deliveryFrom, modeFrom, durationFrom, subSegmentsFrom, insertFrom, descriptorFrom, descriptorGiven}
+
+-- ---- what is asked of a descriptor
+abbrev pub TypedMode : SegmentationMode → Type 0
+TypedMode SegmentationMode.Program = Unit {0}
+TypedMode (SegmentationMode.Component n) = n < 256
+
+abbrev pub TypedSubs : SubSegments → Type 0
+TypedSubs SubSegments.Absent = Unit {0}
+TypedSubs (SubSegments.Is x) = (x .«sub_segment_num» < 256) × (x .«sub_segments_expected» < 256)
+
+pub record TypedInsert (i : SegmentationInsert) : Type 0 where
+  pub mode : TypedMode (i .«segmentation_mode»)
+  pub subs : TypedSubs (i .«sub_segments»)
+  pub upid : i .«segmentation_upid» .kind < 256
+  pub type-number : segmentationNumber (i .«segmentation_type_id») < 256
+  pub num : i .«segment_num» < 256
+  pub expected : i .«segments_expected» < 256
+  pub program-flag : i .«program_segmentation_flag» ≡ byProgram (i .«segmentation_mode»)
+  pub duration-flag : i .«segmentation_duration_flag» ≡ lasting (i .«segmentation_duration»)
+  pub free-flag : i .«delivery_not_restricted_flag» ≡ unrestricted (i .«delivery_restrictions»)
+  pub type-fair : fairSegmentation (i .«segmentation_type_id») ≡ true
+
+abbrev pub TypedDetail : SegmentationDetail → Type 0
+TypedDetail SegmentationDetail.Cancel = Unit {0}
+TypedDetail (SegmentationDetail.Insert i) = TypedInsert i
+
+abbrev pub Typed : Descriptor → Type 0
+Typed (Descriptor.Avail x) = x .«provider_avail_id» < 2 ^ 32
+Typed (Descriptor.Dtmf x) = x .preroll < 256
+Typed (Descriptor.Segmentation x) = (x .«segmentation_event_id» < 2 ^ 32) × TypedDetail (x .«descriptor_detail»)
+Typed (Descriptor.Time x) = (x .«tai_nanoseconds» < 2 ^ 32) × (x .«utc_offset» < 65536)
+Typed (Descriptor.Reserved tag bytes) = tag < 256
+
+-- ---- the struct that the words of a step are, whatever stands before its item
+pub words-back : (refusal a b c next identifier : ℕ) (f : FlatItem) → itemIn (refusal ∷ a ∷ b ∷ c ∷ next ∷ identifier ∷ itemWords f) ≡ f
+unfolding itemIn segmentationIn restrictionsIn subSegmentsIn itemWords
+words-back refusal a b c next identifier f = refl
+
+-- ---- part by part
+flag-back : (b : Bool) → eqb (flatFlag b) 1 ≡ b
+flag-back true = refl
+flag-back false = refl
+
+device-back : (d : DeviceRestrictions) → deviceFrom (restrictionsBits d) ≡ d
+device-back DeviceRestrictions.RestrictGroup0 = refl
+device-back DeviceRestrictions.RestrictGroup1 = refl
+device-back DeviceRestrictions.RestrictGroup2 = refl
+device-back DeviceRestrictions.None = refl
+
+module _ (event : ℕ) (i : SegmentationInsert) (t : TypedInsert i) where
+  delivery-back : (d : DeliveryRestrictionFlags) → i .«delivery_restrictions» ≡ d → deliveryFrom (wholeSegmentation event i) ≡ d
+  unfolding wholeSegmentation flatRestrictions restrictionsFrom
+  delivery-back DeliveryRestrictionFlags.None e = rw (t .free-flag, e)
+  delivery-back (DeliveryRestrictionFlags.DeliveryRestrictions d) e =
+      rw (t .free-flag, e, flag-back (d .«web_delivery_allowed_flag»), flag-back (d .«no_regional_blackout_flag»), flag-back (d .«archive_allowed_flag»), device-back (d .«device_restrictions»))
+
+  mode-back : (m : SegmentationMode) → i .«segmentation_mode» ≡ m → TypedMode m → modeFrom (wholeSegmentation event i) ≡ m
+  unfolding wholeSegmentation
+  mode-back SegmentationMode.Program e h = rw (t .program-flag, e)
+  mode-back (SegmentationMode.Component n) e h = rw (t .program-flag, e, mod-eq-of-lt h)
+
+  duration-back : (d : SegmentationDuration) → i .«segmentation_duration» ≡ d → durationFrom (wholeSegmentation event i) ≡ d
+  unfolding wholeSegmentation
+  duration-back SegmentationDuration.Absent e = rw (t .duration-flag, e)
+  duration-back (SegmentationDuration.Ticks n) e = rw (t .duration-flag, e)
+
+subs-back : (s : SubSegments) → TypedSubs s → subSegmentsFrom (flatSubSegments s) ≡ s
+unfolding flatSubSegments
+subs-back SubSegments.Absent h = refl
+subs-back (SubSegments.Is x) h = rw (mod-eq-of-lt (h .0), mod-eq-of-lt (h .1))
+
+whole : (event : ℕ) (i : SegmentationInsert) (bytes : View) (restrictions : DeliveryRestrictionFlags) (mode : SegmentationMode) (duration : SegmentationDuration)
+    → deliveryFrom (wholeSegmentation event i) ≡ restrictions → modeFrom (wholeSegmentation event i) ≡ mode → durationFrom (wholeSegmentation event i) ≡ duration
+    → insertFrom (wholeSegmentation event i) bytes
+    ≡ record {
+      «program_segmentation_flag» = eqb (wholeSegmentation event i .«program_segmentation_flag») 1;
+      «segmentation_duration_flag» = eqb (wholeSegmentation event i .«segmentation_duration_flag») 1;
+      «delivery_not_restricted_flag» = eqb (wholeSegmentation event i .«delivery_not_restricted_flag») 1;
+      «delivery_restrictions» = restrictions;
+      «segmentation_mode» = mode;
+      «segmentation_duration» = duration;
+      «segmentation_upid» = insertFrom (wholeSegmentation event i) bytes .«segmentation_upid»;
+      «segmentation_type_id» = insertFrom (wholeSegmentation event i) bytes .«segmentation_type_id»;
+      «segment_num» = insertFrom (wholeSegmentation event i) bytes .«segment_num»;
+      «segments_expected» = insertFrom (wholeSegmentation event i) bytes .«segments_expected»;
+      «sub_segments» = insertFrom (wholeSegmentation event i) bytes .«sub_segments»;
+    }
+unfolding insertFrom
+whole event i bytes restrictions mode duration e f g = rw (e, f, g)
+
+insert-back : (event : ℕ) (i : SegmentationInsert) → TypedInsert i → insertFrom (wholeSegmentation event i) (i .«segmentation_upid» .bytes) ≡ i
+unfolding insertFrom wholeSegmentation
+insert-back event i t =
+    whole event i (i .«segmentation_upid» .bytes) _ _ _ (delivery-back event i t (i .«delivery_restrictions») refl) (mode-back event i t (i .«segmentation_mode») refl (t .mode))
+    (duration-back event i t (i .«segmentation_duration») refl)
+    ∙ rw (
+      flag-back (i .«program_segmentation_flag»),
+      flag-back (i .«segmentation_duration_flag»),
+      flag-back (i .«delivery_not_restricted_flag»),
+      mod-eq-of-lt (t .upid),
+      mod-eq-of-lt (t .type-number),
+      segmentation-laws .back (i .«segmentation_type_id») (t .type-fair),
+      mod-eq-of-lt (t .num),
+      mod-eq-of-lt (t .expected),
+      subs-back (i .«sub_segments») (t .subs),
+    )
+
+event-back : (event : ℕ) (i : SegmentationInsert) → event < 2 ^ 32
+    → Descriptor.Segmentation (record { «segmentation_event_id» = wholeSegmentation event i .«segmentation_event_id» % 2 ^ 32; «descriptor_detail» = SegmentationDetail.Insert i })
+    ≡ Descriptor.Segmentation (record { «segmentation_event_id» = event; «descriptor_detail» = SegmentationDetail.Insert i })
+unfolding wholeSegmentation
+event-back event i h = rw (mod-eq-of-lt h)
+
+detail-back : (event : ℕ) (d : SegmentationDetail) → event < 2 ^ 32 → TypedDetail d
+    → descriptorFrom (segmentationItem event d) ≡ Descriptor.Segmentation (record { «segmentation_event_id» = event; «descriptor_detail» = d })
+unfolding descriptorFrom segmentationItem bareSegmentation
+detail-back event SegmentationDetail.Cancel h t = rw (mod-eq-of-lt h)
+detail-back event (SegmentationDetail.Insert i) h t = rw (insert-back event i t) (event-back event i h)
+
+from-back : (d : Descriptor) → Typed d → descriptorFrom (flatDescriptor d) ≡ d
+unfolding descriptorFrom flatDescriptor
+from-back (Descriptor.Avail x) h = rw (mod-eq-of-lt h)
+from-back (Descriptor.Dtmf x) h = rw (mod-eq-of-lt h)
+from-back (Descriptor.Segmentation x) h = detail-back (x .«segmentation_event_id») (x .«descriptor_detail») (h .0) (h .1)
+from-back (Descriptor.Time x) h = rw (mod-eq-of-lt (h .0), mod-eq-of-lt (h .1))
+from-back (Descriptor.Reserved tag bytes) h = rw (mod-eq-of-lt h)
+
+-- ---- the descriptor
+pub descriptor-back : (refusal a b c next identifier : ℕ) (d : Descriptor) → Typed d → descriptorGiven (refusal ∷ a ∷ b ∷ c ∷ next ∷ identifier ∷ itemWords (flatDescriptor d)) ≡ d
+descriptor-back refusal a b c next identifier d h = ap descriptorFrom (words-back refusal a b c next identifier (flatDescriptor d)) ∙ from-back d h
