@@ -258,19 +258,27 @@ module _ (event kept : ℕ) (i : Insert) (cs : List ComponentSplice) (counts : l
       ∙ measured-either (timesFit cs) w (eqb kept 127 && s .alike) (makeOf (fairInsert x) [] (walk insert.insert x 0 .fields)) size made-so
 
 -- ---- the first place of the array says whether all is immediate
-getD-any : {A : Type 0} (l : List A) (i : ℕ) (d e : A) → i < length l → getD l i d ≡ getD l i e
+pub getD-any : {A : Type 0} (l : List A) (i : ℕ) (d e : A) → i < length l → getD l i d ≡ getD l i e
 getD-any [] i d e h = absurd (omega arith)
 getD-any (a ∷ l) zero d e h = refl
 getD-any (a ∷ l) (suc i) d e h = getD-any l i d e (omega arith)
 
-pub shape-says : (k : SpliceMode) (places : List ComponentSplice) (d : ComponentSplice) → 0 < length places
-    → (shapeOf k (getD places 0 d .«splice_time») .count ≡ count k) × (shapeOf k (getD places 0 d .«splice_time») .now ≡ insert.allImmediate (record { value = k; components = take (count k) places }))
+pub shape-says : (k : SpliceMode) (places : List ComponentSplice) → 0 < length places
+    → (shapeOf k (getD places 0 blank .«splice_time») .count ≡ count k) × (shapeOf k (getD places 0 blank .«splice_time») .now ≡ insert.allImmediate (record { value = k; components = take (count k) places }))
 unfolding shapeOf
-shape-says (SpliceMode.Program t) places d h = (refl, refl)
-shape-says (SpliceMode.Components zero) places d h = (refl, refl)
-shape-says (SpliceMode.Components (suc n)) places d h =
-    let z : getD (take (suc n) places) 0 blank ≡ getD places 0 d = getD-take (suc n) places 0 blank (omega arith) ∙ getD-any places 0 blank d h in
+shape-says (SpliceMode.Program t) places h = (refl, refl)
+shape-says (SpliceMode.Components zero) places h = (refl, refl)
+shape-says (SpliceMode.Components (suc n)) places h =
+    let z : getD (take (suc n) places) 0 blank ≡ getD places 0 blank = getD-take (suc n) places 0 blank (omega arith) in
     (refl, ap (λ (c : ComponentSplice). ltb 0 (suc n) && immediate (c .«splice_time»)) (sym z))
+
+pub shape-none : (k : SpliceMode) (n : ℕ) (t : SpliceTime) → k ≡ SpliceMode.Components n → n ≡ 0 → record { count = 0; now = false } ≡ shapeOf k t
+unfolding shapeOf
+shape-none k n t e h = rw (e, h)
+
+pub shape-first : (k : SpliceMode) (n : ℕ) (t : SpliceTime) (b : Bool) → k ≡ SpliceMode.Components n → 0 < n → b ≡ immediate t → record { count = n; now = b } ≡ shapeOf k t
+unfolding shapeOf
+shape-first k n t b e h i = rw (e, lt-ltb 0 n h, i)
 
 -- ---- a private command
 module _ (p : Private) (lent : List ℕ) where

@@ -1,5 +1,5 @@
 -- Fields stored one behind the other.
-use Prim.Native.Nat.{ℕ, zero, suc, _+_, _*_, _<_, _≤_}
+use Prim.Native.Nat.{ℕ, zero, suc, _+_, _*_, _%_, _<_, _≤_}
 use mathlib.Core.Bool.{Bool, true, false}
 use mathlib.Core.List.{List, [], _∷_, _++_, append-assoc}
 use mathlib.Core.Path.{_≡_, refl, ap, sym, _∙_}
@@ -18,16 +18,17 @@ use Rattle.header.specs.declared.time.SpliceTime.{SpliceTime}
 use Rattle.header.specs.declared.time.SpliceTime.the-variants.{Immediate, Unspecified, At}
 use Rattle.pen.specs.Pen.{Pens, Fits}
 use Rattle.pen.proofs.Penned.{length-penned}
-use Rattle.pen.proofs.Tables.{Goes, pens-place, pens-append, pens-last, pens-same, ink-append}
+use Rattle.pen.proofs.Tables.{Goes, pens-place, pens-append, pens-last, pens-same, print-beside, ink-append}
 use Rattle.table.specs.Bits.{bitsOfNum}
 use Rattle.table.specs.Cursor.{place}
-use Rattle.table.specs.Writing.{Field, bits, contents}
+use Rattle.table.specs.Table.{flagNumber}
+use Rattle.table.specs.Writing.{Field, bits, number, contents}
 use Rattle.table.specs.declared.cursor.Cursor.{Cursor}
 use Rattle.table.proofs.Bits.{all-num}
 use Rattle.table.proofs.Lists.{append-nil}
 use Rattle.table.proofs.Steppings.{Settled, settled-at}
 use Rattle.table.proofs.Walks.{print-bits}
-use Rattle.command_writer.specs.Fields.{ink, timeFields, componentFields, listFields, modeFields, breakFields, placesOf, activeFields, insertFields}
+use Rattle.command_writer.specs.Fields.{ink, timeFields, componentFields, listFields, modeFields, automatic, breakFields, tailFields, flagFields, placesOf, activeFields, insertFields}
 use Rattle.command_writer.specs.Made.{counted}
 
 module _ (t : List ℕ) (c : Cursor) (u : List ℕ) (d : Cursor) where
@@ -37,6 +38,10 @@ module _ (t : List ℕ) (c : Cursor) (u : List ℕ) (d : Cursor) where
 
   pub pens-end : (w v y : ℕ) → y ≡ v → Pens t c (bitsOfNum w y) u d → Pens t c (ink (bits w v ∷ [])) u d
   pens-end w v y e p = pens-last t c (bitsOfNum w v) u d (pens-same t c (bitsOfNum w y) (bitsOfNum w v) u d (ap (bitsOfNum w) e) p)
+
+  -- several fields as one number
+  pub pens-all : (fs : List Field) (w y : ℕ) → ink fs ≡ ink (bits w y ∷ []) → Pens t c (bitsOfNum w y) u d → Pens t c (ink fs) u d
+  pens-all fs w y e p = rw e (pens-last t c (bitsOfNum w y) u d p)
 
   -- several fields, and what stands behind them
   pub pens-fields : (fs gs : List Field) → Fits t c (ink (fs ++ gs)) → Pens t c (ink fs) u d → Goes t c (ink (fs ++ gs)) u d (ink gs)
@@ -54,10 +59,8 @@ module _ (t : List ℕ) (c : Cursor) (u : List ℕ) (d : Cursor) where
   pub time-now : (x : SpliceTime) → x ≡ Immediate → Pens t c (bitsOfNum 8 127) u d → Pens t c (ink (timeFields x)) u d
   time-now x e p = rw e p
 
-  pub time-at : (x : SpliceTime) (k : ℕ) (v : List ℕ) (z : Cursor) → x ≡ At k → Fits t c (ink (timeFields x)) → Pens t c (bitsOfNum 7 127) u d → Pens u d (bitsOfNum 33 k) v z → Pens t c (ink (timeFields x)) v z
-  time-at x k v z e h p q =
-      let f : Fits t c (ink (bits 7 127 ∷ bits 33 k ∷ [])) = rw e at h in
-      rw e (pens-append t c (bitsOfNum 7 127) u d (bitsOfNum 33 k ++ []) (all-num 7 127) f p .whole v z (pens-last u d (bitsOfNum 33 k) v z q))
+  pub time-at : (x : SpliceTime) (k : ℕ) → x ≡ At k → Pens t c (bitsOfNum 40 (0xFE00000000 + k % 0x200000000)) u d → Pens t c (ink (timeFields x)) u d
+  time-at x k e p = rw e (pens-all (timeFields (At k)) 40 _ (print-beside 7 33 127 k []) p)
 
   -- ---- a component
   pub component-now : (b : Bool) (x : ComponentSplice) (y : ℕ) → b ≡ true → y ≡ x .«component_tag» → Pens t c (bitsOfNum 8 y) u d → Pens t c (ink (componentFields b x)) u d
@@ -101,6 +104,47 @@ module _ (t : List ℕ) (c : Cursor) (u : List ℕ) (d : Cursor) where
 
   pub pens-settled : (b : List ℕ) → Fits t c b → Pens t c b u d → Settled d
   pens-settled b h p = let e = pens-place t c b u d h p .0 in rw e (settled-at (place c + length b))
+
+-- ---- fields side by side, as one number
+flag-most : (b : Bool) → flagNumber b ≤ 1
+flag-most true = omega arith
+flag-most false = omega arith
+
+pub flags-bits : (a b c d : Bool) (y : ℕ) → y ≡ flagNumber a * 128 + flagNumber b * 64 + flagNumber c * 32 + flagNumber d * 16 + 15 → ink (flagFields a b c d) ≡ ink (bits 8 y ∷ [])
+flags-bits a b c d y e =
+    let x₁ = flagNumber a in
+    let x₂ = x₁ * 2 + flagNumber b % 2 in
+    let x₃ = x₂ * 2 + flagNumber c % 2 in
+    let x₄ = x₃ * 2 + flagNumber d % 2 in
+    let z : x₄ * 16 + 15 ≡ y = omega (arith, e, flag-most b, flag-most c, flag-most d) in
+    print-beside 1 1 x₁ (flagNumber b) (number 1 (flagNumber c) ∷ number 1 (flagNumber d) ∷ number 4 15 ∷ [])
+    ∙ print-beside 2 1 x₂ (flagNumber c) (number 1 (flagNumber d) ∷ number 4 15 ∷ [])
+    ∙ print-beside 3 1 x₃ (flagNumber d) (number 4 15 ∷ [])
+    ∙ print-beside 4 4 x₄ 15 []
+    ∙ ap (λ (n : ℕ). ink (bits 8 n ∷ [])) z
+
+pub break-bits : (k : SpliceDuration) (y : ℕ) → y ≡ flagNumber (automatic (k .«return_mode»)) * 0x8000000000 + 0x7E00000000 + k .duration % 0x200000000
+    → ink (breakFields (Break.Lasts k)) ≡ ink (bits 40 y ∷ [])
+break-bits k y e =
+    let x = flagNumber (automatic (k .«return_mode»)) in
+    let z : (x * 64 + 63) * 0x200000000 + k .duration % 0x200000000 ≡ y = omega (arith, e) in
+    print-beside 1 6 x 63 (number 33 (k .duration) ∷ [])
+    ∙ print-beside 7 33 (x * 64 + 63) (k .duration) []
+    ∙ ap (λ (n : ℕ). ink (bits 40 n ∷ [])) z
+
+pub tail-bits : (id avail expected y : ℕ) → avail < 256 → expected < 256 → y ≡ id * 0x10000 + avail * 0x100 + expected → ink (tailFields id avail expected) ≡ ink (bits 32 y ∷ [])
+tail-bits id avail expected y h k e =
+    let z : (id * 256 + avail % 256) * 256 + expected % 256 ≡ y = omega (arith, e) in
+    print-beside 16 8 id avail (number 8 expected ∷ [])
+    ∙ print-beside 24 8 (id * 256 + avail % 256) expected []
+    ∙ ap (λ (n : ℕ). ink (bits 32 n ∷ [])) z
+
+pub head-bits : (event flag kept y : ℕ) (fs : List Field) → flag ≤ 1 → y ≡ event * 256 + kept % 128 + flag * 128 → ink (bits 32 event ∷ bits 1 flag ∷ bits 7 kept ∷ fs) ≡ ink (bits 40 y ∷ fs)
+head-bits event flag kept y fs h e =
+    let z : (event * 2 + flag % 2) * 128 + kept % 128 ≡ y = omega (arith, e) in
+    print-beside 32 1 event flag (number 7 kept ∷ contents [] fs)
+    ∙ print-beside 33 7 (event * 2 + flag % 2) kept (contents [] fs)
+    ∙ ap (λ (n : ℕ). ink (bits 40 n ∷ fs)) z
 
 -- there is room for the first of two
 pub fits-front : (t : List ℕ) (c : Cursor) (fs gs : List Field) → Fits t c (ink (fs ++ gs)) → Fits t c (ink fs)

@@ -5,7 +5,7 @@ use mathlib.Core.List.{List, [], _∷_}
 use mathlib.Core.Path.{_≡_, refl, ap, ap₂, sym, _∙_}
 use native.Mathlib.Omega.{arith}
 use lib.Dec.{ltb}
-use lib.ListN.{length, drop, getD}
+use lib.ListN.{length, take, drop, getD}
 use lib.Seq.{drop-cons}
 use Rattle.command.specs.Fair.{alike}
 use Rattle.command.specs.Insert.{immediate}
@@ -27,6 +27,10 @@ added b t s f g n e h k = rw (e, h, k)
 pub surveyed-nil : (b : Bool) → record { fits = true; alike = true; bytes = 0 } ≡ surveyed b []
 unfolding surveyed
 surveyed-nil b = refl
+
+pub survey-none : (b : Bool) (cs : List ComponentSplice) (n : ℕ) → n ≡ 0 → (record { fits = true; alike = true; bytes = 0 } ≡ surveyed b (take n cs)) × Tags (take n cs)
+unfolding surveyed
+survey-none b cs n e = rw e (refl, tt)
 
 pub surveyed-at : (b : Bool) (cs : List ComponentSplice) (i : ℕ) (d : ComponentSplice) → i < length cs → adding b (getD cs i d .«splice_time») (surveyed b (drop (suc i) cs)) ≡ surveyed b (drop i cs)
 unfolding surveyed

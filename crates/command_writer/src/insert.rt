@@ -60,7 +60,7 @@ fn store_components(
 }
 
 fn flag_number(set: bool) -> u64
-    ensures { λ r. ⌜ r ≡ flagNumber set ⌝ }
+    ensures { λ r. ⌜ (r ≡ flagNumber set) × (r ≤ 1) ⌝ }
 {
     if set {
         return 1;
@@ -112,11 +112,16 @@ fn store_flags(out: &mut [u8], c: Cursor, insert: Insert, at_once: bool) -> Curs
     let indicator = insert.network_indicator;
     let mode = insert.splice_mode;
     let duration = insert.duration;
-    let c = put_bits(out, c, 1, flag_number(is_out(indicator)));
-    let c = put_bits(out, c, 1, flag_number(is_program(mode)));
-    let c = put_bits(out, c, 1, flag_number(lasts(duration)));
-    let c = put_bits(out, c, 1, flag_number(at_once));
-    put_bits(out, c, 4, 15)
+    let first = flag_number(is_out(indicator));
+    let second = flag_number(is_program(mode));
+    let third = flag_number(lasts(duration));
+    let fourth = flag_number(at_once);
+    put_bits(
+        out,
+        c,
+        8,
+        first * 128 + second * 64 + third * 32 + fourth * 16 + 15,
+    )
 }
 
 // A break_duration().
@@ -126,18 +131,25 @@ fn store_break(out: &mut [u8], c: Cursor, d: SpliceDuration) -> Cursor
 {
     let mode = d.return_mode;
     let duration = d.duration;
-    let c = put_bits(out, c, 1, flag_number(is_automatic(mode)));
-    let c = put_bits(out, c, 6, 63);
-    put_bits(out, c, 33, duration)
+    let returns = flag_number(is_automatic(mode));
+    put_bits(
+        out,
+        c,
+        40,
+        returns * 0x80_0000_0000 + 0x7E_0000_0000 + duration % 0x2_0000_0000,
+    )
 }
 
 fn store_tail(out: &mut [u8], c: Cursor, program_id: u16, avail: u8, expected: u8) -> Cursor
     requires { ⌜ Fits (now out) c (ink (tailFields «program_id» avail expected)) ⌝ }
     ensures { λ r. ⌜ Pens (now (out .entry)) c (ink (tailFields «program_id» avail expected)) (now (out .exit)) r ⌝ }
 {
-    let c = put_bits(out, c, 16, program_id as u64);
-    let c = put_bits(out, c, 8, wide(avail));
-    put_bits(out, c, 8, wide(expected))
+    put_bits(
+        out,
+        c,
+        32,
+        program_id as u64 * 0x1_0000 + wide(avail) * 0x100 + wide(expected),
+    )
 }
 
 // From the duration on.
@@ -178,9 +190,7 @@ fn store_active(
     ensures { λ r. ⌜ Pens (now (out .entry)) c (ink (activeFields insert (placesOf insert components))) (now (out .exit)) r ⌝ }
 {
     let mode = insert.splice_mode;
-    let place = components[0];
-    let first = place.splice_time;
-    let shape = shape_of(mode, first);
+    let shape = shape_of(mode, components);
     let c = store_flags(out, c, insert, shape.now);
     match mode {
         SpliceMode::Program(time) => {
@@ -208,15 +218,11 @@ pub(crate) fn store_insert(
     ensures { λ r. ⌜ Pens (now (out .entry)) c (ink (insertFields (counted i components))) (now (out .exit)) r ⌝ }
 {
     let detail = i.splice_detail;
-    let c = put_bits(out, c, 32, i.splice_event_id as u64);
+    let head = i.splice_event_id as u64 * 256 + wide(i.reserved) % 128;
     match detail {
-        SpliceInsert::Cancel => {
-            let c = put_bits(out, c, 1, 1);
-            put_bits(out, c, 7, wide(i.reserved))
-        }
+        SpliceInsert::Cancel => put_bits(out, c, 40, head + 128),
         SpliceInsert::Insert(insert) => {
-            let c = put_bits(out, c, 1, 0);
-            let c = put_bits(out, c, 7, wide(i.reserved));
+            let c = put_bits(out, c, 40, head);
             store_active(out, c, insert, components)
         }
     }

@@ -4,9 +4,9 @@ ghost use mathlib.Core.Bool.{not, _&&_};
 ghost use mathlib.Core.List.{[]};
 ghost use Prim.Native.Nat.{_^_, _<_, _≤_};
 ghost use lib.Dec.{ltb};
-ghost use lib.ListN.{take};
+ghost use lib.ListN.{take, getD};
 ghost use Rattle.command.specs.Insert as insert;
-ghost use Rattle.command.specs.Insert.{immediate, programTime};
+ghost use Rattle.command.specs.Insert.{immediate, programTime, blank};
 ghost use Rattle.command_writer.specs.Made.{counted, insertMade, measuredOf};
 ghost use Rattle.command_writer.specs.Survey.{timeBytes, adding, surveyed, Tags, shapeOf, modeBytes, breakBytes, measured, cancelMeasured, activeMeasured};
 ghost use Rattle.header.specs.Time.{spliceTime, ticks, notImmediate};
@@ -148,14 +148,37 @@ fn look(components: [ComponentSplice; 255], count: usize, at_once: bool) -> Surv
     s
 }
 
+// Where there are none, none is looked at.
+fn look_at(components: [ComponentSplice; 255], count: usize, at_once: bool) -> Survey
+    requires { ⌜ count ≤ 255 ⌝ }
+    ensures { λ r. ⌜ (r ≡ surveyed «at_once» (take count components)) × Tags (take count components) ⌝ }
+{
+    if count == 0 {
+        return Survey {
+            fits: true,
+            alike: true,
+            bytes: 0,
+        };
+    }
+    look(components, count, at_once)
+}
+
+fn first_is_immediate(components: [ComponentSplice; 255]) -> bool
+    ensures { λ r. ⌜ r ≡ immediate (getD components 0 blank .«splice_time») ⌝ }
+{
+    let place = components[0];
+    let time = place.splice_time;
+    is_immediate(time)
+}
+
 // By how many components, and whether the insert is immediate as a whole, which its first component says.
 pub struct Shape {
     pub count: usize,
     pub now: bool,
 }
 
-pub(crate) fn shape_of(mode: SpliceMode, first: SpliceTime) -> Shape
-    ensures { λ r. ⌜ (r ≡ shapeOf mode first) × (r .count ≤ 255) ⌝ }
+pub(crate) fn shape_of(mode: SpliceMode, components: [ComponentSplice; 255]) -> Shape
+    ensures { λ r. ⌜ (r ≡ shapeOf mode (getD components 0 blank .«splice_time»)) × (r .count ≤ 255) ⌝ }
 {
     match mode {
         SpliceMode::Program(t) => {
@@ -163,8 +186,13 @@ pub(crate) fn shape_of(mode: SpliceMode, first: SpliceTime) -> Shape
             Shape { count: 0, now }
         }
         SpliceMode::Components(n) => {
-            let at_once = is_immediate(first);
-            let now = both(0 < n, at_once);
+            if n == 0 {
+                return Shape {
+                    count: 0,
+                    now: false,
+                };
+            }
+            let now = first_is_immediate(components);
             Shape {
                 count: n as usize,
                 now,
@@ -241,9 +269,7 @@ pub(crate) fn measure_insert(i: Insertion, components: [ComponentSplice; 255]) -
         SpliceInsert::Cancel => return verdict(reserved < 128, reserved == 127, 5),
     };
     let mode = insert.splice_mode;
-    let place = components[0];
-    let first = place.splice_time;
-    let shape = shape_of(mode, first);
-    let s = look(components, shape.count, shape.now);
+    let shape = shape_of(mode, components);
+    let s = look_at(components, shape.count, shape.now);
     measure_active(reserved, insert, s)
 }

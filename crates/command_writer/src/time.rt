@@ -15,6 +15,5 @@ pub(crate) fn store_time(out: &mut [u8], c: Cursor, time: SpliceTime) -> Cursor
         SpliceTime::Unspecified => return put_bits(out, c, 8, 0x7F),
         SpliceTime::Immediate => return put_bits(out, c, 8, 0x7F),
     };
-    let c = put_bits(out, c, 7, 0x7F);
-    put_bits(out, c, 33, ticks)
+    put_bits(out, c, 40, 0xFE_0000_0000 + ticks % 0x2_0000_0000)
 }

@@ -2,6 +2,7 @@
 --     penned-fits, penned-none, length-penned     what is stored where there is room, and where there is none; the target keeps its length
 --     penned-append                               bits stored behind others: storing both at once
 --     penned-byte, penned-stored, penned-whole    bits of one byte; whole bytes; whole bytes from the target's first on
+--     bits-number                                 the bits of a number's bytes
 use Prim.Native.Nat.{ℕ, zero, suc, _+_, _*_, _-_, _/_, _%_, _^_, _<_, _≤_}
 use mathlib.Core.Bool.{Bool, true, false}
 use mathlib.Core.List.{List, [], _∷_, _++_, append-assoc}
@@ -13,9 +14,9 @@ use lib.ListN.{length, take, drop, set, getD, length-append, length-drop, take-a
 use lib.Pow.{pow-pos, pow-add, shr-lt, split, high}
 use lib.Seq.{length-take-le, take-at, drop-at, drop-drop, set-split, split-at}
 use borrow.Author.Tests.{le-leb, lt-leb, leb-true}
-use Rattle.table.specs.Bits.{pick, bitsOfNum, bitsOf, bytesN, bytesOf, AllBytes}
+use Rattle.table.specs.Bits.{pick, bitsOfNum, bitsOf, bytesN, bytesOf, bigEndian, AllBytes}
 use Rattle.table.specs.Lent.{stored}
-use Rattle.table.proofs.Bits.{AllBits, all-append, all-num, all-bits, all-take, all-drop, length-num, length-bits, length-bytesN, bits-append, bits-from, bits-split, bits-join, bytes-bits, bytes-append}
+use Rattle.table.proofs.Bits.{AllBits, all-append, all-num, all-bits, all-take, all-drop, length-num, length-bits, length-bytesN, bits-append, bits-from, bits-split, bits-join, bytes-bits, bytes-num, bytes-append}
 use Rattle.table.proofs.Fields.{bits-bytes}
 use Rattle.table.proofs.Lists.{append-nil}
 use Rattle.table.proofs.Stores.{stored-fits, stored-none}
@@ -185,6 +186,17 @@ penned-stored t at b a k h =
     penned-fits t (at * 8) (bitsOf b) (omega arith)
     ∙ rw (n, bits-from (at + length b) t, bits-cut at t (omega arith)) (ap bytesOf (sym e) ∙ bytes-bits s ay)
     ∙ sym (stored-fits t at b h)
+
+-- the bytes of a number: their bits, and that they are bytes
+pub bits-number : (n v : ℕ) → bitsOf (bigEndian n v) ≡ bitsOfNum (n * 8) v
+bits-number n v =
+    let l = bitsOfNum (n * 8) v in
+    let k : length l / 8 ≡ n = omega (arith, length-num (n * 8) v) in
+    ap bitsOf (sym (bytes-num n v) ∙ ap (λ (j : ℕ). bytesN j l) (sym k)) ∙ bits-bytes n l (all-num (n * 8) v) (length-num (n * 8) v)
+
+pub all-number : (n v : ℕ) → AllBytes (bigEndian n v)
+all-number zero v = tt
+all-number (suc n) v = (mod-lt (v / 2 ^ (n * 8)) (omega arith), all-number n v)
 
 -- whole bytes from the target's first on
 pub penned-whole : (t : List ℕ) (b : List ℕ) (n : ℕ) → AllBytes t → AllBits b → length b ≡ n * 8 → n ≤ length t → penned t 0 b ≡ bytesOf b ++ drop n t

@@ -1,29 +1,33 @@
 -- Stores one behind the other, as a table's fields stand.
 --     pens-append, pens-last, pens-nil, ..       a store, and what is stored behind it
+--     print-beside                               two numbers side by side: one number
 --     fields-..                                 what a value has in a table that begins with a number, a flag, ..
 --     goes-..                                   so that field stored, and then the rest of the table, is the table stored
-use Prim.Native.Nat.{ℕ, _+_, _*_, _-_, _/_, _^_, _<_, _≤_}
+use Prim.Native.Nat.{ℕ, _+_, _*_, _-_, _/_, _%_, _^_, _<_, _≤_}
 use mathlib.Core.Bool.{Bool, true, false}
 use mathlib.Core.List.{List, [], _∷_, _++_, append-assoc}
 use mathlib.Core.Path.{_≡_, refl, ap, ap₂, sym, _∙_}
+use native.Mathlib.Nat.{mod-lt}
 use native.Mathlib.Numerals.{add-one}
 use native.Mathlib.Omega.{arith}
 use lib.Dec.{eqb}
 use lib.ListN.{length, take, drop, getD, length-append}
+use lib.Pow.{pow-pos}
 use borrow.Author.Tests.{le-leb}
 use lib.Seq.{length-take-le, take-suc}
 use Rattle.table.specs.Bits.{bitsOfNum, bitsOf, AllBytes}
 use Rattle.table.specs.Cursor.{place, cursorAt}
 use Rattle.table.specs.Table.{Table, inside, number, bit, flagNumber, reserved, part, remaining, uimsbf, flag, ones}
-use Rattle.table.specs.Writing.{Field, bits, run, rest, walk, contents, print}
+use Rattle.table.specs.Writing as writing
+use Rattle.table.specs.Writing.{Content, Field, bits, run, rest, walk, contents, print}
 use Rattle.table.specs.declared.View.{View}
 use Rattle.table.specs.declared.cursor.Cursor.{Cursor}
-use Rattle.table.proofs.Bits.{AllBits, all-num, all-bits, bits-append, length-bits}
+use Rattle.table.proofs.Bits.{AllBits, all-num, all-bits, bits-append, bits-join, length-bits}
 use Rattle.table.proofs.Lists.{append-nil}
 use Rattle.table.proofs.Steppings.{Settled, place-of}
 use Rattle.table.proofs.Walks.{past, print-bits, walk-inside}
 use Rattle.pen.specs.Pen.{penned, penAfter, Pens, Fits, inked}
-use Rattle.pen.proofs.Penned.{length-penned, penned-append, penned-nil}
+use Rattle.pen.proofs.Penned.{length-penned, penned-append, penned-nil, low-bits}
 
 -- ---- the cursor
 after-fits : (t : List ℕ) (c : Cursor) (n : ℕ) → place c + n ≤ length t * 8 → penAfter t c n ≡ cursorAt (place c + n)
@@ -81,6 +85,12 @@ pub pens-same : (t : List ℕ) (c : Cursor) (b r : List ℕ) (u : List ℕ) (d :
 pens-same t c b r u d e p = rw (← e) p
 
 -- ---- the bits of fields
+-- two numbers side by side are one
+pub print-beside : (a b x y : ℕ) (cs : List Content) → print (writing.number a x ∷ writing.number b y ∷ cs) ≡ print (writing.number (a + b) (x * 2 ^ b + y % 2 ^ b) ∷ cs)
+print-beside a b x y cs =
+    sym (append-assoc (bitsOfNum a x) (bitsOfNum b y) (print cs))
+    ∙ ap (λ (l : List ℕ). l ++ print cs) (ap (λ (l : List ℕ). bitsOfNum a x ++ l) (sym (low-bits b y)) ∙ bits-join a b x (y % 2 ^ b) (mod-lt y (pow-pos b)))
+
 pub ink-append : (lent : List ℕ) (fs gs : List Field) → print (contents lent (fs ++ gs)) ≡ print (contents lent fs) ++ print (contents lent gs)
 ink-append lent [] gs = refl
 ink-append lent (bits w v ∷ fs) gs =

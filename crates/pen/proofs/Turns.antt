@@ -1,4 +1,4 @@
--- What `put_bits` rests on: the arithmetic of one byte, and one turn of its loop.
+-- What `put_across` rests on: the arithmetic of one byte, and one turn of its loop.
 use Prim.Native.Nat.{ℕ, _+_, _*_, _-_, _/_, _%_, _^_, _<_, _≤_}
 use mathlib.Core.List.{List, _++_}
 use mathlib.Core.Path.{_≡_, refl, ap, ap₂, sym, _∙_}
@@ -6,15 +6,15 @@ use native.Mathlib.Nat.{mod-lt, mod-eq-of-lt, div-eq-of-lt, zero-mod}
 use native.Mathlib.Omega.{arith}
 use lib.ListN.{length, getD, set}
 use lib.Pow.{pow-pos, pow-mono, shl-exact, split, shr-shr}
-use Rattle.table.specs.Bits.{bitsOfNum, bitsOf, AllBytes}
+use Rattle.table.specs.Bits.{bitsOfNum, bitsOf, bigEndian, AllBytes}
 use Rattle.table.specs.Lent.{stored}
 use Rattle.table.specs.Cursor.{place, cursorAt}
 use Rattle.table.specs.declared.cursor.Cursor.{Cursor}
-use Rattle.table.proofs.Bits.{all-num, length-num, length-bits, bits-split}
+use Rattle.table.proofs.Bits.{all-num, length-num, length-bits, length-bigEndian, bits-split}
 use Rattle.table.proofs.Reading.{mask}
 use Rattle.table.proofs.Steppings.{Settled}
 use Rattle.pen.specs.Pen.{penned, penAfter, Pens, withBits}
-use Rattle.pen.proofs.Penned.{length-penned, penned-none, penned-append, penned-byte, penned-stored, low-bits, mixed-lt}
+use Rattle.pen.proofs.Penned.{length-penned, penned-none, penned-append, penned-byte, penned-stored, low-bits, mixed-lt, bits-number, all-number}
 use borrow.Author.Tests.{le-leb, lt-leb}
 
 -- no bit stands above the 64th
@@ -101,6 +101,24 @@ pens-stored t c b at a k e h =
     let z : at + length b ≤ length t = omega arith in
     pens-all t c (bitsOf b) (stored t at b) (at + length b) 0 (omega arith)
     (sym (penned-stored t at b a k z) ∙ ap (λ (m : ℕ). penned t m (bitsOf b)) e) (omega arith) (omega arith)
+
+-- a number of n bytes
+pub pens-number : (t : List ℕ) (at n v : ℕ) → AllBytes t → at + n ≤ length t
+    → Pens t (record { byte = at; bit = 0 }) (bitsOfNum (n * 8) v) (stored t at (bigEndian n v)) (record { byte = at + n; bit = 0 })
+pens-number t at n v a h =
+    let l = length-bigEndian n v in
+    let p = pens-stored t (record { byte = at; bit = 0 }) (bigEndian n v) at a (all-number n v) (omega arith) (omega arith) in
+    rw (bits-number n v, l) at p
+
+-- so a field of whole bytes at a byte's first bit is stored
+pub pens-whole : (t : List ℕ) (c : Cursor) (w v : ℕ) (u : List ℕ) (e : Cursor) → c .bit ≡ 0 → w % 8 ≡ 0
+    → Pens t (record { byte = c .byte; bit = 0 }) (bitsOfNum (w / 8 * 8) v) u e → Pens t c (bitsOfNum w v) u e
+pens-whole t c w v u e z m p =
+    let n : w / 8 * 8 ≡ w = omega arith in
+    same _ c _ _ (ap (λ (j : ℕ). record { byte = c .byte; bit = j }) (sym z)) (ap (λ (k : ℕ). bitsOfNum k v) n) p
+  where
+    same : (d c : Cursor) (b r : List ℕ) → d ≡ c → b ≡ r → Pens t d b u e → Pens t c r u e
+    same d c b r f g p = rw (← f, ← g) p
 
 -- a cursor whose bit lies in its byte
 pub settled-is : (q j : ℕ) → j < 8 → (Settled (record { byte = q; bit = j })) × (place (record { byte = q; bit = j }) ≡ q * 8 + j)

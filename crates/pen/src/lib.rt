@@ -7,6 +7,7 @@ ghost use Rattle.pen.specs.Pen.{Fits, Pens, withBits};
 use table::cursor::Cursor;
 use table::numbers::wide;
 use table::store::put_bytes;
+use table::store::put_number;
 
 // What a writer answers: how many bytes it wrote, from the target's first on, or the number of its refusal.
 pub enum Written {
@@ -43,8 +44,8 @@ fn with_bits(b: u8, j: usize, n: usize, x: u64) -> u8
     (high + ((x << k) + low)) as u8
 }
 
-// The low w bits of a number, from a cursor on. What does not fit is not stored, and the cursor stays.
-pub fn put_bits(out: &mut [u8], c: Cursor, w: usize, v: u64) -> Cursor
+// A field at any bit, byte by byte.
+fn put_across(out: &mut [u8], c: Cursor, w: usize, v: u64) -> Cursor
     ensures { λ r. ⌜ Pens (now (out .entry)) c (bitsOfNum w v) (now (out .exit)) r ⌝ }
 {
     let byte = c.byte;
@@ -73,6 +74,35 @@ pub fn put_bits(out: &mut [u8], c: Cursor, w: usize, v: u64) -> Cursor
         byte: at,
         bit: behind,
     }
+}
+
+// A field of n bytes, where a byte begins.
+fn put_whole(out: &mut [u8], at: usize, n: usize, v: u64) -> Cursor
+    ensures { λ r. ⌜ Pens (now (out .entry)) (record { byte = at; bit = 0 }) (bitsOfNum (n * 8) v) (now (out .exit)) r ⌝ }
+{
+    if out.len() < at {
+        return Cursor { byte: at, bit: 0 };
+    }
+    if out.len() - at < n {
+        return Cursor { byte: at, bit: 0 };
+    }
+    put_number(out, at, n, v);
+    Cursor {
+        byte: at + n,
+        bit: 0,
+    }
+}
+
+// The low w bits of a number, from a cursor on. What does not fit is not stored, and the cursor stays.
+pub fn put_bits(out: &mut [u8], c: Cursor, w: usize, v: u64) -> Cursor
+    ensures { λ r. ⌜ Pens (now (out .entry)) c (bitsOfNum w v) (now (out .exit)) r ⌝ }
+{
+    if c.bit == 0 {
+        if w % 8 == 0 {
+            return put_whole(out, c.byte, w / 8, v);
+        }
+    }
+    put_across(out, c, w, v)
 }
 
 // Lent bytes from a cursor on at which no byte begins.

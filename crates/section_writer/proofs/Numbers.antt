@@ -1,5 +1,4 @@
 -- Numbers in whole bytes of a list, written and read by their place.
---     bits-number      the bits of a number's bytes
 --     number-at        a number that stands in a list is read there
 --     number-bytes     and what is read there are the bytes themselves
 --     field-behind     a field of a list, in what is left when bytes are dropped
@@ -10,15 +9,10 @@ use mathlib.Core.Path.{_≡_, refl, ap, sym, _∙_}
 use native.Mathlib.Omega.{arith}
 use lib.ListN.{length, getD, take, drop, length-append, length-drop, take-append-drop}
 use lib.Seq.{drop-drop, take-at, drop-append-le, take-append-le, length-take-le}
+use Rattle.pen.proofs.Penned.{bits-number}
 use Rattle.table.specs.Bits.{num, bitsOfNum, bitsOf, field, bytesN, bytesOf, bigEndian, AllBytes}
-use Rattle.table.proofs.Bits.{all-num, all-bits, length-num, length-bits, length-bigEndian, bits-append, bits-from, bytes-num, bytes-bits}
-use Rattle.table.proofs.Fields.{bits-bytes, field-num, field-bits}
-
-pub bits-number : (n v : ℕ) → bitsOf (bigEndian n v) ≡ bitsOfNum (n * 8) v
-bits-number n v =
-    let l = bitsOfNum (n * 8) v in
-    let k : length l / 8 ≡ n = omega (arith, length-num (n * 8) v) in
-    ap bitsOf (sym (bytes-num n v) ∙ ap (λ (j : ℕ). bytesN j l) (sym k)) ∙ bits-bytes n l (all-num (n * 8) v) (length-num (n * 8) v)
+use Rattle.table.proofs.Bits.{all-bits, length-num, length-bits, length-bigEndian, bits-append, bits-from, bytes-num, bytes-bits}
+use Rattle.table.proofs.Fields.{field-num, field-bits}
 
 pub number-at : (pre r : List ℕ) (q n v : ℕ) → length pre ≡ q → v < 2 ^ (n * 8) → field (bitsOf (pre ++ (bigEndian n v ++ r))) (q * 8) (n * 8) ≡ v
 number-at pre r q n v e h =

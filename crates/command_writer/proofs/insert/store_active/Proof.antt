@@ -6,8 +6,6 @@ use mathlib.Core.Bool.{Bool, true, false}
 use mathlib.Core.List.{List, [], _∷_, _++_}
 use lib.ListN.{length, take}
 use Rattle.command.specs.Insert.{count}
-use Rattle.command.specs.declared.components.ComponentSplice.{ComponentSplice}
-use Rattle.header.specs.declared.time.SpliceTime.the-variants.{Immediate}
 use Rattle.pen.specs.Pen.{Fits}
 use Rattle.pen.proofs.Tables.{Goes, pens-same}
 use Rattle.table.specs.Bits.{bitsOfNum}
@@ -21,29 +19,28 @@ use borrow.Author.Needs.{needs}
 use Rattle.command_writer.proofs.insert.store_active.Statement.{statement}
 use Rattle.command_writer.proofs.insert.store_active.Tie as tie
 
-full : (c : tie.Start) → length (c .args .t4) ≡ 255
+full : (c : tie.Start) → length (c .args .components) ≡ 255
 full c = search needs
 
 -- the flag as the table has it
 now-is : (f : tie.After-store-flags) →
-    let a = f .before .before .before .before .before .args in
-    f .before .before .shape-of .result .now ≡ immediateIn (a .insert) (placesOf (a .insert) (a .t4))
+    let a = f .before .before .before .before .args in
+    f .before .before .shape-of .result .now ≡ immediateIn (a .insert) (placesOf (a .insert) (a .components))
 now-is f =
-    let s = f .before .before .before .before .before in
+    let s = f .before .before .before .before in
     let a = s .args in
-    let d : ComponentSplice = record { «component_tag» = 0; «splice_time» = Immediate } in
-    ap (λ (z : Shape). z .now) (f .before .before .shape-of .ensures .0) ∙ shape-says (a .insert .«splice_mode») (a .t4) d (omega (arith, full s)) .1
+    ap (λ (z : Shape). z .now) (f .before .before .shape-of .ensures .0) ∙ shape-says (a .insert .«splice_mode») (a .components) (omega (arith, full s)) .1
 
 after-flags : (f : tie.After-store-flags) →
-    let a = f .before .before .before .before .before .args in
-    let cs = placesOf (a .insert) (a .t4) in
+    let a = f .before .before .before .before .args in
+    let cs = placesOf (a .insert) (a .components) in
     Goes (a .out .now) (a .c) (ink (activeFields (a .insert) cs)) (f .store-flags .last .0) (f .store-flags .result)
     (ink (modeFields (immediateIn (a .insert) cs) (a .insert .«splice_mode») cs ++ endFields (a .insert)))
 after-flags f =
-    let s = f .before .before .before .before .before in
+    let s = f .before .before .before .before in
     let a = s .args in
     let i = a .insert in
-    let cs = placesOf i (a .t4) in
+    let cs = placesOf i (a .components) in
     let b = immediateIn i cs in
     let p = pens-same _ _ _ (ink (insertFlags i b)) _ _ (ap (λ (x : Bool). ink (insertFlags i x)) (now-is f)) (f .store-flags .ensures) in
     pens-fields (a .out .now) (a .c) _ _ (insertFlags i b) (modeFields b (i .«splice_mode») cs ++ endFields i) (s .pre) p
@@ -51,13 +48,13 @@ after-flags f =
 -- by program, at once
 at-once : (c : tie.Then1) →
     let f = c .before .before .before .before .before .before in
-    let a = f .before .before .before .before .before .args in
-    Goes (a .out .now) (a .c) (ink (activeFields (a .insert) (placesOf (a .insert) (a .t4)))) (f .store-flags .last .0) (f .store-flags .result) (ink (endFields (a .insert)))
+    let a = f .before .before .before .before .args in
+    Goes (a .out .now) (a .c) (ink (activeFields (a .insert) (placesOf (a .insert) (a .components)))) (f .store-flags .last .0) (f .store-flags .result) (ink (endFields (a .insert)))
 at-once c =
     let f = c .before .before .before .before .before .before in
-    let a = f .before .before .before .before .before .args in
+    let a = f .before .before .before .before .args in
     let i = a .insert in
-    let cs = placesOf i (a .t4) in
+    let cs = placesOf i (a .components) in
     let b = immediateIn i cs in
     let e : modeFields b (i .«splice_mode») cs ≡ [] = mode-now b (i .«splice_mode») cs _ (c .before .before .mode .given .1) (sym (now-is f) ∙ c .if1 .taken) in
     goes-same (a .out .now) (a .c) _ _ _ _ (endFields i) (ap (λ (fs : List Field). fs ++ endFields i) e) (after-flags f)
@@ -65,14 +62,14 @@ at-once c =
 -- by program, at a time
 timed : (c : tie.Else1) →
     let f = c .before .before .before .before .before .before in
-    let a = f .before .before .before .before .before .args in
-    Goes (a .out .now) (a .c) (ink (activeFields (a .insert) (placesOf (a .insert) (a .t4)))) (f .store-flags .last .0) (f .store-flags .result)
+    let a = f .before .before .before .before .args in
+    Goes (a .out .now) (a .c) (ink (activeFields (a .insert) (placesOf (a .insert) (a .components)))) (f .store-flags .last .0) (f .store-flags .result)
     (ink (timeFields (c .before .before .mode .given .0 .0) ++ endFields (a .insert)))
 timed c =
     let f = c .before .before .before .before .before .before in
-    let a = f .before .before .before .before .before .args in
+    let a = f .before .before .before .before .args in
     let i = a .insert in
-    let cs = placesOf i (a .t4) in
+    let cs = placesOf i (a .components) in
     let b = immediateIn i cs in
     let e = mode-timed b (i .«splice_mode») cs _ (c .before .before .mode .given .1) (sym (now-is f) ∙ c .if1 .left) in
     goes-same (a .out .now) (a .c) _ _ _ _ _ (ap (λ (fs : List Field). fs ++ endFields i) e) (after-flags f)
@@ -80,25 +77,25 @@ timed c =
 after-time : (p : tie.After-store-time) →
     let e = p .before .before in
     let f = e .before .before .before .before .before .before in
-    let i = f .before .before .before .before .before .args .insert in
+    let i = f .before .before .before .before .args .insert in
     Goes (f .store-flags .last .0) (f .store-flags .result) (ink (timeFields (e .before .before .mode .given .0 .0) ++ endFields i)) (p .store-time .last .0) (p .store-time .result) (ink (endFields i))
 after-time p =
     let e = p .before .before in
-    let i = e .before .before .before .before .before .before .before .before .before .before .before .args .insert in
+    let i = e .before .before .before .before .before .before .before .before .before .before .args .insert in
     pens-fields _ _ _ _ (timeFields (e .before .before .mode .given .0 .0)) (endFields i) (timed e .room) (p .store-time .ensures)
 
 -- by components
 counted : (c : tie.After-known-told2) →
     let f = c .before .before .before .before .before in
-    let a = f .before .before .before .before .before .args in
-    let cs = placesOf (a .insert) (a .t4) in
+    let a = f .before .before .before .before .args in
+    let cs = placesOf (a .insert) (a .components) in
     Goes (a .out .now) (a .c) (ink (activeFields (a .insert) cs)) (f .store-flags .last .0) (f .store-flags .result)
     (ink (bits 8 (c .before .mode2 .given .0 .0) ∷ (listFields (immediateIn (a .insert) cs) cs ++ endFields (a .insert))))
 counted c =
     let f = c .before .before .before .before .before in
-    let a = f .before .before .before .before .before .args in
+    let a = f .before .before .before .before .args in
     let i = a .insert in
-    let cs = placesOf i (a .t4) in
+    let cs = placesOf i (a .components) in
     let b = immediateIn i cs in
     let e = mode-list b (i .«splice_mode») cs _ (c .before .mode2 .given .1) in
     goes-same (a .out .now) (a .c) _ _ _ _ _ (ap (λ (fs : List Field). fs ++ endFields i) e) (after-flags f)
@@ -106,43 +103,40 @@ counted c =
 after-count : (p : tie.After-put-bits) →
     let k = p .before .before .before in
     let f = k .before .before .before .before .before in
-    let a = f .before .before .before .before .before .args in
-    let cs = placesOf (a .insert) (a .t4) in
+    let a = f .before .before .before .before .args in
+    let cs = placesOf (a .insert) (a .components) in
     let l = listFields (immediateIn (a .insert) cs) cs ++ endFields (a .insert) in
     Goes (f .store-flags .last .0) (f .store-flags .result) (ink (bits 8 (k .before .mode2 .given .0 .0) ∷ l)) (p .put-bits .last .0) (p .put-bits .result) (ink l)
 after-count p =
     let k = p .before .before .before in
-    let a = k .before .before .before .before .before .before .before .before .before .before .args in
-    let cs = placesOf (a .insert) (a .t4) in
+    let a = k .before .before .before .before .before .before .before .before .before .args in
+    let cs = placesOf (a .insert) (a .components) in
     pens-next _ _ _ _ 8 (k .before .mode2 .given .0 .0) _ (listFields (immediateIn (a .insert) cs) cs ++ endFields (a .insert)) (p .before .wide .ensures .0) (counted k .room) (p .put-bits .ensures)
 
 -- the components that are stored are those that the mode counts
 same : (k : tie.After-known-told2) →
     let f = k .before .before .before .before .before in
-    let a = f .before .before .before .before .before .args in
-    let cs = placesOf (a .insert) (a .t4) in
-    listFields (f .before .before .shape-of .result .now) (take (k .before .mode2 .given .0 .0) (a .t4)) ≡ listFields (immediateIn (a .insert) cs) cs
+    let a = f .before .before .before .before .args in
+    let cs = placesOf (a .insert) (a .components) in
+    listFields (f .before .before .shape-of .result .now) (take (k .before .mode2 .given .0 .0) (a .components)) ≡ listFields (immediateIn (a .insert) cs) cs
 same k =
     let f = k .before .before .before .before .before in
-    let a = f .before .before .before .before .before .args in
-    ap₂ (λ (b : Bool) (n : ℕ). listFields b (take n (a .t4))) (now-is f) (sym (ap count (k .before .mode2 .given .1)))
+    let a = f .before .before .before .before .args in
+    ap₂ (λ (b : Bool) (n : ℕ). listFields b (take n (a .components))) (now-is f) (sym (ap count (k .before .mode2 .given .1)))
 
 after-list : (r : tie.After-store-components) →
     let p = r .before .before .before .before in
     let k = p .before .before .before in
-    let a = k .before .before .before .before .before .before .before .before .before .before .args in
-    let cs = placesOf (a .insert) (a .t4) in
+    let a = k .before .before .before .before .before .before .before .before .before .args in
+    let cs = placesOf (a .insert) (a .components) in
     Goes (p .put-bits .last .0) (p .put-bits .result) (ink (listFields (immediateIn (a .insert) cs) cs ++ endFields (a .insert))) (r .store-components .last .0) (r .store-components .result) (ink (endFields (a .insert)))
 after-list r =
     let p = r .before .before .before .before in
     let k = p .before .before .before in
-    let a = k .before .before .before .before .before .before .before .before .before .before .args in
-    let cs = placesOf (a .insert) (a .t4) in
+    let a = k .before .before .before .before .before .before .before .before .before .args in
+    let cs = placesOf (a .insert) (a .components) in
     let b = immediateIn (a .insert) cs in
     pens-fields _ _ _ _ (listFields b cs) (endFields (a .insert)) (after-count p .room) (pens-same _ _ _ (ink (listFields b cs)) _ _ (ap ink (same k)) (r .store-components .ensures))
-
-array-copy-out-place : tie.Need-array-copy-out-place
-array-copy-out-place c = search needs
 
 shape-of-requires : tie.Need-shape-of-requires
 shape-of-requires c κs = search needs
@@ -165,7 +159,7 @@ returns c = let q = c .before .before in at-once (q .before .before) .whole _ _ 
 store-time-requires : tie.Need-store-time-requires
 store-time-requires c κs =
     let e = c .before in
-    let i = e .before .before .before .before .before .before .before .before .before .before .before .args .insert in
+    let i = e .before .before .before .before .before .before .before .before .before .before .args .insert in
     let f = e .before .before .before .before .before .before in
     fits-front (f .store-flags .last .0) (f .store-flags .result) (timeFields (e .before .before .mode .given .0 .0)) (endFields i) (timed e .room)
 
@@ -188,9 +182,9 @@ store-components-requires : tie.Need-store-components-requires
 store-components-requires c κs =
     let p = c .before .before .before in
     let k = p .before .before .before in
-    let s = k .before .before .before .before .before .before .before .before .before .before in
+    let s = k .before .before .before .before .before .before .before .before .before in
     let a = s .args in
-    let cs = placesOf (a .insert) (a .t4) in
+    let cs = placesOf (a .insert) (a .components) in
     let y = p .before .wide .result in
     let most : k .before .mode2 .given .0 .0 ≤ 255 = omega arith in
     let f = k .before .before .before .before .before in
@@ -229,7 +223,6 @@ pub store-active-spec : {M : Type 1} → statement M
 store-active-spec =
     tie.close
     (tie.spec
-    array-copy-out-place
     shape-of-requires
     store-flags-requires
     enum-known-mode

@@ -1,11 +1,11 @@
--- `command_writer::insert::store_break`: a flag, reserved bits and the duration.
-use mathlib.Core.Path.{_≡_, refl, ap, sym, _∙_}
+-- `command_writer::insert::store_break`: a flag, reserved bits and the duration are one number.
+use Prim.Native.Nat.{_+_, _*_, _%_}
+use mathlib.Core.Path.{_≡_, ap, _∙_}
 use native.Mathlib.Omega.{arith}
-use mathlib.Core.List.{[], _∷_}
-use Rattle.table.specs.Writing.{bits}
-use Rattle.command_writer.proofs.Storing.{pens-next, pens-end, pens-length}
+use Rattle.command.specs.declared.insert.Break.{Break}
 use Rattle.table.specs.Table.{flagNumber}
-use Rattle.command_writer.specs.Fields.{automatic}
+use Rattle.command_writer.specs.Fields.{breakFields}
+use Rattle.command_writer.proofs.Storing.{pens-all, break-bits}
 use borrow.Author.Needs.{needs}
 use Rattle.command_writer.proofs.insert.store_break.Statement.{statement}
 use Rattle.command_writer.proofs.insert.store_break.Tie as tie
@@ -16,29 +16,29 @@ is-automatic-requires c κs = search needs
 flag-number-requires : tie.Need-flag-number-requires
 flag-number-requires c κs = search needs
 
+mul-put-bits : tie.Need-mul-put-bits
+mul-put-bits c = search needs
+
+add-put-bits : tie.Need-add-put-bits
+add-put-bits c = search needs
+
+add-put-bits-2 : tie.Need-add-put-bits-2
+add-put-bits-2 c = search needs
+
 put-bits-requires : tie.Need-put-bits-requires
 put-bits-requires c κs = search needs
-
-put-bits-requires-2 : tie.Need-put-bits-requires-2
-put-bits-requires-2 c κs = search needs
-
-put-bits-requires-3 : tie.Need-put-bits-requires-3
-put-bits-requires-3 c κs = search needs
 
 same-length : tie.Need-same-length
 same-length c = search needs
 
 returns : tie.Need-returns
 returns c =
-    let p₃ = c .before .before in
-    let p₂ = p₃ .before .before .before .before in
-    let p₁ = p₂ .before .before .before .before in
-    let s = p₁ .before .before .before .before .before in
-    let a = s .args in
-    let e = p₁ .before .flag-number .ensures ∙ ap flagNumber (p₁ .before .before .is-automatic .ensures) in
-    let g = pens-next (a .out .now) (a .c) _ _ 1 (flagNumber (automatic (a .d .«return_mode»))) _ (bits 6 63 ∷ bits 33 (a .d .duration) ∷ []) e (s .pre) (p₁ .put-bits .ensures) in
-    let h = pens-next _ _ _ _ 6 63 _ (bits 33 (a .d .duration) ∷ []) refl (g .room) (p₂ .put-bits2 .ensures) in
-    g .whole _ _ (h .whole _ _ (pens-end _ _ _ _ 33 (a .d .duration) _ refl (p₃ .put-bits3 .ensures)))
+    let p = c .before .before in
+    let f = p .before .before in
+    let a = f .before .before .before .args in
+    let e = f .flag-number .ensures .0 ∙ ap flagNumber (f .before .is-automatic .ensures) in
+    let y = f .flag-number .result * 0x8000000000 + 0x7E00000000 + a .d .duration % 0x200000000 in
+    pens-all (a .out .now) (a .c) _ _ (breakFields (Break.Lasts (a .d))) 40 y (break-bits (a .d) y (omega (arith, e))) (p .put-bits .ensures)
 
 pub store-break-spec : {M : Type 1} → statement M
 store-break-spec =
@@ -46,8 +46,9 @@ store-break-spec =
     (tie.spec
     is-automatic-requires
     flag-number-requires
+    mul-put-bits
+    add-put-bits
+    add-put-bits-2
     put-bits-requires
-    put-bits-requires-2
-    put-bits-requires-3
     same-length
     returns)

@@ -1,42 +1,14 @@
--- `command_writer::insert::store_flags`: four flags, then reserved bits.
-use mathlib.Core.Path.{_≡_, refl, ap, sym, _∙_}
+-- `command_writer::insert::store_flags`: four flags and reserved bits are one byte.
+use Prim.Native.Nat.{_+_, _*_}
+use mathlib.Core.Path.{_≡_, ap, _∙_}
 use native.Mathlib.Omega.{arith}
-use mathlib.Core.List.{[], _∷_}
-use Rattle.table.specs.Writing.{bits}
-use Rattle.command_writer.proofs.Storing.{pens-next, pens-end, pens-length}
 use Rattle.command.specs.Insert.{outOfNetwork, byProgram, lasting}
-use Rattle.pen.specs.Pen.{Pens}
 use Rattle.table.specs.Table.{flagNumber}
-use Rattle.command_writer.specs.Fields.{ink, insertFlags}
+use Rattle.command_writer.specs.Fields.{insertFlags}
+use Rattle.command_writer.proofs.Storing.{pens-all, flags-bits}
 use borrow.Author.Needs.{needs}
 use Rattle.command_writer.proofs.insert.store_flags.Statement.{statement}
 use Rattle.command_writer.proofs.insert.store_flags.Tie as tie
-
-all : (c : tie.After-slice-known6) →
-    let p₅ = c .before .before in
-    let a = p₅ .before .before .before .before .before .before .before .before .before .before .before .before .before .before .before .before .before .before .before .before .before .before .before .before .before .before .args in
-    Pens (a .out .now) (a .c) (ink (insertFlags (a .insert) (a .at-once))) (p₅ .put-bits5 .last .0) (p₅ .put-bits5 .result)
-all c =
-    let p₅ = c .before .before in
-    let p₄ = p₅ .before .before .before .before in
-    let p₃ = p₄ .before .before .before .before .before in
-    let p₂ = p₃ .before .before .before .before .before .before in
-    let p₁ = p₂ .before .before .before .before .before .before in
-    let s = p₁ .before .before .before .before .before in
-    let a = s .args in
-    let i = a .insert in
-    let f₁ = flagNumber (outOfNetwork (i .«network_indicator»)) in
-    let f₂ = flagNumber (byProgram (i .«splice_mode»)) in
-    let f₃ = flagNumber (lasting (i .duration)) in
-    let f₄ = flagNumber (a .at-once) in
-    let e₁ = p₁ .before .flag-number .ensures ∙ ap flagNumber (p₁ .before .before .is-out .ensures) in
-    let e₂ = p₂ .before .flag-number2 .ensures ∙ ap flagNumber (p₂ .before .before .is-program .ensures) in
-    let e₃ = p₃ .before .flag-number3 .ensures ∙ ap flagNumber (p₃ .before .before .lasts .ensures) in
-    let g₁ = pens-next (a .out .now) (a .c) _ _ 1 f₁ _ (bits 1 f₂ ∷ bits 1 f₃ ∷ bits 1 f₄ ∷ bits 4 15 ∷ []) e₁ (s .pre) (p₁ .put-bits .ensures) in
-    let g₂ = pens-next _ _ _ _ 1 f₂ _ (bits 1 f₃ ∷ bits 1 f₄ ∷ bits 4 15 ∷ []) e₂ (g₁ .room) (p₂ .put-bits2 .ensures) in
-    let g₃ = pens-next _ _ _ _ 1 f₃ _ (bits 1 f₄ ∷ bits 4 15 ∷ []) e₃ (g₂ .room) (p₃ .put-bits3 .ensures) in
-    let g₄ = pens-next _ _ _ _ 1 f₄ _ (bits 4 15 ∷ []) (p₄ .before .flag-number4 .ensures) (g₃ .room) (p₄ .put-bits4 .ensures) in
-    g₁ .whole _ _ (g₂ .whole _ _ (g₃ .whole _ _ (g₄ .whole _ _ (pens-end _ _ _ _ 4 15 _ refl (p₅ .put-bits5 .ensures)))))
 
 is-out-requires : tie.Need-is-out-requires
 is-out-requires c κs = search needs
@@ -44,17 +16,11 @@ is-out-requires c κs = search needs
 flag-number-requires : tie.Need-flag-number-requires
 flag-number-requires c κs = search needs
 
-put-bits-requires : tie.Need-put-bits-requires
-put-bits-requires c κs = search needs
-
 is-program-requires : tie.Need-is-program-requires
 is-program-requires c κs = search needs
 
 flag-number-requires-2 : tie.Need-flag-number-requires-2
 flag-number-requires-2 c κs = search needs
-
-put-bits-requires-2 : tie.Need-put-bits-requires-2
-put-bits-requires-2 c κs = search needs
 
 lasts-requires : tie.Need-lasts-requires
 lasts-requires c κs = search needs
@@ -62,26 +28,55 @@ lasts-requires c κs = search needs
 flag-number-requires-3 : tie.Need-flag-number-requires-3
 flag-number-requires-3 c κs = search needs
 
-put-bits-requires-3 : tie.Need-put-bits-requires-3
-put-bits-requires-3 c κs = search needs
-
 flag-number-requires-4 : tie.Need-flag-number-requires-4
 flag-number-requires-4 c κs = search needs
 
-put-bits-requires-4 : tie.Need-put-bits-requires-4
-put-bits-requires-4 c κs = search needs
+mul-put-bits : tie.Need-mul-put-bits
+mul-put-bits c = search needs
 
-put-bits-requires-5 : tie.Need-put-bits-requires-5
-put-bits-requires-5 c κs = search needs
+mul-put-bits-2 : tie.Need-mul-put-bits-2
+mul-put-bits-2 c = search needs
+
+add-put-bits : tie.Need-add-put-bits
+add-put-bits c = search needs
+
+mul-put-bits-3 : tie.Need-mul-put-bits-3
+mul-put-bits-3 c = search needs
+
+add-put-bits-2 : tie.Need-add-put-bits-2
+add-put-bits-2 c = search needs
+
+mul-put-bits-4 : tie.Need-mul-put-bits-4
+mul-put-bits-4 c = search needs
+
+add-put-bits-3 : tie.Need-add-put-bits-3
+add-put-bits-3 c = search needs
+
+add-put-bits-4 : tie.Need-add-put-bits-4
+add-put-bits-4 c = search needs
+
+put-bits-requires : tie.Need-put-bits-requires
+put-bits-requires c κs = search needs
 
 same-length : tie.Need-same-length
-same-length c =
-    let p₅ = c .before .before in
-    let a = p₅ .before .before .before .before .before .before .before .before .before .before .before .before .before .before .before .before .before .before .before .before .before .before .before .before .before .before .args in
-    pens-length (a .out .now) (a .c) _ _ _ (all c)
+same-length c = search needs
 
 returns : tie.Need-returns
-returns c = all c
+returns c =
+    let p = c .before .before in
+    let f₄ = p .before .before in
+    let f₃ = f₄ .before in
+    let f₂ = f₃ .before .before in
+    let f₁ = f₂ .before .before in
+    let a = f₁ .before .before .before .args in
+    let i = a .insert in
+    let e₁ = f₁ .flag-number .ensures .0 ∙ ap flagNumber (f₁ .before .is-out .ensures) in
+    let e₂ = f₂ .flag-number2 .ensures .0 ∙ ap flagNumber (f₂ .before .is-program .ensures) in
+    let e₃ = f₃ .flag-number3 .ensures .0 ∙ ap flagNumber (f₃ .before .lasts .ensures) in
+    let e₄ = f₄ .flag-number4 .ensures .0 in
+    let y = f₁ .flag-number .result * 128 + f₂ .flag-number2 .result * 64 + f₃ .flag-number3 .result * 32 + f₄ .flag-number4 .result * 16 + 15 in
+    pens-all (a .out .now) (a .c) _ _ (insertFlags i (a .at-once)) 8 y
+    (flags-bits (outOfNetwork (i .«network_indicator»)) (byProgram (i .«splice_mode»)) (lasting (i .duration)) (a .at-once) y (omega (arith, e₁, e₂, e₃, e₄))) (p .put-bits .ensures)
 
 pub store-flags-spec : {M : Type 1} → statement M
 store-flags-spec =
@@ -89,15 +84,19 @@ store-flags-spec =
     (tie.spec
     is-out-requires
     flag-number-requires
-    put-bits-requires
     is-program-requires
     flag-number-requires-2
-    put-bits-requires-2
     lasts-requires
     flag-number-requires-3
-    put-bits-requires-3
     flag-number-requires-4
-    put-bits-requires-4
-    put-bits-requires-5
+    mul-put-bits
+    mul-put-bits-2
+    add-put-bits
+    mul-put-bits-3
+    add-put-bits-2
+    mul-put-bits-4
+    add-put-bits-3
+    add-put-bits-4
+    put-bits-requires
     same-length
     returns)

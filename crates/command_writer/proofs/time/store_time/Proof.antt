@@ -33,21 +33,21 @@ same-length-2 c = search needs
 returns-2 : tie.Need-returns-2
 returns-2 c = let p = c .before .before in let s = p .before .before .before .before .before in time-now (s .args .out .now) (s .args .c) _ _ (s .args .time) (p .before .before .enum-told2 .given .1) (p .put-bits2 .ensures)
 
+add-put-bits : tie.Need-add-put-bits
+add-put-bits c = search needs
+
 put-bits-requires-3 : tie.Need-put-bits-requires-3
 put-bits-requires-3 c κs = search needs
-
-put-bits-requires-4 : tie.Need-put-bits-requires-4
-put-bits-requires-4 c κs = search needs
 
 same-length-3 : tie.Need-same-length-3
 same-length-3 c = search needs
 
 returns-3 : tie.Need-returns-3
 returns-3 c =
-    let q = c .before .before in
-    let p = q .before .before .before .before in
-    let s = p .before .before .before .before .before .before in
-    time-at (s .args .out .now) (s .args .c) _ _ (s .args .time) _ _ _ (p .before .before .before .time .given .1) (s .pre) (p .put-bits3 .ensures) (q .put-bits4 .ensures)
+    let p = c .before .before in
+    let t = p .before .before .before in
+    let s = t .before .before .before in
+    time-at (s .args .out .now) (s .args .c) _ _ (s .args .time) _ (t .time .given .1) (p .put-bits3 .ensures)
 
 pub store-time-spec : {M : Type 1} → statement M
 store-time-spec =
@@ -62,7 +62,7 @@ store-time-spec =
     put-bits-requires-2
     same-length-2
     returns-2
+    add-put-bits
     put-bits-requires-3
-    put-bits-requires-4
     same-length-3
     returns-3)
