@@ -1,7 +1,8 @@
 -- A section's loop, written of its items. Assumes nothing.
 --     loop-written      of a canonical section's loop, the items written and joined are the loop
 --     keeps-upids       each of its items keeps its UPID
---     one-of-items      two canonical sections with the same items
+--     one-loop          two canonical sections with the same items have equal loops
+--     one-of-items      and are equal, if they say the same around them
 --     items-read        descriptors that are written, joined and put in a section are its items
 use Prim.Native.Nat.{ℕ, _+_, _≤_}
 use mathlib.Core.Bool.{Bool, true, false}
@@ -107,13 +108,17 @@ keeps-upids s x a e c =
 
 -- ---- equal readings
 
-pub one-of-items : (s r : List ℕ) (x y : Section) → AllBytes s → AllBytes r → sectionOf s ≡ SectionRead.Is x → sectionOf r ≡ SectionRead.Is y → canonicalSection s ≡ true → canonicalSection r ≡ true
-    → SameAround s r → SameItems (loopIn s x) (loopIn r y) (itemsOf (loopIn s x)) (itemsOf (loopIn r y)) → s ≡ r
-one-of-items s r x y a b e f c d around items =
+pub one-loop : (s r : List ℕ) (x y : Section) → AllBytes s → AllBytes r → sectionOf s ≡ SectionRead.Is x → sectionOf r ≡ SectionRead.Is y → canonicalSection s ≡ true → canonicalSection r ≡ true
+    → SameItems (loopIn s x) (loopIn r y) (itemsOf (loopIn s x)) (itemsOf (loopIn r y)) → loopBytes s ≡ loopBytes r
+one-loop s r x y a b e f c d items =
     let l : loopIn s x ≡ loopIn r y =
     canonical-loops-of-the-same-items-are-one (loopIn s x) (loopIn r y) (all-viewed s (x .descriptors) a) (all-viewed r (y .descriptors) b) (loop-short s x e) (loop-short r y f)
     (here-canonical s x e a c) (here-canonical r y f b d) items in
-    no-other-section s r x y a b e f c d around (sym (loop-here s x e) ∙ l ∙ loop-here r y f)
+    sym (loop-here s x e) ∙ l ∙ loop-here r y f
+
+pub one-of-items : (s r : List ℕ) (x y : Section) → AllBytes s → AllBytes r → sectionOf s ≡ SectionRead.Is x → sectionOf r ≡ SectionRead.Is y → canonicalSection s ≡ true → canonicalSection r ≡ true
+    → SameAround s r → SameItems (loopIn s x) (loopIn r y) (itemsOf (loopIn s x)) (itemsOf (loopIn r y)) → s ≡ r
+one-of-items s r x y a b e f c d around items = no-other-section s r x y a b e f c d around (one-loop s r x y a b e f c d items)
 
 -- ---- written of descriptors, then read
 
