@@ -1,6 +1,7 @@
 -- Two canonical sections of which the readers answer the same are equal. Assumes nothing.
 --     payload-of     a command's payload is a function of what is compared of the command
 --     one-answer     so the sections have equal parts
+--     own-answer     a canonical section has the same reading as itself
 use Prim.Native.Nat.{ℕ, _+_}
 use mathlib.Core.Bool.{true}
 use mathlib.Core.List.{List, [], _++_}
@@ -13,6 +14,10 @@ use Rattle.command.specs.declared.SpliceCommand.{SpliceCommand}
 use Rattle.command.specs.declared.components.ComponentSplice.{ComponentSplice}
 use Rattle.command_writer.specs.Made.{insertMade, commandMade}
 use Rattle.header.specs.Time.{spliceTime, notImmediate}
+use Rattle.items.specs.Items.{Listed, listed}
+use Rattle.loop_laws.proofs.Loops.{back-at}
+use Rattle.loop_laws.proofs.Pieces.{At}
+use Rattle.loop_laws.specs.Loops.{SameItem, SameItems, done, pair}
 use Rattle.pen.specs.Written.{bytesIn}
 use Rattle.section.specs.Section.{commandType, commandBytes, privateView, sectionOf}
 use Rattle.section.specs.Whole.{besideCommand, besideSection, wholeSectionOf}
@@ -27,8 +32,10 @@ use Rattle.table.specs.Bits.{bitsOfNum, bitsOf, bytesOf, AllBytes}
 use Rattle.table.specs.Lent.{viewed}
 use Rattle.table.specs.Table.{number, part, remaining}
 use Rattle.table.specs.Writing.{walk, made, make}
+use Rattle.upid.specs.Cover.{All, none, more}
+use Rattle.theorems.specs.Identifiers.{loopIn}
 use Rattle.theorems.specs.Same.{viewless, countBeside, SameSections}
-use Rattle.theorems.proofs.ItemsWritten.{one-loop}
+use Rattle.theorems.proofs.ItemsWritten.{each-item, one-loop}
 use Rattle.theorems.proofs.WrittenBack.{payload-back}
 
 -- ---- a command's type and payload, of the command without its view, its components and the bytes of its view
@@ -90,3 +97,22 @@ one-answer s r x y a b e f c d same =
     sym (payload-back s x a e c .0) ∙ kind-of (x .command) ∙ ap kindOf (same .commands) ∙ sym (kind-of (y .command)) ∙ payload-back r y b f d .0 in
     let payloads : commandBytes s ≡ commandBytes r = payload-in s x a e c ∙ same-payload (same .commands) (same .components) (same .bytes) ∙ sym (payload-in r y b f d) in
     one-section s r x y a b e f (frame-canonical s c) (frame-canonical r d) (same .headers) kinds payloads (one-loop s r x y a b e f c d (same .items))
+
+-- ---- its own reading
+own-item : (loop : List ℕ) (offset : ℕ) (t : List ℕ) → At loop offset t → AllBytes t → SameItem loop loop (listed loop offset) (listed loop offset)
+own-item loop offset t at all =
+    let b = back-at loop offset t at all in
+    record {
+      this = b .read;
+      that = b .read;
+      first = b .is;
+      second = b .is;
+      same = record { values = refl; bytes = refl; identifiers = refl; components = refl; eidrs = refl };
+    }
+
+own-items : (loop : List ℕ) {xs : List Listed} → All (λ (y : Listed). SameItem loop loop y y) xs → SameItems loop loop xs xs
+own-items loop none = done
+own-items loop (more h hs) = pair h (own-items loop hs)
+
+pub own-answer : (s : List ℕ) (x : Section) → AllBytes s → sectionOf s ≡ SectionRead.Is x → canonicalSection s ≡ true → SameSections s x s x
+own-answer s x a e c = record { headers = refl; commands = refl; components = refl; bytes = refl; items = own-items (loopIn s x) (each-item s x a e c (own-item (loopIn s x))) }

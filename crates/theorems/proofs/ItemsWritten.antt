@@ -19,7 +19,7 @@ use Rattle.descriptor.specs.declared.whole.Beside.{Beside}
 use Rattle.descriptor_form.specs.Canonical.{canonicalLoop}
 use Rattle.descriptor_laws.proofs.Alike.{SameView, viewIn, detailView}
 use Rattle.header.specs.declared.header.SpliceInfoHeader.{SpliceInfoHeader}
-use Rattle.items.specs.Items.{listed, itemsOf}
+use Rattle.items.specs.Items.{Listed, listed, itemsOf}
 use Rattle.items.specs.Place.{movedDetail, movedDescriptor}
 use Rattle.items.specs.declared.Item.{Item}
 use Rattle.loop_laws.proofs.Loops.{all-pieces, back-at, beside-is, written-at, every-item}
@@ -100,11 +100,16 @@ keeps-upid loop offset t a all =
       eidr = sym (ap (λ (c : Beside). c .eidr) (beside-is loop offset t a));
     }
 
-pub keeps-upids : (s : List ℕ) (x : Section) → AllBytes s → sectionOf s ≡ SectionRead.Is x → canonicalSection s ≡ true → All (KeepsUpid (loopIn s x)) (itemsOf (loopIn s x))
-keeps-upids s x a e c =
+-- what holds of each item where a canonical descriptor stands holds of all of a canonical section
+pub each-item : {P : Listed → Type 0} (s : List ℕ) (x : Section) → AllBytes s → sectionOf s ≡ SectionRead.Is x → canonicalSection s ≡ true
+    → ((o : ℕ) (t : List ℕ) → At (loopIn s x) o t → AllBytes t → P (listed (loopIn s x) o)) → All P (itemsOf (loopIn s x))
+each-item s x a e c f =
     let loop : List ℕ = loopIn s x in
     let t = cut loop (here-canonical s x e a c) in
-    every-item loop (loop-short s x e) (items-cut loop (loop-short s x e) (t .1) (t .2)) (all-pieces (t .0) (subst AllBytes (sym (t .2)) (all-viewed s (x .descriptors) a))) (keeps-upid loop)
+    every-item loop (loop-short s x e) (items-cut loop (loop-short s x e) (t .1) (t .2)) (all-pieces (t .0) (subst AllBytes (sym (t .2)) (all-viewed s (x .descriptors) a))) f
+
+pub keeps-upids : (s : List ℕ) (x : Section) → AllBytes s → sectionOf s ≡ SectionRead.Is x → canonicalSection s ≡ true → All (KeepsUpid (loopIn s x)) (itemsOf (loopIn s x))
+keeps-upids s x a e c = each-item s x a e c (keeps-upid (loopIn s x))
 
 -- ---- equal readings
 

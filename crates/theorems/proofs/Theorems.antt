@@ -163,3 +163,7 @@ canonical-sections-of-the-same-items-are-one = items-written.one-of-items
 pub canonical-sections-of-equal-answers-are-one : (s r : List ℕ) (x y : Section) → AllBytes s → AllBytes r → sectionOf s ≡ SectionRead.Is x → sectionOf r ≡ SectionRead.Is y
     → canonicalSection s ≡ true → canonicalSection r ≡ true → SameSections s x r y → s ≡ r
 canonical-sections-of-equal-answers-are-one = answers.one-answer
+
+-- and each has the answers of itself
+pub a-canonical-section-has-its-own-answers : (s : List ℕ) (x : Section) → AllBytes s → sectionOf s ≡ SectionRead.Is x → canonicalSection s ≡ true → SameSections s x s x
+a-canonical-section-has-its-own-answers = answers.own-answer
