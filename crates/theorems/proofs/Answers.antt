@@ -39,12 +39,12 @@ use Rattle.theorems.proofs.ItemsWritten.{each-item, one-loop}
 use Rattle.theorems.proofs.WrittenBack.{payload-back}
 
 -- ---- a command's type and payload, of the command without its view, its components and the bytes of its view
-payloadOf : SpliceCommand → List ComponentSplice → List ℕ → List ℕ
-payloadOf SpliceCommand.SpliceNull components bytes = []
-payloadOf (SpliceCommand.SpliceInsert i) components bytes = bytesIn (insertMade (record { value = i; components = components }))
-payloadOf (SpliceCommand.TimeSignal t) components bytes = bytesIn (make spliceTime (notImmediate t) [] t)
-payloadOf SpliceCommand.BandwidthReservation components bytes = []
-payloadOf (SpliceCommand.PrivateCommand p) components bytes = bytesOf (bitsOfNum 32 (p .identifier) ++ (bitsOf bytes ++ []))
+commandPayload : SpliceCommand → List ComponentSplice → List ℕ → List ℕ
+commandPayload SpliceCommand.SpliceNull components bytes = []
+commandPayload (SpliceCommand.SpliceInsert i) components bytes = bytesIn (insertMade (record { value = i; components = components }))
+commandPayload (SpliceCommand.TimeSignal t) components bytes = bytesIn (make spliceTime (notImmediate t) [] t)
+commandPayload SpliceCommand.BandwidthReservation components bytes = []
+commandPayload (SpliceCommand.PrivateCommand p) components bytes = bytesOf (bitsOfNum 32 (p .identifier) ++ (bitsOf bytes ++ []))
 
 kind-of : (c : SpliceCommand) → kindOf c ≡ kindOf (viewless c)
 unfolding kindOf
@@ -64,8 +64,8 @@ private-of lent p b e =
     rw i (w .bytes)
 
 payload-of : (c : SpliceCommand) (p s b : List ℕ) → commandMade c (componentsOf p) s ≡ made b
-    → b ≡ payloadOf (viewless c) (take (countBeside c) (besideCommand c p)) (viewed s (privateView c))
-unfolding commandMade bytesIn payloadOf
+    → b ≡ commandPayload (viewless c) (take (countBeside c) (besideCommand c p)) (viewed s (privateView c))
+unfolding commandMade bytesIn commandPayload
 payload-of SpliceCommand.SpliceNull p s b e = ap bytesIn (sym e)
 payload-of (SpliceCommand.SpliceInsert i) p s b e = ap bytesIn (sym e)
 payload-of (SpliceCommand.TimeSignal t) p s b e = ap bytesIn (sym e)
@@ -78,12 +78,12 @@ unfolding wholeSectionOf
 beside s x e = ap (λ (r : SectionRead). besideSection r (commandBytes s)) e
 
 payload-in : (s : List ℕ) (x : Section) → AllBytes s → sectionOf s ≡ SectionRead.Is x → canonicalSection s ≡ true
-    → commandBytes s ≡ payloadOf (viewless (x .command)) (take (countBeside (x .command)) (wholeSectionOf s .components)) (viewed s (privateView (x .command)))
+    → commandBytes s ≡ commandPayload (viewless (x .command)) (take (countBeside (x .command)) (wholeSectionOf s .components)) (viewed s (privateView (x .command)))
 payload-in s x a e c =
     payload-of (x .command) (commandBytes s) s (commandBytes s) (payload-back s x a e c .1)
-    ∙ ap (λ (cs : List ComponentSplice). payloadOf (viewless (x .command)) (take (countBeside (x .command)) cs) (viewed s (privateView (x .command)))) (sym (beside s x e))
+    ∙ ap (λ (cs : List ComponentSplice). commandPayload (viewless (x .command)) (take (countBeside (x .command)) cs) (viewed s (privateView (x .command)))) (sym (beside s x e))
 
-same-payload : {c d : SpliceCommand} {cs ds : List ComponentSplice} {p q : List ℕ} → c ≡ d → cs ≡ ds → p ≡ q → payloadOf c cs p ≡ payloadOf d ds q
+same-payload : {c d : SpliceCommand} {cs ds : List ComponentSplice} {p q : List ℕ} → c ≡ d → cs ≡ ds → p ≡ q → commandPayload c cs p ≡ commandPayload d ds q
 same-payload e f g = rw (e, f, g)
 
 frame-canonical : (s : List ℕ) → canonicalSection s ≡ true → canonicalFrame s ≡ true

@@ -1,6 +1,7 @@
--- The product's demands, over the definitions. A reader needs specs/Rows.antt, specs/Identifiers.antt, specs/Sections.antt, specs/Written.antt and specs/Same.antt beside this file, and for the
--- part on writing the definitions of `section_writer` and `command_writer`, and those of `loop_laws` (specs/Loops.antt) for the loop by its items; the proofs stand in the other files of this folder. That each public contract fixes its answer is
--- stated for each function in FixedAnswers.antt, FixedAtBoundary.antt and FixedAtWriter.antt. Assumes nothing.
+-- The product's demands, over the definitions. A reader needs specs/Rows.antt, specs/Identifiers.antt, specs/Sections.antt, specs/Written.antt and specs/Same.antt beside
+-- this file, and for the part on writing the definitions of `section_writer` and `command_writer`, and those of `loop_laws` (specs/Loops.antt) for the loop by its items;
+-- the proofs stand in the other files of this folder. That each public contract fixes its answer is stated for each function in FixedAnswers.antt, FixedAtBoundary.antt
+-- and FixedAtWriter.antt. Assumes nothing.
 use Prim.Native.Nat.{ℕ, _≤_}
 use mathlib.Core.Bool.{true}
 use mathlib.Core.List.{List, [], _∷_, map}

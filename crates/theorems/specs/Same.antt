@@ -39,5 +39,5 @@ pub record SameSections (s : List ℕ) (x : Section) (r : List ℕ) (y : Section
   pub commands : viewless (x .command) ≡ viewless (y .command)
   pub components : take (countBeside (x .command)) (wholeSectionOf s .components) ≡ take (countBeside (y .command)) (wholeSectionOf r .components)
   pub bytes : viewed s (privateView (x .command)) ≡ viewed r (privateView (y .command))
-  -- the loop is a view; its reading are its items
+  -- of the loop: its items, in order
   pub items : SameItems (loopIn s x) (loopIn r y) (itemsOf (loopIn s x)) (itemsOf (loopIn r y))
