@@ -1,7 +1,8 @@
 -- A section's loop, written of its items. Assumes nothing.
 --     loop-written      of a canonical section's loop, the items written and joined are the loop
 --     keeps-upids       each of its items keeps its UPID
---     one-of-items      two canonical sections with the same items
+--     one-loop          two canonical sections with the same items have equal loops
+--     one-of-items      and are equal, if they say the same around them
 --     items-read        descriptors that are written, joined and put in a section are its items
 use Prim.Native.Nat.{ℕ, _+_, _≤_}
 use mathlib.Core.Bool.{Bool, true, false}
@@ -18,7 +19,7 @@ use Rattle.descriptor.specs.declared.whole.Beside.{Beside}
 use Rattle.descriptor_form.specs.Canonical.{canonicalLoop}
 use Rattle.descriptor_laws.proofs.Alike.{SameView, viewIn, detailView}
 use Rattle.header.specs.declared.header.SpliceInfoHeader.{SpliceInfoHeader}
-use Rattle.items.specs.Items.{listed, itemsOf}
+use Rattle.items.specs.Items.{Listed, listed, itemsOf}
 use Rattle.items.specs.Place.{movedDetail, movedDescriptor}
 use Rattle.items.specs.declared.Item.{Item}
 use Rattle.loop_laws.proofs.Loops.{all-pieces, back-at, beside-is, written-at, every-item}
@@ -99,21 +100,30 @@ keeps-upid loop offset t a all =
       eidr = sym (ap (λ (c : Beside). c .eidr) (beside-is loop offset t a));
     }
 
-pub keeps-upids : (s : List ℕ) (x : Section) → AllBytes s → sectionOf s ≡ SectionRead.Is x → canonicalSection s ≡ true → All (KeepsUpid (loopIn s x)) (itemsOf (loopIn s x))
-keeps-upids s x a e c =
+-- what holds of each item where a canonical descriptor stands holds of all of a canonical section
+pub each-item : {P : Listed → Type 0} (s : List ℕ) (x : Section) → AllBytes s → sectionOf s ≡ SectionRead.Is x → canonicalSection s ≡ true
+    → ((o : ℕ) (t : List ℕ) → At (loopIn s x) o t → AllBytes t → P (listed (loopIn s x) o)) → All P (itemsOf (loopIn s x))
+each-item s x a e c f =
     let loop : List ℕ = loopIn s x in
     let t = cut loop (here-canonical s x e a c) in
-    every-item loop (loop-short s x e) (items-cut loop (loop-short s x e) (t .1) (t .2)) (all-pieces (t .0) (subst AllBytes (sym (t .2)) (all-viewed s (x .descriptors) a))) (keeps-upid loop)
+    every-item loop (loop-short s x e) (items-cut loop (loop-short s x e) (t .1) (t .2)) (all-pieces (t .0) (subst AllBytes (sym (t .2)) (all-viewed s (x .descriptors) a))) f
+
+pub keeps-upids : (s : List ℕ) (x : Section) → AllBytes s → sectionOf s ≡ SectionRead.Is x → canonicalSection s ≡ true → All (KeepsUpid (loopIn s x)) (itemsOf (loopIn s x))
+keeps-upids s x a e c = each-item s x a e c (keeps-upid (loopIn s x))
 
 -- ---- equal readings
 
-pub one-of-items : (s r : List ℕ) (x y : Section) → AllBytes s → AllBytes r → sectionOf s ≡ SectionRead.Is x → sectionOf r ≡ SectionRead.Is y → canonicalSection s ≡ true → canonicalSection r ≡ true
-    → SameAround s r → SameItems (loopIn s x) (loopIn r y) (itemsOf (loopIn s x)) (itemsOf (loopIn r y)) → s ≡ r
-one-of-items s r x y a b e f c d around items =
+pub one-loop : (s r : List ℕ) (x y : Section) → AllBytes s → AllBytes r → sectionOf s ≡ SectionRead.Is x → sectionOf r ≡ SectionRead.Is y → canonicalSection s ≡ true → canonicalSection r ≡ true
+    → SameItems (loopIn s x) (loopIn r y) (itemsOf (loopIn s x)) (itemsOf (loopIn r y)) → loopBytes s ≡ loopBytes r
+one-loop s r x y a b e f c d items =
     let l : loopIn s x ≡ loopIn r y =
     canonical-loops-of-the-same-items-are-one (loopIn s x) (loopIn r y) (all-viewed s (x .descriptors) a) (all-viewed r (y .descriptors) b) (loop-short s x e) (loop-short r y f)
     (here-canonical s x e a c) (here-canonical r y f b d) items in
-    no-other-section s r x y a b e f c d around (sym (loop-here s x e) ∙ l ∙ loop-here r y f)
+    sym (loop-here s x e) ∙ l ∙ loop-here r y f
+
+pub one-of-items : (s r : List ℕ) (x y : Section) → AllBytes s → AllBytes r → sectionOf s ≡ SectionRead.Is x → sectionOf r ≡ SectionRead.Is y → canonicalSection s ≡ true → canonicalSection r ≡ true
+    → SameAround s r → SameItems (loopIn s x) (loopIn r y) (itemsOf (loopIn s x)) (itemsOf (loopIn r y)) → s ≡ r
+one-of-items s r x y a b e f c d around items = no-other-section s r x y a b e f c d around (one-loop s r x y a b e f c d items)
 
 -- ---- written of descriptors, then read
 

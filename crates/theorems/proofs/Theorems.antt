@@ -1,6 +1,7 @@
--- The product's demands, over the definitions. A reader needs specs/Rows.antt, specs/Identifiers.antt, specs/Sections.antt and specs/Written.antt beside this file, and for the
--- part on writing the definitions of `section_writer` and `command_writer`, and those of `loop_laws` (specs/Loops.antt) for the loop by its items; the proofs stand in the other files of this folder. That each public contract fixes its answer is
--- stated for each function in FixedAnswers.antt, FixedAtBoundary.antt and FixedAtWriter.antt. Assumes nothing.
+-- The product's demands, over the definitions. A reader needs specs/Rows.antt, specs/Identifiers.antt, specs/Sections.antt, specs/Written.antt and specs/Same.antt beside
+-- this file, and for the part on writing the definitions of `section_writer` and `command_writer`, and those of `loop_laws` (specs/Loops.antt) for the loop by its items;
+-- the proofs stand in the other files of this folder. That each public contract fixes its answer is stated for each function in FixedAnswers.antt, FixedAtBoundary.antt
+-- and FixedAtWriter.antt. Assumes nothing.
 use Prim.Native.Nat.{ℕ, _≤_}
 use mathlib.Core.Bool.{true}
 use mathlib.Core.List.{List, [], _∷_, map}
@@ -33,8 +34,10 @@ use Rattle.table.specs.Writing.{made, make}
 use Rattle.upid.specs.Cover.{All}
 use Rattle.theorems.specs.Identifiers.{OneRun, inSection, loopIn, identifiersOf, midsOf, Unsplit}
 use Rattle.theorems.specs.Rows.{Holds, rows}
+use Rattle.theorems.specs.Same.{SameSections}
 use Rattle.theorems.specs.Sections.{EmptyCommand, spliceNull, eight, twelve, both, eightAndTwelve, Identified}
 use Rattle.theorems.specs.Written.{KeepsUpid}
+use Rattle.theorems.proofs.Answers as answers
 use Rattle.theorems.proofs.ItemsWritten as items-written
 use Rattle.theorems.proofs.RowsHold as rows-hold
 use Rattle.theorems.proofs.Sections as sections
@@ -156,3 +159,12 @@ canonical-sections-of-one-reading-are-one = writer.no-other-section
 pub canonical-sections-of-the-same-items-are-one : (s r : List ℕ) (x y : Section) → AllBytes s → AllBytes r → sectionOf s ≡ SectionRead.Is x → sectionOf r ≡ SectionRead.Is y
     → canonicalSection s ≡ true → canonicalSection r ≡ true → SameAround s r → SameItems (loopIn s x) (loopIn r y) (itemsOf (loopIn s x)) (itemsOf (loopIn r y)) → s ≡ r
 canonical-sections-of-the-same-items-are-one = items-written.one-of-items
+
+-- the same over what the readers answer: the readings x and y, the components beside them, the bytes in their views, and the items
+pub canonical-sections-of-equal-answers-are-one : (s r : List ℕ) (x y : Section) → AllBytes s → AllBytes r → sectionOf s ≡ SectionRead.Is x → sectionOf r ≡ SectionRead.Is y
+    → canonicalSection s ≡ true → canonicalSection r ≡ true → SameSections s x r y → s ≡ r
+canonical-sections-of-equal-answers-are-one = answers.one-answer
+
+-- and each has the answers of itself
+pub a-canonical-section-has-its-own-answers : (s : List ℕ) (x : Section) → AllBytes s → sectionOf s ≡ SectionRead.Is x → canonicalSection s ≡ true → SameSections s x s x
+a-canonical-section-has-its-own-answers = answers.own-answer

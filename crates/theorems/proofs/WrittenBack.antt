@@ -168,14 +168,20 @@ payload-bytes s a = bytes-take (commandLength s) (drop 14 s) (bytes-drop 14 s a)
 same-made : (h : SpliceInfoHeader) (b : List ℕ) {c d : Made} {k l : ℕ} {p q : List ℕ} → c ≡ d → k ≡ l → p ≡ q → sectionMade h d l q ≡ made b → sectionMade h c k p ≡ made b
 same-made h b e f g i = rw (e, f, g) i
 
-pub section-back : (s : List ℕ) (x : Section) → AllBytes s → sectionOf s ≡ SectionRead.Is x → canonicalSection s ≡ true
-    → sectionMade (x .header) (commandMade (x .command) (componentsOf (commandBytes s)) s) (kindOf (x .command)) (viewed s (x .descriptors)) ≡ made s
-section-back s x a e c =
+-- the command's type, and its payload written of the command as the section's reading has it
+pub payload-back : (s : List ℕ) (x : Section) → AllBytes s → sectionOf s ≡ SectionRead.Is x → canonicalSection s ≡ true
+    → (kindOf (x .command) ≡ commandType s) × (commandMade (x .command) (componentsOf (commandBytes s)) s ≡ made (commandBytes s))
+payload-back s x a e c =
     let p = parts-of s x e in
     let b = command-back (commandType s) (commandBytes s) (payload-bytes s a) (p .own) (command-canonical s c) (p .command) in
     let m : commandMade (moved 14 (p .own)) (componentsOf (commandBytes s)) s ≡ made (commandBytes s) = made-there (p .own) (componentsOf (commandBytes s)) s (omega (arith, p .long)) (b .1) in
-    same-made (x .header) s (ap (λ (c : SpliceCommand). commandMade c (componentsOf (commandBytes s)) s) (p .moves) ∙ m) (ap kindOf (p .moves) ∙ kind-stays (p .own) ∙ b .0)
-    (ap (viewed s) (p .loop)) (section-is-written-back s x a e c)
+    (ap kindOf (p .moves) ∙ kind-stays (p .own) ∙ b .0, ap (λ (c : SpliceCommand). commandMade c (componentsOf (commandBytes s)) s) (p .moves) ∙ m)
+
+pub section-back : (s : List ℕ) (x : Section) → AllBytes s → sectionOf s ≡ SectionRead.Is x → canonicalSection s ≡ true
+    → sectionMade (x .header) (commandMade (x .command) (componentsOf (commandBytes s)) s) (kindOf (x .command)) (viewed s (x .descriptors)) ≡ made s
+section-back s x a e c =
+    let b = payload-back s x a e c in
+    same-made (x .header) s (b .1) (b .0) (ap (viewed s) (parts-of s x e .loop)) (section-is-written-back s x a e c)
 
 -- ---- written, then read: an array of 255 places holds as many components as a count of one byte says
 held : (c : SpliceCommand) (places : List ComponentSplice) → length places ≡ 255 → Countable c → Held c places
