@@ -88,7 +88,8 @@ pub the-items-cover-the-loop-of-the-section : (s : List ℕ) (x : Section) → s
 the-items-cover-the-loop-of-the-section = sections.items-cover
 
 -- The incident: no identifier of a MID is split. Each UPID of a section that is a MID is read as its parts, each of them, at every level, exactly the run of
--- the section that the two bytes before it announce; and the direct parts of each MID cover it once.
+-- the section that the two bytes before it announce; the direct parts of each MID cover it once; and no other part is in the list, which goes by the bytes,
+-- "outer part before its inner ones".
 pub no-mid-of-the-section-is-split : (s : List ℕ) (x : Section) → sectionOf s ≡ SectionRead.Is x → All (Unsplit s) (midsOf s x)
 no-mid-of-the-section-is-split = sections.mids-unsplit
 
