@@ -20,6 +20,7 @@ use Rattle.loop_laws.specs.Loops.{joinedMade, loopMade, SameItems, Given, given
 use Rattle.section.proofs.Acceptance as acceptance
 use Rattle.section.proofs.Acceptance.{None}
 use Rattle.section.specs.Section.{commandType, commandBytes, loopLength, conditions, first, sectionOf, numberOf}
+use Rattle.section.specs.Whole.{wholeSectionOf}
 use Rattle.section.specs.declared.Section.{Section}
 use Rattle.section.specs.declared.SectionRead.{SectionRead}
 use Rattle.section_writer.proofs.Theorems as writer
@@ -138,10 +139,15 @@ what-is-written-of-descriptors-reads-back gs h c places lent loop b n k types m 
     let r = written-back.section-reads h c places lent loop b n k e in
     (r, items-written.items-read gs h c places lent loop b types m r)
 
--- its insert's components, as the payload's reader answers them
-pub an-inserts-components-read-back : (i : Insertion) (places : List ComponentSplice) (lent b : List ℕ) → length places ≡ 255 → Countable (SpliceCommand.SpliceInsert i)
+-- its insert's components, "arrays with a count, 255 components, blank .. past it", as they stand beside the section that is read
+pub an-inserts-components-read-back : (h : SpliceInfoHeader) (i : Insertion) (places : List ComponentSplice) (lent loop b : List ℕ) → length places ≡ 255 → Countable (SpliceCommand.SpliceInsert i)
+    → sectionMade h (commandMade (SpliceCommand.SpliceInsert i) places lent) (kindOf (SpliceCommand.SpliceInsert i)) loop ≡ made b → wholeSectionOf b .components ≡ array (counted i places .components)
+an-inserts-components-read-back = written-back.section-components
+
+-- the same of its payload alone, as the payload's reader answers them
+pub a-payloads-components-read-back : (i : Insertion) (places : List ComponentSplice) (lent b : List ℕ) → length places ≡ 255 → Countable (SpliceCommand.SpliceInsert i)
     → commandMade (SpliceCommand.SpliceInsert i) places lent ≡ made b → componentsOf b ≡ array (counted i places .components)
-an-inserts-components-read-back = written-back.components-read
+a-payloads-components-read-back = written-back.components-read
 
 -- and a private command's bytes
 pub private-bytes-read-back : (lent : List ℕ) (p : Private) (payload : List ℕ) → make private true lent p ≡ made payload → (h : SpliceInfoHeader) (loop b : List ℕ) → AllBytes lent
