@@ -11,4 +11,6 @@ pub mod Worked
 pub mod InsertsRead
 pub mod WrittenBack
 pub mod ItemsWritten
+pub mod Targets
+pub mod CommandTypes
 pub mod Theorems
