@@ -13,7 +13,7 @@ use Rattle.table.specs.Bits.{bitsOf}
 use Rattle.table.specs.Lent.{viewed}
 use Rattle.table.specs.Table.{parse}
 use Rattle.table.specs.declared.View.{View}
-use Rattle.upid.proofs.Theorems.{every-mid-is-covered, every-part-is-announced}
+use Rattle.upid.proofs.Theorems.{every-mid-is-covered, every-part-is-announced, every-part-has-its-mid, parts-are-in-order}
 use Rattle.upid.specs.Cover as cover
 use Rattle.upid.specs.Cover.{All, none, more}
 use Rattle.upid.specs.Upid as upid
@@ -100,6 +100,8 @@ module _ (s : List ℕ) (i : Identifier) (r : OneRun s i) where
         accepted = e;
         parts = all-into announced (every-part-is-announced (i .bytes) ok);
         covered = every-mid-is-covered (i .bytes) ok;
+        owned = every-part-has-its-mid (i .bytes) ok;
+        ordered = parts-are-in-order (i .bytes) ok;
       }
 
 -- ---- a UPID that is found in an item

@@ -12,4 +12,6 @@ pub mod InsertsRead
 pub mod WrittenBack
 pub mod ItemsWritten
 pub mod Answers
+pub mod Targets
+pub mod CommandTypes
 pub mod Theorems

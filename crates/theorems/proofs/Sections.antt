@@ -14,8 +14,8 @@ use Rattle.descriptor.specs.declared.segmentation.SegmentationUpid.{Segmentatio
 use Rattle.items.proofs.Lists.{Walked, stop, step, walked}
 use Rattle.items.proofs.Places.{all-into, all-map}
 use Rattle.items.proofs.Steps.{clause, turn, within, views-between}
-use Rattle.items.proofs.Theorems.{items-cover-the-loop}
-use Rattle.items.specs.Cover.{Covered}
+use Rattle.items.proofs.Theorems.{items-cover-the-loop, an-ending-refusal-takes-the-rest}
+use Rattle.items.specs.Cover.{Ends, TakesRest, Covered}
 use Rattle.items.specs.Items.{stepOf, Listed, listed, itemsOf}
 use Rattle.section.specs.Section.{commandLength, commandBytes, loopLength, loopPlace, moved, sectionOf}
 use Rattle.section.specs.declared.Section.{Section}
@@ -146,3 +146,6 @@ module _ (s : List ℕ) (x : Section) (e : sectionOf s ≡ SectionRead.Is x) whe
 
   pub items-cover : Covered (loopIn s x) (itemsOf (loopIn s x))
   items-cover = items-cover-the-loop (loopIn s x) loop-short
+
+  pub ending-takes-rest : (offset : ℕ) → Ends (drop offset (loopIn s x)) → TakesRest (loopIn s x) (stepOf (loopIn s x) offset)
+  ending-takes-rest offset h = an-ending-refusal-takes-the-rest (loopIn s x) offset loop-short h

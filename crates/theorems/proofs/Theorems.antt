@@ -3,11 +3,12 @@
 -- the proofs stand in the other files of this folder. That each public contract fixes its answer is stated for each function in FixedAnswers.antt, FixedAtBoundary.antt
 -- and FixedAtWriter.antt. Assumes nothing.
 use Prim.Native.Nat.{ℕ, _≤_}
-use mathlib.Core.Bool.{true}
+use mathlib.Core.Bool.{true, false, not}
 use mathlib.Core.List.{List, [], _∷_, map}
 use mathlib.Core.Path.{_≡_}
-use lib.ListN.{length}
-use Rattle.command.specs.Command.{private, array, componentsOf}
+use lib.ListN.{length, drop}
+use Rattle.command.specs.Command.{private, commandOf, array, componentsOf}
+use Rattle.command.specs.declared.CommandRead.{CommandRead}
 use Rattle.command.specs.declared.Private.{Private}
 use Rattle.command.specs.declared.SpliceCommand.{SpliceCommand}
 use Rattle.command.specs.declared.components.ComponentSplice.{ComponentSplice}
@@ -15,12 +16,15 @@ use Rattle.command.specs.declared.insert.Insertion.{Insertion}
 use Rattle.command_writer.specs.Made.{counted, commandMade}
 use Rattle.command_writer.specs.Survey.{Countable}
 use Rattle.header.specs.declared.header.SpliceInfoHeader.{SpliceInfoHeader}
-use Rattle.items.specs.Cover.{Covered}
-use Rattle.items.specs.Items.{itemsOf}
+use Rattle.items.specs.Cover.{Ends, TakesRest, Covered}
+use Rattle.items.specs.Items.{stepOf, itemsOf}
 use Rattle.loop_laws.specs.Loops.{joinedMade, loopMade, SameItems, Given, givenMade, GivenTypes, ItemsBack}
+use Rattle.pen.specs.Written.{answerOf, laterOf}
+use Rattle.pen.specs.declared.Written.{Written}
 use Rattle.section.proofs.Acceptance as acceptance
 use Rattle.section.proofs.Acceptance.{None}
-use Rattle.section.specs.Section.{commandType, commandBytes, loopLength, conditions, first, sectionOf, numberOf}
+use Rattle.section.specs.Section.{commandType, commandBytes, loopLength, unknownCommand, conditions, first, sectionOf, numberOf}
+use Rattle.section.specs.Whole.{wholeSectionOf}
 use Rattle.section.specs.declared.Section.{Section}
 use Rattle.section.specs.declared.SectionRead.{SectionRead}
 use Rattle.section_writer.proofs.Theorems as writer
@@ -30,17 +34,19 @@ use Rattle.section_writer.specs.Canonical.{loopBytes, canonicalSection, SameAro
 use Rattle.section_writer.specs.Writing.{kindOf, sectionMade}
 use Rattle.table.specs.Bits.{AllBytes}
 use Rattle.table.specs.Lent.{viewed}
-use Rattle.table.specs.Writing.{made, make}
+use Rattle.table.specs.Writing.{Made, made, make}
 use Rattle.upid.specs.Cover.{All}
 use Rattle.theorems.specs.Identifiers.{OneRun, inSection, loopIn, identifiersOf, midsOf, Unsplit}
 use Rattle.theorems.specs.Rows.{Holds, rows}
 use Rattle.theorems.specs.Same.{SameSections}
-use Rattle.theorems.specs.Sections.{EmptyCommand, spliceNull, eight, twelve, both, eightAndTwelve, Identified}
-use Rattle.theorems.specs.Written.{KeepsUpid}
+use Rattle.theorems.specs.Sections.{known, EmptyCommand, spliceNull, eight, twelve, both, eightAndTwelve, Identified}
+use Rattle.theorems.specs.Written.{KeepsUpid, ChangesOnlyResult}
 use Rattle.theorems.proofs.Answers as answers
+use Rattle.theorems.proofs.CommandTypes as command-types
 use Rattle.theorems.proofs.ItemsWritten as items-written
 use Rattle.theorems.proofs.RowsHold as rows-hold
 use Rattle.theorems.proofs.Sections as sections
+use Rattle.theorems.proofs.Targets as targets
 use Rattle.theorems.proofs.Worked as worked
 use Rattle.theorems.proofs.WrittenBack as written-back
 
@@ -64,9 +70,21 @@ a-null-is-such-a-section = worked.null-is-one
 
 -- ---- acceptance
 
--- "1 to 12 .. are checked in order of number": the number given is that of the first condition that holds, each under its condition and no other
+-- Of 1 to 11, which are the section reader's: "checked in order of number". The number given is that of the first condition that holds, each under its condition
+-- and no other.
 pub refusals-1-to-11-in-order : (s : List ℕ) → numberOf (sectionOf s) ≡ first 1 (conditions s)
 refusals-1-to-11-in-order = acceptance.refusals-in-order
+
+-- Condition 10: "command type is none of 0x00, 0x05, 0x06, 0x07, 0xFF", whatever the payload
+pub condition-10-is-of-the-other-types : (s : List ℕ) → unknownCommand s ≡ not (known (commandType s))
+condition-10-is-of-the-other-types s = command-types.unknown-is (commandType s) (commandBytes s)
+
+-- so the command reader gives 10 to exactly these types
+pub another-type-is-refused-by-10 : (kind : ℕ) (payload : List ℕ) → known kind ≡ false → commandOf kind payload ≡ CommandRead.UnknownType
+another-type-is-refused-by-10 = command-types.unknown-if
+
+pub only-another-type-is-refused-by-10 : (kind : ℕ) (payload : List ℕ) → commandOf kind payload ≡ CommandRead.UnknownType → known kind ≡ false
+only-another-type-is-refused-by-10 = command-types.unknown-only-if
 
 -- "A section is accepted exactly when none of 1 to 11 applies"
 pub accepted-if-none-applies : (s : List ℕ) → None (conditions s) → (x : Section) × (sectionOf s ≡ SectionRead.Is x)
@@ -86,12 +104,18 @@ every-identifier-is-one-run-of-the-section = sections.identifiers-run
 pub the-loop-is-one-run-of-the-section : (s : List ℕ) (x : Section) → sectionOf s ≡ SectionRead.Is x → OneRun s (inSection s (x .descriptors))
 the-loop-is-one-run-of-the-section = sections.loop-run
 
--- "the loop's items in order cover the loop once, a refusal that ends it taking the rest"; "No other cutting .. meets 01's rules."
+-- "the loop's items in order cover the loop once"; "No other cutting .. meets 01's rules."
 pub the-items-cover-the-loop-of-the-section : (s : List ℕ) (x : Section) → sectionOf s ≡ SectionRead.Is x → Covered (loopIn s x) (itemsOf (loopIn s x))
 the-items-cover-the-loop-of-the-section = sections.items-cover
 
+-- "a refusal that ends it taking the rest": where "the loop ends", by each of the three rules, the item is a refusal, "next offset its length"
+pub an-ending-refusal-takes-the-rest-of-the-loop : (s : List ℕ) (x : Section) → sectionOf s ≡ SectionRead.Is x → (offset : ℕ) → Ends (drop offset (loopIn s x))
+    → TakesRest (loopIn s x) (stepOf (loopIn s x) offset)
+an-ending-refusal-takes-the-rest-of-the-loop = sections.ending-takes-rest
+
 -- The incident: no identifier of a MID is split. Each UPID of a section that is a MID is read as its parts, each of them, at every level, exactly the run of
--- the section that the two bytes before it announce; and the direct parts of each MID cover it once.
+-- the section that the two bytes before it announce; the direct parts of each MID cover it once; and no other part is in the list, which goes by the bytes,
+-- "outer part before its inner ones".
 pub no-mid-of-the-section-is-split : (s : List ℕ) (x : Section) → sectionOf s ≡ SectionRead.Is x → All (Unsplit s) (midsOf s x)
 no-mid-of-the-section-is-split = sections.mids-unsplit
 
@@ -104,6 +128,15 @@ pub eight-and-twelve-bytes-are-read-whole : Identified eightAndTwelve (
 eight-and-twelve-bytes-are-read-whole = worked.both-whole
 
 -- ---- writing
+
+-- "A refused write leaves the target's bytes". By each writer's contract `answerOf` is its answer and `laterOf` are the target's later bytes, of what is made, m
+-- (pen/specs/Written.antt).
+pub a-refused-write-changes-no-byte : (m : Made) (target : List ℕ) (n : ℕ) → answerOf m target ≡ Written.Refused n → laterOf m target ≡ target
+a-refused-write-changes-no-byte = targets.kept
+
+-- "an accepted one changes only the bytes of its result, which start at 0, and gives their number."
+pub an-accepted-write-changes-only-its-result : (m : Made) (target : List ℕ) (n : ℕ) → answerOf m target ≡ Written.Wrote n → ChangesOnlyResult m target n
+an-accepted-write-changes-only-its-result = targets.changed
 
 -- Demand 2: "Writing the reading of a canonical section gives its bytes": its header, its command with the components and bytes that it has, and its loop, as it stands
 -- in the section
@@ -140,10 +173,15 @@ what-is-written-of-descriptors-reads-back gs h c places lent loop b n k types m 
     let r = written-back.section-reads h c places lent loop b n k e in
     (r, items-written.items-read gs h c places lent loop b types m r)
 
--- its insert's components, as the payload's reader answers them
-pub an-inserts-components-read-back : (i : Insertion) (places : List ComponentSplice) (lent b : List ℕ) → length places ≡ 255 → Countable (SpliceCommand.SpliceInsert i)
+-- its insert's components, "arrays with a count, 255 components, blank .. past it", as `read_whole_section` answers them beside the section
+pub an-inserts-components-read-back : (h : SpliceInfoHeader) (i : Insertion) (places : List ComponentSplice) (lent loop b : List ℕ) → length places ≡ 255 → Countable (SpliceCommand.SpliceInsert i)
+    → sectionMade h (commandMade (SpliceCommand.SpliceInsert i) places lent) (kindOf (SpliceCommand.SpliceInsert i)) loop ≡ made b → wholeSectionOf b .components ≡ array (counted i places .components)
+an-inserts-components-read-back = written-back.section-components
+
+-- the same of its payload alone, as the payload's reader answers them
+pub a-payloads-components-read-back : (i : Insertion) (places : List ComponentSplice) (lent b : List ℕ) → length places ≡ 255 → Countable (SpliceCommand.SpliceInsert i)
     → commandMade (SpliceCommand.SpliceInsert i) places lent ≡ made b → componentsOf b ≡ array (counted i places .components)
-an-inserts-components-read-back = written-back.components-read
+a-payloads-components-read-back = written-back.components-read
 
 -- and a private command's bytes
 pub private-bytes-read-back : (lent : List ℕ) (p : Private) (payload : List ℕ) → make private true lent p ≡ made payload → (h : SpliceInfoHeader) (loop b : List ℕ) → AllBytes lent

@@ -20,7 +20,7 @@ use Rattle.table.specs.Bits.{bitsOf}
 use Rattle.table.specs.Lent.{viewed}
 use Rattle.table.specs.Table.{Answer, got, short, parse}
 use Rattle.table.specs.declared.View.{View}
-use Rattle.upid.specs.Cover.{All, Covered, whole}
+use Rattle.upid.specs.Cover.{All, Covered, Ascending, Owned, whole}
 use Rattle.upid.specs.Upid.{upidOf, partsIn, reportedOf}
 use Rattle.upid.specs.declared.Part.{Part}
 use Rattle.upid.specs.declared.UpidRead.{UpidRead}
@@ -143,10 +143,13 @@ pub record Announced (s : List ℕ) (p : Part) (i : Identifier) : Type 0 where
   pub kind : p .kind ≡ reportedOf (getD s (i .start - 2) 0)
   pub len : i .len ≡ getD s (i .start - 1) 0
 
--- A MID of the section: its bytes are one run; it is accepted; each of its parts, at every level, is what its own head announces; and the direct parts of
--- each MID in it, heads included, cover that MID once, and no other cutting does.
+-- A MID of the section: its bytes are one run; it is accepted; each of its parts, at every level, is what its own head announces; the direct parts of each MID
+-- in it, heads included, cover that MID once, and no other cutting does; no part is listed that is not a direct part of it or of a MID in it; and the list is in
+-- byte order, "outer part before its inner ones".
 pub record Unsplit (s : List ℕ) (mid : Identifier) : Type 0 where
   pub unbroken : OneRun s mid
   pub accepted : upidOf 13 (mid .bytes) .read ≡ UpidRead.Fine 13
   pub parts : All (λ (p : Part). Announced s p (inLent (mid .start) (mid .bytes) (partView p))) (partsIn (upidOf 13 (mid .bytes)))
   pub covered : All (λ (m : Part). m .kind ≡ 13 → Covered (mid .bytes) (partsIn (upidOf 13 (mid .bytes))) m) (whole (mid .bytes) ∷ partsIn (upidOf 13 (mid .bytes)))
+  pub owned : All (Owned (whole (mid .bytes) ∷ partsIn (upidOf 13 (mid .bytes)))) (partsIn (upidOf 13 (mid .bytes)))
+  pub ordered : Ascending (partsIn (upidOf 13 (mid .bytes)))

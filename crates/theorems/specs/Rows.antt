@@ -1,12 +1,11 @@
 -- Rows a to n of document 01, "Worked rows", in one table. These are definitions; that every row holds is `rows-a-to-n-hold` in proofs/Theorems.antt.
-use Prim.Native.Nat.{ℕ, zero, suc, _+_, _*_}
-use mathlib.Core.Bool.{Bool, true, false, _&&_}
+use Prim.Native.Nat.{ℕ, zero, suc, _+_}
+use mathlib.Core.Bool.{true, false}
 use mathlib.Core.List.{List, [], _∷_, map}
 use mathlib.Core.Path.{_≡_}
-use lib.Dec.{eqb}
-use lib.ListN.{length}
+use Rattle.canonical_command.specs.Canonical.{canonicalCommand}
 use Rattle.command.specs.Command.{commandOf, componentsOf, array}
-use Rattle.command.specs.Insert.{WithComponents, insert}
+use Rattle.command.specs.Insert.{WithComponents}
 use Rattle.command.specs.declared.CommandRead.{CommandRead}
 use Rattle.command.specs.declared.SpliceCommand.{SpliceCommand}
 use Rattle.command.specs.declared.insert.Break.{Break}
@@ -29,9 +28,7 @@ use Rattle.items.specs.Items.{Listed, itemsOf}
 use Rattle.items.specs.declared.Item.{Item}
 use Rattle.names.specs.declared.flags.NetworkIndicator.{NetworkIndicator}
 use Rattle.names.specs.declared.segmentation.SegmentationTypeId.{SegmentationTypeId}
-use Rattle.table.specs.Bits.{bitsOf}
 use Rattle.table.specs.Lent.{viewed}
-use Rattle.table.specs.Table.{Answer, got, short, parse, canonical}
 use Rattle.upid.specs.Upid as upids
 use Rattle.upid.specs.Upid.{upidOf, told}
 use Rattle.upid.specs.declared.Part.{Part}
@@ -100,20 +97,12 @@ pub record ReadAs (payload : List ℕ) (x : WithComponents Insertion) : Type 0 w
   pub value : commandOf 0x05 payload ≡ CommandRead.Is (SpliceCommand.SpliceInsert (x .value))
   pub components : componentsOf payload ≡ array (x .components)
 
--- canonical, as far as an insert's payload goes: all that its table asks, and no spare byte
-abbrev pub endsAt : ℕ → Answer (WithComponents Insertion) → Bool
-endsAt end (got x at) = eqb at end
-endsAt end (short expected actual) = false
-
-abbrev pub canonicalInsert : List ℕ → Bool
-canonicalInsert payload = canonical insert (bitsOf payload) 0 && endsAt (length payload * 8) (parse insert (bitsOf payload) 0)
-
--- "equal readings, only the first canonical"
+-- "equal readings, only the first canonical", which is what `is_canonical_command` answers
 pub record Alike (first second : List ℕ) (x : WithComponents Insertion) : Type 0 where
   pub this : ReadAs first x
   pub that : ReadAs second x
-  pub first-is : canonicalInsert first ≡ true
-  pub second-is-not : canonicalInsert second ≡ false
+  pub first-is : canonicalCommand 0x05 first ≡ true
+  pub second-is-not : canonicalCommand 0x05 second ≡ false
 
 abbrev pub Holds : Row → Type 0
 Holds (loopIs loop says) = map (listedSays loop) (itemsOf loop) ≡ says

@@ -1,16 +1,17 @@
--- What is kept when the items of a section are written again. These are definitions.
+-- What is kept when the items of a section are written again, and what a write leaves in its target. These are definitions.
 use Prim.Native.Nat.{ℕ}
 use mathlib.Core.List.{List, map}
 use mathlib.Core.Path.{_≡_}
-use lib.ListN.{drop}
+use lib.ListN.{length, take, drop}
 use Rattle.descriptor.specs.declared.Descriptor.{Descriptor}
 use Rattle.descriptor.specs.declared.DescriptorRead.{DescriptorRead}
 use Rattle.descriptor.specs.declared.segmentation.SegmentationUpid.{SegmentationUpid}
 use Rattle.descriptor_laws.specs.Trips.{wholeIn}
 use Rattle.items.specs.Items.{readingOf, Listed}
 use Rattle.loop_laws.specs.Loops.{writtenAt}
+use Rattle.pen.specs.Written.{laterOf}
 use Rattle.table.specs.Lent.{viewed}
-use Rattle.table.specs.Writing.{made}
+use Rattle.table.specs.Writing.{Made, made}
 use Rattle.upid.specs.Upid.{upidOf, partsIn}
 use Rattle.upid.specs.declared.Part.{Part}
 use Rattle.theorems.specs.Identifiers.{descriptorUpids, upidsOf}
@@ -32,3 +33,12 @@ pub record KeepsUpid (loop : List ℕ) (y : Listed) : Type 0 where
   pub reading : wholeIn written .read ≡ DescriptorRead.Is again
   pub upids : map (heldIn (drop 6 written)) (descriptorUpids again) ≡ map (heldIn loop) (upidsOf (y .step .item))
   pub eidr : wholeIn written .beside .eidr ≡ readingOf loop (y .offset) .beside .eidr
+
+-- "an accepted one changes only the bytes of its result, which start at 0, and gives their number"
+pub record ChangesOnlyResult (m : Made) (target : List ℕ) (n : ℕ) : Type 0 where
+  pub result : List ℕ
+  pub is : m ≡ made result
+  pub number : length result ≡ n
+  pub start : take n (laterOf m target) ≡ result
+  pub rest : drop n (laterOf m target) ≡ drop n target
+  pub size : length (laterOf m target) ≡ length target
