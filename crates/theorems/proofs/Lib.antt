@@ -11,4 +11,5 @@ pub mod Worked
 pub mod InsertsRead
 pub mod WrittenBack
 pub mod ItemsWritten
+pub mod OverC
 pub mod Theorems

@@ -1,0 +1,280 @@
+-- What is written of the words of a value's flat form is what is written of the value. Assumes nothing.
+use Prim.Native.Nat.{ℕ, zero, suc, _+_, _-_, _^_, _<_, _≤_}
+use mathlib.Core.Bool.{Bool, true, false, not, _&&_}
+use mathlib.Core.List.{List, [], _∷_, _++_}
+use mathlib.Core.Path.{_≡_, refl, ap, sym, _∙_}
+use native.Mathlib.Nat.{mod-lt}
+use native.Mathlib.Omega.{arith}
+use lib.Dec.{ltb, eqb, lit<}
+use lib.ListN.{length, take, drop, replicate, length-append, length-replicate}
+use lib.Seq.{take-at}
+use borrow.Author.Tests.{lt-ltb, ltb-true, ltb-false, eq-eqb}
+use Rattle.command.specs.Command.{array}
+use Rattle.command.specs.Insert as insert
+use Rattle.command.specs.Insert.{count, programTime, blank, immediate}
+use Rattle.command.specs.declared.Private.{Private}
+use Rattle.command.specs.declared.SpliceCommand.{SpliceCommand}
+use Rattle.command.specs.declared.components.ComponentSplice.{ComponentSplice}
+use Rattle.command.specs.declared.insert.Break.{Break}
+use Rattle.command.specs.declared.insert.Insert.{Insert}
+use Rattle.command.specs.declared.insert.Insertion.{Insertion}
+use Rattle.command.specs.declared.insert.SpliceInsert.{SpliceInsert}
+use Rattle.command.specs.declared.insert.SpliceMode.{SpliceMode}
+use Rattle.command_writer.proofs.Making.{measured-time, measured-parts, private-outside, insert-cancelled, insert-active, command-insert, command-time, command-private}
+use Rattle.command_writer.specs.Fields.{immediateIn}
+use Rattle.command_writer.specs.Made.{counted, insertMade, commandMade, measuredOf}
+use Rattle.command_writer.specs.Survey.{Tags, surveyed, modeBytes, breakBytes, measured, activeMeasured, timeBytes}
+use Rattle.command_writer.specs.declared.Measured.{Measured}
+use Rattle.flat.specs.Flat.{flatTime, noTime, noView}
+use Rattle.flat.specs.FlatCommand.{flatMode, flatBreak, wholeInsert, bareInsert, flatInsertion, commandWith, noCommand, flatCommand}
+use Rattle.flat_writer.proofs.Back.{TypedMode, TypedDetail, Typed, command-back}
+use Rattle.flat_writer.proofs.Words.{and-unit, places-length}
+use Rattle.flat_writer.specs.CommandWords.{commandWords, commandWidths, countIn, componentFrom, splicesIn, componentsFrom, splicesWithin, ownSplices, commandRefusal, commandGiven, commandWordsMade}
+use Rattle.flat_writer.specs.Words.{within, same, placesOf, refusalOf, noLess}
+use Rattle.header.specs.Time.{ticks}
+use Rattle.header.specs.declared.time.SpliceTime.{SpliceTime}
+use Rattle.names.specs.Flags.{networkFlag, returnFlag}
+use Rattle.names.specs.declared.flags.NetworkIndicator.{NetworkIndicator}
+use Rattle.names.specs.declared.flags.ReturnMode.{ReturnMode}
+use Rattle.pen.specs.Written.{refusalIn}
+use Rattle.table.proofs.Lists.{zero-one, and-true}
+use Rattle.table.specs.Bits.{pick}
+use Rattle.table.specs.Writing.{Made, made, refused}
+
+-- ---- words that are a value's own are not refused for themselves
+same-self : (words : List ℕ) → same words words ≡ true
+unfolding same
+same-self [] = refl
+same-self (x ∷ words) = rw (eq-eqb x x refl) (same-self words)
+
+-- the value itself is refused with 31 or 32
+abbrev Wide : Made → Type 0
+Wide (made b) = ⊥
+Wide (refused n) = (31 ≤ n) × (n ≤ 32)
+
+wide-number : (m : Made) → 31 ≤ refusalIn m → refusalIn m ≤ 32 → Wide m
+unfolding refusalIn
+wide-number (made b) h g = absurd (omega arith)
+wide-number (refused n) h g = (h, g)
+
+lowest-is : (n : ℕ) → n ≤ 32 → pick (ltb n 32) n 32 ≡ n
+lowest-is n h = go (ltb n 32) refl
+  where
+    go : (b : Bool) → ltb n 32 ≡ b → pick b n 32 ≡ n
+    go true e = refl
+    go false e = omega (arith, ltb-false n 32 e)
+
+-- their own refusal can be 32 alone, and that of the value is then no higher
+taken : (fits own : Bool) (m : Made) → own ≡ true → (fits ≡ false → Wide m) → noLess (refusalOf fits own) m ≡ m
+unfolding noLess
+taken fits own m e w = rw e (go fits m w)
+  where
+    go : (fits : Bool) (m : Made) → (fits ≡ false → Wide m) → noLess (refusalOf fits true) m ≡ m
+    go true m w = refl
+    go false (made b) w = absurd (w refl)
+    go false (refused n) w = ap refused (lowest-is n (w refl .1))
+
+and-false : (b : Bool) → b && false ≡ false
+and-false true = refl
+and-false false = refl
+
+-- ---- a refusal that a measure tells
+measured-wide : (fits fair : Bool) (size : ℕ) (m : Made) → measured fits fair size ≡ measuredOf m → fits ≡ false → Wide m
+measured-wide fits fair size m e f =
+    let r : measured fits fair size .refusal ≡ 32 = rw f in
+    let p = measured-parts (measured fits fair size) m e in
+    wide-number m (omega (arith, p .0)) (omega (arith, p .0))
+
+-- ---- a command's words are within their widths where its writer says that its numbers are
+time-within : (t : SpliceTime) → within commandWidths (commandWords (commandWith 0 0x06 (bareInsert 0 0 0) (flatTime t) 0 noView)) ≡ ltb (ticks t) (2 ^ 33)
+unfolding within commandWidths commandWords bareInsert flatBreak
+time-within SpliceTime.Immediate = refl
+time-within SpliceTime.Unspecified = refl
+time-within (SpliceTime.At t) = sym (and-unit (ltb t (2 ^ 33)))
+
+private-within : (p : Private) → p .identifier < 2 ^ 32 → p .«private_bytes» .at < 2 ^ 64 → p .«private_bytes» .len < 2 ^ 64
+    → within commandWidths (commandWords (flatCommand (SpliceCommand.PrivateCommand p))) ≡ true
+unfolding within commandWidths commandWords flatCommand bareInsert flatBreak
+private-within p i a l = rw (lt-ltb (p .identifier) (2 ^ 32) i, lt-ltb (p .«private_bytes» .at) (2 ^ 64) a, lt-ltb (p .«private_bytes» .len) (2 ^ 64) l)
+
+cancel-within : (event kept : ℕ) → event < 2 ^ 32 → within commandWidths (commandWords (commandWith 0 0x05 (bareInsert event 1 kept) noTime 0 noView)) ≡ ltb kept 128
+unfolding within commandWidths commandWords bareInsert flatBreak
+cancel-within event kept h = rw (lt-ltb event (2 ^ 32) h) (sym (and-unit (ltb kept 128)))
+
+-- an insert that is not cancelled: its mode, its break, and the whole
+mode-within : (m : SpliceMode) → TypedMode m → ltb (ticks (programTime m)) (2 ^ 33) ≡ true
+    → (ltb (flatMode m .«program_splice_flag») 2 ≡ true) × (ltb (flatMode m .«splice_time» .kind) 4 ≡ true) × (ltb (flatMode m .«splice_time» .ticks) (2 ^ 33) ≡ true) × (ltb (flatMode m .«component_count») 256 ≡ true)
+unfolding flatMode
+mode-within (SpliceMode.Program SpliceTime.Immediate) h e = (refl, refl, refl, refl)
+mode-within (SpliceMode.Program SpliceTime.Unspecified) h e = (refl, refl, refl, refl)
+mode-within (SpliceMode.Program (SpliceTime.At t)) h e = (refl, refl, e, refl)
+mode-within (SpliceMode.Components n) h e = (refl, refl, refl, lt-ltb n 256 h)
+
+return-within : (m : ReturnMode) → ltb (returnFlag m) 2 ≡ true
+return-within ReturnMode.Manual = refl
+return-within ReturnMode.Automatic = refl
+
+network-within : (n : NetworkIndicator) → ltb (networkFlag n) 2 ≡ true
+network-within NetworkIndicator.In = refl
+network-within NetworkIndicator.Out = refl
+
+break-within : (b : Break) → ltb (insert.ticks b) (2 ^ 33) ≡ true
+    → (ltb (flatBreak b .«duration_flag») 2 ≡ true) × (ltb (flatBreak b .«auto_return») 2 ≡ true) × (ltb (flatBreak b .duration) (2 ^ 33) ≡ true)
+unfolding flatBreak
+break-within Break.Absent e = (refl, refl, refl)
+break-within (Break.Lasts d) e = (refl, return-within (d .«return_mode»), e)
+
+active-within : (event kept : ℕ) (i : Insert) → event < 2 ^ 32 → TypedDetail (SpliceInsert.Insert i) → ltb kept 128 ≡ true → ltb (ticks (programTime (i .«splice_mode»))) (2 ^ 33) ≡ true
+    → ltb (insert.ticks (i .duration)) (2 ^ 33) ≡ true → within commandWidths (commandWords (commandWith 0 0x05 (wholeInsert event kept i) noTime 0 noView)) ≡ true
+unfolding within commandWidths commandWords wholeInsert
+active-within event kept i v h k t d =
+    let m = mode-within (i .«splice_mode») (h .3) t in
+    let b = break-within (i .duration) d in
+    rw (
+      lt-ltb event (2 ^ 32) v,
+      k,
+      network-within (i .«network_indicator»),
+      m .0,
+      m .1,
+      m .2,
+      m .3,
+      b .0,
+      b .1,
+      b .2,
+      lt-ltb (i .«unique_program_id») (2 ^ 16) (h .0),
+      lt-ltb (i .«avail_num») (2 ^ 8) (h .1),
+      lt-ltb (i .«avails_expected») (2 ^ 8) (h .2),
+    )
+
+-- the components that words make: their tags are bytes, and as many as are counted are there
+tags-made : (n : ℕ) (words : List ℕ) → Tags (placesOf componentFrom 3 n words)
+unfolding placesOf componentFrom
+tags-made zero words = tt
+tags-made (suc n) words = (mod-lt _ {m = 256} (lit< tt), tags-made n (drop 3 words))
+
+components-front : (n : ℕ) (words : List ℕ) → take n (componentsFrom n words) ≡ placesOf componentFrom 3 n (splicesIn words)
+unfolding componentsFrom array
+components-front n words =
+    let l = placesOf componentFrom 3 n (splicesIn words) in
+    take-at l (replicate (255 - length l) blank) n (places-length componentFrom 3 n (splicesIn words))
+
+components-there : (n : ℕ) (words : List ℕ) → n ≤ length (componentsFrom n words)
+unfolding componentsFrom array
+components-there n words =
+    let l = placesOf componentFrom 3 n (splicesIn words) in
+    omega (arith, length-append l (replicate (255 - length l) blank), places-length componentFrom 3 n (splicesIn words))
+
+components-tags : (n : ℕ) (words : List ℕ) → Tags (take n (componentsFrom n words))
+components-tags n words = rw (components-front n words) (tags-made n (splicesIn words))
+
+mode-count : (m : SpliceMode) → TypedMode m → count m < 256
+mode-count (SpliceMode.Program t) h = omega arith
+mode-count (SpliceMode.Components n) h = h
+
+-- ---- the command
+module _ (components lent : List ℕ) (short : length lent < 2 ^ 64) where
+  abbrev Refuses : SpliceCommand → Type 0
+  Refuses c = within commandWidths (commandWords (flatCommand c)) ≡ false → Wide (commandMade c (componentsFrom (countIn c) components) lent)
+
+  null-wide : Refuses SpliceCommand.SpliceNull
+  unfolding within commandWidths commandWords flatCommand noCommand bareInsert flatBreak
+  null-wide e = zero-one cc
+
+  bandwidth-wide : Refuses SpliceCommand.BandwidthReservation
+  unfolding within commandWidths commandWords flatCommand noCommand bareInsert flatBreak
+  bandwidth-wide e = zero-one cc
+
+  time-wide : (t : SpliceTime) → Refuses (SpliceCommand.TimeSignal t)
+  unfolding flatCommand
+  time-wide t e =
+      let c = SpliceCommand.TimeSignal t in
+      let places = componentsFrom (countIn c) components in
+      measured-wide (ltb (ticks t) (2 ^ 33)) (not (immediate t)) (timeBytes false t) (commandMade c places lent) (measured-time t ∙ command-time c places lent t refl) (sym (time-within t) ∙ e)
+
+  private-wide : (p : Private) → p .identifier < 2 ^ 32 → Refuses (SpliceCommand.PrivateCommand p)
+  private-wide p i e = go (ltb (length lent) (p .«private_bytes» .at + p .«private_bytes» .len)) refl
+    where
+      c : SpliceCommand
+      c = SpliceCommand.PrivateCommand p
+
+      places : List ComponentSplice
+      places = componentsFrom (countIn c) components
+
+      go : (b : Bool) → ltb (length lent) (p .«private_bytes» .at + p .«private_bytes» .len) ≡ b → Wide (commandMade c places lent)
+      go true o =
+          let m = measured-parts (record { refusal = 31; size = 0 }) (commandMade c places lent) (private-outside p lent (ltb-true _ _ o) ∙ command-private c places lent p refl) in
+          wide-number (commandMade c places lent) (omega (arith, m .0)) (omega (arith, m .0))
+      go false o =
+          let h = ltb-false (length lent) (p .«private_bytes» .at + p .«private_bytes» .len) o in
+          let t : within commandWidths (commandWords (flatCommand c)) ≡ true = private-within p i (omega (arith, h, short)) (omega (arith, h, short)) in
+          zero-one cc
+
+  active-wide : (event kept : ℕ) (x : Insert) → event < 2 ^ 32 → TypedDetail (SpliceInsert.Insert x)
+      → Refuses (SpliceCommand.SpliceInsert (record { «splice_event_id» = event; reserved = kept; «splice_detail» = SpliceInsert.Insert x }))
+  unfolding flatCommand flatInsertion activeMeasured
+  active-wide event kept x v h e = measured-wide (fit && w) (eqb kept 127 && surveyed (immediateIn x cs) cs .alike) size (commandMade c places lent) (is ∙ command-insert c places lent i refl) (rw over (and-false fit))
+    where
+      i : Insertion
+      i = record { «splice_event_id» = event; reserved = kept; «splice_detail» = SpliceInsert.Insert x }
+
+      c : SpliceCommand
+      c = SpliceCommand.SpliceInsert i
+
+      n : ℕ
+      n = count (x .«splice_mode»)
+
+      places : List ComponentSplice
+      places = componentsFrom n components
+
+      cs : List ComponentSplice
+      cs = take n places
+
+      fit : Bool
+      fit = surveyed (immediateIn x cs) cs .fits
+
+      size : ℕ
+      size = 10 + modeBytes (x .«splice_mode») (surveyed (immediateIn x cs) cs .bytes) + breakBytes (x .duration)
+
+      w : Bool
+      w = ltb kept 128 && (ltb (ticks (programTime (x .«splice_mode»))) (2 ^ 33) && ltb (insert.ticks (x .duration)) (2 ^ 33))
+
+      is : activeMeasured kept (x .«splice_mode») (x .duration) (surveyed (immediateIn x cs) cs) ≡ measuredOf (insertMade (counted i places))
+      is = insert-active i x places refl (components-there n components) v (mode-count (x .«splice_mode») (h .3)) (h .0) (h .1) (h .2) (components-tags n components)
+
+      go : (b : Bool) → w ≡ b → w ≡ false
+      go false f = f
+      go true f =
+          let a = and-true (ltb kept 128) _ f in
+          let b = and-true (ltb (ticks (programTime (x .«splice_mode»))) (2 ^ 33)) _ (a .1) in
+          let t = active-within event kept x v h (a .0) (b .0) (b .1) in
+          zero-one cc
+
+      over : w ≡ false
+      over = go w refl
+
+  insert-wide : (event kept : ℕ) (d : SpliceInsert) → event < 2 ^ 32 → TypedDetail d → Refuses (SpliceCommand.SpliceInsert (record { «splice_event_id» = event; reserved = kept; «splice_detail» = d }))
+  unfolding flatCommand flatInsertion
+  insert-wide event kept SpliceInsert.Cancel v h e =
+      let i : Insertion = record { «splice_event_id» = event; reserved = kept; «splice_detail» = SpliceInsert.Cancel } in
+      let c = SpliceCommand.SpliceInsert i in
+      let places = componentsFrom (countIn c) components in
+      measured-wide (ltb kept 128) (eqb kept 127) 5 (commandMade c places lent) (insert-cancelled i places refl v ∙ command-insert c places lent i refl) (sym (cancel-within event kept v) ∙ e)
+  insert-wide event kept (SpliceInsert.Insert x) v h e = active-wide event kept x v h e
+
+  command-wide : (c : SpliceCommand) → Typed c → Refuses c
+  command-wide SpliceCommand.SpliceNull h = null-wide
+  command-wide (SpliceCommand.SpliceInsert x) h = insert-wide (x .«splice_event_id») (x .reserved) (x .«splice_detail») (h .0) (h .2)
+  command-wide (SpliceCommand.TimeSignal t) h = time-wide t
+  command-wide SpliceCommand.BandwidthReservation h = bandwidth-wide
+  command-wide (SpliceCommand.PrivateCommand p) h = private-wide p h
+
+  pub command-taken : (c : SpliceCommand) → Typed c → splicesWithin (countIn c) components ≡ true → ownSplices (countIn c) components ≡ true
+      → commandWordsMade (commandWords (flatCommand c)) components lent ≡ commandMade c (componentsFrom (countIn c) components) lent
+  unfolding commandWordsMade commandRefusal
+  command-taken c h s o =
+      let words = commandWords (flatCommand c) in
+      let fits = within commandWidths words && splicesWithin (countIn c) components in
+      let own : same words words && ownSplices (countIn c) components ≡ true = rw (same-self words, o) in
+      ap (λ (d : SpliceCommand). noLess (commandRefusal d words components) (commandMade d (componentsFrom (countIn d) components) lent)) (command-back c h)
+      ∙ taken fits (same words words && ownSplices (countIn c) components) (commandMade c (componentsFrom (countIn c) components) lent) own
+      (λ e. command-wide c h (and-unit (within commandWidths words) ∙ rw (sym s) e))
