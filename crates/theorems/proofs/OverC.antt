@@ -1,17 +1,18 @@
 -- What is written of the words of a value's flat form is what is written of the value. Assumes nothing.
 use Prim.Native.Nat.{ℕ, zero, suc, _+_, _-_, _^_, _<_, _≤_}
 use mathlib.Core.Bool.{Bool, true, false, not, _&&_}
-use mathlib.Core.List.{List, [], _∷_, _++_}
+use mathlib.Core.List.{List, [], _∷_, _++_, map}
 use mathlib.Core.Path.{_≡_, refl, ap, sym, _∙_}
-use native.Mathlib.Nat.{mod-lt}
+use native.Mathlib.Nat.{mod-eq-of-lt}
 use native.Mathlib.Omega.{arith}
-use lib.Dec.{ltb, eqb, lit<}
-use lib.ListN.{length, take, drop, replicate, length-append, length-replicate}
+use lib.Dec.{ltb, eqb}
+use lib.ListN.{length, take, drop, replicate}
 use lib.Seq.{take-at}
 use borrow.Author.Tests.{lt-ltb, ltb-true, ltb-false, eq-eqb}
 use Rattle.command.specs.Command.{array}
 use Rattle.command.specs.Insert as insert
-use Rattle.command.specs.Insert.{count, programTime, blank, immediate}
+use Rattle.command.specs.Insert.{count, programTime, blank, immediate, insertOf}
+use Rattle.command.specs.declared.CommandRead.{CommandRead}
 use Rattle.command.specs.declared.Private.{Private}
 use Rattle.command.specs.declared.SpliceCommand.{SpliceCommand}
 use Rattle.command.specs.declared.components.ComponentSplice.{ComponentSplice}
@@ -22,15 +23,15 @@ use Rattle.command.specs.declared.insert.SpliceInsert.{SpliceInsert}
 use Rattle.command.specs.declared.insert.SpliceMode.{SpliceMode}
 use Rattle.command_writer.proofs.Making.{measured-time, measured-parts, private-outside, insert-cancelled, insert-active, command-insert, command-time, command-private}
 use Rattle.command_writer.specs.Fields.{immediateIn}
-use Rattle.command_writer.specs.Made.{counted, insertMade, commandMade, measuredOf}
+use Rattle.command_writer.specs.Made.{counted, timesFit, insertMade, commandMade, measuredOf}
 use Rattle.command_writer.specs.Survey.{Tags, surveyed, modeBytes, breakBytes, measured, activeMeasured, timeBytes}
 use Rattle.command_writer.specs.declared.Measured.{Measured}
 use Rattle.flat.specs.Flat.{flatTime, noTime, noView}
-use Rattle.flat.specs.FlatCommand.{flatMode, flatBreak, wholeInsert, bareInsert, flatInsertion, commandWith, noCommand, flatCommand}
+use Rattle.flat.specs.FlatCommand.{flatMode, flatBreak, wholeInsert, bareInsert, flatInsertion, commandWith, noCommand, flatCommand, flatComponent, flatSplices}
 use Rattle.flat_writer.proofs.Back.{TypedMode, TypedDetail, Typed, command-back}
 use Rattle.flat_writer.proofs.Words.{and-unit, places-length}
-use Rattle.flat_writer.specs.CommandWords.{commandWords, commandWidths, countIn, componentFrom, splicesIn, componentsFrom, splicesWithin, ownSplices, commandRefusal, commandGiven, commandWordsMade}
-use Rattle.flat_writer.specs.Words.{within, same, placesOf, refusalOf, noLess}
+use Rattle.flat_writer.specs.CommandWords.{commandWords, commandWidths, timeFrom, countIn, componentWords, componentWidths, componentFrom, splicesIn, componentsFrom, ownComponent, splicesWithin, ownSplices, commandRefusal, commandGiven, commandWordsMade}
+use Rattle.flat_writer.specs.Words.{within, same, placesOf, eachPlace, refusalOf, noLess}
 use Rattle.header.specs.Time.{ticks}
 use Rattle.header.specs.declared.time.SpliceTime.{SpliceTime}
 use Rattle.names.specs.Flags.{networkFlag, returnFlag}
@@ -40,6 +41,7 @@ use Rattle.pen.specs.Written.{refusalIn}
 use Rattle.table.proofs.Lists.{zero-one, and-true}
 use Rattle.table.specs.Bits.{pick}
 use Rattle.table.specs.Writing.{Made, made, refused}
+use Rattle.theorems.specs.OverC.{placesWords, splicesWords}
 
 -- ---- words that are a value's own are not refused for themselves
 same-self : (words : List ℕ) → same words words ≡ true
@@ -146,35 +148,74 @@ active-within event kept i v h k t d =
       lt-ltb (i .«avails_expected») (2 ^ 8) (h .2),
     )
 
--- the components that words make: their tags are bytes, and as many as are counted are there
-tags-made : (n : ℕ) (words : List ℕ) → Tags (placesOf componentFrom 3 n words)
-unfolding placesOf componentFrom
-tags-made zero words = tt
-tags-made (suc n) words = (mod-lt _ {m = 256} (lit< tt), tags-made n (drop 3 words))
+-- ---- the words of components: they make the components again, and are within their widths where the times are
+same-front : (own words : List ℕ) → same own (own ++ words) ≡ true
+unfolding same
+same-front [] words = refl
+same-front (x ∷ own) words = rw (eq-eqb x x refl) (same-front own words)
 
-components-front : (n : ℕ) (words : List ℕ) → take n (componentsFrom n words) ≡ placesOf componentFrom 3 n (splicesIn words)
-unfolding componentsFrom array
-components-front n words =
-    let l = placesOf componentFrom 3 n (splicesIn words) in
-    take-at l (replicate (255 - length l) blank) n (places-length componentFrom 3 n (splicesIn words))
+component-back : (c : ComponentSplice) (words : List ℕ) → c .«component_tag» < 256 → componentFrom (componentWords (flatComponent c) ++ words) ≡ c
+unfolding componentFrom componentWords flatComponent
+component-back c words h = rw (mod-eq-of-lt h, time-back (c .«splice_time»))
+  where
+    time-back : (t : SpliceTime) → timeFrom (flatTime t) ≡ t
+    time-back SpliceTime.Immediate = refl
+    time-back SpliceTime.Unspecified = refl
+    time-back (SpliceTime.At t) = refl
 
-components-there : (n : ℕ) (words : List ℕ) → n ≤ length (componentsFrom n words)
-unfolding componentsFrom array
-components-there n words =
-    let l = placesOf componentFrom 3 n (splicesIn words) in
-    omega (arith, length-append l (replicate (255 - length l) blank), places-length componentFrom 3 n (splicesIn words))
+component-within : (c : ComponentSplice) (words : List ℕ) → c .«component_tag» < 256 → within componentWidths (componentWords (flatComponent c) ++ words) ≡ ltb (ticks (c .«splice_time»)) (2 ^ 33)
+unfolding within componentWidths componentWords flatComponent
+component-within c words h = rw (lt-ltb (c .«component_tag») 256 h) (go (c .«splice_time»))
+  where
+    go : (t : SpliceTime) → ltb (flatTime t .kind) 4 && (ltb (flatTime t .ticks) (2 ^ 33) && true) ≡ ltb (ticks t) (2 ^ 33)
+    go SpliceTime.Immediate = refl
+    go SpliceTime.Unspecified = refl
+    go (SpliceTime.At t) = sym (and-unit (ltb t (2 ^ 33)))
 
-components-tags : (n : ℕ) (words : List ℕ) → Tags (take n (componentsFrom n words))
-components-tags n words = rw (components-front n words) (tags-made n (splicesIn words))
+component-own : (c : ComponentSplice) (words : List ℕ) → c .«component_tag» < 256 → ownComponent (componentWords (flatComponent c) ++ words) ≡ true
+component-own c words h = ap (λ (d : ComponentSplice). same (componentWords (flatComponent d)) (componentWords (flatComponent c) ++ words)) (component-back c words h) ∙ same-front (componentWords (flatComponent c)) words
+
+three-on : (c : ComponentSplice) (words : List ℕ) → drop 3 (componentWords (flatComponent c) ++ words) ≡ words
+unfolding componentWords
+three-on c words = refl
+
+splices-back : (n : ℕ) (cs : List ComponentSplice) → Tags cs → n ≤ length cs → placesOf componentFrom 3 n (placesWords (map flatComponent cs)) ≡ take n cs
+unfolding placesOf
+splices-back zero cs t h = refl
+splices-back (suc n) [] t h = absurd (omega arith)
+splices-back (suc n) (c ∷ cs) t h =
+    let words = placesWords (map flatComponent cs) in
+    rw (component-back c words (t .0), three-on c words, splices-back n cs (t .1) (omega arith))
+
+splices-within : (n : ℕ) (cs : List ComponentSplice) → Tags cs → n ≤ length cs → eachPlace (within componentWidths) 3 n (placesWords (map flatComponent cs)) ≡ timesFit (take n cs)
+unfolding eachPlace
+splices-within zero cs t h = refl
+splices-within (suc n) [] t h = absurd (omega arith)
+splices-within (suc n) (c ∷ cs) t h =
+    let words = placesWords (map flatComponent cs) in
+    rw (component-within c words (t .0), three-on c words, splices-within n cs (t .1) (omega arith))
+
+splices-own : (n : ℕ) (cs : List ComponentSplice) → Tags cs → n ≤ length cs → eachPlace ownComponent 3 n (placesWords (map flatComponent cs)) ≡ true
+unfolding eachPlace
+splices-own zero cs t h = refl
+splices-own (suc n) [] t h = absurd (omega arith)
+splices-own (suc n) (c ∷ cs) t h =
+    let words = placesWords (map flatComponent cs) in
+    rw (component-own c words (t .0), three-on c words, splices-own n cs (t .1) (omega arith))
+
+tags-take : (n : ℕ) (cs : List ComponentSplice) → Tags cs → Tags (take n cs)
+tags-take zero cs t = tt
+tags-take (suc n) [] t = tt
+tags-take (suc n) (c ∷ cs) t = (t .0, tags-take n cs (t .1))
 
 mode-count : (m : SpliceMode) → TypedMode m → count m < 256
 mode-count (SpliceMode.Program t) h = omega arith
 mode-count (SpliceMode.Components n) h = h
 
 -- ---- the command
-module _ (components lent : List ℕ) (short : length lent < 2 ^ 64) where
+module _ (places : List ComponentSplice) (lent : List ℕ) (tags : Tags places) (short : length lent < 2 ^ 64) where
   abbrev Refuses : SpliceCommand → Type 0
-  Refuses c = within commandWidths (commandWords (flatCommand c)) ≡ false → Wide (commandMade c (componentsFrom (countIn c) components) lent)
+  Refuses c = within commandWidths (commandWords (flatCommand c)) ≡ false → Wide (commandMade c (places) lent)
 
   null-wide : Refuses SpliceCommand.SpliceNull
   unfolding within commandWidths commandWords flatCommand noCommand bareInsert flatBreak
@@ -188,7 +229,6 @@ module _ (components lent : List ℕ) (short : length lent < 2 ^ 64) where
   unfolding flatCommand
   time-wide t e =
       let c = SpliceCommand.TimeSignal t in
-      let places = componentsFrom (countIn c) components in
       measured-wide (ltb (ticks t) (2 ^ 33)) (not (immediate t)) (timeBytes false t) (commandMade c places lent) (measured-time t ∙ command-time c places lent t refl) (sym (time-within t) ∙ e)
 
   private-wide : (p : Private) → p .identifier < 2 ^ 32 → Refuses (SpliceCommand.PrivateCommand p)
@@ -196,9 +236,6 @@ module _ (components lent : List ℕ) (short : length lent < 2 ^ 64) where
     where
       c : SpliceCommand
       c = SpliceCommand.PrivateCommand p
-
-      places : List ComponentSplice
-      places = componentsFrom (countIn c) components
 
       go : (b : Bool) → ltb (length lent) (p .«private_bytes» .at + p .«private_bytes» .len) ≡ b → Wide (commandMade c places lent)
       go true o =
@@ -209,10 +246,10 @@ module _ (components lent : List ℕ) (short : length lent < 2 ^ 64) where
           let t : within commandWidths (commandWords (flatCommand c)) ≡ true = private-within p i (omega (arith, h, short)) (omega (arith, h, short)) in
           zero-one cc
 
-  active-wide : (event kept : ℕ) (x : Insert) → event < 2 ^ 32 → TypedDetail (SpliceInsert.Insert x)
+  active-wide : (event kept : ℕ) (x : Insert) → event < 2 ^ 32 → TypedDetail (SpliceInsert.Insert x) → count (x .«splice_mode») ≤ length places
       → Refuses (SpliceCommand.SpliceInsert (record { «splice_event_id» = event; reserved = kept; «splice_detail» = SpliceInsert.Insert x }))
   unfolding flatCommand flatInsertion activeMeasured
-  active-wide event kept x v h e = measured-wide (fit && w) (eqb kept 127 && surveyed (immediateIn x cs) cs .alike) size (commandMade c places lent) (is ∙ command-insert c places lent i refl) (rw over (and-false fit))
+  active-wide event kept x v h there e = measured-wide (fit && w) (eqb kept 127 && surveyed (immediateIn x cs) cs .alike) size (commandMade c places lent) (is ∙ command-insert c places lent i refl) (rw over (and-false fit))
     where
       i : Insertion
       i = record { «splice_event_id» = event; reserved = kept; «splice_detail» = SpliceInsert.Insert x }
@@ -222,9 +259,6 @@ module _ (components lent : List ℕ) (short : length lent < 2 ^ 64) where
 
       n : ℕ
       n = count (x .«splice_mode»)
-
-      places : List ComponentSplice
-      places = componentsFrom n components
 
       cs : List ComponentSplice
       cs = take n places
@@ -239,7 +273,7 @@ module _ (components lent : List ℕ) (short : length lent < 2 ^ 64) where
       w = ltb kept 128 && (ltb (ticks (programTime (x .«splice_mode»))) (2 ^ 33) && ltb (insert.ticks (x .duration)) (2 ^ 33))
 
       is : activeMeasured kept (x .«splice_mode») (x .duration) (surveyed (immediateIn x cs) cs) ≡ measuredOf (insertMade (counted i places))
-      is = insert-active i x places refl (components-there n components) v (mode-count (x .«splice_mode») (h .3)) (h .0) (h .1) (h .2) (components-tags n components)
+      is = insert-active i x places refl there v (mode-count (x .«splice_mode») (h .3)) (h .0) (h .1) (h .2) (tags-take n places tags)
 
       go : (b : Bool) → w ≡ b → w ≡ false
       go false f = f
@@ -252,29 +286,73 @@ module _ (components lent : List ℕ) (short : length lent < 2 ^ 64) where
       over : w ≡ false
       over = go w refl
 
-  insert-wide : (event kept : ℕ) (d : SpliceInsert) → event < 2 ^ 32 → TypedDetail d → Refuses (SpliceCommand.SpliceInsert (record { «splice_event_id» = event; reserved = kept; «splice_detail» = d }))
+  insert-wide : (event kept : ℕ) (d : SpliceInsert) → event < 2 ^ 32 → TypedDetail d → count (insertOf d .«splice_mode») ≤ length places → Refuses (SpliceCommand.SpliceInsert (record { «splice_event_id» = event; reserved = kept; «splice_detail» = d }))
   unfolding flatCommand flatInsertion
-  insert-wide event kept SpliceInsert.Cancel v h e =
+  insert-wide event kept SpliceInsert.Cancel v h there e =
       let i : Insertion = record { «splice_event_id» = event; reserved = kept; «splice_detail» = SpliceInsert.Cancel } in
       let c = SpliceCommand.SpliceInsert i in
-      let places = componentsFrom (countIn c) components in
       measured-wide (ltb kept 128) (eqb kept 127) 5 (commandMade c places lent) (insert-cancelled i places refl v ∙ command-insert c places lent i refl) (sym (cancel-within event kept v) ∙ e)
-  insert-wide event kept (SpliceInsert.Insert x) v h e = active-wide event kept x v h e
+  insert-wide event kept (SpliceInsert.Insert x) v h there e = active-wide event kept x v h there e
 
-  command-wide : (c : SpliceCommand) → Typed c → Refuses c
-  command-wide SpliceCommand.SpliceNull h = null-wide
-  command-wide (SpliceCommand.SpliceInsert x) h = insert-wide (x .«splice_event_id») (x .reserved) (x .«splice_detail») (h .0) (h .2)
-  command-wide (SpliceCommand.TimeSignal t) h = time-wide t
-  command-wide SpliceCommand.BandwidthReservation h = bandwidth-wide
-  command-wide (SpliceCommand.PrivateCommand p) h = private-wide p h
+  command-wide : (c : SpliceCommand) → Typed c → countIn c ≤ length places → Refuses c
+  command-wide SpliceCommand.SpliceNull h there = null-wide
+  command-wide (SpliceCommand.SpliceInsert x) h there = insert-wide (x .«splice_event_id») (x .reserved) (x .«splice_detail») (h .0) (h .2) there
+  command-wide (SpliceCommand.TimeSignal t) h there = time-wide t
+  command-wide SpliceCommand.BandwidthReservation h there = bandwidth-wide
+  command-wide (SpliceCommand.PrivateCommand p) h there = private-wide p h
 
-  pub command-taken : (c : SpliceCommand) → Typed c → splicesWithin (countIn c) components ≡ true → ownSplices (countIn c) components ≡ true
-      → commandWordsMade (commandWords (flatCommand c)) components lent ≡ commandMade c (componentsFrom (countIn c) components) lent
-  unfolding commandWordsMade commandRefusal
-  command-taken c h s o =
-      let words = commandWords (flatCommand c) in
-      let fits = within commandWidths words && splicesWithin (countIn c) components in
-      let own : same words words && ownSplices (countIn c) components ≡ true = rw (same-self words, o) in
-      ap (λ (d : SpliceCommand). noLess (commandRefusal d words components) (commandMade d (componentsFrom (countIn d) components) lent)) (command-back c h)
-      ∙ taken fits (same words words && ownSplices (countIn c) components) (commandMade c (componentsFrom (countIn c) components) lent) own
-      (λ e. command-wide c h (and-unit (within commandWidths words) ∙ rw (sym s) e))
+  -- where a component's time is over its field
+  times-wide : (c : SpliceCommand) → timesFit (take (countIn c) places) ≡ false → Wide (commandMade c places lent)
+  unfolding commandMade insertMade
+  times-wide SpliceCommand.SpliceNull e = zero-one cc
+  times-wide (SpliceCommand.SpliceInsert x) e = rw e (omega arith, omega arith)
+  times-wide (SpliceCommand.TimeSignal t) e = zero-one cc
+  times-wide SpliceCommand.BandwidthReservation e = zero-one cc
+  times-wide (SpliceCommand.PrivateCommand p) e = zero-one cc
+
+  -- the components that a command counts are all that is looked at
+  same-made : (c : SpliceCommand) (others : List ComponentSplice) → take (countIn c) others ≡ take (countIn c) places → commandMade c others lent ≡ commandMade c places lent
+  unfolding commandMade
+  same-made SpliceCommand.SpliceNull others e = refl
+  same-made (SpliceCommand.SpliceInsert x) others e = ap (λ (cs : List ComponentSplice). insertMade (record { value = x; components = cs })) e
+  same-made (SpliceCommand.TimeSignal t) others e = refl
+  same-made SpliceCommand.BandwidthReservation others e = refl
+  same-made (SpliceCommand.PrivateCommand p) others e = refl
+
+  module _ (c : SpliceCommand) (typed : Typed c) (there : countIn c ≤ length places) where
+    abbrev words : List ℕ
+    words = commandWords (flatCommand c)
+
+    abbrev beside : List ℕ
+    beside = splicesWords (flatSplices (CommandRead.Is c) places)
+
+    components-are : commandMade c (componentsFrom (countIn c) beside) lent ≡ commandMade c places lent
+    unfolding componentsFrom flatSplices array
+    components-are =
+        let n = countIn c in
+        let cs = placesOf componentFrom 3 n (splicesIn beside) in
+        same-made c (componentsFrom n beside) (take-at cs (replicate (255 - length cs) blank) n (places-length componentFrom 3 n (splicesIn beside)) ∙ splices-back n places tags there)
+
+    abbrev fits : Bool
+    fits = within commandWidths words && splicesWithin (countIn c) beside
+
+    abbrev own : Bool
+    own = same words words && ownSplices (countIn c) beside
+
+    all-own : own ≡ true
+    unfolding ownSplices flatSplices
+    all-own = rw (same-self words, splices-own (countIn c) places tags there)
+
+    over-wide : fits ≡ false → Wide (commandMade c places lent)
+    unfolding splicesWithin flatSplices
+    over-wide e = go (within commandWidths words) refl (rw (splices-within (countIn c) places tags there) at e)
+      where
+        go : (b : Bool) → within commandWidths words ≡ b → b && timesFit (take (countIn c) places) ≡ false → Wide (commandMade c places lent)
+        go true f e = times-wide c e
+        go false f e = command-wide c typed there f
+
+    pub command-taken : commandWordsMade words beside lent ≡ commandMade c places lent
+    unfolding commandWordsMade commandRefusal
+    command-taken =
+        ap (λ (d : SpliceCommand). noLess (commandRefusal d words beside) (commandMade d (componentsFrom (countIn d) beside) lent)) (command-back c typed)
+        ∙ ap (noLess (refusalOf fits own)) components-are ∙ taken fits own (commandMade c places lent) all-own over-wide
