@@ -1,8 +1,8 @@
 -- What is written of the words of a value's flat form is what is written of the value. Assumes nothing.
 use Prim.Native.Nat.{ℕ, zero, suc, _+_, _-_, _^_, _<_, _≤_}
-use mathlib.Core.Bool.{Bool, true, false, not, _&&_}
+use mathlib.Core.Bool.{Bool, true, false, not, _&&_, _||_}
 use mathlib.Core.List.{List, [], _∷_, _++_, map}
-use mathlib.Core.Path.{_≡_, refl, ap, sym, _∙_}
+use mathlib.Core.Path.{_≡_, refl, ap, ap₂, sym, _∙_}
 use native.Mathlib.Nat.{mod-eq-of-lt}
 use native.Mathlib.Omega.{arith}
 use lib.Dec.{ltb, eqb}
@@ -26,18 +26,30 @@ use Rattle.command_writer.specs.Fields.{immediateIn}
 use Rattle.command_writer.specs.Made.{counted, timesFit, insertMade, commandMade, measuredOf}
 use Rattle.command_writer.specs.Survey.{Tags, surveyed, modeBytes, breakBytes, measured, activeMeasured, timeBytes}
 use Rattle.command_writer.specs.declared.Measured.{Measured}
-use Rattle.flat.specs.Flat.{flatTime, noTime, noView}
+use Rattle.descriptor_form.specs.Canonical.{canonicalLoop}
+use Rattle.flat.specs.Flat.{flatFlag, flatTime, noTime, noView, flatHeader}
 use Rattle.flat.specs.FlatCommand.{flatMode, flatBreak, wholeInsert, bareInsert, flatInsertion, commandWith, noCommand, flatCommand, flatComponent, flatSplices}
+use Rattle.flat_section_writer.proofs.Back as header
+use Rattle.flat_section_writer.proofs.Back.{header-back}
+use Rattle.flat_section_writer.specs.SectionWords.{headerFrom, headerWords, headerWidths, headerRefusal, either, sectionWordsMade}
 use Rattle.flat_writer.proofs.Back.{TypedMode, TypedDetail, Typed, command-back}
 use Rattle.flat_writer.proofs.Words.{and-unit, places-length}
 use Rattle.flat_writer.specs.CommandWords.{commandWords, commandWidths, timeFrom, countIn, componentWords, componentWidths, componentFrom, splicesIn, componentsFrom, ownComponent, splicesWithin, ownSplices, commandRefusal, commandGiven, commandWordsMade}
 use Rattle.flat_writer.specs.Words.{within, same, placesOf, eachPlace, refusalOf, noLess}
 use Rattle.header.specs.Time.{ticks}
+use Rattle.header.specs.declared.header.SpliceInfoHeader.{SpliceInfoHeader}
 use Rattle.header.specs.declared.time.SpliceTime.{SpliceTime}
+use Rattle.names.specs.Algorithm.{fairAlgorithm}
 use Rattle.names.specs.Flags.{networkFlag, returnFlag}
 use Rattle.names.specs.declared.flags.NetworkIndicator.{NetworkIndicator}
 use Rattle.names.specs.declared.flags.ReturnMode.{ReturnMode}
-use Rattle.pen.specs.Written.{refusalIn}
+use Rattle.pen.specs.Written.{refusalIn, bytesIn}
+use Rattle.section.specs.Section.{first}
+use Rattle.section_writer.proofs.Heads.{fitting}
+use Rattle.section_writer.proofs.Refusals.{outside}
+use Rattle.section_writer.proofs.Refusals as refusals
+use Rattle.section_writer.specs.Frame.{sectionLength, headed, head, body, frame, numbersFit, fairHead}
+use Rattle.section_writer.specs.Writing.{conditions, unless, madeIf, sectionMade, kindOf}
 use Rattle.table.proofs.Lists.{zero-one, and-true}
 use Rattle.table.specs.Bits.{pick}
 use Rattle.table.specs.Writing.{Made, made, refused}
@@ -212,10 +224,82 @@ mode-count : (m : SpliceMode) → TypedMode m → count m < 256
 mode-count (SpliceMode.Program t) h = omega arith
 mode-count (SpliceMode.Components n) h = h
 
+-- ---- a section is refused with 31 or 32 where its command is, or where a number of its header is over its field
+unless-wide : (n : ℕ) (b : List ℕ) → 31 ≤ n → n ≤ 32 → Wide (unless n b)
+unless-wide zero b h g = absurd (omega arith)
+unless-wide (suc n) b h g = (h, g)
+
+first-wide : (a b : Bool) (rest : List Bool) → b ≡ true → (31 ≤ first 31 (a ∷ b ∷ rest)) × (first 31 (a ∷ b ∷ rest) ≤ 32)
+first-wide true b rest e = (omega arith, omega arith)
+first-wide false b rest e = rw e (omega arith, omega arith)
+
+or-true : (b : Bool) → b || true ≡ true
+or-true true = refl
+or-true false = refl
+
+module _ (h : SpliceInfoHeader) (m : Made) (kind : ℕ) (loop : List ℕ) where
+  section-wide-header : numbersFit h ≡ false → Wide (sectionMade h m kind loop)
+  unfolding sectionMade madeIf
+  section-wide-header e =
+      let r = refusalIn m in
+      let n = length (bytesIn m) in
+      let rest = (eqb r 33 || not (fairHead h)) ∷ ltb 4096 (sectionLength n (length loop)) ∷ not (canonicalLoop loop) ∷ [] in
+      let f = first-wide (eqb r 31) (eqb r 32 || not (numbersFit h)) rest (rw e (or-true (eqb r 32))) in
+      unless-wide (first 31 (conditions h r n (length loop) (canonicalLoop loop))) (frame h kind (bytesIn m) loop) (f .0) (f .1)
+
+  section-wide-command : Wide m → Wide (sectionMade h m kind loop)
+  unfolding sectionMade madeIf refusalIn
+  section-wide-command w = go (ltb (refusalIn m) 32) refl
+    where
+      k : ℕ
+      k = first 31 (conditions h (refusalIn m) (length (bytesIn m)) (length loop) (canonicalLoop loop))
+
+      number : (m : Made) → Wide m → (31 ≤ refusalIn m) × (refusalIn m ≤ 32)
+      number (made b) w = absurd w
+      number (refused n) w = w
+
+      go : (b : Bool) → ltb (refusalIn m) 32 ≡ b → Wide (madeIf (canonicalLoop loop) h m kind loop)
+      go true e =
+          let f : 31 ≡ k = outside h (refusalIn m) (length (bytesIn m)) (length loop) (canonicalLoop loop) (omega (arith, number m w .0, ltb-true (refusalIn m) 32 e)) in
+          unless-wide k (frame h kind (bytesIn m) loop) (omega (arith, f)) (omega (arith, f))
+      go false e =
+          let f : 32 ≡ k = refusals.command-wide h (refusalIn m) (length (bytesIn m)) (length loop) (canonicalLoop loop) (omega (arith, number m w .1, ltb-false (refusalIn m) 32 e)) in
+          unless-wide k (frame h kind (bytesIn m) loop) (omega (arith, f)) (omega (arith, f))
+
+  -- the command's length and type, which a header says, are not looked at
+  headless : sectionMade (headed h 0 0) m kind loop ≡ sectionMade h m kind loop
+  unfolding sectionMade madeIf frame body head headed numbersFit fairHead
+  headless = refl
+
+flag-within : (b : Bool) → ltb (flatFlag b) 2 ≡ true
+flag-within true = refl
+flag-within false = refl
+
+header-unfit : (h : SpliceInfoHeader) → within headerWidths (headerWords (flatHeader h)) ≡ false → numbersFit h ≡ false
+unfolding within headerWidths headerWords flatHeader
+header-unfit h e = go (numbersFit h) refl
+  where
+    go : (b : Bool) → numbersFit h ≡ b → b ≡ false
+    go false f = refl
+    go true f =
+        let t = fitting h f in
+        let w : within headerWidths (headerWords (flatHeader h)) ≡ true =
+        rw (lt-ltb _ _ (t .version), flag-within (h .«encrypted_packet»), lt-ltb _ _ (t .algorithm), lt-ltb _ _ (t .adjustment), lt-ltb _ _ (t .index), lt-ltb _ _ (t .tiers)) in
+        zero-one cc
+
+-- of two structs of words
+taken-either : (a b own other : Bool) (m : Made) → own ≡ true → other ≡ true → (a ≡ false → Wide m) → (b ≡ false → Wide m) → noLess (either (refusalOf a own) (refusalOf b other)) m ≡ m
+taken-either a b own other m e f v w = rw (e, f) (go a b v w)
+  where
+    go : (a b : Bool) → (a ≡ false → Wide m) → (b ≡ false → Wide m) → noLess (either (refusalOf a true) (refusalOf b true)) m ≡ m
+    go true b v w = taken b true m refl w
+    go false true v w = taken false true m refl v
+    go false false v w = taken false true m refl v
+
 -- ---- the command
 module _ (places : List ComponentSplice) (lent : List ℕ) (tags : Tags places) (short : length lent < 2 ^ 64) where
   abbrev Refuses : SpliceCommand → Type 0
-  Refuses c = within commandWidths (commandWords (flatCommand c)) ≡ false → Wide (commandMade c (places) lent)
+  Refuses c = within commandWidths (commandWords (flatCommand c)) ≡ false → Wide (commandMade c places lent)
 
   null-wide : Refuses SpliceCommand.SpliceNull
   unfolding within commandWidths commandWords flatCommand noCommand bareInsert flatBreak
@@ -351,8 +435,34 @@ module _ (places : List ComponentSplice) (lent : List ℕ) (tags : Tags places) 
         go true f e = times-wide c e
         go false f e = command-wide c typed there f
 
+    -- by its two tests
+    command-refusal : commandRefusal (commandGiven words) words beside ≡ refusalOf fits own
+    unfolding commandRefusal
+    command-refusal = ap (λ (d : SpliceCommand). commandRefusal d words beside) (command-back c typed)
+
+    given-made : commandMade (commandGiven words) (componentsFrom (countIn (commandGiven words)) beside) lent ≡ commandMade c places lent
+    given-made = ap (λ (d : SpliceCommand). commandMade d (componentsFrom (countIn d) beside) lent) (command-back c typed) ∙ components-are
+
     pub command-taken : commandWordsMade words beside lent ≡ commandMade c places lent
-    unfolding commandWordsMade commandRefusal
-    command-taken =
-        ap (λ (d : SpliceCommand). noLess (commandRefusal d words beside) (commandMade d (componentsFrom (countIn d) beside) lent)) (command-back c typed)
-        ∙ ap (noLess (refusalOf fits own)) components-are ∙ taken fits own (commandMade c places lent) all-own over-wide
+    unfolding commandWordsMade
+    command-taken = ap₂ noLess command-refusal given-made ∙ taken fits own (commandMade c places lent) all-own over-wide
+
+    -- ---- the section
+    module _ (h : SpliceInfoHeader) (header-typed : header.Typed h) (fair : fairAlgorithm (h .«encryption_algorithm») ≡ true) (loop : List ℕ) where
+      abbrev whole : Made
+      whole = sectionMade h (commandMade c places lent) (kindOf c) loop
+
+      header-own : same (headerWords (flatHeader (headerFrom (headerWords (flatHeader h))))) (headerWords (flatHeader h)) ≡ true
+      unfolding headerWords flatHeader headed
+      header-own = ap (λ (x : SpliceInfoHeader). same (headerWords (flatHeader x)) (headerWords (flatHeader h))) (header-back h header-typed fair) ∙ same-self (headerWords (flatHeader h))
+
+      header-over : within headerWidths (headerWords (flatHeader h)) ≡ false → Wide whole
+      header-over e = section-wide-header h (commandMade c places lent) (kindOf c) loop (header-unfit h e)
+
+      pub section-taken : sectionWordsMade (headerWords (flatHeader h)) words beside lent loop ≡ whole
+      unfolding sectionWordsMade headerRefusal
+      section-taken =
+          ap₂ noLess (ap (either (headerRefusal (headerWords (flatHeader h)))) command-refusal) (ap₂ (λ (x : SpliceInfoHeader) (m : Made). sectionMade x m (kindOf (commandGiven words)) loop) (header-back h header-typed fair) given-made
+          ∙ ap (λ (d : SpliceCommand). sectionMade (headed h 0 0) (commandMade c places lent) (kindOf d) loop) (command-back c typed) ∙ headless h (commandMade c places lent) (kindOf c) loop)
+          ∙ taken-either (within headerWidths (headerWords (flatHeader h))) fits _ own whole header-own all-own header-over
+          (λ e. section-wide-command h (commandMade c places lent) (kindOf c) loop (over-wide e))

@@ -1,21 +1,29 @@
 -- The product's demands, over the definitions. A reader needs specs/Rows.antt, specs/Identifiers.antt, specs/Sections.antt and specs/Written.antt beside this file, and for the
 -- part on writing the definitions of `section_writer` and `command_writer`, and those of `loop_laws` (specs/Loops.antt) for the loop by its items; the proofs stand in the other files of this folder. That each public contract fixes its answer is
 -- stated for each function in FixedAnswers.antt, FixedAtBoundary.antt and FixedAtWriter.antt. Assumes nothing.
-use Prim.Native.Nat.{ℕ, _≤_}
+use Prim.Native.Nat.{ℕ, _^_, _<_, _≤_}
 use mathlib.Core.Bool.{true}
 use mathlib.Core.List.{List, [], _∷_, map}
 use mathlib.Core.Path.{_≡_}
 use lib.ListN.{length}
 use Rattle.command.specs.Command.{private, array, componentsOf}
+use Rattle.command.specs.declared.CommandRead.{CommandRead}
 use Rattle.command.specs.declared.Private.{Private}
 use Rattle.command.specs.declared.SpliceCommand.{SpliceCommand}
 use Rattle.command.specs.declared.components.ComponentSplice.{ComponentSplice}
 use Rattle.command.specs.declared.insert.Insertion.{Insertion}
 use Rattle.command_writer.specs.Made.{counted, commandMade}
-use Rattle.command_writer.specs.Survey.{Countable}
+use Rattle.command_writer.specs.Survey.{Countable, Tags}
+use Rattle.flat.specs.Flat.{flatHeader}
+use Rattle.flat.specs.FlatCommand.{flatCommand, flatSplices}
+use Rattle.flat_section_writer.proofs.Back as header
+use Rattle.flat_section_writer.specs.SectionWords.{headerWords, sectionWordsMade}
+use Rattle.flat_writer.proofs.Back as command
+use Rattle.flat_writer.specs.CommandWords.{commandWords, countIn, commandWordsMade}
 use Rattle.header.specs.declared.header.SpliceInfoHeader.{SpliceInfoHeader}
 use Rattle.items.specs.Cover.{Covered}
 use Rattle.items.specs.Items.{itemsOf}
+use Rattle.names.specs.Algorithm.{fairAlgorithm}
 use Rattle.loop_laws.specs.Loops.{joinedMade, loopMade, SameItems, Given, givenMade, GivenTypes, ItemsBack}
 use Rattle.section.proofs.Acceptance as acceptance
 use Rattle.section.proofs.Acceptance.{None}
@@ -32,10 +40,12 @@ use Rattle.table.specs.Lent.{viewed}
 use Rattle.table.specs.Writing.{made, make}
 use Rattle.upid.specs.Cover.{All}
 use Rattle.theorems.specs.Identifiers.{OneRun, inSection, loopIn, identifiersOf, midsOf, Unsplit}
+use Rattle.theorems.specs.OverC.{splicesWords}
 use Rattle.theorems.specs.Rows.{Holds, rows}
 use Rattle.theorems.specs.Sections.{EmptyCommand, spliceNull, eight, twelve, both, eightAndTwelve, Identified}
 use Rattle.theorems.specs.Written.{KeepsUpid}
 use Rattle.theorems.proofs.ItemsWritten as items-written
+use Rattle.theorems.proofs.OverC as over-c
 use Rattle.theorems.proofs.RowsHold as rows-hold
 use Rattle.theorems.proofs.Sections as sections
 use Rattle.theorems.proofs.Worked as worked
@@ -99,6 +109,22 @@ pub eight-and-twelve-bytes-are-read-whole : Identified eightAndTwelve (
     ∷ record { start = 47; len = 12; bytes = twelve }
     ∷ [])
 eight-and-twelve-bytes-are-read-whole = worked.both-whole
+
+-- ---- over the C boundary
+
+-- What a reader over C answers is what a writer over C takes. The words of a command's flat form, and those of its components, are written as the command with its
+-- components is written, or refused as it is: no word is refused for itself. (What the types say of a command's numbers: `command.Typed`; of the tags: `Tags`. A
+-- count's places are there: the array has 255.)
+pub command-words-are-the-command : (c : SpliceCommand) (places : List ComponentSplice) (lent : List ℕ) → command.Typed c → Tags places → countIn c ≤ length places → length lent < 2 ^ 64
+    → commandWordsMade (commandWords (flatCommand c)) (splicesWords (flatSplices (CommandRead.Is c) places)) lent ≡ commandMade c places lent
+command-words-are-the-command c places lent typed tags there short = over-c.command-taken places lent tags short c typed there
+
+-- So are those of a header, a command and a loop as the section. (A reserved algorithm whose number has a name has the words of that name.)
+pub section-words-are-the-section : (h : SpliceInfoHeader) (c : SpliceCommand) (places : List ComponentSplice) (lent loop : List ℕ) → header.Typed h
+    → fairAlgorithm (h .«encryption_algorithm») ≡ true → command.Typed c → Tags places → countIn c ≤ length places → length lent < 2 ^ 64
+    → sectionWordsMade (headerWords (flatHeader h)) (commandWords (flatCommand c)) (splicesWords (flatSplices (CommandRead.Is c) places)) lent loop
+    ≡ sectionMade h (commandMade c places lent) (kindOf c) loop
+section-words-are-the-section h c places lent loop h-typed fair typed tags there short = over-c.section-taken places lent tags short c typed there h h-typed fair loop
 
 -- ---- writing
 
