@@ -12,4 +12,5 @@ pub mod InsertsRead
 pub mod WrittenBack
 pub mod ItemsWritten
 pub mod OverC
+pub mod ItemsOverC
 pub mod Theorems

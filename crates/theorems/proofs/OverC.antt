@@ -56,17 +56,17 @@ use Rattle.table.specs.Writing.{Made, made, refused}
 use Rattle.theorems.specs.OverC.{placesWords, splicesWords}
 
 -- ---- words that are a value's own are not refused for themselves
-same-self : (words : List ℕ) → same words words ≡ true
+pub same-self : (words : List ℕ) → same words words ≡ true
 unfolding same
 same-self [] = refl
 same-self (x ∷ words) = rw (eq-eqb x x refl) (same-self words)
 
 -- the value itself is refused with 31 or 32
-abbrev Wide : Made → Type 0
+abbrev pub Wide : Made → Type 0
 Wide (made b) = ⊥
 Wide (refused n) = (31 ≤ n) × (n ≤ 32)
 
-wide-number : (m : Made) → 31 ≤ refusalIn m → refusalIn m ≤ 32 → Wide m
+pub wide-number : (m : Made) → 31 ≤ refusalIn m → refusalIn m ≤ 32 → Wide m
 unfolding refusalIn
 wide-number (made b) h g = absurd (omega arith)
 wide-number (refused n) h g = (h, g)
@@ -79,7 +79,7 @@ lowest-is n h = go (ltb n 32) refl
     go false e = omega (arith, ltb-false n 32 e)
 
 -- their own refusal can be 32 alone, and that of the value is then no higher
-taken : (fits own : Bool) (m : Made) → own ≡ true → (fits ≡ false → Wide m) → noLess (refusalOf fits own) m ≡ m
+pub taken : (fits own : Bool) (m : Made) → own ≡ true → (fits ≡ false → Wide m) → noLess (refusalOf fits own) m ≡ m
 unfolding noLess
 taken fits own m e w = rw e (go fits m w)
   where
@@ -88,7 +88,7 @@ taken fits own m e w = rw e (go fits m w)
     go false (made b) w = absurd (w refl)
     go false (refused n) w = ap refused (lowest-is n (w refl .1))
 
-and-false : (b : Bool) → b && false ≡ false
+pub and-false : (b : Bool) → b && false ≡ false
 and-false true = refl
 and-false false = refl
 
@@ -271,7 +271,7 @@ module _ (h : SpliceInfoHeader) (m : Made) (kind : ℕ) (loop : List ℕ) where
   unfolding sectionMade madeIf frame body head headed numbersFit fairHead
   headless = refl
 
-flag-within : (b : Bool) → ltb (flatFlag b) 2 ≡ true
+pub flag-within : (b : Bool) → ltb (flatFlag b) 2 ≡ true
 flag-within true = refl
 flag-within false = refl
 
