@@ -1,5 +1,5 @@
 -- The product's demands, over the definitions. A reader needs specs/Rows.antt, specs/Identifiers.antt, specs/Sections.antt and specs/Written.antt beside this file, and for the
--- part on writing the definitions of `section_writer` and `command_writer`, and those of `loop_laws` (specs/Loops.antt) for the loop by its items; the proofs stand in the other files of this folder. That each public contract fixes its answer is
+-- part on writing the definitions of `section_writer` and `command_writer`, for the part on the C boundary specs/OverC.antt and the definitions of the writers over words, and those of `loop_laws` (specs/Loops.antt) for the loop by its items; the proofs stand in the other files of this folder. That each public contract fixes its answer is
 -- stated for each function in FixedAnswers.antt, FixedAtBoundary.antt and FixedAtWriter.antt. Assumes nothing.
 use Prim.Native.Nat.{ℕ, _^_, _<_, _≤_}
 use mathlib.Core.Bool.{true}
@@ -14,8 +14,14 @@ use Rattle.command.specs.declared.components.ComponentSplice.{ComponentSplice}
 use Rattle.command.specs.declared.insert.Insertion.{Insertion}
 use Rattle.command_writer.specs.Made.{counted, commandMade}
 use Rattle.command_writer.specs.Survey.{Countable, Tags}
+use Rattle.descriptor.specs.declared.Descriptor.{Descriptor}
+use Rattle.descriptor.specs.declared.whole.Beside.{Beside}
+use Rattle.descriptor_form.specs.Writing.{descriptorMade}
 use Rattle.flat.specs.Flat.{flatHeader}
 use Rattle.flat.specs.FlatCommand.{flatCommand, flatSplices}
+use Rattle.flat_item_writer.proofs.Back as item
+use Rattle.flat_item_writer.specs.ItemWords.{descriptorWordsMade}
+use Rattle.flat_items.specs.FlatItem.{flatStep, flatBeside}
 use Rattle.flat_section_writer.proofs.Back as header
 use Rattle.flat_section_writer.specs.SectionWords.{headerWords, sectionWordsMade}
 use Rattle.flat_writer.proofs.Back as command
@@ -23,8 +29,10 @@ use Rattle.flat_writer.specs.CommandWords.{commandWords, countIn, commandWordsM
 use Rattle.header.specs.declared.header.SpliceInfoHeader.{SpliceInfoHeader}
 use Rattle.items.specs.Cover.{Covered}
 use Rattle.items.specs.Items.{itemsOf}
-use Rattle.names.specs.Algorithm.{fairAlgorithm}
+use Rattle.items.specs.declared.Item.{Item}
+use Rattle.items.specs.declared.Step.{Step}
 use Rattle.loop_laws.specs.Loops.{joinedMade, loopMade, SameItems, Given, givenMade, GivenTypes, ItemsBack}
+use Rattle.names.specs.Algorithm.{fairAlgorithm}
 use Rattle.section.proofs.Acceptance as acceptance
 use Rattle.section.proofs.Acceptance.{None}
 use Rattle.section.specs.Section.{commandType, commandBytes, loopLength, conditions, first, sectionOf, numberOf}
@@ -40,10 +48,11 @@ use Rattle.table.specs.Lent.{viewed}
 use Rattle.table.specs.Writing.{made, make}
 use Rattle.upid.specs.Cover.{All}
 use Rattle.theorems.specs.Identifiers.{OneRun, inSection, loopIn, identifiersOf, midsOf, Unsplit}
-use Rattle.theorems.specs.OverC.{splicesWords}
+use Rattle.theorems.specs.OverC.{splicesWords, stepWords, besideWords, TypedBeside}
 use Rattle.theorems.specs.Rows.{Holds, rows}
 use Rattle.theorems.specs.Sections.{EmptyCommand, spliceNull, eight, twelve, both, eightAndTwelve, Identified}
 use Rattle.theorems.specs.Written.{KeepsUpid}
+use Rattle.theorems.proofs.ItemsOverC as items-over-c
 use Rattle.theorems.proofs.ItemsWritten as items-written
 use Rattle.theorems.proofs.OverC as over-c
 use Rattle.theorems.proofs.RowsHold as rows-hold
@@ -125,6 +134,13 @@ pub section-words-are-the-section : (h : SpliceInfoHeader) (c : SpliceCommand) (
     → sectionWordsMade (headerWords (flatHeader h)) (commandWords (flatCommand c)) (splicesWords (flatSplices (CommandRead.Is c) places)) lent loop
     ≡ sectionMade h (commandMade c places lent) (kindOf c) loop
 section-words-are-the-section h c places lent loop h-typed fair typed tags there short = over-c.section-taken places lent tags short c typed there h h-typed fair loop
+
+-- And those of a step over a descriptor, with what stands beside it, as the descriptor. (`item.Typed`: its numbers are of their types; and, which words cannot say
+-- otherwise, its flags say what their parts say, and its type number, if reserved, has no name.)
+pub descriptor-words-are-the-descriptor : (d : Descriptor) (next : ℕ) (identifier : List ℕ) (beside : Beside) (lent : List ℕ) → item.Typed d → TypedBeside identifier beside → length lent < 2 ^ 64
+    → (let step : Step = record { item = Item.Is d; identifier = identifier; next = next } in
+    descriptorWordsMade (stepWords (flatStep step)) (besideWords (flatBeside (record { step = step; beside = beside }))) lent ≡ descriptorMade d identifier beside lent)
+descriptor-words-are-the-descriptor = items-over-c.descriptor-taken
 
 -- ---- writing
 
