@@ -13,4 +13,5 @@ pub mod WrittenBack
 pub mod ItemsWritten
 pub mod OverC
 pub mod ItemsOverC
+pub mod SectionsOverC
 pub mod Theorems

@@ -191,7 +191,7 @@ three-on : (c : ComponentSplice) (words : List ℕ) → drop 3 (componentWords (
 unfolding componentWords
 three-on c words = refl
 
-splices-back : (n : ℕ) (cs : List ComponentSplice) → Tags cs → n ≤ length cs → placesOf componentFrom 3 n (placesWords (map flatComponent cs)) ≡ take n cs
+splices-back : (n : ℕ) (cs : List ComponentSplice) → Tags (take n cs) → n ≤ length cs → placesOf componentFrom 3 n (placesWords (map flatComponent cs)) ≡ take n cs
 unfolding placesOf
 splices-back zero cs t h = refl
 splices-back (suc n) [] t h = absurd (omega arith)
@@ -199,7 +199,7 @@ splices-back (suc n) (c ∷ cs) t h =
     let words = placesWords (map flatComponent cs) in
     rw (component-back c words (t .0), three-on c words, splices-back n cs (t .1) (omega arith))
 
-splices-within : (n : ℕ) (cs : List ComponentSplice) → Tags cs → n ≤ length cs → eachPlace (within componentWidths) 3 n (placesWords (map flatComponent cs)) ≡ timesFit (take n cs)
+splices-within : (n : ℕ) (cs : List ComponentSplice) → Tags (take n cs) → n ≤ length cs → eachPlace (within componentWidths) 3 n (placesWords (map flatComponent cs)) ≡ timesFit (take n cs)
 unfolding eachPlace
 splices-within zero cs t h = refl
 splices-within (suc n) [] t h = absurd (omega arith)
@@ -207,7 +207,7 @@ splices-within (suc n) (c ∷ cs) t h =
     let words = placesWords (map flatComponent cs) in
     rw (component-within c words (t .0), three-on c words, splices-within n cs (t .1) (omega arith))
 
-splices-own : (n : ℕ) (cs : List ComponentSplice) → Tags cs → n ≤ length cs → eachPlace ownComponent 3 n (placesWords (map flatComponent cs)) ≡ true
+splices-own : (n : ℕ) (cs : List ComponentSplice) → Tags (take n cs) → n ≤ length cs → eachPlace ownComponent 3 n (placesWords (map flatComponent cs)) ≡ true
 unfolding eachPlace
 splices-own zero cs t h = refl
 splices-own (suc n) [] t h = absurd (omega arith)
@@ -215,7 +215,7 @@ splices-own (suc n) (c ∷ cs) t h =
     let words = placesWords (map flatComponent cs) in
     rw (component-own c words (t .0), three-on c words, splices-own n cs (t .1) (omega arith))
 
-tags-take : (n : ℕ) (cs : List ComponentSplice) → Tags cs → Tags (take n cs)
+pub tags-take : (n : ℕ) (cs : List ComponentSplice) → Tags cs → Tags (take n cs)
 tags-take zero cs t = tt
 tags-take (suc n) [] t = tt
 tags-take (suc n) (c ∷ cs) t = (t .0, tags-take n cs (t .1))
@@ -297,7 +297,7 @@ taken-either a b own other m e f v w = rw (e, f) (go a b v w)
     go false false v w = taken false true m refl v
 
 -- ---- the command
-module _ (places : List ComponentSplice) (lent : List ℕ) (tags : Tags places) (short : length lent < 2 ^ 64) where
+module _ (places : List ComponentSplice) (lent : List ℕ) (short : length lent < 2 ^ 64) where
   abbrev Refuses : SpliceCommand → Type 0
   Refuses c = within commandWidths (commandWords (flatCommand c)) ≡ false → Wide (commandMade c places lent)
 
@@ -330,10 +330,10 @@ module _ (places : List ComponentSplice) (lent : List ℕ) (tags : Tags places) 
           let t : within commandWidths (commandWords (flatCommand c)) ≡ true = private-within p i (omega (arith, h, short)) (omega (arith, h, short)) in
           zero-one cc
 
-  active-wide : (event kept : ℕ) (x : Insert) → event < 2 ^ 32 → TypedDetail (SpliceInsert.Insert x) → count (x .«splice_mode») ≤ length places
+  active-wide : (event kept : ℕ) (x : Insert) → event < 2 ^ 32 → TypedDetail (SpliceInsert.Insert x) → count (x .«splice_mode») ≤ length places → Tags (take (count (x .«splice_mode»)) places)
       → Refuses (SpliceCommand.SpliceInsert (record { «splice_event_id» = event; reserved = kept; «splice_detail» = SpliceInsert.Insert x }))
   unfolding flatCommand flatInsertion activeMeasured
-  active-wide event kept x v h there e = measured-wide (fit && w) (eqb kept 127 && surveyed (immediateIn x cs) cs .alike) size (commandMade c places lent) (is ∙ command-insert c places lent i refl) (rw over (and-false fit))
+  active-wide event kept x v h there tags e = measured-wide (fit && w) (eqb kept 127 && surveyed (immediateIn x cs) cs .alike) size (commandMade c places lent) (is ∙ command-insert c places lent i refl) (rw over (and-false fit))
     where
       i : Insertion
       i = record { «splice_event_id» = event; reserved = kept; «splice_detail» = SpliceInsert.Insert x }
@@ -357,7 +357,7 @@ module _ (places : List ComponentSplice) (lent : List ℕ) (tags : Tags places) 
       w = ltb kept 128 && (ltb (ticks (programTime (x .«splice_mode»))) (2 ^ 33) && ltb (insert.ticks (x .duration)) (2 ^ 33))
 
       is : activeMeasured kept (x .«splice_mode») (x .duration) (surveyed (immediateIn x cs) cs) ≡ measuredOf (insertMade (counted i places))
-      is = insert-active i x places refl there v (mode-count (x .«splice_mode») (h .3)) (h .0) (h .1) (h .2) (tags-take n places tags)
+      is = insert-active i x places refl there v (mode-count (x .«splice_mode») (h .3)) (h .0) (h .1) (h .2) tags
 
       go : (b : Bool) → w ≡ b → w ≡ false
       go false f = f
@@ -370,20 +370,21 @@ module _ (places : List ComponentSplice) (lent : List ℕ) (tags : Tags places) 
       over : w ≡ false
       over = go w refl
 
-  insert-wide : (event kept : ℕ) (d : SpliceInsert) → event < 2 ^ 32 → TypedDetail d → count (insertOf d .«splice_mode») ≤ length places → Refuses (SpliceCommand.SpliceInsert (record { «splice_event_id» = event; reserved = kept; «splice_detail» = d }))
+  insert-wide : (event kept : ℕ) (d : SpliceInsert) → event < 2 ^ 32 → TypedDetail d → count (insertOf d .«splice_mode») ≤ length places → Tags (take (count (insertOf d .«splice_mode»)) places)
+      → Refuses (SpliceCommand.SpliceInsert (record { «splice_event_id» = event; reserved = kept; «splice_detail» = d }))
   unfolding flatCommand flatInsertion
-  insert-wide event kept SpliceInsert.Cancel v h there e =
+  insert-wide event kept SpliceInsert.Cancel v h there tags e =
       let i : Insertion = record { «splice_event_id» = event; reserved = kept; «splice_detail» = SpliceInsert.Cancel } in
       let c = SpliceCommand.SpliceInsert i in
       measured-wide (ltb kept 128) (eqb kept 127) 5 (commandMade c places lent) (insert-cancelled i places refl v ∙ command-insert c places lent i refl) (sym (cancel-within event kept v) ∙ e)
-  insert-wide event kept (SpliceInsert.Insert x) v h there e = active-wide event kept x v h there e
+  insert-wide event kept (SpliceInsert.Insert x) v h there tags e = active-wide event kept x v h there tags e
 
-  command-wide : (c : SpliceCommand) → Typed c → countIn c ≤ length places → Refuses c
-  command-wide SpliceCommand.SpliceNull h there = null-wide
-  command-wide (SpliceCommand.SpliceInsert x) h there = insert-wide (x .«splice_event_id») (x .reserved) (x .«splice_detail») (h .0) (h .2) there
-  command-wide (SpliceCommand.TimeSignal t) h there = time-wide t
-  command-wide SpliceCommand.BandwidthReservation h there = bandwidth-wide
-  command-wide (SpliceCommand.PrivateCommand p) h there = private-wide p h
+  command-wide : (c : SpliceCommand) → Typed c → countIn c ≤ length places → Tags (take (countIn c) places) → Refuses c
+  command-wide SpliceCommand.SpliceNull h there tags = null-wide
+  command-wide (SpliceCommand.SpliceInsert x) h there tags = insert-wide (x .«splice_event_id») (x .reserved) (x .«splice_detail») (h .0) (h .2) there tags
+  command-wide (SpliceCommand.TimeSignal t) h there tags = time-wide t
+  command-wide SpliceCommand.BandwidthReservation h there tags = bandwidth-wide
+  command-wide (SpliceCommand.PrivateCommand p) h there tags = private-wide p h
 
   -- where a component's time is over its field
   times-wide : (c : SpliceCommand) → timesFit (take (countIn c) places) ≡ false → Wide (commandMade c places lent)
@@ -403,7 +404,7 @@ module _ (places : List ComponentSplice) (lent : List ℕ) (tags : Tags places) 
   same-made SpliceCommand.BandwidthReservation others e = refl
   same-made (SpliceCommand.PrivateCommand p) others e = refl
 
-  module _ (c : SpliceCommand) (typed : Typed c) (there : countIn c ≤ length places) where
+  module _ (c : SpliceCommand) (typed : Typed c) (there : countIn c ≤ length places) (tags : Tags (take (countIn c) places)) where
     abbrev words : List ℕ
     words = commandWords (flatCommand c)
 
@@ -433,7 +434,7 @@ module _ (places : List ComponentSplice) (lent : List ℕ) (tags : Tags places) 
       where
         go : (b : Bool) → within commandWidths words ≡ b → b && timesFit (take (countIn c) places) ≡ false → Wide (commandMade c places lent)
         go true f e = times-wide c e
-        go false f e = command-wide c typed there f
+        go false f e = command-wide c typed there tags f
 
     -- by its two tests
     command-refusal : commandRefusal (commandGiven words) words beside ≡ refusalOf fits own

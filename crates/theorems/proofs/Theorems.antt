@@ -126,14 +126,14 @@ eight-and-twelve-bytes-are-read-whole = worked.both-whole
 -- count's places are there: the array has 255.)
 pub command-words-are-the-command : (c : SpliceCommand) (places : List ComponentSplice) (lent : List ℕ) → command.Typed c → Tags places → countIn c ≤ length places → length lent < 2 ^ 64
     → commandWordsMade (commandWords (flatCommand c)) (splicesWords (flatSplices (CommandRead.Is c) places)) lent ≡ commandMade c places lent
-command-words-are-the-command c places lent typed tags there short = over-c.command-taken places lent tags short c typed there
+command-words-are-the-command c places lent typed tags there short = over-c.command-taken places lent short c typed there (over-c.tags-take (countIn c) places tags)
 
 -- So are those of a header, a command and a loop as the section. (A reserved algorithm whose number has a name has the words of that name.)
 pub section-words-are-the-section : (h : SpliceInfoHeader) (c : SpliceCommand) (places : List ComponentSplice) (lent loop : List ℕ) → header.Typed h
     → fairAlgorithm (h .«encryption_algorithm») ≡ true → command.Typed c → Tags places → countIn c ≤ length places → length lent < 2 ^ 64
     → sectionWordsMade (headerWords (flatHeader h)) (commandWords (flatCommand c)) (splicesWords (flatSplices (CommandRead.Is c) places)) lent loop
     ≡ sectionMade h (commandMade c places lent) (kindOf c) loop
-section-words-are-the-section h c places lent loop h-typed fair typed tags there short = over-c.section-taken places lent tags short c typed there h h-typed fair loop
+section-words-are-the-section h c places lent loop h-typed fair typed tags there short = over-c.section-taken places lent short c typed there (over-c.tags-take (countIn c) places tags) h h-typed fair loop
 
 -- And those of a step over a descriptor, with what stands beside it, as the descriptor. (`item.Typed`: its numbers are of their types; and, which words cannot say
 -- otherwise, its flags say what their parts say, and its type number, if reserved, has no name.)
