@@ -355,12 +355,12 @@ module _ (number : ℕ) (id : List ℕ) (beside : Beside) (lent : List ℕ) (sma
   same-payload (Descriptor.Dtmf x) others e = refl
   same-payload (Descriptor.Segmentation x) others e =
       ap (λ (cs : List ModeComponent).
-        pick (leb (upidIn x .bytes .at + upidIn x .bytes .len) (length lent))
-        (pick (leb (upidIn x .bytes .len) 255)
-        (make segmentation (fairSegment x id (beside .eidr) lent) (upidSource (upidIn x) (beside .eidr) lent)
-        (record { descriptor = record { «segmentation_event_id» = x .«segmentation_event_id»; «descriptor_detail» = writtenDetail (x .«descriptor_detail») }; components = cs }))
-        (refused 32))
-        (refused 31)) e
+      pick (leb (upidIn x .bytes .at + upidIn x .bytes .len) (length lent))
+      (pick (leb (upidIn x .bytes .len) 255)
+      (make segmentation (fairSegment x id (beside .eidr) lent) (upidSource (upidIn x) (beside .eidr) lent)
+      (record { descriptor = record { «segmentation_event_id» = x .«segmentation_event_id»; «descriptor_detail» = writtenDetail (x .«descriptor_detail») }; components = cs }))
+      (refused 32))
+      (refused 31)) e
   same-payload (Descriptor.Time x) others e = refl
   same-payload (Descriptor.Reserved tag v) others e = refl
 

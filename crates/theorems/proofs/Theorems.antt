@@ -1,12 +1,13 @@
 -- The product's demands, over the definitions. A reader needs specs/Rows.antt, specs/Identifiers.antt, specs/Sections.antt and specs/Written.antt beside this file, and for the
--- part on writing the definitions of `section_writer` and `command_writer`, for the part on the C boundary specs/OverC.antt and the definitions of the writers over words, and those of `loop_laws` (specs/Loops.antt) for the loop by its items; the proofs stand in the other files of this folder. That each public contract fixes its answer is
+-- part on writing the definitions of `section_writer` and `command_writer`, and those of `loop_laws` (specs/Loops.antt) for the loop by its items; for the part on the C boundary
+-- specs/OverC.antt, and the definitions of `flat_writer`, `flat_section_writer` and `flat_item_writer`; the proofs stand in the other files of this folder. That each public contract fixes its answer is
 -- stated for each function in FixedAnswers.antt, FixedAtBoundary.antt and FixedAtWriter.antt. Assumes nothing.
 use Prim.Native.Nat.{ℕ, _^_, _<_, _≤_}
 use mathlib.Core.Bool.{true}
 use mathlib.Core.List.{List, [], _∷_, map}
 use mathlib.Core.Path.{_≡_}
 use lib.ListN.{length}
-use Rattle.command.specs.Command.{private, array, componentsOf}
+use Rattle.command.specs.Command.{private, commandOf, array, componentsOf}
 use Rattle.command.specs.declared.CommandRead.{CommandRead}
 use Rattle.command.specs.declared.Private.{Private}
 use Rattle.command.specs.declared.SpliceCommand.{SpliceCommand}
@@ -19,6 +20,7 @@ use Rattle.descriptor.specs.declared.whole.Beside.{Beside}
 use Rattle.descriptor_form.specs.Writing.{descriptorMade}
 use Rattle.flat.specs.Flat.{flatHeader}
 use Rattle.flat.specs.FlatCommand.{flatCommand, flatSplices}
+use Rattle.flat.specs.FlatSection.{flatSectionRead}
 use Rattle.flat_item_writer.proofs.Back as item
 use Rattle.flat_item_writer.specs.ItemWords.{descriptorWordsMade}
 use Rattle.flat_items.specs.FlatItem.{flatStep, flatBeside}
@@ -57,6 +59,7 @@ use Rattle.theorems.proofs.ItemsWritten as items-written
 use Rattle.theorems.proofs.OverC as over-c
 use Rattle.theorems.proofs.RowsHold as rows-hold
 use Rattle.theorems.proofs.Sections as sections
+use Rattle.theorems.proofs.SectionsOverC as sections-over-c
 use Rattle.theorems.proofs.Worked as worked
 use Rattle.theorems.proofs.WrittenBack as written-back
 
@@ -134,6 +137,13 @@ pub section-words-are-the-section : (h : SpliceInfoHeader) (c : SpliceCommand) (
     → sectionWordsMade (headerWords (flatHeader h)) (commandWords (flatCommand c)) (splicesWords (flatSplices (CommandRead.Is c) places)) lent loop
     ≡ sectionMade h (commandMade c places lent) (kindOf c) loop
 section-words-are-the-section h c places lent loop h-typed fair typed tags there short = over-c.section-taken places lent short c typed there (over-c.tags-take (countIn c) places tags) h h-typed fair loop
+
+-- Demand 2 over C: writing the words that are read of a canonical section gives its bytes: its header's, its command's, those of the components that are read of its
+-- payload, and its loop as it stands in the section
+pub a-canonical-section-is-what-is-written-of-its-words : (s : List ℕ) (x : Section) → AllBytes s → sectionOf s ≡ SectionRead.Is x → canonicalSection s ≡ true
+    → sectionWordsMade (headerWords (flatSectionRead (sectionOf s) .header)) (commandWords (flatSectionRead (sectionOf s) .command))
+    (splicesWords (flatSplices (commandOf (commandType s) (commandBytes s)) (componentsOf (commandBytes s)))) s (loopIn s x) ≡ made s
+a-canonical-section-is-what-is-written-of-its-words = sections-over-c.section-again
 
 -- And those of a step over a descriptor, with what stands beside it, as the descriptor. (`item.Typed`: its numbers are of their types; and, which words cannot say
 -- otherwise, its flags say what their parts say, and its type number, if reserved, has no name.)
