@@ -1,6 +1,6 @@
 -- What is written of the words of a step over a descriptor is what is written of the descriptor. Assumes nothing.
 use Prim.Native.Nat.{ℕ, zero, suc, _+_, _-_, _*_, _^_, _<_, _≤_}
-use mathlib.Core.Bool.{Bool, true, false, not, _&&_}
+use mathlib.Core.Bool.{Bool, true, false, _&&_}
 use mathlib.Core.List.{List, [], _∷_, _++_, map}
 use mathlib.Core.Logic.{_⊎_, inl, inr, ⊎-elim}
 use mathlib.Core.Path.{_≡_, refl, ap, ap₂, sym, _∙_}
@@ -9,9 +9,8 @@ use native.Mathlib.Omega.{arith}
 use lib.Dec.{ltb, leb}
 use lib.ListN.{length, take, drop, replicate}
 use lib.Seq.{take-all, take-at}
-use borrow.Author.Tests.{lt-ltb, ltb-true, ltb-false, le-leb, lt-leb, leb-true}
-use Rattle.descriptor.specs.Plain.{avail, dtmf, time, privateBytes}
-use Rattle.descriptor.specs.Segmentation as table
+use borrow.Author.Tests.{lt-ltb, ltb-true, ltb-false, leb-true}
+use Rattle.descriptor.specs.Plain.{dtmf, time, privateBytes}
 use Rattle.descriptor.specs.Segmentation.{blankComponent, countOf, frontOf, segmentation, ticks}
 use Rattle.descriptor.specs.Whole.{filled}
 use Rattle.descriptor.specs.declared.Descriptor.{Descriptor}
@@ -29,8 +28,7 @@ use Rattle.descriptor.specs.declared.segmentation.SubSegments.{SubSegments}
 use Rattle.descriptor.specs.declared.whole.Beside.{Beside}
 use Rattle.descriptor_form.proofs.Refusals.{view-out, upid-long, numbers-over}
 use Rattle.descriptor_form.specs.Parts.{componentsFields, modeFields, durationFields, numbersFit, numberIn}
-use Rattle.descriptor_form.specs.Writing.{framedMade, segmentationMade, payloadMade, descriptorMade, tagOf, identifierOf, upidIn, upidSource, fairSegment, written, writtenDetail}
-use Rattle.flat.specs.Flat.{flatFlag, flatView}
+use Rattle.descriptor_form.specs.Writing.{framedMade, segmentationMade, payloadMade, descriptorMade, tagOf, identifierOf, upidIn, upidSource, fairSegment, writtenDetail}
 use Rattle.flat_item_writer.proofs.Back.{TypedMode, TypedSubs, TypedInsert, TypedDetail, Typed, descriptor-back}
 use Rattle.flat_item_writer.specs.ItemWords.{
   itemWords,
@@ -57,11 +55,9 @@ use Rattle.flat_writer.proofs.Words.{and-unit, places-length}
 use Rattle.flat_writer.specs.Words.{within, same, placesOf, eachPlace, refusalOf, noLess}
 use Rattle.items.specs.declared.Item.{Item}
 use Rattle.items.specs.declared.Step.{Step}
-use Rattle.items.specs.declared.reading.Reading.{Reading}
 use Rattle.names.specs.Flags.{restrictionsBits}
 use Rattle.names.specs.Segmentation.{segmentationNumber}
 use Rattle.names.specs.declared.flags.DeviceRestrictions.{DeviceRestrictions}
-use Rattle.pen.specs.Written as pen
 use Rattle.section_writer.proofs.Numbers.{number-bytes}
 use Rattle.table.proofs.Lists.{zero-one, and-true}
 use Rattle.table.proofs.Reading.{field-lt}
@@ -69,10 +65,10 @@ use Rattle.table.specs.Bits.{pick, bitsOf, field, bigEndian, AllBytes}
 use Rattle.table.specs.Table as tables
 use Rattle.table.specs.Table.{reserved, part, remaining}
 use Rattle.table.specs.Writing as writing
-use Rattle.table.specs.Writing.{Made, made, refused, Field, walk, make, makeOf, seen}
+use Rattle.table.specs.Writing.{Made, made, refused, Field, make, makeOf, seen}
 use Rattle.table.specs.declared.View.{View}
 use Rattle.theorems.specs.OverC.{stepWords, pairsWords, besideWords, ModeTags, TypedBeside}
-use Rattle.theorems.proofs.OverC.{same-self, Wide, wide-number, taken, flag-within}
+use Rattle.theorems.proofs.OverC.{same-self, Wide, taken, flag-within}
 
 -- ---- what is beside the item, from its words
 place-back : (c : ModeComponent) (words : List ℕ) → c .«component_tag» < 256 → placeFrom (c .«component_tag» ∷ c .«pts_offset» ∷ words) ≡ c

@@ -25,7 +25,6 @@ use Rattle.command_writer.proofs.Making.{measured-time, measured-parts, private
 use Rattle.command_writer.specs.Fields.{immediateIn}
 use Rattle.command_writer.specs.Made.{counted, timesFit, insertMade, commandMade, measuredOf}
 use Rattle.command_writer.specs.Survey.{Tags, surveyed, modeBytes, breakBytes, measured, activeMeasured, timeBytes}
-use Rattle.command_writer.specs.declared.Measured.{Measured}
 use Rattle.descriptor_form.specs.Canonical.{canonicalLoop}
 use Rattle.flat.specs.Flat.{flatFlag, flatTime, noTime, noView, flatHeader}
 use Rattle.flat.specs.FlatCommand.{flatMode, flatBreak, wholeInsert, bareInsert, flatInsertion, commandWith, noCommand, flatCommand, flatComponent, flatSplices}
@@ -66,7 +65,7 @@ abbrev pub Wide : Made → Type 0
 Wide (made b) = ⊥
 Wide (refused n) = (31 ≤ n) × (n ≤ 32)
 
-pub wide-number : (m : Made) → 31 ≤ refusalIn m → refusalIn m ≤ 32 → Wide m
+wide-number : (m : Made) → 31 ≤ refusalIn m → refusalIn m ≤ 32 → Wide m
 unfolding refusalIn
 wide-number (made b) h g = absurd (omega arith)
 wide-number (refused n) h g = (h, g)
@@ -88,7 +87,7 @@ taken fits own m e w = rw e (go fits m w)
     go false (made b) w = absurd (w refl)
     go false (refused n) w = ap refused (lowest-is n (w refl .1))
 
-pub and-false : (b : Bool) → b && false ≡ false
+and-false : (b : Bool) → b && false ≡ false
 and-false true = refl
 and-false false = refl
 

@@ -8,11 +8,10 @@ use lib.Dec.{ltb, eqb}
 use lib.ListN.{length, take, replicate, length-append}
 use lib.Seq.{length-take-le}
 use borrow.Author.Tests.{ltb-true}
-use Rattle.command.specs.Command.{private, read, empty, commandOf, array, componentsIn, componentsOf}
+use Rattle.command.specs.Command.{private, read, empty, commandOf, array, componentsOf}
 use Rattle.command.specs.Fair.{fairInsert}
-use Rattle.command.specs.Insert.{WithComponents, blank, cancelled, count, insert, insertOf, byProgram, lasting, outOfNetwork}
+use Rattle.command.specs.Insert.{WithComponents, blank, count, insert, insertOf, byProgram, lasting, outOfNetwork}
 use Rattle.command.specs.declared.CommandRead.{CommandRead}
-use Rattle.command.specs.declared.Private.{Private}
 use Rattle.command.specs.declared.SpliceCommand.{SpliceCommand}
 use Rattle.command.specs.declared.components.ComponentSplice.{ComponentSplice}
 use Rattle.command.specs.declared.insert.Insert.{Insert}
