@@ -13,5 +13,6 @@ pub mod WrittenBack
 pub mod ItemsWritten
 pub mod OverC
 pub mod ItemsOverC
+pub mod ItemsTyped
 pub mod SectionsOverC
 pub mod Theorems
