@@ -14,4 +14,8 @@ pub mod ItemsWritten
 pub mod Answers
 pub mod Targets
 pub mod CommandTypes
+pub mod OverC
+pub mod ItemsOverC
+pub mod ItemsTyped
+pub mod SectionsOverC
 pub mod Theorems

@@ -1,8 +1,8 @@
--- The product's demands, over the definitions. A reader needs specs/Rows.antt, specs/Identifiers.antt, specs/Sections.antt, specs/Written.antt and specs/Same.antt beside
--- this file, and for the part on writing the definitions of `section_writer` and `command_writer`, and those of `loop_laws` (specs/Loops.antt) for the loop by its items;
--- the proofs stand in the other files of this folder. That each public contract fixes its answer is stated for each function in FixedAnswers.antt, FixedAtBoundary.antt
--- and FixedAtWriter.antt. Assumes nothing.
-use Prim.Native.Nat.{ℕ, _≤_}
+-- The product's demands, over the definitions. A reader needs specs/{Rows,Identifiers,Sections,Written,Same}.antt beside this file; for the part on writing the
+-- definitions of `section_writer` and `command_writer`, and those of `loop_laws` (specs/Loops.antt) for the loop by its items; for the part on the C boundary
+-- specs/OverC.antt and the definitions of `flat_writer`, `flat_section_writer` and `flat_item_writer`. The proofs stand in the other files of this folder. That each
+-- public contract fixes its answer is stated for each function in FixedAnswers.antt, FixedAtBoundary.antt and FixedAtWriter.antt. Assumes nothing.
+use Prim.Native.Nat.{ℕ, _≤_, _^_, _<_}
 use mathlib.Core.Bool.{true, false, not}
 use mathlib.Core.List.{List, [], _∷_, map}
 use mathlib.Core.Path.{_≡_}
@@ -14,13 +14,29 @@ use Rattle.command.specs.declared.SpliceCommand.{SpliceCommand}
 use Rattle.command.specs.declared.components.ComponentSplice.{ComponentSplice}
 use Rattle.command.specs.declared.insert.Insertion.{Insertion}
 use Rattle.command_writer.specs.Made.{counted, commandMade}
-use Rattle.command_writer.specs.Survey.{Countable}
+use Rattle.command_writer.specs.Survey.{Countable, Tags}
+use Rattle.descriptor.specs.declared.Descriptor.{Descriptor}
+use Rattle.descriptor.specs.declared.whole.Beside.{Beside}
+use Rattle.descriptor_form.specs.Writing.{descriptorMade}
+use Rattle.flat.specs.Flat.{flatHeader}
+use Rattle.flat.specs.FlatCommand.{flatCommand, flatSplices}
+use Rattle.flat.specs.FlatSection.{flatSectionRead}
+use Rattle.flat_item_writer.proofs.Back as item
+use Rattle.flat_item_writer.specs.ItemWords.{descriptorWordsMade}
+use Rattle.flat_items.specs.FlatItem.{flatStep, flatBeside}
+use Rattle.flat_section_writer.proofs.Back as header
+use Rattle.flat_section_writer.specs.SectionWords.{headerWords, sectionWordsMade}
+use Rattle.flat_writer.proofs.Back as command
+use Rattle.flat_writer.specs.CommandWords.{commandWords, countIn, commandWordsMade}
 use Rattle.header.specs.declared.header.SpliceInfoHeader.{SpliceInfoHeader}
 use Rattle.items.specs.Cover.{Ends, TakesRest, Covered}
 use Rattle.items.specs.Items.{stepOf, itemsOf}
 use Rattle.loop_laws.specs.Loops.{joinedMade, loopMade, SameItems, Given, givenMade, GivenTypes, ItemsBack}
 use Rattle.pen.specs.Written.{answerOf, laterOf}
 use Rattle.pen.specs.declared.Written.{Written}
+use Rattle.items.specs.declared.Item.{Item}
+use Rattle.items.specs.declared.Step.{Step}
+use Rattle.names.specs.Algorithm.{fairAlgorithm}
 use Rattle.section.proofs.Acceptance as acceptance
 use Rattle.section.proofs.Acceptance.{None}
 use Rattle.section.specs.Section.{commandType, commandBytes, loopLength, unknownCommand, conditions, first, sectionOf, numberOf}
@@ -37,16 +53,20 @@ use Rattle.table.specs.Lent.{viewed}
 use Rattle.table.specs.Writing.{Made, made, make}
 use Rattle.upid.specs.Cover.{All}
 use Rattle.theorems.specs.Identifiers.{OneRun, inSection, loopIn, identifiersOf, midsOf, Unsplit}
+use Rattle.theorems.specs.OverC.{splicesWords, stepWords, besideWords, TypedBeside}
 use Rattle.theorems.specs.Rows.{Holds, rows}
 use Rattle.theorems.specs.Same.{SameSections}
 use Rattle.theorems.specs.Sections.{known, EmptyCommand, spliceNull, eight, twelve, both, eightAndTwelve, Identified}
 use Rattle.theorems.specs.Written.{KeepsUpid, ChangesOnlyResult}
 use Rattle.theorems.proofs.Answers as answers
 use Rattle.theorems.proofs.CommandTypes as command-types
+use Rattle.theorems.proofs.ItemsOverC as items-over-c
 use Rattle.theorems.proofs.ItemsWritten as items-written
+use Rattle.theorems.proofs.OverC as over-c
 use Rattle.theorems.proofs.RowsHold as rows-hold
 use Rattle.theorems.proofs.Sections as sections
 use Rattle.theorems.proofs.Targets as targets
+use Rattle.theorems.proofs.SectionsOverC as sections-over-c
 use Rattle.theorems.proofs.Worked as worked
 use Rattle.theorems.proofs.WrittenBack as written-back
 
@@ -126,6 +146,36 @@ pub eight-and-twelve-bytes-are-read-whole : Identified eightAndTwelve (
     ∷ record { start = 47; len = 12; bytes = twelve }
     ∷ [])
 eight-and-twelve-bytes-are-read-whole = worked.both-whole
+
+-- ---- over the C boundary
+
+-- What a reader over C answers is what a writer over C takes. The words of a command's flat form, and those of its components, are written as the command with its
+-- components is written, or refused as it is: no word is refused for itself. (What the types say of a command's numbers: `command.Typed`; of the tags: `Tags`. A
+-- count's places are there: the array has 255.)
+pub command-words-are-the-command : (c : SpliceCommand) (places : List ComponentSplice) (lent : List ℕ) → command.Typed c → Tags places → countIn c ≤ length places → length lent < 2 ^ 64
+    → commandWordsMade (commandWords (flatCommand c)) (splicesWords (flatSplices (CommandRead.Is c) places)) lent ≡ commandMade c places lent
+command-words-are-the-command c places lent typed tags there short = over-c.command-taken places lent short c typed there (over-c.tags-take (countIn c) places tags)
+
+-- So are those of a header, a command and a loop as the section. (A reserved algorithm whose number has a name has the words of that name.)
+pub section-words-are-the-section : (h : SpliceInfoHeader) (c : SpliceCommand) (places : List ComponentSplice) (lent loop : List ℕ) → header.Typed h
+    → fairAlgorithm (h .«encryption_algorithm») ≡ true → command.Typed c → Tags places → countIn c ≤ length places → length lent < 2 ^ 64
+    → sectionWordsMade (headerWords (flatHeader h)) (commandWords (flatCommand c)) (splicesWords (flatSplices (CommandRead.Is c) places)) lent loop
+    ≡ sectionMade h (commandMade c places lent) (kindOf c) loop
+section-words-are-the-section h c places lent loop h-typed fair typed tags there short = over-c.section-taken places lent short c typed there (over-c.tags-take (countIn c) places tags) h h-typed fair loop
+
+-- Demand 2 over C: writing the words that are read of a canonical section gives its bytes: its header's, its command's, those of the components that are read of its
+-- payload, and its loop as it stands in the section
+pub a-canonical-section-is-what-is-written-of-its-words : (s : List ℕ) (x : Section) → AllBytes s → sectionOf s ≡ SectionRead.Is x → canonicalSection s ≡ true
+    → sectionWordsMade (headerWords (flatSectionRead (sectionOf s) .header)) (commandWords (flatSectionRead (sectionOf s) .command))
+    (splicesWords (flatSplices (commandOf (commandType s) (commandBytes s)) (componentsOf (commandBytes s)))) s (loopIn s x) ≡ made s
+a-canonical-section-is-what-is-written-of-its-words = sections-over-c.section-again
+
+-- And those of a step over a descriptor, with what stands beside it, as the descriptor. (`item.Typed`: its numbers are of their types; and, which words cannot say
+-- otherwise, its flags say what their parts say, and its type number, if reserved, has no name.)
+pub descriptor-words-are-the-descriptor : (d : Descriptor) (next : ℕ) (identifier : List ℕ) (beside : Beside) (lent : List ℕ) → item.Typed d → TypedBeside identifier beside → length lent < 2 ^ 64
+    → (let step : Step = record { item = Item.Is d; identifier = identifier; next = next } in
+    descriptorWordsMade (stepWords (flatStep step)) (besideWords (flatBeside (record { step = step; beside = beside }))) lent ≡ descriptorMade d identifier beside lent)
+descriptor-words-are-the-descriptor = items-over-c.descriptor-taken
 
 -- ---- writing
 

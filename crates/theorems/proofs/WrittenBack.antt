@@ -161,11 +161,11 @@ made-there : (c : SpliceCommand) (places : List ComponentSplice) (s : List ℕ) 
 unfolding commandBytes
 made-there c places s h e = made-stays c places s (commandLength s) h e
 
-command-canonical : (s : List ℕ) → canonicalSection s ≡ true → canonicalCommand (commandType s) (commandBytes s) ≡ true
+pub command-canonical : (s : List ℕ) → canonicalSection s ≡ true → canonicalCommand (commandType s) (commandBytes s) ≡ true
 unfolding canonicalSection
 command-canonical s c = and-true (canonicalCommand (commandType s) (commandBytes s)) _ (and-true (canonicalFrame s) _ c .1) .0
 
-payload-bytes : (s : List ℕ) → AllBytes s → AllBytes (commandBytes s)
+pub payload-bytes : (s : List ℕ) → AllBytes s → AllBytes (commandBytes s)
 unfolding commandBytes
 payload-bytes s a = bytes-take (commandLength s) (drop 14 s) (bytes-drop 14 s a)
 

@@ -1,0 +1,50 @@
+-- The structs of C that stand beside a command, that are a step over a loop, and that stand beside an item, as the words that they are; and what the types say of
+-- what stands beside an item. These are definitions.
+use Prim.Native.Nat.{ℕ, _<_}
+use mathlib.Core.List.{List, [], _∷_, _++_}
+use mathlib.Core.Path.{_≡_}
+use lib.ListN.{length}
+use Rattle.descriptor.specs.declared.segmentation.ModeComponent.{ModeComponent}
+use Rattle.descriptor.specs.declared.whole.Beside.{Beside}
+use Rattle.flat.specs.declared.components.FlatComponentSplice.{FlatComponentSplice}
+use Rattle.flat.specs.declared.components.FlatSplices.{FlatSplices}
+use Rattle.flat_item_writer.specs.ItemWords.{itemWords}
+use Rattle.flat_items.specs.declared.beside.FlatBeside.{FlatBeside}
+use Rattle.flat_items.specs.declared.beside.FlatComponent.{FlatComponent}
+use Rattle.flat_items.specs.declared.steps.FlatStep.{FlatStep}
+use Rattle.flat_writer.specs.CommandWords.{componentWords}
+use Rattle.table.specs.Bits.{AllBytes}
+
+-- struct scte35_insert_components: refusal, count, and three words of each component
+abbrev pub placesWords : List FlatComponentSplice → List ℕ
+placesWords [] = []
+placesWords (c ∷ cs) = componentWords c ++ placesWords cs
+
+abbrev pub splicesWords : FlatSplices → List ℕ
+splicesWords s = s .refusal ∷ s .count ∷ placesWords (s .components)
+
+-- struct scte35_step: refusal, values, next, identifier, and the item
+abbrev pub stepWords : FlatStep → List ℕ
+stepWords s = s .refusal ∷ s .values ++ (s .next ∷ s .identifier ∷ itemWords (s .item))
+
+-- struct scte35_item_components: refusal, values, count, two words of each component, and the EIDR
+abbrev pub pairsWords : List FlatComponent → List ℕ
+pairsWords [] = []
+pairsWords (c ∷ cs) = c .«component_tag» ∷ c .«pts_offset» ∷ pairsWords cs
+
+abbrev pub besideWords : FlatBeside → List ℕ
+besideWords b = b .refusal ∷ b .values ++ (b .count ∷ pairsWords (b .components) ++ b .eidr)
+
+-- each tag is a byte
+abbrev pub ModeTags : List ModeComponent → Type 0
+ModeTags [] = Unit {0}
+ModeTags (c ∷ cs) = (c .«component_tag» < 256) × ModeTags cs
+
+-- what the types say of the identifier, the array and the EIDR that stand beside an item
+pub record TypedBeside (identifier : List ℕ) (beside : Beside) : Type 0 where
+  pub four : length identifier ≡ 4
+  pub identifier-bytes : AllBytes identifier
+  pub places : length (beside .components) ≡ 255
+  pub tags : ModeTags (beside .components)
+  pub twelve : length (beside .eidr) ≡ 12
+  pub eidr-bytes : AllBytes (beside .eidr)
