@@ -14,5 +14,6 @@ pub mod ItemsWritten
 pub mod OverC
 pub mod ItemsOverC
 pub mod ItemsTyped
+pub mod LoopsOverC
 pub mod SectionsOverC
 pub mod Theorems
