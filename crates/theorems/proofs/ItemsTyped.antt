@@ -1,14 +1,14 @@
 -- A descriptor that is written is of its types: each number was within its field, and each flag and number was fair. Assumes nothing.
 use Prim.Native.Nat.{ℕ, _+_, _^_, _<_, _≤_}
-use mathlib.Core.Bool.{Bool, true, false, not, _&&_}
-use mathlib.Core.List.{List, [], _∷_, _++_}
+use mathlib.Core.Bool.{Bool, true, false, _&&_}
+use mathlib.Core.List.{List, _++_}
 use mathlib.Core.Path.{_≡_, refl, ap, sym, subst, _∙_}
 use native.Mathlib.Omega.{arith}
 use lib.Dec.{ltb, leb, eqb}
 use lib.ListN.{length, take}
 use borrow.Author.Tests.{ltb-true, eqb-true}
 use Rattle.descriptor.specs.Plain.{avail, dtmf, time}
-use Rattle.descriptor.specs.Segmentation.{agrees, byProgram, countOf, fairDetail, fairFront, frontOf, lasting, segmentation, unrestricted}
+use Rattle.descriptor.specs.Segmentation.{agrees, byProgram, fairDetail, fairFront, frontOf, lasting, segmentation, unrestricted}
 use Rattle.descriptor.specs.declared.Descriptor.{Descriptor}
 use Rattle.descriptor.specs.declared.segmentation.ModeComponent.{ModeComponent}
 use Rattle.descriptor.specs.declared.segmentation.SegmentationDescriptor.{SegmentationDescriptor}
@@ -21,16 +21,16 @@ use Rattle.descriptor.specs.declared.whole.Beside.{Beside}
 use Rattle.descriptor_form.proofs.Fields.{fields-are}
 use Rattle.descriptor_form.proofs.Making.{counted, all-fair, by-table}
 use Rattle.descriptor_form.proofs.Refusals.{within-append}
-use Rattle.descriptor_form.specs.Parts.{deliveryFields, componentsFields, modeFields, durationFields, upidFields, subFields, backFields, segmentFields}
+use Rattle.descriptor_form.specs.Parts.{deliveryFields, modeFields, durationFields, upidFields, subFields, backFields, segmentFields}
 use Rattle.descriptor_form.specs.Writing.{framed, framedMade, alone, writtenKind, writtenUpid, writtenDetail, written, upidIn, upidSource, segmentationMade, payloadMade, tagOf, identifierOf, descriptorMade}
 use Rattle.flat_item_writer.proofs.Back.{TypedMode, TypedSubs, TypedInsert, TypedDetail, Typed}
 use Rattle.flat_item_writer.specs.ItemWords.{countIn}
-use Rattle.names.specs.Segmentation.{segmentationNumber, fairSegmentation}
+use Rattle.names.specs.Segmentation.{segmentationNumber}
 use Rattle.table.proofs.Lists.{zero-one, and-true}
 use Rattle.table.proofs.Structure.{wrote}
 use Rattle.table.specs.Bits.{pick, AllBytes}
 use Rattle.table.specs.Table.{flagNumber, number, reserved, part}
-use Rattle.table.specs.Writing.{Field, walk, within, Made, made, refused}
+use Rattle.table.specs.Writing.{walk, within, Made, made, refused}
 
 -- ---- a frame that is written, and its payload
 framed-made : (tag : ℕ) (id : List ℕ) (m : Made) (t : List ℕ) → framedMade tag id m ≡ made t → (p : List ℕ) × (m ≡ made p) × (t ≡ framed tag id p)
@@ -96,19 +96,21 @@ insert-typed event i cs w f =
     let x = and-true (ltb (i .«segments_expected») (2 ^ 8)) _ (n .1) in
     let g = and-true (fairFront (frontOf (SegmentationDetail.Insert i))) _ f in
     let p = and-true (agrees (i .«program_segmentation_flag») (byProgram (i .«segmentation_mode»))) _ (g .0) in
-    let q = and-true (agrees (i .«segmentation_duration_flag») (lasting (i .«segmentation_duration»))) _ (p .1) in
-    (ltb-true _ _ (a .0), record {
-      mode = mode-typed (i .«segmentation_mode») cs (m .0);
-      subs = subs-typed (i .«sub_segments») (x .1);
-      upid = upid-typed (i .«segmentation_upid») (u .0);
-      type-number = ltb-true _ _ (k .0);
-      num = ltb-true _ _ (n .0);
-      expected = ltb-true _ _ (x .0);
-      program-flag = agree _ _ (p .0);
-      duration-flag = agree _ _ (q .0);
-      free-flag = agree _ _ (q .1);
-      type-fair = g .1;
-    })
+    let q = and-true (agrees (i .«segmentation_duration_flag») (lasting (i .«segmentation_duration»))) _ (p .1) in (
+      ltb-true _ _ (a .0),
+      record {
+        mode = mode-typed (i .«segmentation_mode») cs (m .0);
+        subs = subs-typed (i .«sub_segments») (x .1);
+        upid = upid-typed (i .«segmentation_upid») (u .0);
+        type-number = ltb-true _ _ (k .0);
+        num = ltb-true _ _ (n .0);
+        expected = ltb-true _ _ (x .0);
+        program-flag = agree _ _ (p .0);
+        duration-flag = agree _ _ (q .0);
+        free-flag = agree _ _ (q .1);
+        type-fair = g .1;
+      },
+    )
 
 detail-typed : (event : ℕ) (d : SegmentationDetail) (cs : List ModeComponent) → within (segmentFields event d cs) ≡ true → fairDetail d ≡ true → (event < 2 ^ 32) × TypedDetail d
 unfolding segmentFields

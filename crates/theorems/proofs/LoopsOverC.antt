@@ -1,5 +1,5 @@
 -- The loop of a canonical section is what is written over C of the words that are read of its items over C. Assumes nothing.
-use Prim.Native.Nat.{ℕ, zero, suc, _+_, _-_, _^_, _<_, _≤_}
+use Prim.Native.Nat.{ℕ, zero, suc, _+_, _-_, _<_, _≤_}
 use mathlib.Core.Bool.{Bool, true, false, cond, _&&_}
 use mathlib.Core.List.{List, [], _∷_, _++_, map}
 use mathlib.Core.Path.{_≡_, refl, ap, ap₂, sym, subst, _∙_}
@@ -10,7 +10,7 @@ use lib.Seq.{length-take-le}
 use borrow.Author.Tests.{eqb-true}
 use Rattle.descriptor.specs.Descriptor.{descriptorOf}
 use Rattle.descriptor.specs.Segmentation as table
-use Rattle.descriptor.specs.Segmentation.{Moded, Fore, Head, blankComponent, component, mode, duration, deliveryRestrictions, parts, front, back, head, headOf, frontOf, segmentation}
+use Rattle.descriptor.specs.Segmentation.{Moded, Fore, Head, blankComponent, component, mode, duration, deliveryRestrictions, parts, front, back, head, frontOf, segmentation}
 use Rattle.descriptor.specs.Whole.{blanks, filled, blankBeside, besideIn, besideOf, besideRead, identifierRead, wholeOf}
 use Rattle.descriptor.specs.declared.Descriptor.{Descriptor}
 use Rattle.descriptor.specs.declared.DescriptorRead.{DescriptorRead}
@@ -18,7 +18,6 @@ use Rattle.descriptor.specs.declared.segmentation.ModeComponent.{ModeComponent}
 use Rattle.descriptor.specs.declared.segmentation.SegmentationDetail.{SegmentationDetail}
 use Rattle.descriptor.specs.declared.whole.Beside.{Beside}
 use Rattle.descriptor_laws.specs.Trips.{wholeIn}
-use Rattle.flat_item_writer.proofs.Back.{Typed}
 use Rattle.flat_item_writer.specs.ItemWords.{descriptorWordsMade}
 use Rattle.flat_items.specs.FlatItem.{flatStep, flatBeside}
 use Rattle.items.specs.Items.{stepOf, readingOf, Listed, listed, itemsOf}
@@ -35,10 +34,10 @@ use Rattle.section.specs.declared.SectionRead.{SectionRead}
 use Rattle.section_writer.proofs.Numbers.{bytes-take, bytes-drop}
 use Rattle.section_writer.specs.Canonical.{canonicalSection}
 use Rattle.table.proofs.Reading.{field-lt}
-use Rattle.table.proofs.Steps.{Reads, reads-in, reads-number, reads-flag, reads-ones}
+use Rattle.table.proofs.Steps.{reads-in, reads-number, reads-flag, reads-ones}
 use Rattle.table.specs.Bits.{pick, bitsOf, field, AllBytes}
 use Rattle.table.specs.Lent.{viewed}
-use Rattle.table.specs.Table.{Table, done, inside, list, Answer, got, short, parse}
+use Rattle.table.specs.Table.{done, inside, list, Answer, got, short, parse}
 use Rattle.table.specs.Writing.{Made, made}
 use Rattle.upid.specs.Cover.{All, none, more}
 use Rattle.upid.specs.Upid.{eidrOf}

@@ -50,12 +50,13 @@ use Rattle.table.specs.Lent.{viewed}
 use Rattle.table.specs.Writing.{made, make}
 use Rattle.upid.specs.Cover.{All}
 use Rattle.theorems.specs.Identifiers.{OneRun, inSection, loopIn, identifiersOf, midsOf, Unsplit}
-use Rattle.theorems.specs.OverC.{splicesWords, stepWords, besideWords, TypedBeside}
+use Rattle.theorems.specs.OverC.{splicesWords, stepWords, besideWords, wordsMadeAt, TypedBeside}
 use Rattle.theorems.specs.Rows.{Holds, rows}
 use Rattle.theorems.specs.Sections.{EmptyCommand, spliceNull, eight, twelve, both, eightAndTwelve, Identified}
 use Rattle.theorems.specs.Written.{KeepsUpid}
 use Rattle.theorems.proofs.ItemsOverC as items-over-c
 use Rattle.theorems.proofs.ItemsWritten as items-written
+use Rattle.theorems.proofs.LoopsOverC as loops-over-c
 use Rattle.theorems.proofs.OverC as over-c
 use Rattle.theorems.proofs.RowsHold as rows-hold
 use Rattle.theorems.proofs.Sections as sections
@@ -151,6 +152,13 @@ pub descriptor-words-are-the-descriptor : (d : Descriptor) (next : ℕ) (identif
     → (let step : Step = record { item = Item.Is d; identifier = identifier; next = next } in
     descriptorWordsMade (stepWords (flatStep step)) (besideWords (flatBeside (record { step = step; beside = beside }))) lent ≡ descriptorMade d identifier beside lent)
 descriptor-words-are-the-descriptor = items-over-c.descriptor-taken
+
+-- Demand 2 over C, by items: what is written of the words of each item of a canonical section, joined in order, is its loop, and with it the section is written again
+pub a-canonical-section-is-what-is-written-of-its-items-words : (s : List ℕ) (x : Section) → AllBytes s → sectionOf s ≡ SectionRead.Is x → canonicalSection s ≡ true
+    → (loop : List ℕ) × (joinedMade (map (wordsMadeAt (loopIn s x)) (itemsOf (loopIn s x))) ≡ made loop)
+    × (sectionWordsMade (headerWords (flatSectionRead (sectionOf s) .header)) (commandWords (flatSectionRead (sectionOf s) .command))
+    (splicesWords (flatSplices (commandOf (commandType s) (commandBytes s)) (componentsOf (commandBytes s)))) s loop ≡ made s)
+a-canonical-section-is-what-is-written-of-its-items-words s x a e c = (loopIn s x, loops-over-c.loop-again s x a e c, sections-over-c.section-again s x a e c)
 
 -- ---- writing
 
