@@ -27,7 +27,7 @@ use Rattle.flat_items.specs.FlatItem.{flatStep, flatBeside}
 use Rattle.flat_section_writer.proofs.Back as header
 use Rattle.flat_section_writer.specs.SectionWords.{headerWords, sectionWordsMade}
 use Rattle.flat_writer.proofs.Back as command
-use Rattle.flat_writer.specs.CommandWords.{commandWords, countIn, commandWordsMade}
+use Rattle.flat_writer.specs.CommandWords.{commandWords, countIn, commandGiven, commandWordsMade}
 use Rattle.header.specs.declared.header.SpliceInfoHeader.{SpliceInfoHeader}
 use Rattle.items.specs.Cover.{Covered}
 use Rattle.items.specs.Items.{itemsOf}
@@ -126,7 +126,7 @@ eight-and-twelve-bytes-are-read-whole = worked.both-whole
 -- ---- over the C boundary
 
 -- What a reader over C answers is what a writer over C takes. The words of a command's flat form, and those of its components, are written as the command with its
--- components is written, or refused as it is: no word is refused for itself. (What the types say of a command's numbers: `command.Typed`; of the tags: `Tags`. A
+-- components is written, or refused with the same number: the tests of words refuse nothing that the writer of the value does not. (What the types say of a command's numbers: `command.Typed`; of the tags: `Tags`. A
 -- count's places are there: the array has 255.)
 pub command-words-are-the-command : (c : SpliceCommand) (places : List ComponentSplice) (lent : List ℕ) → command.Typed c → Tags places → countIn c ≤ length places → length lent < 2 ^ 64
     → commandWordsMade (commandWords (flatCommand c)) (splicesWords (flatSplices (CommandRead.Is c) places)) lent ≡ commandMade c places lent
@@ -145,6 +145,11 @@ pub a-canonical-section-is-what-is-written-of-its-words : (s : List ℕ) (x : Se
     → sectionWordsMade (headerWords (flatSectionRead (sectionOf s) .header)) (commandWords (flatSectionRead (sectionOf s) .command))
     (splicesWords (flatSplices (commandOf (commandType s) (commandBytes s)) (componentsOf (commandBytes s)))) s (loopIn s x) ≡ made s
 a-canonical-section-is-what-is-written-of-its-words = sections-over-c.section-again
+
+-- (The words of components matter for a command that counts some, an insert by components.)
+pub uncounted-components-are-not-looked-at : (header command v w lent loop : List ℕ) → countIn (commandGiven command) ≡ 0
+    → sectionWordsMade header command v lent loop ≡ sectionWordsMade header command w lent loop
+uncounted-components-are-not-looked-at = sections-over-c.uncounted
 
 -- And those of a step over a descriptor, with what stands beside it, as the descriptor. (`item.Typed`: its numbers are of their types; and, which words cannot say
 -- otherwise, its flags say what their parts say, and its type number, if reserved, has no name.)
