@@ -30,26 +30,7 @@ use Rattle.descriptor_form.proofs.Refusals.{view-out, upid-long, numbers-over}
 use Rattle.descriptor_form.specs.Parts.{componentsFields, modeFields, durationFields, numbersFit, numberIn}
 use Rattle.descriptor_form.specs.Writing.{framedMade, segmentationMade, payloadMade, descriptorMade, tagOf, identifierOf, upidIn, upidSource, fairSegment, writtenDetail}
 use Rattle.flat_item_writer.proofs.Back.{TypedMode, TypedSubs, TypedInsert, TypedDetail, Typed, descriptor-back}
-use Rattle.flat_item_writer.specs.ItemWords.{
-  itemWords,
-  itemWidths,
-  descriptorGiven,
-  identifierFrom,
-  placesIn,
-  eidrIn,
-  countIn,
-  placeWidths,
-  placeFrom,
-  byteFrom,
-  placesFrom,
-  eidrFrom,
-  besideFrom,
-  placesWithin,
-  besideWithin,
-  ownItem,
-  descriptorRefusal,
-  descriptorWordsMade,
-}
+use Rattle.flat_item_writer.specs.ItemWords.{itemWords, itemWidths, descriptorGiven, identifierFrom, placesIn, eidrIn, countIn, placeWidths, placeFrom, byteFrom, placesFrom, eidrFrom, besideFrom, placesWithin, besideWithin, ownItem, descriptorRefusal, descriptorWordsMade}
 use Rattle.flat_items.specs.FlatItem.{flatRestrictions, flatSubSegments, wholeSegmentation, bareSegmentation, segmentationItem, flatDescriptor, flatItem, refusalIn, valuesIn, flatStep, flatComponent, flatBeside}
 use Rattle.flat_writer.proofs.Words.{and-unit, places-length}
 use Rattle.flat_writer.specs.Words.{within, same, placesOf, eachPlace, refusalOf, noLess}

@@ -1,14 +1,14 @@
 -- A descriptor that is written is of its types: each number was within its field, and each flag and number was fair. Assumes nothing.
 use Prim.Native.Nat.{ℕ, _+_, _^_, _<_, _≤_}
-use mathlib.Core.Bool.{Bool, true, false, not, _&&_}
-use mathlib.Core.List.{List, [], _∷_, _++_}
+use mathlib.Core.Bool.{Bool, true, false, _&&_}
+use mathlib.Core.List.{List, _++_}
 use mathlib.Core.Path.{_≡_, refl, ap, sym, subst, _∙_}
 use native.Mathlib.Omega.{arith}
 use lib.Dec.{ltb, leb, eqb}
 use lib.ListN.{length, take}
 use borrow.Author.Tests.{ltb-true, eqb-true}
 use Rattle.descriptor.specs.Plain.{avail, dtmf, time}
-use Rattle.descriptor.specs.Segmentation.{agrees, byProgram, countOf, fairDetail, fairFront, frontOf, lasting, segmentation, unrestricted}
+use Rattle.descriptor.specs.Segmentation.{agrees, byProgram, fairDetail, fairFront, frontOf, lasting, segmentation, unrestricted}
 use Rattle.descriptor.specs.declared.Descriptor.{Descriptor}
 use Rattle.descriptor.specs.declared.segmentation.ModeComponent.{ModeComponent}
 use Rattle.descriptor.specs.declared.segmentation.SegmentationDescriptor.{SegmentationDescriptor}
@@ -21,16 +21,16 @@ use Rattle.descriptor.specs.declared.whole.Beside.{Beside}
 use Rattle.descriptor_form.proofs.Fields.{fields-are}
 use Rattle.descriptor_form.proofs.Making.{counted, all-fair, by-table}
 use Rattle.descriptor_form.proofs.Refusals.{within-append}
-use Rattle.descriptor_form.specs.Parts.{deliveryFields, componentsFields, modeFields, durationFields, upidFields, subFields, backFields, segmentFields}
+use Rattle.descriptor_form.specs.Parts.{deliveryFields, modeFields, durationFields, upidFields, subFields, backFields, segmentFields}
 use Rattle.descriptor_form.specs.Writing.{framed, framedMade, alone, writtenKind, writtenUpid, writtenDetail, written, upidIn, upidSource, segmentationMade, payloadMade, tagOf, identifierOf, descriptorMade}
 use Rattle.flat_item_writer.proofs.Back.{TypedMode, TypedSubs, TypedInsert, TypedDetail, Typed}
 use Rattle.flat_item_writer.specs.ItemWords.{countIn}
-use Rattle.names.specs.Segmentation.{segmentationNumber, fairSegmentation}
+use Rattle.names.specs.Segmentation.{segmentationNumber}
 use Rattle.table.proofs.Lists.{zero-one, and-true}
 use Rattle.table.proofs.Structure.{wrote}
 use Rattle.table.specs.Bits.{pick, AllBytes}
 use Rattle.table.specs.Table.{flagNumber, number, reserved, part}
-use Rattle.table.specs.Writing.{Field, walk, within, Made, made, refused}
+use Rattle.table.specs.Writing.{walk, within, Made, made, refused}
 
 -- ---- a frame that is written, and its payload
 framed-made : (tag : ℕ) (id : List ℕ) (m : Made) (t : List ℕ) → framedMade tag id m ≡ made t → (p : List ℕ) × (m ≡ made p) × (t ≡ framed tag id p)

@@ -48,7 +48,7 @@ use Rattle.theorems.proofs.Sections.{loop-short}
 
 -- ---- the loop of a section
 
-all-viewed : (s : List ℕ) (v : View) → AllBytes s → AllBytes (viewed s v)
+pub all-viewed : (s : List ℕ) (v : View) → AllBytes s → AllBytes (viewed s v)
 unfolding viewed
 all-viewed s v a = go (leb (v .at + v .len) (length s))
   where
@@ -65,7 +65,7 @@ module _ (s : List ℕ) (x : Section) (e : sectionOf s ≡ SectionRead.Is x) whe
   loop-here = ap (viewed s) (laid s x e .place)
 
   module _ (a : AllBytes s) (c : canonicalSection s ≡ true) where
-    here-canonical : canonicalLoop (loopIn s x) ≡ true
+    pub here-canonical : canonicalLoop (loopIn s x) ≡ true
     here-canonical = ap canonicalLoop loop-here ∙ loop-canonical s c
 
     pub loop-written : loopMade (loopIn s x) ≡ made (loopIn s x)

@@ -17,5 +17,6 @@ pub mod CommandTypes
 pub mod OverC
 pub mod ItemsOverC
 pub mod ItemsTyped
+pub mod LoopsOverC
 pub mod SectionsOverC
 pub mod Theorems

@@ -32,7 +32,8 @@ use Rattle.flat.specs.FlatSection.{flatSectionRead}
 use Rattle.flat_section_writer.proofs.Back as header
 use Rattle.flat_section_writer.specs.SectionWords.{headerWords, sectionWordsMade}
 use Rattle.flat_writer.proofs.Back.{TypedMode, TypedDetail, Typed}
-use Rattle.flat_writer.specs.CommandWords.{commandWords, countIn}
+use Rattle.flat_writer.specs.CommandWords.{commandWords, countIn, componentsFrom, splicesWithin, ownSplices, commandRefusal, commandGiven}
+use Rattle.flat_writer.specs.Words.{placesOf, eachPlace}
 use Rattle.header.specs.Time.{spliceTime}
 use Rattle.header.specs.declared.header.SpliceInfoHeader.{SpliceInfoHeader}
 use Rattle.section.specs.Section.{commandType, commandBytes, moved, sectionOf}
@@ -226,3 +227,8 @@ section-again s x a e c =
     ap (λ (r : CommandRead). flatSplices r places) (p .command) ∙ moved-splices own places ∙ sym (ap (λ (d : SpliceCommand). flatSplices (CommandRead.Is d) places) (p .moves)) in
     same-words s (viewed s (x .descriptors)) (ap headerWords (flat-header s x e)) (ap commandWords (flat-command s x e)) (ap splicesWords splices)
     ∙ section-taken places s (omega (arith, p .short)) (x .command) typed (omega (arith, there, k)) (rw k (t .1)) (x .header) (header-typed (x .header) (h .0)) (clear (x .header) (h .1) .1) (viewed s (x .descriptors)) ∙ m
+
+-- ---- words of components that a command does not count
+pub uncounted : (header command v w lent loop : List ℕ) → countIn (commandGiven command) ≡ 0 → sectionWordsMade header command v lent loop ≡ sectionWordsMade header command w lent loop
+unfolding sectionWordsMade commandRefusal splicesWithin ownSplices componentsFrom eachPlace placesOf
+uncounted header command v w lent loop e = rw e

@@ -27,7 +27,7 @@ use Rattle.flat_items.specs.FlatItem.{flatStep, flatBeside}
 use Rattle.flat_section_writer.proofs.Back as header
 use Rattle.flat_section_writer.specs.SectionWords.{headerWords, sectionWordsMade}
 use Rattle.flat_writer.proofs.Back as command
-use Rattle.flat_writer.specs.CommandWords.{commandWords, countIn, commandWordsMade}
+use Rattle.flat_writer.specs.CommandWords.{commandWords, countIn, commandGiven, commandWordsMade}
 use Rattle.header.specs.declared.header.SpliceInfoHeader.{SpliceInfoHeader}
 use Rattle.items.specs.Cover.{Ends, TakesRest, Covered}
 use Rattle.items.specs.Items.{stepOf, itemsOf}
@@ -53,7 +53,7 @@ use Rattle.table.specs.Lent.{viewed}
 use Rattle.table.specs.Writing.{Made, made, make}
 use Rattle.upid.specs.Cover.{All}
 use Rattle.theorems.specs.Identifiers.{OneRun, inSection, loopIn, identifiersOf, midsOf, Unsplit}
-use Rattle.theorems.specs.OverC.{splicesWords, stepWords, besideWords, TypedBeside}
+use Rattle.theorems.specs.OverC.{splicesWords, stepWords, besideWords, wordsMadeAt, TypedBeside}
 use Rattle.theorems.specs.Rows.{Holds, rows}
 use Rattle.theorems.specs.Same.{SameSections}
 use Rattle.theorems.specs.Sections.{known, EmptyCommand, spliceNull, eight, twelve, both, eightAndTwelve, Identified}
@@ -62,6 +62,7 @@ use Rattle.theorems.proofs.Answers as answers
 use Rattle.theorems.proofs.CommandTypes as command-types
 use Rattle.theorems.proofs.ItemsOverC as items-over-c
 use Rattle.theorems.proofs.ItemsWritten as items-written
+use Rattle.theorems.proofs.LoopsOverC as loops-over-c
 use Rattle.theorems.proofs.OverC as over-c
 use Rattle.theorems.proofs.RowsHold as rows-hold
 use Rattle.theorems.proofs.Sections as sections
@@ -150,7 +151,7 @@ eight-and-twelve-bytes-are-read-whole = worked.both-whole
 -- ---- over the C boundary
 
 -- What a reader over C answers is what a writer over C takes. The words of a command's flat form, and those of its components, are written as the command with its
--- components is written, or refused as it is: no word is refused for itself. (What the types say of a command's numbers: `command.Typed`; of the tags: `Tags`. A
+-- components is written, or refused with the same number: the tests of words refuse nothing that the writer of the value does not. (What the types say of a command's numbers: `command.Typed`; of the tags: `Tags`. A
 -- count's places are there: the array has 255.)
 pub command-words-are-the-command : (c : SpliceCommand) (places : List ComponentSplice) (lent : List ℕ) → command.Typed c → Tags places → countIn c ≤ length places → length lent < 2 ^ 64
     → commandWordsMade (commandWords (flatCommand c)) (splicesWords (flatSplices (CommandRead.Is c) places)) lent ≡ commandMade c places lent
@@ -170,12 +171,24 @@ pub a-canonical-section-is-what-is-written-of-its-words : (s : List ℕ) (x : Se
     (splicesWords (flatSplices (commandOf (commandType s) (commandBytes s)) (componentsOf (commandBytes s)))) s (loopIn s x) ≡ made s
 a-canonical-section-is-what-is-written-of-its-words = sections-over-c.section-again
 
+-- (The words of components matter for a command that counts some, an insert by components.)
+pub uncounted-components-are-not-looked-at : (header command v w lent loop : List ℕ) → countIn (commandGiven command) ≡ 0
+    → sectionWordsMade header command v lent loop ≡ sectionWordsMade header command w lent loop
+uncounted-components-are-not-looked-at = sections-over-c.uncounted
+
 -- And those of a step over a descriptor, with what stands beside it, as the descriptor. (`item.Typed`: its numbers are of their types; and, which words cannot say
 -- otherwise, its flags say what their parts say, and its type number, if reserved, has no name.)
 pub descriptor-words-are-the-descriptor : (d : Descriptor) (next : ℕ) (identifier : List ℕ) (beside : Beside) (lent : List ℕ) → item.Typed d → TypedBeside identifier beside → length lent < 2 ^ 64
     → (let step : Step = record { item = Item.Is d; identifier = identifier; next = next } in
     descriptorWordsMade (stepWords (flatStep step)) (besideWords (flatBeside (record { step = step; beside = beside }))) lent ≡ descriptorMade d identifier beside lent)
 descriptor-words-are-the-descriptor = items-over-c.descriptor-taken
+
+-- Demand 2 over C, by items: what is written of the words of each item of a canonical section, joined in order, is its loop, and with it the section is written again
+pub a-canonical-section-is-what-is-written-of-its-items-words : (s : List ℕ) (x : Section) → AllBytes s → sectionOf s ≡ SectionRead.Is x → canonicalSection s ≡ true
+    → (loop : List ℕ) × (joinedMade (map (wordsMadeAt (loopIn s x)) (itemsOf (loopIn s x))) ≡ made loop)
+    × (sectionWordsMade (headerWords (flatSectionRead (sectionOf s) .header)) (commandWords (flatSectionRead (sectionOf s) .command))
+    (splicesWords (flatSplices (commandOf (commandType s) (commandBytes s)) (componentsOf (commandBytes s)))) s loop ≡ made s)
+a-canonical-section-is-what-is-written-of-its-items-words s x a e c = (loopIn s x, loops-over-c.loop-again s x a e c, sections-over-c.section-again s x a e c)
 
 -- ---- writing
 

@@ -8,12 +8,15 @@ use Rattle.descriptor.specs.declared.segmentation.ModeComponent.{ModeComponent}
 use Rattle.descriptor.specs.declared.whole.Beside.{Beside}
 use Rattle.flat.specs.declared.components.FlatComponentSplice.{FlatComponentSplice}
 use Rattle.flat.specs.declared.components.FlatSplices.{FlatSplices}
-use Rattle.flat_item_writer.specs.ItemWords.{itemWords}
+use Rattle.flat_item_writer.specs.ItemWords.{itemWords, descriptorWordsMade}
+use Rattle.flat_items.specs.FlatItem.{flatStep, flatBeside}
 use Rattle.flat_items.specs.declared.beside.FlatBeside.{FlatBeside}
 use Rattle.flat_items.specs.declared.beside.FlatComponent.{FlatComponent}
 use Rattle.flat_items.specs.declared.steps.FlatStep.{FlatStep}
 use Rattle.flat_writer.specs.CommandWords.{componentWords}
+use Rattle.items.specs.Items.{readingOf, Listed}
 use Rattle.table.specs.Bits.{AllBytes}
+use Rattle.table.specs.Writing.{Made}
 
 -- struct scte35_insert_components: refusal, count, and three words of each component
 abbrev pub placesWords : List FlatComponentSplice → List ℕ
@@ -34,6 +37,10 @@ pairsWords (c ∷ cs) = c .«component_tag» ∷ c .«pts_offset» ∷ pairsWord
 
 abbrev pub besideWords : FlatBeside → List ℕ
 besideWords b = b .refusal ∷ b .values ++ (b .count ∷ pairsWords (b .components) ++ b .eidr)
+
+-- what is written over C of an item of a loop: of the words of its step, and of those that stand beside it
+abbrev pub wordsMadeAt : List ℕ → Listed → Made
+wordsMadeAt loop y = descriptorWordsMade (stepWords (flatStep (y .step))) (besideWords (flatBeside (readingOf loop (y .offset)))) loop
 
 -- each tag is a byte
 abbrev pub ModeTags : List ModeComponent → Type 0
