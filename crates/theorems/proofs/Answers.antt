@@ -13,6 +13,7 @@ use Rattle.command.specs.declared.Private.{Private}
 use Rattle.command.specs.declared.SpliceCommand.{SpliceCommand}
 use Rattle.command.specs.declared.components.ComponentSplice.{ComponentSplice}
 use Rattle.command_writer.specs.Made.{insertMade, commandMade}
+use Rattle.flat_writer.specs.CommandWords.{countIn}
 use Rattle.header.specs.Time.{spliceTime, notImmediate}
 use Rattle.items.specs.Items.{Listed, listed}
 use Rattle.loop_laws.proofs.Loops.{back-at}
@@ -34,7 +35,7 @@ use Rattle.table.specs.Table.{number, part, remaining}
 use Rattle.table.specs.Writing.{walk, made, make}
 use Rattle.upid.specs.Cover.{All, none, more}
 use Rattle.theorems.specs.Identifiers.{loopIn}
-use Rattle.theorems.specs.Same.{viewless, countBeside, SameSections}
+use Rattle.theorems.specs.Same.{viewless, SameSections}
 use Rattle.theorems.proofs.ItemsWritten.{each-item, one-loop}
 use Rattle.theorems.proofs.WrittenBack.{payload-back}
 
@@ -64,7 +65,7 @@ private-of lent p b e =
     rw i (w .bytes)
 
 payload-of : (c : SpliceCommand) (p s b : List ℕ) → commandMade c (componentsOf p) s ≡ made b
-    → b ≡ commandPayload (viewless c) (take (countBeside c) (besideCommand c p)) (viewed s (privateView c))
+    → b ≡ commandPayload (viewless c) (take (countIn c) (besideCommand c p)) (viewed s (privateView c))
 unfolding commandMade bytesIn commandPayload
 payload-of SpliceCommand.SpliceNull p s b e = ap bytesIn (sym e)
 payload-of (SpliceCommand.SpliceInsert i) p s b e = ap bytesIn (sym e)
@@ -78,10 +79,10 @@ unfolding wholeSectionOf
 beside s x e = ap (λ (r : SectionRead). besideSection r (commandBytes s)) e
 
 payload-in : (s : List ℕ) (x : Section) → AllBytes s → sectionOf s ≡ SectionRead.Is x → canonicalSection s ≡ true
-    → commandBytes s ≡ commandPayload (viewless (x .command)) (take (countBeside (x .command)) (wholeSectionOf s .components)) (viewed s (privateView (x .command)))
+    → commandBytes s ≡ commandPayload (viewless (x .command)) (take (countIn (x .command)) (wholeSectionOf s .components)) (viewed s (privateView (x .command)))
 payload-in s x a e c =
     payload-of (x .command) (commandBytes s) s (commandBytes s) (payload-back s x a e c .1)
-    ∙ ap (λ (cs : List ComponentSplice). commandPayload (viewless (x .command)) (take (countBeside (x .command)) cs) (viewed s (privateView (x .command)))) (sym (beside s x e))
+    ∙ ap (λ (cs : List ComponentSplice). commandPayload (viewless (x .command)) (take (countIn (x .command)) cs) (viewed s (privateView (x .command)))) (sym (beside s x e))
 
 same-payload : {c d : SpliceCommand} {cs ds : List ComponentSplice} {p q : List ℕ} → c ≡ d → cs ≡ ds → p ≡ q → commandPayload c cs p ≡ commandPayload d ds q
 same-payload e f g = rw (e, f, g)

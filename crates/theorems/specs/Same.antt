@@ -4,9 +4,9 @@ use Prim.Native.Nat.{ℕ}
 use mathlib.Core.List.{List}
 use mathlib.Core.Path.{_≡_}
 use lib.ListN.{take}
-use Rattle.command.specs.Insert.{count, insertOf}
 use Rattle.command.specs.declared.SpliceCommand.{SpliceCommand}
 use Rattle.descriptor_form.specs.Same.{noView}
+use Rattle.flat_writer.specs.CommandWords.{countIn}
 use Rattle.items.specs.Items.{itemsOf}
 use Rattle.loop_laws.specs.Loops.{SameItems}
 use Rattle.section.specs.Section.{privateView}
@@ -24,20 +24,13 @@ viewless (SpliceCommand.TimeSignal t) = SpliceCommand.TimeSignal t
 viewless SpliceCommand.BandwidthReservation = SpliceCommand.BandwidthReservation
 viewless (SpliceCommand.PrivateCommand p) = SpliceCommand.PrivateCommand (record { identifier = p .identifier; «private_bytes» = noView })
 
--- how many components stand beside a command
-abbrev pub countBeside : SpliceCommand → ℕ
-countBeside SpliceCommand.SpliceNull = 0
-countBeside (SpliceCommand.SpliceInsert i) = count (insertOf (i .«splice_detail») .«splice_mode»)
-countBeside (SpliceCommand.TimeSignal t) = 0
-countBeside SpliceCommand.BandwidthReservation = 0
-countBeside (SpliceCommand.PrivateCommand p) = 0
-
 -- x that is read of the bytes s, and y that is read of the bytes r
 pub record SameSections (s : List ℕ) (x : Section) (r : List ℕ) (y : Section) : Type 0 where
   -- 0 in place of the command's length and type
   pub headers : headed (x .header) 0 0 ≡ headed (y .header) 0 0
   pub commands : viewless (x .command) ≡ viewless (y .command)
-  pub components : take (countBeside (x .command)) (wholeSectionOf s .components) ≡ take (countBeside (y .command)) (wholeSectionOf r .components)
+  -- as many as the command counts
+  pub components : take (countIn (x .command)) (wholeSectionOf s .components) ≡ take (countIn (y .command)) (wholeSectionOf r .components)
   pub bytes : viewed s (privateView (x .command)) ≡ viewed r (privateView (y .command))
   -- of the loop: its items, in order
   pub items : SameItems (loopIn s x) (loopIn r y) (itemsOf (loopIn s x)) (itemsOf (loopIn r y))
