@@ -1,13 +1,14 @@
 -- A canonical section is what is written over C of what is read over C. Assumes nothing.
 use Prim.Native.Nat.{ℕ, _+_, _-_, _^_, _<_, _≤_}
+use mathlib.Core.Logic.{_⊎_, inl, inr, ⊎-elim}
 use mathlib.Core.Bool.{Bool, true, false}
 use mathlib.Core.List.{List, [], _∷_, _++_}
 use mathlib.Core.Path.{_≡_, refl, ap, sym, _∙_}
 use native.Mathlib.Omega.{arith}
 use lib.Dec.{ltb, eqb}
-use lib.ListN.{length, take, replicate, length-append}
-use lib.Seq.{length-take-le}
-use borrow.Author.Tests.{ltb-true}
+use lib.ListN.{length, take, drop, replicate, length-append}
+use lib.Seq.{length-take-le, take-add, drop-at}
+use borrow.Author.Tests.{ltb-true, eqb-true}
 use Rattle.command.specs.Command.{private, read, empty, commandOf, array, componentsOf}
 use Rattle.command.specs.Fair.{fairInsert}
 use Rattle.command.specs.Insert.{WithComponents, blank, count, insert, insertOf, byProgram, lasting, outOfNetwork}
@@ -31,12 +32,14 @@ use Rattle.flat.specs.FlatCommand.{flatCommand, flatSplices}
 use Rattle.flat.specs.FlatSection.{flatSectionRead}
 use Rattle.flat_section_writer.proofs.Back as header
 use Rattle.flat_section_writer.specs.SectionWords.{headerWords, sectionWordsMade}
+use Rattle.flat.specs.declared.commands.FlatCommand.{FlatCommand}
+use Rattle.flat_writer.proofs.Back as flat
 use Rattle.flat_writer.proofs.Back.{TypedMode, TypedDetail, Typed}
 use Rattle.flat_writer.specs.CommandWords.{commandWords, countIn, componentsFrom, splicesWithin, ownSplices, commandRefusal, commandGiven}
 use Rattle.flat_writer.specs.Words.{placesOf, eachPlace}
 use Rattle.header.specs.Time.{spliceTime}
 use Rattle.header.specs.declared.header.SpliceInfoHeader.{SpliceInfoHeader}
-use Rattle.section.specs.Section.{commandType, commandBytes, moved, sectionOf}
+use Rattle.section.specs.Section.{commandLength, commandType, commandBytes, moved, sectionOf}
 use Rattle.section.specs.declared.Section.{Section}
 use Rattle.section.specs.declared.SectionRead.{SectionRead}
 use Rattle.section_writer.proofs.Heads.{fitting, clear}
@@ -51,7 +54,7 @@ use Rattle.table.specs.Bits.{pick, bitsOf, AllBytes}
 use Rattle.table.specs.Lent.{viewed}
 use Rattle.table.specs.Table.{flagNumber, Answer, got, short, parse}
 use Rattle.table.specs.Writing.{walk, within, Made, made}
-use Rattle.theorems.specs.OverC.{splicesWords}
+use Rattle.theorems.specs.OverC.{splicesWords, splicesIn}
 use Rattle.theorems.proofs.InsertsRead.{insert-has}
 use Rattle.theorems.proofs.OverC.{section-taken}
 use Rattle.theorems.proofs.WrittenBack.{command-back, command-canonical, payload-bytes, section-back}
@@ -208,10 +211,10 @@ flat-command s x e = rw e
 same-words : {h k c d v w : List ℕ} (lent loop : List ℕ) → h ≡ k → c ≡ d → v ≡ w → sectionWordsMade h c v lent loop ≡ sectionWordsMade k d w lent loop
 same-words lent loop e f g = rw (e, f, g)
 
-pub section-again : (s : List ℕ) (x : Section) → AllBytes s → sectionOf s ≡ SectionRead.Is x → canonicalSection s ≡ true
+by-payload : (s : List ℕ) (x : Section) → AllBytes s → sectionOf s ≡ SectionRead.Is x → canonicalSection s ≡ true
     → sectionWordsMade (headerWords (flatSectionRead (sectionOf s) .header)) (commandWords (flatSectionRead (sectionOf s) .command))
     (splicesWords (flatSplices (commandOf (commandType s) (commandBytes s)) (componentsOf (commandBytes s)))) s (viewed s (x .descriptors)) ≡ made s
-section-again s x a e c =
+by-payload s x a e c =
     let p = parts-of s x e in
     let own = p .own in
     let payload = commandBytes s in
@@ -232,3 +235,48 @@ section-again s x a e c =
 pub uncounted : (header command v w lent loop : List ℕ) → countIn (commandGiven command) ≡ 0 → sectionWordsMade header command v lent loop ≡ sectionWordsMade header command w lent loop
 unfolding sectionWordsMade commandRefusal splicesWithin ownSplices componentsFrom eachPlace placesOf
 uncounted header command v w lent loop e = rw e
+
+-- ---- over C the components are read of the section's bytes up to its command's end
+payload-is : (s : List ℕ) → 14 ≤ length s → drop 14 (take (14 + commandLength s) s) ≡ commandBytes s
+unfolding commandBytes
+payload-is s h = ap (drop 14) (take-add 14 (commandLength s) s) ∙ drop-at (take 14 s) (take (commandLength s) (drop 14 s)) 14 (length-take-le 14 s h)
+
+-- only an insert counts components
+counts-by-type : (kind : ℕ) (p : List ℕ) (c : SpliceCommand) → commandOf kind p ≡ CommandRead.Is c → (kind ≡ 0x05) ⊎ (countIn c ≡ 0)
+unfolding commandOf
+counts-by-type kind p c f = go (eqb kind 0x00) (eqb kind 0x05) refl (eqb kind 0x06) (eqb kind 0x07) (eqb kind 0xff) f
+  where
+    go : (b₀ b₅ : Bool) → eqb kind 0x05 ≡ b₅ → (b₆ b₇ b₈ : Bool)
+        → pick b₀ (empty SpliceCommand.SpliceNull p) (pick b₅ (read (λ x. SpliceCommand.SpliceInsert (x .value)) (parse insert (bitsOf p) 0)) (pick b₆ (read SpliceCommand.TimeSignal (parse spliceTime (bitsOf p) 0))
+        (pick b₇ (empty SpliceCommand.BandwidthReservation p) (pick b₈ (read SpliceCommand.PrivateCommand (parse private (bitsOf p) 0)) CommandRead.UnknownType)))) ≡ CommandRead.Is c
+        → (kind ≡ 0x05) ⊎ (countIn c ≡ 0)
+    go true b₅ i b₆ b₇ b₈ e = inr (empty-count SpliceCommand.SpliceNull c p refl e)
+    go false true i b₆ b₇ b₈ e = inl (eqb-true _ _ i)
+    go false false i true b₇ b₈ e = inr (read-count SpliceCommand.TimeSignal (parse spliceTime (bitsOf p) 0) c (λ x. refl) e)
+    go false false i false true b₈ e = inr (empty-count SpliceCommand.BandwidthReservation c p refl e)
+    go false false i false false true e = inr (read-count SpliceCommand.PrivateCommand (parse private (bitsOf p) 0) c (λ x. refl) e)
+    go false false i false false false e = zero-one cc
+
+typed-here : (s : List ℕ) (x : Section) → AllBytes s → sectionOf s ≡ SectionRead.Is x → canonicalSection s ≡ true → Typed (x .command)
+typed-here s x a e c =
+    let p = parts-of s x e in
+    let b = command-back (commandType s) (commandBytes s) (payload-bytes s a) (p .own) (command-canonical s c) (p .command) in
+    let there = count-there (commandType s) (commandBytes s) (p .own) (p .command) in
+    rw (p .moves) (moved-typed (p .own) (typed-made (p .own) (componentsOf (commandBytes s)) (commandBytes s) (commandBytes s) there (b .1) .0))
+
+pub section-again : (s : List ℕ) (x : Section) → AllBytes s → sectionOf s ≡ SectionRead.Is x → canonicalSection s ≡ true
+    → sectionWordsMade (headerWords (flatSectionRead (sectionOf s) .header)) (commandWords (flatSectionRead (sectionOf s) .command)) (splicesWords (splicesIn s)) s (viewed s (x .descriptors)) ≡ made s
+section-again s x a e c =
+    let p = parts-of s x e in
+    let payload = payload-is s (omega (arith, p .long)) in
+    let answer : CommandRead → List ℕ → List ℕ = λ r bytes. splicesWords (flatSplices r (componentsOf bytes)) in
+    let header = headerWords (flatSectionRead (sectionOf s) .header) in
+    let command = commandWords (flatSectionRead (sectionOf s) .command) in
+    let insert : commandType s ≡ 0x05 → sectionWordsMade header command (splicesWords (splicesIn s)) s (viewed s (x .descriptors)) ≡ made s =
+    λ k. ap (λ (w : List ℕ). sectionWordsMade header command w s (viewed s (x .descriptors)))
+    (ap (λ (q : List ℕ). answer (commandOf 0x05 q) q) payload ∙ sym (ap (λ (n : ℕ). answer (commandOf n (commandBytes s)) (commandBytes s)) k)) ∙ by-payload s x a e c in
+    let other : countIn (p .own) ≡ 0 → sectionWordsMade header command (splicesWords (splicesIn s)) s (viewed s (x .descriptors)) ≡ made s =
+    λ z. uncounted header command _ _ s (viewed s (x .descriptors))
+    (ap countIn (ap (λ (f : FlatCommand). commandGiven (commandWords f)) (flat-command s x e) ∙ flat.command-back (x .command) (typed-here s x a e c) ∙ p .moves) ∙ moved-count (p .own) ∙ z)
+    ∙ by-payload s x a e c in
+    ⊎-elim insert other (counts-by-type (commandType s) (commandBytes s) (p .own) (p .command))

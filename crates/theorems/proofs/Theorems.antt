@@ -53,7 +53,7 @@ use Rattle.table.specs.Lent.{viewed}
 use Rattle.table.specs.Writing.{Made, made, make}
 use Rattle.upid.specs.Cover.{All}
 use Rattle.theorems.specs.Identifiers.{OneRun, inSection, loopIn, identifiersOf, midsOf, Unsplit}
-use Rattle.theorems.specs.OverC.{splicesWords, stepWords, besideWords, wordsMadeAt, TypedBeside}
+use Rattle.theorems.specs.OverC.{splicesIn, splicesWords, stepWords, besideWords, wordsMadeAt, TypedBeside}
 use Rattle.theorems.specs.Rows.{Holds, rows}
 use Rattle.theorems.specs.Same.{SameSections}
 use Rattle.theorems.specs.Sections.{known, EmptyCommand, spliceNull, eight, twelve, both, eightAndTwelve, Identified}
@@ -164,11 +164,11 @@ pub section-words-are-the-section : (h : SpliceInfoHeader) (c : SpliceCommand) (
     ≡ sectionMade h (commandMade c places lent) (kindOf c) loop
 section-words-are-the-section h c places lent loop h-typed fair typed tags there short = over-c.section-taken places lent short c typed there (over-c.tags-take (countIn c) places tags) h h-typed fair loop
 
--- Demand 2 over C: writing the words that are read of a canonical section gives its bytes: its header's, its command's, those of the components that are read of its
--- payload, and its loop as it stands in the section
+-- Demand 2 over C: writing the words that are read of a canonical section gives its bytes: its header's and its command's, as `scte35_section` answers them, those of its
+-- components, as `scte35_insert_components` answers them, and its loop as it stands in the section
 pub a-canonical-section-is-what-is-written-of-its-words : (s : List ℕ) (x : Section) → AllBytes s → sectionOf s ≡ SectionRead.Is x → canonicalSection s ≡ true
     → sectionWordsMade (headerWords (flatSectionRead (sectionOf s) .header)) (commandWords (flatSectionRead (sectionOf s) .command))
-    (splicesWords (flatSplices (commandOf (commandType s) (commandBytes s)) (componentsOf (commandBytes s)))) s (loopIn s x) ≡ made s
+    (splicesWords (splicesIn s)) s (loopIn s x) ≡ made s
 a-canonical-section-is-what-is-written-of-its-words = sections-over-c.section-again
 
 -- (The words of components matter for a command that counts some, an insert by components.)
@@ -187,7 +187,7 @@ descriptor-words-are-the-descriptor = items-over-c.descriptor-taken
 pub a-canonical-section-is-what-is-written-of-its-items-words : (s : List ℕ) (x : Section) → AllBytes s → sectionOf s ≡ SectionRead.Is x → canonicalSection s ≡ true
     → (loop : List ℕ) × (joinedMade (map (wordsMadeAt (loopIn s x)) (itemsOf (loopIn s x))) ≡ made loop)
     × (sectionWordsMade (headerWords (flatSectionRead (sectionOf s) .header)) (commandWords (flatSectionRead (sectionOf s) .command))
-    (splicesWords (flatSplices (commandOf (commandType s) (commandBytes s)) (componentsOf (commandBytes s)))) s loop ≡ made s)
+    (splicesWords (splicesIn s)) s loop ≡ made s)
 a-canonical-section-is-what-is-written-of-its-items-words s x a e c = (loopIn s x, loops-over-c.loop-again s x a e c, sections-over-c.section-again s x a e c)
 
 -- ---- writing

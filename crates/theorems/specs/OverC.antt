@@ -1,11 +1,13 @@
 -- The structs of C that stand beside a command, that are a step over a loop, and that stand beside an item, as the words that they are; and what the types say of
 -- what stands beside an item. These are definitions.
-use Prim.Native.Nat.{ℕ, _<_}
+use Prim.Native.Nat.{ℕ, _+_, _<_}
 use mathlib.Core.List.{List, [], _∷_, _++_}
 use mathlib.Core.Path.{_≡_}
-use lib.ListN.{length}
+use lib.ListN.{length, take, drop}
+use Rattle.command.specs.Command.{commandOf, componentsOf}
 use Rattle.descriptor.specs.declared.segmentation.ModeComponent.{ModeComponent}
 use Rattle.descriptor.specs.declared.whole.Beside.{Beside}
+use Rattle.flat.specs.FlatCommand.{flatSplices}
 use Rattle.flat.specs.declared.components.FlatComponentSplice.{FlatComponentSplice}
 use Rattle.flat.specs.declared.components.FlatSplices.{FlatSplices}
 use Rattle.flat_item_writer.specs.ItemWords.{itemWords, descriptorWordsMade}
@@ -15,6 +17,7 @@ use Rattle.flat_items.specs.declared.beside.FlatComponent.{FlatComponent}
 use Rattle.flat_items.specs.declared.steps.FlatStep.{FlatStep}
 use Rattle.flat_writer.specs.CommandWords.{componentWords}
 use Rattle.items.specs.Items.{readingOf, Listed}
+use Rattle.section.specs.Section.{commandLength}
 use Rattle.table.specs.Bits.{AllBytes}
 use Rattle.table.specs.Writing.{Made}
 
@@ -25,6 +28,12 @@ placesWords (c ∷ cs) = componentWords c ++ placesWords cs
 
 abbrev pub splicesWords : FlatSplices → List ℕ
 splicesWords s = s .refusal ∷ s .count ∷ placesWords (s .components)
+
+-- what `scte35_insert_components` answers, at byte 14, of a section's bytes up to its command's end
+abbrev pub splicesIn : List ℕ → FlatSplices
+splicesIn s =
+    let payload : List ℕ = drop 14 (take (14 + commandLength s) s) in
+    flatSplices (commandOf 0x05 payload) (componentsOf payload)
 
 -- struct scte35_step: refusal, values, next, identifier, and the item
 abbrev pub stepWords : FlatStep → List ℕ
