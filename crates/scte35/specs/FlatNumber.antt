@@ -1,6 +1,6 @@
 -- The flat forms of named numbers, and the time that is handed in. These are definitions.
-use Prim.Native.Nat.{ℕ}
-use lib.Dec.{eqb}
+use Prim.Native.Nat.{ℕ, _^_}
+use lib.Dec.{eqb, ltb}
 use Rattle.header.specs.declared.time.SpliceTime.{SpliceTime}
 use Rattle.header.specs.declared.time.SpliceTime.the-variants.{Unspecified, At}
 use Rattle.names.specs.Flags.{Answer, gives, refuses}
@@ -17,6 +17,6 @@ abbrev pub flatAnswer : {A : Type 0} → (A → ℕ) → Answer A → FlatNumber
 flatAnswer number (gives x) = record { refusal = 0; class = named; number = number x }
 flatAnswer number (refuses refusal values) = record { refusal = refusal; class = 0; number = 0 }
 
--- a time of kind 3; any other kind is no time
+-- a time of kind 3; any other kind is no time, but "a number .. handed in" has to fit its field all the same: as a time it is refused
 abbrev pub timeFrom : ℕ → ℕ → SpliceTime
-timeFrom kind ticks = pick (eqb kind 3) (At ticks) Unspecified
+timeFrom kind ticks = pick (eqb kind 3) (At ticks) (pick (ltb ticks (2 ^ 33)) Unspecified (At ticks))

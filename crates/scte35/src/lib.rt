@@ -135,13 +135,23 @@ pub extern "C" fn scte35_crc(s: &[u8], at: usize) -> u32
     crc32(rest(s, at))
 }
 
+// The time that is handed in. Ticks over 33 bits are kept whatever the kind, so that they are refused.
+fn time_from(kind: u64, ticks: u64) -> SpliceTime
+    ensures { λ r. ⌜ r ≡ timeFrom kind ticks ⌝ }
+{
+    if kind == 3 {
+        return SpliceTime::At(ticks);
+    }
+    if ticks < 0x2_0000_0000 {
+        return SpliceTime::Unspecified;
+    }
+    SpliceTime::At(ticks)
+}
+
 // A time of kind 3 with its adjustment; any other kind is no time.
 #[no_mangle]
 pub extern "C" fn scte35_adjusted_time(kind: u64, ticks: u64, pts_adjustment: u64) -> FlatAdjusted
     ensures { λ r. ⌜ r ≡ flatAdjusted (adjustedOf (timeFrom kind ticks) «pts_adjustment») ⌝ }
 {
-    if kind == 3 {
-        return flat_adjusted(adjusted_time(SpliceTime::At(ticks), pts_adjustment));
-    }
-    flat_adjusted(adjusted_time(SpliceTime::Unspecified, pts_adjustment))
+    flat_adjusted(adjusted_time(time_from(kind, ticks), pts_adjustment))
 }
