@@ -54,7 +54,7 @@ use Rattle.table.specs.Bits.{pick, bitsOf, AllBytes}
 use Rattle.table.specs.Lent.{viewed}
 use Rattle.table.specs.Table.{flagNumber, Answer, got, short, parse}
 use Rattle.table.specs.Writing.{walk, within, Made, made}
-use Rattle.theorems.specs.OverC.{splicesWords, splicesIn}
+use Rattle.theorems.specs.OverC.{splicesWords, componentsAnswered}
 use Rattle.theorems.proofs.InsertsRead.{insert-has}
 use Rattle.theorems.proofs.OverC.{section-taken}
 use Rattle.theorems.proofs.WrittenBack.{command-back, command-canonical, payload-bytes, section-back}
@@ -265,17 +265,17 @@ typed-here s x a e c =
     rw (p .moves) (moved-typed (p .own) (typed-made (p .own) (componentsOf (commandBytes s)) (commandBytes s) (commandBytes s) there (b .1) .0))
 
 pub section-again : (s : List ℕ) (x : Section) → AllBytes s → sectionOf s ≡ SectionRead.Is x → canonicalSection s ≡ true
-    → sectionWordsMade (headerWords (flatSectionRead (sectionOf s) .header)) (commandWords (flatSectionRead (sectionOf s) .command)) (splicesWords (splicesIn s)) s (viewed s (x .descriptors)) ≡ made s
+    → sectionWordsMade (headerWords (flatSectionRead (sectionOf s) .header)) (commandWords (flatSectionRead (sectionOf s) .command)) (splicesWords (componentsAnswered s)) s (viewed s (x .descriptors)) ≡ made s
 section-again s x a e c =
     let p = parts-of s x e in
     let payload = payload-is s (omega (arith, p .long)) in
     let answer : CommandRead → List ℕ → List ℕ = λ r bytes. splicesWords (flatSplices r (componentsOf bytes)) in
     let header = headerWords (flatSectionRead (sectionOf s) .header) in
     let command = commandWords (flatSectionRead (sectionOf s) .command) in
-    let insert : commandType s ≡ 0x05 → sectionWordsMade header command (splicesWords (splicesIn s)) s (viewed s (x .descriptors)) ≡ made s =
+    let insert : commandType s ≡ 0x05 → sectionWordsMade header command (splicesWords (componentsAnswered s)) s (viewed s (x .descriptors)) ≡ made s =
     λ k. ap (λ (w : List ℕ). sectionWordsMade header command w s (viewed s (x .descriptors)))
     (ap (λ (q : List ℕ). answer (commandOf 0x05 q) q) payload ∙ sym (ap (λ (n : ℕ). answer (commandOf n (commandBytes s)) (commandBytes s)) k)) ∙ by-payload s x a e c in
-    let other : countIn (p .own) ≡ 0 → sectionWordsMade header command (splicesWords (splicesIn s)) s (viewed s (x .descriptors)) ≡ made s =
+    let other : countIn (p .own) ≡ 0 → sectionWordsMade header command (splicesWords (componentsAnswered s)) s (viewed s (x .descriptors)) ≡ made s =
     λ z. uncounted header command _ _ s (viewed s (x .descriptors))
     (ap countIn (ap (λ (f : FlatCommand). commandGiven (commandWords f)) (flat-command s x e) ∙ flat.command-back (x .command) (typed-here s x a e c) ∙ p .moves) ∙ moved-count (p .own) ∙ z)
     ∙ by-payload s x a e c in

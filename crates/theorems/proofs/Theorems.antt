@@ -4,7 +4,7 @@
 -- public contract fixes its answer is stated for each function in FixedAnswers.antt, FixedAtBoundary.antt and FixedAtWriter.antt. Assumes nothing.
 use Prim.Native.Nat.{ℕ, _≤_, _^_, _<_}
 use mathlib.Core.Bool.{true, false, not}
-use mathlib.Core.List.{List, [], _∷_, map}
+use mathlib.Core.List.{List, [], _∷_, _++_, map}
 use mathlib.Core.Path.{_≡_}
 use lib.ListN.{length, drop}
 use Rattle.command.specs.Command.{private, commandOf, array, componentsOf}
@@ -15,7 +15,10 @@ use Rattle.command.specs.declared.components.ComponentSplice.{ComponentSplice}
 use Rattle.command.specs.declared.insert.Insertion.{Insertion}
 use Rattle.command_writer.specs.Made.{counted, commandMade}
 use Rattle.command_writer.specs.Survey.{Countable, Tags}
+use Rattle.crc.specs.Crc.{crcOf}
+use Rattle.descriptor.specs.Descriptor.{availOf, dtmfOf, timeOf}
 use Rattle.descriptor.specs.declared.Descriptor.{Descriptor}
+use Rattle.descriptor.specs.declared.DescriptorRead.{DescriptorRead}
 use Rattle.descriptor.specs.declared.whole.Beside.{Beside}
 use Rattle.descriptor_form.specs.Writing.{descriptorMade}
 use Rattle.flat.specs.Flat.{flatHeader}
@@ -28,7 +31,10 @@ use Rattle.flat_section_writer.proofs.Back as header
 use Rattle.flat_section_writer.specs.SectionWords.{headerWords, sectionWordsMade}
 use Rattle.flat_writer.proofs.Back as command
 use Rattle.flat_writer.specs.CommandWords.{commandWords, countIn, commandGiven, commandWordsMade}
+use Rattle.header.specs.Time.{adjustedOf}
 use Rattle.header.specs.declared.header.SpliceInfoHeader.{SpliceInfoHeader}
+use Rattle.header.specs.declared.time.AdjustedTime.{AdjustedTime}
+use Rattle.header.specs.declared.time.SpliceTime.{SpliceTime}
 use Rattle.items.specs.Cover.{Ends, TakesRest, Covered}
 use Rattle.items.specs.Items.{stepOf, itemsOf}
 use Rattle.loop_laws.specs.Loops.{joinedMade, loopMade, SameItems, Given, givenMade, GivenTypes, ItemsBack}
@@ -53,7 +59,7 @@ use Rattle.table.specs.Lent.{viewed}
 use Rattle.table.specs.Writing.{Made, made, make}
 use Rattle.upid.specs.Cover.{All}
 use Rattle.theorems.specs.Identifiers.{OneRun, inSection, loopIn, identifiersOf, midsOf, Unsplit}
-use Rattle.theorems.specs.OverC.{splicesIn, splicesWords, stepWords, besideWords, wordsMadeAt, TypedBeside}
+use Rattle.theorems.specs.OverC.{componentsAnswered, splicesWords, stepWords, besideWords, wordsMadeAt, TypedBeside}
 use Rattle.theorems.specs.Rows.{Holds, rows}
 use Rattle.theorems.specs.Same.{SameSections}
 use Rattle.theorems.specs.Sections.{known, EmptyCommand, spliceNull, eight, twelve, both, eightAndTwelve, Identified}
@@ -68,6 +74,7 @@ use Rattle.theorems.proofs.RowsHold as rows-hold
 use Rattle.theorems.proofs.Sections as sections
 use Rattle.theorems.proofs.Targets as targets
 use Rattle.theorems.proofs.SectionsOverC as sections-over-c
+use Rattle.theorems.proofs.Tolerated as tolerated
 use Rattle.theorems.proofs.Worked as worked
 use Rattle.theorems.proofs.WrittenBack as written-back
 
@@ -95,6 +102,36 @@ a-null-is-such-a-section = worked.null-is-one
 -- and no other.
 pub refusals-1-to-11-in-order : (s : List ℕ) → numberOf (sectionOf s) ≡ first 1 (conditions s)
 refusals-1-to-11-in-order = acceptance.refusals-in-order
+
+-- "21 to 25 refuse an item or a UPID, never the section."
+pub a-section-is-refused-by-1-to-11-only : (s : List ℕ) → numberOf (sectionOf s) ≤ 11
+a-section-is-refused-by-1-to-11-only s = tolerated.eleven (sectionOf s)
+
+-- "section_length is not tested": bytes 1 and 2 matter to the CRC and to nothing else
+pub the-section-length-is-not-tested : (table a b c d : ℕ) (rest : List ℕ) → crcOf (table ∷ a ∷ b ∷ rest) ≡ crcOf (table ∷ c ∷ d ∷ rest)
+    → sectionOf (table ∷ a ∷ b ∷ rest) ≡ sectionOf (table ∷ c ∷ d ∷ rest)
+the-section-length-is-not-tested = tolerated.length-untested
+
+-- "Bytes after insert or time signal are tolerated": the command is the same
+pub bytes-after-an-insert-are-tolerated : (payload more : List ℕ) (c : SpliceCommand) → commandOf 0x05 payload ≡ CommandRead.Is c → commandOf 0x05 (payload ++ more) ≡ CommandRead.Is c
+bytes-after-an-insert-are-tolerated = tolerated.insert-on
+
+pub bytes-after-a-time-signal-are-tolerated : (payload more : List ℕ) (c : SpliceCommand) → commandOf 0x06 payload ≡ CommandRead.Is c → commandOf 0x06 (payload ++ more) ≡ CommandRead.Is c
+bytes-after-a-time-signal-are-tolerated = tolerated.time-signal-on
+
+-- "Bytes left over are tolerated", of avail, DTMF and time descriptors (a reserved one has no bytes left over, and those of a segmentation descriptor are its sub-segments)
+pub bytes-left-over-by-an-avail-are-tolerated : (payload more : List ℕ) (d : Descriptor) → availOf payload ≡ DescriptorRead.Is d → availOf (payload ++ more) ≡ DescriptorRead.Is d
+bytes-left-over-by-an-avail-are-tolerated = tolerated.avail-on
+
+pub bytes-left-over-by-dtmf-are-tolerated : (payload more : List ℕ) (d : Descriptor) → dtmfOf payload ≡ DescriptorRead.Is d → dtmfOf (payload ++ more) ≡ DescriptorRead.Is d
+bytes-left-over-by-dtmf-are-tolerated = tolerated.dtmf-on
+
+pub bytes-left-over-by-a-time-are-tolerated : (payload more : List ℕ) (d : Descriptor) → timeOf payload ≡ DescriptorRead.Is d → timeOf (payload ++ more) ≡ DescriptorRead.Is d
+bytes-left-over-by-a-time-are-tolerated = tolerated.time-on
+
+-- "Adjusted time: .. 0 to 17,179,869,182"
+pub an-adjusted-time-is-at-most-17179869182 : (t : SpliceTime) (adjustment n : ℕ) → adjustedOf t adjustment ≡ AdjustedTime.At n → n ≤ 17179869182
+an-adjusted-time-is-at-most-17179869182 = tolerated.adjusted-most
 
 -- Condition 10: "command type is none of 0x00, 0x05, 0x06, 0x07, 0xFF", whatever the payload
 pub condition-10-is-of-the-other-types : (s : List ℕ) → unknownCommand s ≡ not (known (commandType s))
@@ -168,7 +205,7 @@ section-words-are-the-section h c places lent loop h-typed fair typed tags there
 -- components, as `scte35_insert_components` answers them, and its loop as it stands in the section
 pub a-canonical-section-is-what-is-written-of-its-words : (s : List ℕ) (x : Section) → AllBytes s → sectionOf s ≡ SectionRead.Is x → canonicalSection s ≡ true
     → sectionWordsMade (headerWords (flatSectionRead (sectionOf s) .header)) (commandWords (flatSectionRead (sectionOf s) .command))
-    (splicesWords (splicesIn s)) s (loopIn s x) ≡ made s
+    (splicesWords (componentsAnswered s)) s (loopIn s x) ≡ made s
 a-canonical-section-is-what-is-written-of-its-words = sections-over-c.section-again
 
 -- (The words of components matter for a command that counts some, an insert by components.)
@@ -187,7 +224,7 @@ descriptor-words-are-the-descriptor = items-over-c.descriptor-taken
 pub a-canonical-section-is-what-is-written-of-its-items-words : (s : List ℕ) (x : Section) → AllBytes s → sectionOf s ≡ SectionRead.Is x → canonicalSection s ≡ true
     → (loop : List ℕ) × (joinedMade (map (wordsMadeAt (loopIn s x)) (itemsOf (loopIn s x))) ≡ made loop)
     × (sectionWordsMade (headerWords (flatSectionRead (sectionOf s) .header)) (commandWords (flatSectionRead (sectionOf s) .command))
-    (splicesWords (splicesIn s)) s loop ≡ made s)
+    (splicesWords (componentsAnswered s)) s loop ≡ made s)
 a-canonical-section-is-what-is-written-of-its-items-words s x a e c = (loopIn s x, loops-over-c.loop-again s x a e c, sections-over-c.section-again s x a e c)
 
 -- ---- writing
