@@ -1,5 +1,5 @@
 -- Every public function's contract fixes its answer, and asks nothing of the caller (specs/FixedAnswers.antt): a line for each. Assumes nothing.
--- A slice that is handed back is fixed in its bytes, and not in its address: `view`, `bytes-of`, `loop-of`, `private-bytes-of`. A store has no answer: its
+-- A slice that is handed back is fixed in its bytes, and not in its address: `view`, `bytes-of`, `part-bytes`, `loop-of`, `private-bytes-of`. A store has no answer: its
 -- target's later bytes are fixed, `put-byte`, `put-number`, `put-bytes`. The programs' `list_input` has no answer and no target, and no line: it prints.
 use mathlib.Core.Path.{_≡_, refl, sym, _∙_}
 use denote.Ref.{now}
@@ -49,6 +49,7 @@ use Rattle.upid.proofs.text.is_text.Reads as is-text
 use Rattle.upid.proofs.check_upid.Reads as check-upid
 use Rattle.upid.proofs.read_upid.Reads as read-upid
 use Rattle.upid.proofs.eidr.Reads as eidr
+use Rattle.upid.proofs.part_bytes.Reads as part-bytes
 use Rattle.descriptor.proofs.is_cuei.Reads as is-cuei
 use Rattle.descriptor.proofs.read_descriptor.Reads as read-descriptor
 use Rattle.descriptor.proofs.plain.read_avail.Reads as read-avail
@@ -276,6 +277,9 @@ count-items-is-fixed = record { takes-any = λ κ a. tt; one-answer = λ κ a x 
 
 pub view-of-is-fixed : Fixed view-of.Asked view-of.Learnt
 view-of-is-fixed = record { takes-any = λ κ a. tt; one-answer = λ κ a x y e f p q. p ∙ sym q }
+
+pub part-bytes-is-fixed : FixedIn part-bytes.Asked part-bytes.Learnt (λ κ answer after. now answer)
+part-bytes-is-fixed = record { takes-any = λ κ a. tt; seen = λ κ a x y e f p q. p ∙ sym q }
 
 pub bytes-of-is-fixed : FixedIn bytes-of.Asked bytes-of.Learnt (λ κ answer after. now answer)
 bytes-of-is-fixed = record { takes-any = λ κ a. tt; seen = λ κ a x y e f p q. p ∙ sym q }

@@ -17,7 +17,7 @@ use Rattle.upid.proofs.Theorems.{every-mid-is-covered, every-part-is-announced,
 use Rattle.upid.specs.Cover as cover
 use Rattle.upid.specs.Cover.{All, none, more}
 use Rattle.upid.specs.Upid as upid
-use Rattle.upid.specs.Upid.{upidOf, checkOf, reportedOf, Accepted}
+use Rattle.upid.specs.Upid.{upidOf, checkOf, reportedOf, Accepted, partView}
 use Rattle.upid.specs.declared.Part.{Part}
 use Rattle.upid.specs.declared.UpidRead.the-variants.{Fine}
 use Rattle.descriptor.specs.Descriptor.{reportedUpid}
@@ -34,7 +34,7 @@ use Rattle.items.specs.Items.{itemAt, readAt, wholeAt}
 use Rattle.items.specs.Place.{moved, movedUpid, movedDetail, movedDescriptor}
 use Rattle.items.specs.declared.Step.{Step}
 use Rattle.loop_laws.proofs.Places.{run-of-run, kind-stays}
-use Rattle.theorems.specs.Identifiers.{Identifier, OneRun, inLent, detailUpids, descriptorUpids, upidsOf, partView, upidStart, besidesOf, Announced, Unsplit}
+use Rattle.theorems.specs.Identifiers.{Identifier, OneRun, inLent, detailUpids, descriptorUpids, upidsOf, upidStart, besidesOf, Announced, Unsplit}
 use Rattle.theorems.proofs.Runs.{viewed-is, viewed-inside, length-viewed, length-run, lent-run, getD-run}
 use Rattle.theorems.proofs.Upids.{upidsRead, Source, sources}
 

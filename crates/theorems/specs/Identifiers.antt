@@ -21,7 +21,7 @@ use Rattle.table.specs.Lent.{viewed}
 use Rattle.table.specs.Table.{Answer, got, short, parse}
 use Rattle.table.specs.declared.View.{View}
 use Rattle.upid.specs.Cover.{All, Covered, Ascending, Owned, whole}
-use Rattle.upid.specs.Upid.{upidOf, partsIn, reportedOf}
+use Rattle.upid.specs.Upid.{upidOf, partsIn, partView, reportedOf}
 use Rattle.upid.specs.declared.Part.{Part}
 use Rattle.upid.specs.declared.UpidRead.{UpidRead}
 
@@ -66,9 +66,6 @@ upidsOf (Item.Refused r) = []
 upidsOf (Item.Is d) = descriptorUpids d
 
 -- the parts of a UPID, at every level: where it is no MID there are none
-abbrev pub partView : Part → View
-partView p = record { at = p .start; len = p .len }
-
 abbrev pub partsOf : ℕ → List ℕ → SegmentationUpid → List Identifier
 partsOf base loop u = map (λ (p : Part). inLent (base + u .bytes .at) (viewed loop (u .bytes)) (partView p)) (partsIn (upidOf (u .kind) (viewed loop (u .bytes))))
 

@@ -4,6 +4,7 @@ use mathlib.Core.Bool.{Bool, cond, not, _&&_, _||_}
 use mathlib.Core.List.{List, [], _∷_, _++_}
 use lib.Dec.{ltb, eqb}
 use lib.ListN.{length, take, drop, replicate}
+use Rattle.table.specs.declared.View.{View}
 use Rattle.upid.specs.Text.{textOf}
 use Rattle.upid.specs.declared.Part.{Part}
 use Rattle.upid.specs.declared.PartList.{PartList}
@@ -131,6 +132,10 @@ upidOf k bytes =
 abbrev pub Accepted : UpidRead → Type 0
 Accepted (Fine k) = Unit {0}
 Accepted (Refused r) = ⊥
+
+-- where a part's payload lies in the top UPID
+abbrev pub partView : Part → View
+partView p = record { at = p .start; len = p .len }
 
 -- the parts in an answer: those before its count
 abbrev pub partsIn : Upid → List Part

@@ -1,10 +1,12 @@
 // UPIDs: what a segmentation descriptor says its segment is (document 01, "Identifiers").
 ghost use mathlib.Core.Path.{_≡_};
-ghost use Rattle.upid.specs.Upid.{checkOf, upidOf, eidrOf};
+ghost use Rattle.table.specs.Lent.{viewed};
+ghost use Rattle.upid.specs.Upid.{checkOf, upidOf, eidrOf, partView};
 use crate::mid::blank;
 use crate::mid::check_payload;
 use crate::mid::list_parts;
 use table::View;
+use table::lent::view;
 
 mod mid;
 mod plain;
@@ -49,7 +51,7 @@ pub struct PartList {
     pub count: usize,
 }
 
-// The whole answer: an EIDR by value, all zero where the UPID is none, and a MID's parts.
+// The whole answer: an EIDR by value, all zero where the UPID is no EIDR, and a MID's parts.
 pub struct Upid {
     pub read: UpidRead,
     pub eidr: [u8; 12],
@@ -89,7 +91,7 @@ pub fn read_upid(kind: u8, bytes: &[u8]) -> Upid
     }
 }
 
-// The EIDR identifier by value; all zero where the UPID is none.
+// The EIDR identifier by value; all zero where the UPID is no EIDR.
 pub fn eidr(kind: u8, bytes: &[u8]) -> [u8; 12]
     ensures { λ r. ⌜ r ≡ eidrOf kind (now (bytes .entry)) ⌝ }
 {
@@ -106,4 +108,15 @@ pub fn eidr(kind: u8, bytes: &[u8]) -> [u8; 12]
         i += 1;
     }
     out
+}
+
+// The bytes of a part, as a part of the lent top UPID.
+pub fn part_bytes(top: &[u8], part: Part) -> &[u8]
+    ensures { λ r. ⌜ now r ≡ viewed (now (top .entry)) (partView part) ⌝ }
+{
+    let place = View {
+        at: part.start as usize,
+        len: part.len as usize,
+    };
+    view(top, place)
 }
