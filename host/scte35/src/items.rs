@@ -5,6 +5,7 @@ use crate::raw;
 use crate::refusal::ItemRefusal;
 use crate::upid::{refusal, Upid};
 use crate::view;
+use std::iter::FusedIterator;
 
 #[derive(Debug, Clone, PartialEq, Eq, Hash)]
 pub enum SpliceDescriptor<'a> {
@@ -102,13 +103,16 @@ fn detail<'a>(s: &raw::Segmentation, bytes: &'a [u8], lent: &[u8], offset: usize
         archive_allowed: s.delivery_restrictions.archive_allowed_flag == 1,
         device_restrictions: DeviceRestrictions::ALL[s.delivery_restrictions.device_restrictions as usize],
     };
+    // 4 KB: asked for once, where there is something in it
+    let beside = (s.component_count > 0 || s.segmentation_upid_type == 10).then(|| raw::item_components(lent, offset));
+    let beside = beside.as_ref();
     let sub_segments =
         || SubSegments { sub_segment_num: s.sub_segments.sub_segment_num as u8, sub_segments_expected: s.sub_segments.sub_segments_expected as u8 };
     SegmentationDetail {
         delivery_restrictions: (s.delivery_not_restricted_flag == 0).then(restrictions),
-        components: (s.program_segmentation_flag == 0).then(|| components(s.component_count, lent, offset)),
+        components: (s.program_segmentation_flag == 0).then(|| beside.map_or(vec![], components)),
         segmentation_duration: (s.segmentation_duration_flag == 1).then_some(s.segmentation_duration),
-        segmentation_upid: Upid::of(s.segmentation_upid_type as u8, bytes, || raw::item_components(lent, offset).eidr),
+        segmentation_upid: Upid::of(s.segmentation_upid_type as u8, bytes, beside.map_or([0; 12], |b| b.eidr)),
         segmentation_type_id: SegmentationTypeId::from_id(s.segmentation_type_id as u8),
         segment_num: s.segment_num as u8,
         segments_expected: s.segments_expected as u8,
@@ -116,11 +120,7 @@ fn detail<'a>(s: &raw::Segmentation, bytes: &'a [u8], lent: &[u8], offset: usize
     }
 }
 
-fn components(count: u64, lent: &[u8], offset: usize) -> Vec<ModeComponent> {
-    if count == 0 {
-        return vec![];
-    }
-    let list = raw::item_components(lent, offset);
+fn components(list: &raw::ItemComponents) -> Vec<ModeComponent> {
     let component = |c: &raw::Component| ModeComponent { component_tag: c.component_tag as u8, pts_offset: c.pts_offset };
     list.components[..list.count as usize].iter().map(component).collect()
 }
@@ -164,3 +164,5 @@ impl<'a> Iterator for Items<'a> {
         item
     }
 }
+
+impl FusedIterator for Items<'_> {}
