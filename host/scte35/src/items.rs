@@ -103,16 +103,14 @@ fn detail<'a>(s: &raw::Segmentation, bytes: &'a [u8], lent: &[u8], offset: usize
         archive_allowed: s.delivery_restrictions.archive_allowed_flag == 1,
         device_restrictions: DeviceRestrictions::ALL[s.delivery_restrictions.device_restrictions as usize],
     };
-    // 4 KB: asked for once, where there is something in it
-    let beside = (s.component_count > 0 || s.segmentation_upid_type == 10).then(|| raw::item_components(lent, offset));
-    let beside = beside.as_ref();
+    let (components, eidr) = if s.component_count > 0 || s.segmentation_upid_type == 10 { beside(lent, offset) } else { (vec![], [0; 12]) };
     let sub_segments =
         || SubSegments { sub_segment_num: s.sub_segments.sub_segment_num as u8, sub_segments_expected: s.sub_segments.sub_segments_expected as u8 };
     SegmentationDetail {
         delivery_restrictions: (s.delivery_not_restricted_flag == 0).then(restrictions),
-        components: (s.program_segmentation_flag == 0).then(|| beside.map_or(vec![], components)),
+        components: (s.program_segmentation_flag == 0).then_some(components),
         segmentation_duration: (s.segmentation_duration_flag == 1).then_some(s.segmentation_duration),
-        segmentation_upid: Upid::of(s.segmentation_upid_type as u8, bytes, beside.map_or([0; 12], |b| b.eidr)),
+        segmentation_upid: Upid::of(s.segmentation_upid_type as u8, bytes, eidr),
         segmentation_type_id: SegmentationTypeId::from_id(s.segmentation_type_id as u8),
         segment_num: s.segment_num as u8,
         segments_expected: s.segments_expected as u8,
@@ -120,9 +118,12 @@ fn detail<'a>(s: &raw::Segmentation, bytes: &'a [u8], lent: &[u8], offset: usize
     }
 }
 
-fn components(list: &raw::ItemComponents) -> Vec<ModeComponent> {
+/// The components and the EIDR of the item at an offset. By itself, since the answer takes 4 KB of the stack and most items have neither.
+#[inline(never)]
+fn beside(lent: &[u8], offset: usize) -> (Vec<ModeComponent>, [u8; 12]) {
+    let list = raw::item_components(lent, offset);
     let component = |c: &raw::Component| ModeComponent { component_tag: c.component_tag as u8, pts_offset: c.pts_offset };
-    list.components[..list.count as usize].iter().map(component).collect()
+    (list.components[..list.count as usize].iter().map(component).collect(), list.eidr.map(|b| b as u8))
 }
 
 /// A descriptor loop: iterate over it for its items.
