@@ -82,7 +82,7 @@ fn insert(i: &raw::Insert, lent: &[u8], at: usize) -> SpliceInsert {
         detail: (i.splice_event_cancel_indicator == 0).then(|| InsertDetail {
             network_indicator: if i.out_of_network_indicator == 1 { NetworkIndicator::Out } else { NetworkIndicator::In },
             splice_mode: mode(&i.mode, lent, at),
-            duration: (i.break_duration.duration_flag == 1).then(|| SpliceDuration {
+            duration: (i.break_duration.duration_flag == 1).then_some(SpliceDuration {
                 return_mode: if i.break_duration.auto_return == 1 { ReturnMode::Automatic } else { ReturnMode::Manual },
                 duration: i.break_duration.duration,
             }),
