@@ -1,14 +1,14 @@
 /*
  * Reading and writing SCTE 35 sections: the functions of libscte35.a (rt staticlib scte35), for x86-64 Linux.
  *
- * Every function takes any bytes and any numbers, and returns. `s` points to `n` bytes that the function only reads; nothing is kept. A reader at an
- * offset reads s[at] .. s[n - 1], and nothing where `at` lies past the end. Every answer is a struct of 64-bit words:
+ * Every function takes any bytes and any numbers, and returns. `s` points to `n` bytes that the function only reads; nothing is kept. Where a length
+ * is 0 its pointer may be NULL. A reader at an offset reads s[at] .. s[n - 1], and nothing where `at` lies past the end.
  *
- *   refusal   0: read; otherwise the refusal's number, and every other word is 0 (but the `next` of a step, and its item's kind)
- *   values    those of the refusal, 0 where there is none. 21: expected, actual. 24: type, at, len. 25: type, expected, actual
+ * A reader answers a struct of 64-bit words (scte35_crc and scte35_is_canonical_* a bare number). The first word, `refusal`, is 0 where it read;
+ * otherwise it is a number of enum scte35_refusal, `values` are those named there, and every other word is 0 (but a step's `next` and its item's kind).
  *
- * Named numbers (types, algorithms, flags) are their numbers. A view names bytes by their place: it counts from s[at], those of a step from the loop's
- * first byte; where there are no bytes it is 0, 0. What belongs to another kind of command or item is 0.
+ * Named numbers (types, algorithms, flags) are their numbers. What belongs to another kind of command or item is 0. A view names bytes by place: it
+ * counts from s[at], those of a step from the loop's first byte. A kind that has no view has 0, 0 there; a view of no bytes keeps its place.
  *
  * A writer takes the same structs, so that what was read is written back as it is; see "writing" below.
  */
@@ -22,8 +22,60 @@
 extern "C" {
 #endif
 
+/* ---- refusals; docs/REFUSALS.md has more of each
+ *
+ * 1 to 12 and 31 to 36 are looked at in order of number, and the first that applies is the answer. 21 to 25 refuse an item or a UPID, never the
+ * section; of them it is the first fault in layout order.
+ */
+
+enum scte35_refusal {
+    SCTE35_ACCEPTED = 0,
+
+    /* of a section; 5 is of a header alone, too, 10 and 11 of a command alone, 2 of a loop or a UPID */
+    SCTE35_SECTION_TOO_SHORT = 1, /* section under 3 bytes */
+    SCTE35_INPUT_TOO_LONG = 2, /* section over 4,096 bytes, loop over 4,076, or UPID over 255 */
+    SCTE35_OTHER_TABLE = 3, /* the first byte is not 0xFC */
+    SCTE35_WRONG_CRC = 4, /* the CRC over all bytes is not 0 */
+    SCTE35_NO_HEADER = 5, /* section under 18 bytes; a header alone under 11 */
+    SCTE35_ENCRYPTED = 6, /* the encrypted bit is set */
+    SCTE35_COMMAND_TOO_LONG = 7, /* the command's length exceeds the bytes after the header, CRC excluded */
+    SCTE35_NO_LOOP_LENGTH = 8, /* fewer than 2 bytes follow the command */
+    SCTE35_LOOP_TOO_LONG = 9, /* the loop's length + 2 exceeds those bytes */
+    SCTE35_UNKNOWN_COMMAND = 10, /* the command's type is none of 0x00, 0x05, 0x06, 0x07, 0xFF */
+    SCTE35_MALFORMED_COMMAND = 11, /* the command's payload is malformed */
+
+    /* of a number that should be a flag's */
+    SCTE35_NOT_IN_FIELD = 12, /* a flag over 1, device restrictions over 3 */
+
+    /* of an item or a UPID */
+    SCTE35_NOT_ENOUGH_DATA = 21, /* not enough data. values: expected, actual */
+    SCTE35_INVALID_DESCRIPTOR_LENGTH = 22, /* the descriptor's length is 255, and it fits */
+    SCTE35_UNTYPED_BYTES = 23, /* a part of type 0 inside a MID, or a nonempty UPID of type 0 */
+    SCTE35_NOT_TEXT = 24, /* UPID text that is not UTF-8. values: type, and its bytes as a view: at, len */
+    SCTE35_WRONG_LENGTH = 25, /* UPID of wrong length. values: type as written, expected, actual */
+
+    /* of a value that is to be written; 32 is of a time that is to be adjusted, too */
+    SCTE35_OUTSIDE_LENT = 31, /* a view reaches outside the lent bytes */
+    SCTE35_TOO_LARGE = 32, /* a number or count exceeds its field; more than 7 DTMF characters or 255 bytes of a UPID */
+    SCTE35_NOT_CANONICAL = 33, /* a value that no canonical section has, or words that no reader gives */
+    SCTE35_RESULT_TOO_LONG = 34, /* a descriptor's length over 254, or a section over 4,096 bytes */
+    SCTE35_LOOP_NOT_CANONICAL = 35, /* the loop that is lent is not canonical */
+    SCTE35_TARGET_TOO_SHORT = 36 /* the target is shorter than the result */
+};
+
+/* ---- sizes in bytes: the longest that is read or written, and so a target's length that is always enough */
+
+enum {
+    SCTE35_MAX_SECTION = 4096,
+    SCTE35_MAX_LOOP = 4076,
+    SCTE35_MAX_DESCRIPTOR = 256, /* tag, length, and the 254 that the length may be */
+    SCTE35_MAX_UPID = 255,
+    SCTE35_COMMAND_AT = 14 /* where a section's command begins: behind 3 bytes of common header and 11 of splice header */
+};
+
 struct scte35_view {
-    uint64_t at, len;
+    uint64_t at;
+    uint64_t len;
 };
 
 enum { SCTE35_NO_TIME = 0, SCTE35_IMMEDIATE = 1, SCTE35_UNSPECIFIED = 2, SCTE35_AT = 3 };
@@ -106,13 +158,14 @@ struct scte35_insert_components {
     struct scte35_component_splice components[255];
 };
 
-/* the components of an insert, whose payload begins at the offset */
+/* the components of an insert, whose payload begins at the offset and goes to the end. A section's command begins at byte 14 and ends before byte
+ * 14 + splice_command_length, so those of an accepted section's insert are scte35_insert_components(s, 14 + splice_command_length, 14) */
 struct scte35_insert_components scte35_insert_components(const uint8_t *s, size_t n, size_t at);
 
 /* ---- sections */
 
 struct scte35_section {
-    uint64_t refusal; /* 1 to 11 */
+    uint64_t refusal; /* 1 to 11; those of the header and the command are 0 */
     struct scte35_header header;
     struct scte35_command command;
     struct scte35_view descriptors; /* the loop, for scte35_step */
@@ -232,25 +285,28 @@ struct scte35_upid scte35_upid(uint8_t type, const uint8_t *s, size_t n, size_t 
 
 /* ---- writing
  *
- * A writer takes the words of the readers' structs, the bytes that their views refer to (`lent`), and a target, which must not overlap any of them. It
- * writes target[0] .. target[length - 1] and no other byte; where it refuses, no byte at all. A word past the end of what is handed in counts as 0.
+ * From C call scte35_put_command, scte35_put_descriptor and scte35_put_section (below), which take the readers' structs. All that they do is to hand
+ * these on as words to scte35_write_command, scte35_write_descriptor and scte35_write_section, the functions of the library.
  *
- * What is written is canonical: every reserved bit is 1, no byte is spare, and all lengths, the command's type and the CRC are worked out. To write a
- * section that was read, write each item's descriptor (lent: the loop), one behind the other, and with them as its loop the section (lent: the section).
+ * A writer also takes the bytes that their views refer to (`lent`), and a target, which must not overlap anything else that is handed in. It writes
+ * target[0] .. target[length - 1] and no other byte; where it refuses, no byte at all. A word past the end of what is handed in counts as 0.
+ *
+ * What is written is canonical: every reserved bit is 1, no byte is spare, and all lengths, the command's type and the CRC are worked out.
+ *
+ * To write back a section that was read, x = scte35_section(s, n, 0), with its loop d = s + x.descriptors.at of k = x.descriptors.len bytes:
+ *
+ *   1. for each item, with the offset at which it stands,
+ *          step = scte35_step(d, k, offset), beside = scte35_item_components(d, k, offset),
+ *          scte35_put_descriptor(&step, &beside, d, k, ..), each behind the one before, into `loop`
+ *   2. components = scte35_insert_components(s, 14 + x.header.splice_command_length, 14), which are looked at only where the command counts some
+ *   3. scte35_put_section(&x.header, &x.command, &components, s, n, loop, its length, ..)
+ *
+ * Of a canonical section the result is the section itself, byte for byte. host/c-example/main.c has this as a program.
  */
 
 struct scte35_written {
     uint64_t refusal; /* the first of 31 to 36 that applies */
     uint64_t length; /* how many bytes were written */
-};
-
-enum {
-    SCTE35_OUTSIDE_LENT = 31, /* a view reaches outside the lent bytes */
-    SCTE35_TOO_LARGE = 32, /* a word exceeds its field; more than 7 DTMF characters or 255 bytes of a UPID */
-    SCTE35_NOT_CANONICAL = 33, /* a value that no canonical section has, or words that no reader gives */
-    SCTE35_TOO_LONG = 34, /* a descriptor's length over 254, a section over 4,096 */
-    SCTE35_LOOP_NOT_CANONICAL = 35,
-    SCTE35_TARGET_TOO_SHORT = 36
 };
 
 /* a command's payload. Of the components the places up to the insert's own count are looked at, no other word */
@@ -267,12 +323,13 @@ struct scte35_written scte35_write_section(const uint64_t *header, size_t header
                                            const uint64_t *components, size_t components_words, const uint8_t *lent, size_t lent_length,
                                            const uint8_t *descriptors, size_t descriptors_length, uint8_t *target, size_t target_length);
 
-/* 1 where all bytes from the offset on are a canonical section, a loop of canonical descriptors (or of none), or one canonical descriptor; else 0 */
+/* 1 where all bytes from the offset on are a canonical section, a loop of canonical descriptors (or of none), or one canonical descriptor; else 0. A
+ * loop of any length may be canonical, though scte35_step refuses one over 4,076 bytes */
 uint64_t scte35_is_canonical_section(const uint8_t *s, size_t n, size_t at);
 uint64_t scte35_is_canonical_loop(const uint8_t *s, size_t n, size_t at);
 uint64_t scte35_is_canonical_descriptor(const uint8_t *s, size_t n, size_t at);
 
-/* ---- the same writers over the structs. `components` and `beside` may be null: there are none */
+/* ---- writing from C: the same writers over the structs. `components` and `beside` may be NULL: there are none */
 
 /* the words of a struct of this file */
 #define SCTE35_ALL_WORDS(x) (const uint64_t *)(x), (x) ? sizeof *(x) / sizeof(uint64_t) : 0
@@ -307,7 +364,8 @@ struct scte35_adjusted_time {
     uint64_t ticks;
 };
 
-/* a time of kind SCTE35_AT plus the adjustment; any other kind is no time */
+/* kind SCTE35_AT is a time, and its ticks plus the adjustment are answered (34 bits, they don't wrap round); any other kind has none. Whatever the
+ * kind, ticks or pts_adjustment over 33 bits: 32 */
 struct scte35_adjusted_time scte35_adjusted_time(uint64_t kind, uint64_t ticks, uint64_t pts_adjustment);
 
 enum { SCTE35_CLASS_NAMED = 0, SCTE35_CLASS_RESERVED = 1, SCTE35_CLASS_PRIVATE = 2 };

@@ -64,18 +64,19 @@ static struct scte35_written write_loop(const uint8_t *loop, size_t n, uint8_t *
 /* The section that is written of a reading: header, command and each item. */
 static struct scte35_written write_back(const uint8_t *s, size_t n, const struct scte35_section *x, uint8_t *target, size_t room)
 {
-    static uint8_t loop[4096];
+    static uint8_t loop[SCTE35_MAX_LOOP];
     struct scte35_written items = write_loop(s + x->descriptors.at, x->descriptors.len, loop, sizeof loop);
     if (items.refusal)
         return items;
-    /* the command stands behind 14 bytes; the components of anything but an insert are not looked at */
-    struct scte35_insert_components components = scte35_insert_components(s, n, 14);
+    /* of the bytes up to the command's end; those of a command without components are not looked at */
+    size_t end = SCTE35_COMMAND_AT + x->header.splice_command_length;
+    struct scte35_insert_components components = scte35_insert_components(s, end, SCTE35_COMMAND_AT);
     return scte35_put_section(&x->header, &x->command, &components, s, n, loop, items.length, target, room);
 }
 
 int main(int argc, char **argv)
 {
-    static uint8_t s[4097];
+    static uint8_t s[SCTE35_MAX_SECTION + 1]; /* one more than is read */
     size_t n = argc == 2 ? strlen(argv[1]) / 2 : 0;
     if (n > sizeof s)
         n = sizeof s;
@@ -93,7 +94,7 @@ int main(int argc, char **argv)
         print_item(loop, item);
         at = item.next;
     }
-    static uint8_t target[4096];
+    static uint8_t target[SCTE35_MAX_SECTION];
     struct scte35_written w = write_back(s, n, &x, target, sizeof target);
     int same = !w.refusal && w.length == n && !memcmp(target, s, n);
     int canonical = scte35_is_canonical_section(s, n, 0) == 1;

@@ -90,7 +90,7 @@ fn segmentation(x: scte35::SegmentationDetail<'_>) -> Segmentation {
             web: r.web_delivery_allowed,
             no_blackout: r.no_regional_blackout,
             archive: r.archive_allowed,
-            device: r.device_restrictions as u8,
+            device: r.device_restrictions.bits(),
         }),
         components: x.components.map(|list| list.iter().map(|c| (c.component_tag, c.pts_offset)).collect()),
         duration: x.segmentation_duration,

@@ -53,6 +53,15 @@ pub struct SpliceDuration {
 }
 
 impl<'a> SpliceCommand<'a> {
+    /// The time of a time signal, or of an insert by program; none of any other command. (Each component of an insert has a time of its own.)
+    pub fn splice_time(&self) -> Option<SpliceTime> {
+        match self {
+            SpliceCommand::TimeSignal(t) => Some(*t),
+            SpliceCommand::SpliceInsert(SpliceInsert { detail: Some(InsertDetail { splice_mode: SpliceMode::Program(t), .. }), .. }) => Some(*t),
+            _ => None,
+        }
+    }
+
     /// What `c` says of the command whose payload begins at `at` of `lent`; its views count from `from`.
     pub(crate) fn of(c: &raw::Command, lent: &'a [u8], at: usize, from: usize) -> Self {
         match c.splice_command_type {
@@ -73,7 +82,7 @@ fn insert(i: &raw::Insert, lent: &[u8], at: usize) -> SpliceInsert {
         detail: (i.splice_event_cancel_indicator == 0).then(|| InsertDetail {
             network_indicator: if i.out_of_network_indicator == 1 { NetworkIndicator::Out } else { NetworkIndicator::In },
             splice_mode: mode(&i.mode, lent, at),
-            duration: (i.break_duration.duration_flag == 1).then(|| SpliceDuration {
+            duration: (i.break_duration.duration_flag == 1).then_some(SpliceDuration {
                 return_mode: if i.break_duration.auto_return == 1 { ReturnMode::Automatic } else { ReturnMode::Manual },
                 duration: i.break_duration.duration,
             }),

@@ -4,22 +4,22 @@ use crate::refusal::NotInField;
 
 #[derive(Debug, Clone, Copy, PartialEq, Eq, Hash)]
 pub enum NetworkIndicator {
-    In,
-    Out,
+    In = 0,
+    Out = 1,
 }
 
 #[derive(Debug, Clone, Copy, PartialEq, Eq, Hash)]
 pub enum ReturnMode {
-    Manual,
-    Automatic,
+    Manual = 0,
+    Automatic = 1,
 }
 
 #[derive(Debug, Clone, Copy, PartialEq, Eq, Hash)]
 pub enum DeviceRestrictions {
-    RestrictGroup0,
-    RestrictGroup1,
-    RestrictGroup2,
-    None,
+    RestrictGroup0 = 0,
+    RestrictGroup1 = 1,
+    RestrictGroup2 = 2,
+    None = 3,
 }
 
 /// The name at the number that the proved function gives, or its refusal.
@@ -34,11 +34,21 @@ impl NetworkIndicator {
     pub fn from_flag(n: u8) -> Result<Self, NotInField> {
         named(n, raw::network_indicator(n), &[Self::In, Self::Out])
     }
+
+    /// out_of_network_indicator
+    pub fn flag(self) -> u8 {
+        self as u8
+    }
 }
 
 impl ReturnMode {
     pub fn from_flag(n: u8) -> Result<Self, NotInField> {
         named(n, raw::return_mode(n), &[Self::Manual, Self::Automatic])
+    }
+
+    /// auto_return
+    pub fn flag(self) -> u8 {
+        self as u8
     }
 }
 
@@ -47,5 +57,10 @@ impl DeviceRestrictions {
 
     pub fn from_bits(n: u8) -> Result<Self, NotInField> {
         named(n, raw::device_restrictions(n), &Self::ALL)
+    }
+
+    /// device_restrictions
+    pub fn bits(self) -> u8 {
+        self as u8
     }
 }

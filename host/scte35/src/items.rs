@@ -5,6 +5,7 @@ use crate::raw;
 use crate::refusal::ItemRefusal;
 use crate::upid::{refusal, Upid};
 use crate::view;
+use std::iter::FusedIterator;
 
 #[derive(Debug, Clone, PartialEq, Eq, Hash)]
 pub enum SpliceDescriptor<'a> {
@@ -102,13 +103,14 @@ fn detail<'a>(s: &raw::Segmentation, bytes: &'a [u8], lent: &[u8], offset: usize
         archive_allowed: s.delivery_restrictions.archive_allowed_flag == 1,
         device_restrictions: DeviceRestrictions::ALL[s.delivery_restrictions.device_restrictions as usize],
     };
+    let (components, eidr) = if s.component_count > 0 || s.segmentation_upid_type == 10 { beside(lent, offset) } else { (vec![], [0; 12]) };
     let sub_segments =
         || SubSegments { sub_segment_num: s.sub_segments.sub_segment_num as u8, sub_segments_expected: s.sub_segments.sub_segments_expected as u8 };
     SegmentationDetail {
         delivery_restrictions: (s.delivery_not_restricted_flag == 0).then(restrictions),
-        components: (s.program_segmentation_flag == 0).then(|| components(s.component_count, lent, offset)),
+        components: (s.program_segmentation_flag == 0).then_some(components),
         segmentation_duration: (s.segmentation_duration_flag == 1).then_some(s.segmentation_duration),
-        segmentation_upid: Upid::of(s.segmentation_upid_type as u8, bytes, || raw::item_components(lent, offset).eidr),
+        segmentation_upid: Upid::of(s.segmentation_upid_type as u8, bytes, eidr),
         segmentation_type_id: SegmentationTypeId::from_id(s.segmentation_type_id as u8),
         segment_num: s.segment_num as u8,
         segments_expected: s.segments_expected as u8,
@@ -116,13 +118,12 @@ fn detail<'a>(s: &raw::Segmentation, bytes: &'a [u8], lent: &[u8], offset: usize
     }
 }
 
-fn components(count: u64, lent: &[u8], offset: usize) -> Vec<ModeComponent> {
-    if count == 0 {
-        return vec![];
-    }
+/// The components and the EIDR of the item at an offset. By itself, since the answer takes 4 KB of the stack and most items have neither.
+#[inline(never)]
+fn beside(lent: &[u8], offset: usize) -> (Vec<ModeComponent>, [u8; 12]) {
     let list = raw::item_components(lent, offset);
     let component = |c: &raw::Component| ModeComponent { component_tag: c.component_tag as u8, pts_offset: c.pts_offset };
-    list.components[..list.count as usize].iter().map(component).collect()
+    (list.components[..list.count as usize].iter().map(component).collect(), list.eidr.map(|b| b as u8))
 }
 
 /// A descriptor loop: iterate over it for its items.
@@ -164,3 +165,5 @@ impl<'a> Iterator for Items<'a> {
         item
     }
 }
+
+impl FusedIterator for Items<'_> {}

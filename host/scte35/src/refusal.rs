@@ -1,4 +1,4 @@
-//! What a reader or a writer refuses, and why. `number` is the number of the rules (docs, "Refusal numbers").
+//! What a reader or a writer refuses, and why. `number` is the number that docs/REFUSALS.md has a row for.
 use crate::names::SegmentationUpidType;
 use std::fmt;
 
@@ -6,25 +6,25 @@ use std::fmt;
 #[derive(Debug, Clone, Copy, PartialEq, Eq, Hash)]
 pub enum SectionRefusal {
     /// under 3 bytes
-    TooShort,
+    TooShort = 1,
     /// over 4,096 bytes
-    TooLong,
+    TooLong = 2,
     /// the first byte is not 0xFC
-    OtherTable,
+    OtherTable = 3,
     /// the CRC over all bytes is not 0
-    WrongCrc,
+    WrongCrc = 4,
     /// under 18 bytes
-    NoHeader,
-    Encrypted,
-    /// the command's length exceeds the bytes after the header
-    CommandTooLong,
+    NoHeader = 5,
+    Encrypted = 6,
+    /// the command's length exceeds the bytes after the header, CRC excluded
+    CommandTooLong = 7,
     /// fewer than 2 bytes follow the command
-    NoLoopLength,
-    /// the loop's length exceeds what is left
-    LoopTooLong,
+    NoLoopLength = 8,
+    /// the loop's length + 2 exceeds those bytes
+    LoopTooLong = 9,
     /// none of splice_null, splice_insert, time_signal, bandwidth_reservation and private_command
-    UnknownCommand,
-    MalformedCommand,
+    UnknownCommand = 10,
+    MalformedCommand = 11,
 }
 
 impl SectionRefusal {
@@ -34,7 +34,7 @@ impl SectionRefusal {
     };
 
     pub fn number(self) -> u8 {
-        1 + Self::ALL.iter().position(|r| *r == self).expect("all are listed") as u8
+        self as u8
     }
 }
 
@@ -47,14 +47,16 @@ pub enum ItemRefusal<'a> {
         expected: usize,
         actual: usize,
     },
-    /// 255, and it fits
+    /// the descriptor's length is 255, and it fits
     InvalidDescriptorLength,
-    /// bytes that are said to be of type 0
+    /// a part of type 0 inside a MID, or a nonempty UPID of type 0
     UntypedBytes,
+    /// UPID text that is not UTF-8
     NotText {
         kind: SegmentationUpidType,
         bytes: &'a [u8],
     },
+    /// a UPID of wrong length; `kind` as written
     WrongLength {
         kind: SegmentationUpidType,
         expected: usize,
@@ -79,17 +81,17 @@ impl ItemRefusal<'_> {
 #[derive(Debug, Clone, Copy, PartialEq, Eq, Hash)]
 pub enum WriteRefusal {
     /// a view reaches outside the lent bytes; here, where bytes are slices, none does
-    OutsideLent,
+    OutsideLent = 31,
     /// a number or a count exceeds its field, so do more than 7 DTMF characters or 255 bytes of a UPID
-    TooLarge,
+    TooLarge = 32,
     /// a value that no canonical section has
-    NotCanonical,
+    NotCanonical = 33,
     /// a descriptor's length over 254, or a section over 4,096 bytes
-    TooLong,
+    TooLong = 34,
     /// the descriptor loop handed in is not canonical
-    LoopNotCanonical,
+    LoopNotCanonical = 35,
     /// the target is shorter than what is to be written
-    TargetTooShort,
+    TargetTooShort = 36,
 }
 
 impl WriteRefusal {
@@ -99,7 +101,7 @@ impl WriteRefusal {
     };
 
     pub fn number(self) -> u8 {
-        31 + Self::ALL.iter().position(|r| *r == self).expect("all are listed") as u8
+        self as u8
     }
 }
 

@@ -57,11 +57,11 @@ impl<'a> Upid<'a> {
         }
     }
 
-    /// A UPID of reported type `kind` whose bytes are taken already.
-    pub(crate) fn of(kind: u8, bytes: &'a [u8], eidr: impl FnOnce() -> [u64; 12]) -> Self {
+    /// A UPID of reported type `kind` whose bytes are taken already; `eidr` is looked at where it is one.
+    pub(crate) fn of(kind: u8, bytes: &'a [u8], eidr: [u8; 12]) -> Self {
         match SegmentationUpidType::from_type(kind) {
             SegmentationUpidType::NotUsed => Upid::None,
-            SegmentationUpidType::EIDR => Upid::Eidr(eidr().map(|b| b as u8)),
+            SegmentationUpidType::EIDR => Upid::Eidr(eidr),
             SegmentationUpidType::MID => Upid::Mid(Mid { bytes, parts: parts(&raw::upid(13, bytes, 0), bytes) }),
             kind @ (SegmentationUpidType::ISCIDeprecated | SegmentationUpidType::AdID | SegmentationUpidType::TID) => {
                 Upid::Text { kind, text: std::str::from_utf8(bytes).expect("taken for text by the reader") }
@@ -100,7 +100,7 @@ pub fn read_upid(kind: SegmentationUpidType, bytes: &[u8]) -> Result<Upid<'_>, I
     let u = raw::upid(kind.id(), bytes, 0);
     match u.refusal {
         0 if u.kind == 13 => Ok(Upid::Mid(Mid { bytes, parts: parts(&u, bytes) })),
-        0 => Ok(Upid::of(u.kind as u8, bytes, || u.eidr)),
+        0 => Ok(Upid::of(u.kind as u8, bytes, u.eidr.map(|b| b as u8))),
         n => Err(refusal(n, &u.values, bytes)),
     }
 }

@@ -1,14 +1,13 @@
 //! Writing what the readers give. Each value is handed on as the words that reading it gives; its bytes are lent alone, so that its view is of all of
 //! them.
 use crate::command::{InsertDetail, SpliceCommand, SpliceInsert, SpliceMode};
-use crate::flags::{NetworkIndicator, ReturnMode};
 use crate::header::{SpliceInfoHeader, SpliceTime};
-use crate::items::{ModeComponent, SegmentationDetail, SpliceDescriptor};
+use crate::items::{ModeComponent, SegmentationDetail, SpliceDescriptor, SpliceDescriptors};
 use crate::names::{EncryptionAlgorithm, SegmentationTypeId, SegmentationUpidType};
 use crate::raw;
 use crate::refusal::WriteRefusal;
 use crate::upid::{read_upid, Upid};
-use crate::Section;
+use crate::{Section, MAX_DESCRIPTOR, MAX_LOOP};
 
 /// Writes a command's payload from the target's first byte on; says how many bytes that are.
 pub fn write_command(command: &SpliceCommand<'_>, target: &mut [u8]) -> Result<usize, WriteRefusal> {
@@ -24,6 +23,19 @@ pub fn write_descriptor(descriptor: &SpliceDescriptor<'_>, target: &mut [u8]) ->
     written(is_read(descriptor), target, |target| raw::write_descriptor(step.words(), beside.words(), lent, target))
 }
 
+/// Writes descriptors one behind the other, as a section's loop, from the target's first byte on; says how many bytes that are.
+pub fn write_loop(descriptors: &[SpliceDescriptor<'_>], target: &mut [u8]) -> Result<usize, WriteRefusal> {
+    // a refusal leaves the target as it was, though descriptors before the refused one would fit
+    let mut all = vec![];
+    for descriptor in descriptors {
+        let mut one = [0; MAX_DESCRIPTOR];
+        let length = write_descriptor(descriptor, &mut one)?;
+        all.extend_from_slice(&one[..length]);
+    }
+    target.get_mut(..all.len()).ok_or(WriteRefusal::TargetTooShort)?.copy_from_slice(&all);
+    Ok(all.len())
+}
+
 /// Writes a whole section from the target's first byte on, around a loop of canonical descriptors; says how many bytes that are. The header's command
 /// length and type are not looked at: they are worked out, as is all else that the section's other parts determine.
 pub fn write_section(section: &Section<'_>, target: &mut [u8]) -> Result<usize, WriteRefusal> {
@@ -34,12 +46,24 @@ pub fn write_section(section: &Section<'_>, target: &mut [u8]) -> Result<usize, 
     written(read, target, |target| raw::write_section(header.words(), words.words(), &components, lent, section.descriptors.0, target))
 }
 
+impl Section<'_> {
+    /// Writes what was read: each item's descriptor, in order, as the loop, and the section around them. Of a canonical section that is the section
+    /// itself, byte for byte; of any other, the canonical one that reads the same. A section with a refused item is not written
+    /// (`WriteRefusal::NotCanonical`).
+    pub fn write_back(&self, target: &mut [u8]) -> Result<usize, WriteRefusal> {
+        let items: Vec<_> = self.descriptors.into_iter().collect::<Result<_, _>>().map_err(|_| WriteRefusal::NotCanonical)?;
+        let mut descriptors = [0; MAX_LOOP];
+        let length = write_loop(&items, &mut descriptors)?;
+        write_section(&Section { descriptors: SpliceDescriptors(&descriptors[..length]), ..self.clone() }, target)
+    }
+}
+
 /// Is it a canonical section: accepted, every reserved bit 1, no spare byte, no refused item?
 pub fn is_canonical_section(bytes: &[u8]) -> bool {
     raw::is_canonical_section(bytes, 0) == 1
 }
 
-/// Is it a loop of canonical descriptors, or of none?
+/// Is it a loop of canonical descriptors, or of none? It may have any length, though `step` refuses one over 4,076 bytes.
 pub fn is_canonical_loop(bytes: &[u8]) -> bool {
     raw::is_canonical_loop(bytes, 0) == 1
 }
@@ -124,9 +148,9 @@ fn of_insert(insert: &SpliceInsert, i: &mut raw::Insert) -> Vec<u64> {
 }
 
 fn of_detail(detail: &InsertDetail, i: &mut raw::Insert) -> Vec<u64> {
-    i.out_of_network_indicator = (detail.network_indicator == NetworkIndicator::Out).into();
+    i.out_of_network_indicator = detail.network_indicator.flag().into();
     if let Some(d) = detail.duration {
-        i.break_duration = raw::Break { duration_flag: 1, auto_return: (d.return_mode == ReturnMode::Automatic).into(), duration: d.duration };
+        i.break_duration = raw::Break { duration_flag: 1, auto_return: d.return_mode.flag().into(), duration: d.duration };
     }
     i.unique_program_id = detail.unique_program_id.into();
     i.avail_num = detail.avail_num.into();
@@ -193,7 +217,7 @@ fn of_segmentation<'a>(detail: &'a SegmentationDetail<'_>, s: &mut raw::Segmenta
             web_delivery_allowed_flag: r.web_delivery_allowed.into(),
             no_regional_blackout_flag: r.no_regional_blackout.into(),
             archive_allowed_flag: r.archive_allowed.into(),
-            device_restrictions: r.device_restrictions as u64,
+            device_restrictions: r.device_restrictions.bits().into(),
         };
     }
     let components = detail.components.as_deref().unwrap_or(&[]);

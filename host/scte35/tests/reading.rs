@@ -45,6 +45,10 @@ fn steps() {
     }
     assert_eq!(step(&[0; 4077], 5000), Step { item: Some(Err(ItemRefusal::TooLong)), next: 4077 });
     assert_eq!(items(&[0; 4077]), vec![Err(ItemRefusal::TooLong)]);
+    // the end stays the end
+    let mut over = SpliceDescriptors(&bytes).into_iter();
+    assert_eq!(over.by_ref().count(), 3);
+    assert_eq!((over.next(), over.offset()), (None, 17));
 }
 
 #[test]
@@ -135,6 +139,7 @@ fn sections() {
     assert_eq!(crc(&sample), 0);
     // refusals, by number
     let number = |bytes: &[u8]| read_section(bytes).map_err(SectionRefusal::number).err();
+    assert_eq!([SectionRefusal::TooShort, SectionRefusal::MalformedCommand].map(SectionRefusal::number), [1, 11]);
     assert_eq!(number(&sample[..2]), Some(1));
     assert_eq!(number(&[0; 4097]), Some(2));
     assert_eq!(number(&[0; 40]), Some(3));
@@ -157,6 +162,18 @@ fn headers_and_times() {
     assert_eq!(SpliceTime::Immediate.adjusted(1), Ok(None));
     assert_eq!(SpliceTime::At(1 << 33).adjusted(0), Err(TimeTooLarge));
     assert_eq!(SpliceTime::Unspecified.adjusted(1 << 33), Err(TimeTooLarge));
+    // of a section: of a time signal and of an insert by program
+    let null = SpliceInfoHeader { pts_adjustment: 5, ..h };
+    let section = |command| Section { header: null, command, descriptors: SpliceDescriptors(&[]) };
+    assert_eq!(section(SpliceCommand::TimeSignal(SpliceTime::At(7))).adjusted_time(), Ok(Some(12)));
+    assert_eq!(section(SpliceCommand::TimeSignal(SpliceTime::At(1 << 33))).adjusted_time(), Err(TimeTooLarge));
+    assert_eq!(section(SpliceCommand::TimeSignal(SpliceTime::Unspecified)).adjusted_time(), Ok(None));
+    assert_eq!(section(SpliceCommand::SpliceNull).adjusted_time(), Ok(None));
+    let payload = unhex("4800008F 7F EF FE7369C02E FE0052CCF5 0000 00 00");
+    let mut sample = section(read_command(SpliceCommandType::SpliceInsert, &payload).expect("an insert"));
+    assert_eq!(sample.adjusted_time(), Ok(Some(1_936_310_323)));
+    sample.header.pts_adjustment = 1 << 33;
+    assert_eq!(sample.adjusted_time(), Err(TimeTooLarge));
 }
 
 #[test]
@@ -166,12 +183,14 @@ fn numbers() {
         assert_eq!(SpliceCommandType::from_id(n).id(), n);
         assert_eq!(SegmentationUpidType::from_type(n).id(), n);
         assert_eq!(SegmentationTypeId::from_id(n).id(), n);
-        assert_eq!(NetworkIndicator::from_flag(n).is_ok(), n < 2);
-        assert_eq!(ReturnMode::from_flag(n).is_ok(), n < 2);
-        assert_eq!(DeviceRestrictions::from_bits(n).is_ok(), n < 4);
+        assert_eq!(NetworkIndicator::from_flag(n).map(NetworkIndicator::flag), if n < 2 { Ok(n) } else { Err(NotInField(n)) });
+        assert_eq!(ReturnMode::from_flag(n).map(ReturnMode::flag), if n < 2 { Ok(n) } else { Err(NotInField(n)) });
+        assert_eq!(DeviceRestrictions::from_bits(n).map(DeviceRestrictions::bits), if n < 4 { Ok(n) } else { Err(NotInField(n)) });
     }
-    assert_eq!(NetworkIndicator::from_flag(2), Err(NotInField(2)));
+    // which name has which number: host/layout compares that with the Rattle sources; these are the flags of a reading
+    assert_eq!(NetworkIndicator::from_flag(1), Ok(NetworkIndicator::Out));
     assert_eq!(ReturnMode::from_flag(1), Ok(ReturnMode::Automatic));
+    assert_eq!(DeviceRestrictions::from_bits(3), Ok(DeviceRestrictions::None));
 }
 
 /// The C functions take an offset: what stands before it is not read, and views count from it.

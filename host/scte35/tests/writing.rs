@@ -20,16 +20,9 @@ fn closed(mut section: Vec<u8>) -> Vec<u8> {
     section
 }
 
-/// Each item's descriptor, joined, then the section.
-fn back(bytes: &[u8]) -> Result<Vec<u8>, Box<dyn std::error::Error + '_>> {
-    let section = read_section(bytes)?;
-    let mut descriptors = vec![0; 4096];
-    let mut end = 0;
-    for item in section.descriptors {
-        end += write_descriptor(&item?, &mut descriptors[end..])?;
-    }
-    let mut target = vec![0; 4096];
-    let length = write_section(&Section { descriptors: SpliceDescriptors(&descriptors[..end]), ..section }, &mut target)?;
+fn back(bytes: &[u8]) -> Result<Vec<u8>, Box<dyn std::error::Error>> {
+    let mut target = vec![0; MAX_SECTION];
+    let length = read_section(bytes)?.write_back(&mut target)?;
     target.truncate(length);
     Ok(target)
 }
@@ -46,6 +39,7 @@ fn samples_go_back_to_themselves() {
         let other = closed(other);
         assert!(!is_canonical_section(&other));
         assert_eq!(back(&other).expect("written"), sample);
+        assert!(read_section(&other).expect("accepted").reads_as(&read_section(&sample).expect("accepted")));
         let mut longer = sample.clone();
         longer[2] += 1;
         longer.insert(longer.len() - 4, 0);
@@ -53,6 +47,46 @@ fn samples_go_back_to_themselves() {
         assert!(!is_canonical_section(&longer));
         assert_eq!(back(&longer).expect("written"), sample);
     }
+}
+
+#[test]
+fn readings() {
+    let [first, second] = [SAMPLES[0], SAMPLES[1]].map(|s| closed(unhex(s)));
+    let [first, second] = [&first, &second].map(|s| read_section(s).expect("a sample of the standard"));
+    // a spare byte in the loop's descriptor
+    let spare = unhex("00 09 43 55 45 49 00 00 01 35 FF");
+    let mut spared = Section { descriptors: SpliceDescriptors(&spare), ..second.clone() };
+    assert!(spared != second && spared.reads_as(&second));
+    spared.header.splice_command_length = 9;
+    spared.header.splice_command_type = SpliceCommandType::SpliceNull;
+    assert!(spared.reads_as(&second) && second.reads_as(&spared));
+    spared.header.tier = 1;
+    assert!(!spared.reads_as(&second));
+    assert!(!Section { command: first.command.clone(), ..second.clone() }.reads_as(&second));
+    for other in [&[][..], &unhex("00 08 43 55 45 49 00 00 01 36"), &[second.descriptors.0; 2].concat()] {
+        assert!(!Section { descriptors: SpliceDescriptors(other), ..second.clone() }.reads_as(&second));
+    }
+    // a refused item is not written
+    let cut = Section { descriptors: SpliceDescriptors(&spare[..9]), ..second.clone() };
+    assert_eq!(cut.write_back(&mut [0; MAX_SECTION]), Err(WriteRefusal::NotCanonical));
+    assert_eq!(second.write_back(&mut [0; 49]), Err(WriteRefusal::TargetTooShort));
+}
+
+#[test]
+fn loops() {
+    let avail = |provider_avail_id| SpliceDescriptor::Avail { provider_avail_id };
+    let bytes = unhex("00 08 43 55 45 49 00 00 00 01 00 08 43 55 45 49 00 00 00 02");
+    let mut target = [0x55; 24];
+    assert_eq!(write_loop(&[avail(1), avail(2)], &mut target), Ok(20));
+    assert_eq!(target[..20], bytes);
+    assert_eq!(target[20..], [0x55; 4]);
+    assert_eq!(write_loop(&[], &mut []), Ok(0));
+    // refused: no byte is written, not even of those before the refused one
+    let mut target = [0x55; 24];
+    let long = SpliceDescriptor::Dtmf { preroll: 1, dtmf_chars: b"12345678" };
+    assert_eq!(write_loop(&[avail(1), long], &mut target), Err(WriteRefusal::TooLarge));
+    assert_eq!(write_loop(&[avail(1), avail(2)], &mut target[..19]), Err(WriteRefusal::TargetTooShort));
+    assert_eq!(target, [0x55; 24]);
 }
 
 fn write(command: &SpliceCommand<'_>) -> Result<Vec<u8>, WriteRefusal> {

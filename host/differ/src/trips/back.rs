@@ -3,7 +3,7 @@ use super::spoil::{self, Spoilt, Way, Whole, WAYS};
 use super::{build, draw, Trips};
 use crate::answer::*;
 use crate::{make, ours};
-use scte35::{raw, WriteRefusal};
+use scte35::raw;
 
 impl Trips {
     pub(super) fn drawn(&mut self) -> Whole {
@@ -82,7 +82,8 @@ impl Trips {
             joined.extend(&target[..answer.length as usize]);
             offset = step.next as usize;
         }
-        let components = raw::insert_components(s, 14);
+        // of the bytes up to the command's end
+        let components = raw::insert_components(&s[..14 + read.header.splice_command_length as usize], 14);
         let answer = raw::write_section(read.header.words(), read.command.words(), components.words(), s, &joined, &mut target);
         if answer.refusal != 0 {
             return Err(answer.refusal);
@@ -92,17 +93,9 @@ impl Trips {
 
     /// The same through the Rust interface.
     fn back_by_values(&mut self, s: &[u8]) -> Result<Vec<u8>, u64> {
-        let number = |r: WriteRefusal| u64::from(r.number());
         let section = scte35::read_section(s).map_err(|r| u64::from(r.number()))?;
-        let mut joined = vec![0x55; 4096];
-        let mut end = 0;
-        for item in section.descriptors {
-            let item = item.map_err(|r| u64::from(r.number()))?;
-            end += scte35::write_descriptor(&item, &mut joined[end..]).map_err(number)?;
-        }
-        let mut target = vec![0x55; 4096];
-        let written = scte35::Section { descriptors: scte35::SpliceDescriptors(&joined[..end]), ..section };
-        let length = scte35::write_section(&written, &mut target).map_err(number)?;
+        let mut target = vec![0x55; scte35::MAX_SECTION];
+        let length = section.write_back(&mut target).map_err(|r| u64::from(r.number()))?;
         target.truncate(length);
         Ok(target)
     }
@@ -145,6 +138,8 @@ impl Trips {
         }
         let read = raw::section(&x.section, 0);
         self.expect(read.refusal == 0, || format!("{}: section {} is refused, {}", way.name, hex(&x.section), read.refusal));
+        let same = scte35::read_section(&x.section).ok().zip(scte35::read_section(&whole.section.bytes).ok()).map(|(a, b)| a.reads_as(&b));
+        self.expect(same == Some(way.same_reading), || format!("{}: section {} reads the same: {same:?}", way.name, hex(&x.section)));
         if way.same_reading {
             let back = self.back_by_words(&x.section);
             self.expect(back.as_ref() == Ok(&whole.section.bytes), || format!("{}: section {} is written as {back:?}", way.name, hex(&x.section)));

@@ -78,11 +78,7 @@ pub mod psi {
     pub mod pmt {
         pub struct PmtSection<'a>(pub &'a [u8]);
         impl<'a> PmtSection<'a> {
-            pub fn descriptors(
-                &self,
-            ) -> impl Iterator<
-                Item = Result<crate::descriptor::CoreDescriptors<'a>, crate::descriptor::DescriptorError>,
-            > {
+            pub fn descriptors(&self) -> impl Iterator<Item = Result<crate::descriptor::CoreDescriptors<'a>, crate::descriptor::DescriptorError>> {
                 std::iter::empty()
             }
         }
