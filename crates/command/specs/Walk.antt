@@ -1,4 +1,4 @@
--- What the private readers of an insert answer. No public contract cites this.
+-- What the private readers of an insert answer, and `insertRead`, which `read_insert` answers. No other public contract cites this.
 use Prim.Native.Nat.{ℕ, _/_}
 use mathlib.Core.List.{List, []}
 use Rattle.table.specs.Table.{Answer, got, short}

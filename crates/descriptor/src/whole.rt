@@ -24,7 +24,7 @@ use crate::segmentation::read_head;
 use table::lent::view;
 use upid::eidr;
 
-// The components, blank past their count, and the EIDR identifier, all zero where the UPID is none.
+// The components, blank past their count, and the EIDR identifier, all zero where the UPID is no EIDR.
 pub struct Beside {
     pub components: [ModeComponent; 255],
     pub eidr: [u8; 12],

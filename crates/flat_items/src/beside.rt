@@ -16,7 +16,7 @@ pub struct FlatComponent {
     pub pts_offset: u64,
 }
 
-// The components before the count, all zero past it; the EIDR, a byte to a word, all zero where the UPID is none.
+// The components before the count, all zero past it; the EIDR, a byte to a word, all zero where the UPID is no EIDR.
 #[repr(C)]
 pub struct FlatBeside {
     pub refusal: u64,

@@ -1,4 +1,4 @@
--- 01's rows k and l, and the header of its worked section.
+-- 01's rows k and l, and the header of the standard's first sample.
 use mathlib.Core.Bool.{false}
 use mathlib.Core.List.{List, [], _∷_}
 use mathlib.Core.Path.{_≡_, refl}

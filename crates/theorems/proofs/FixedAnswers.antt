@@ -139,14 +139,14 @@ cursor-skip-is-fixed = record { takes-any = λ κ a. tt; one-answer = λ κ a x 
 pub cursor-pass-is-fixed : Fixed cursor-pass.Asked cursor-pass.Learnt
 cursor-pass-is-fixed = record { takes-any = λ κ a. tt; one-answer = λ κ a x y e f p q. p ∙ sym q }
 
-pub put-byte-is-fixed : FixedIn put-byte.Asked put-byte.Learnt (λ κ answer after. now (after .0))
-put-byte-is-fixed = record { takes-any = λ κ a. tt; seen = λ κ a x y e f p q. p ∙ sym q }
+pub put-byte-fixes-the-target : FixedIn put-byte.Asked put-byte.Learnt (λ κ answer after. now (after .0))
+put-byte-fixes-the-target = record { takes-any = λ κ a. tt; seen = λ κ a x y e f p q. p ∙ sym q }
 
-pub put-number-is-fixed : FixedIn put-number.Asked put-number.Learnt (λ κ answer after. now (after .0))
-put-number-is-fixed = record { takes-any = λ κ a. tt; seen = λ κ a x y e f p q. p ∙ sym q }
+pub put-number-fixes-the-target : FixedIn put-number.Asked put-number.Learnt (λ κ answer after. now (after .0))
+put-number-fixes-the-target = record { takes-any = λ κ a. tt; seen = λ κ a x y e f p q. p ∙ sym q }
 
-pub put-bytes-is-fixed : FixedIn put-bytes.Asked put-bytes.Learnt (λ κ answer after. now (after .0))
-put-bytes-is-fixed = record { takes-any = λ κ a. tt; seen = λ κ a x y e f p q. p ∙ sym q }
+pub put-bytes-fixes-the-target : FixedIn put-bytes.Asked put-bytes.Learnt (λ κ answer after. now (after .0))
+put-bytes-fixes-the-target = record { takes-any = λ κ a. tt; seen = λ κ a x y e f p q. p ∙ sym q }
 
 -- ---- names
 

@@ -1,1 +1,1 @@
-// The product's demands as theorems: their statements in specs/, their proofs in proofs/. No code belongs to them.
+// The demands as theorems over the definitions of the other crates. No code: their statements stand in proofs/Theorems.antt, what they speak of in specs/.
