@@ -1,7 +1,7 @@
 -- What bits and bytes of a message do to the register.
 --     bits-next       a bit, of the n that are left
 --     byte-step, byte-in      a byte: its bits; eight steps, and the byte comes in
---     pass            n bytes of a list, eight at most, from a place on: 8 n steps, and the number that they make comes in
+--     pass            n bytes of a list, four at most, from a place on: 8 n steps, and the number that they make comes in
 -- Assumes nothing.
 use mathlib.Core.Path.{_≡_, refl, sym, ap, ap₂, _∙_, subst}
 use mathlib.Core.List.{List, [], _∷_, _++_}
@@ -13,12 +13,13 @@ use lib.Arith.{digits-lt}
 use lib.Dec.{lit<}
 use lib.ListN.{length, getD, drop, drop-of-length-le}
 use lib.Seq.{drop-cons}
-use lib.Pow.{pow-pos, pow-add, pow-mono, shl-shr, mod-pow-add, field, low}
+use lib.Pow.{pow-pos, pow-add, pow-mono, shl-shr, mod-pow-add, high}
 use lib.Bits.{bitXor, xor-shr, xor-mod, xor-zero-r, xor-lt}
 use Rattle.crc.specs.Crc.{polynomial, fed, crcBit, crcBits, bits, messageBits, crcOf, allOnes}
-use Rattle.crc.specs.Window.{turn, turns, reduced, crcBytes, numberAt}
+use Rattle.crc_table.specs.Turns.{turn, turns}
+use Rattle.crc.specs.Walk.{crcBytes, numberAt}
 use Rattle.crc.proofs.Xor.{xor-assoc, xor-shl}
-use Rattle.crc.proofs.Turns.{turn-lin, turns-lin, turns-add, turn-lt, turns-lt, reduced-lt, behind}
+use Rattle.crc.proofs.Turns.{turn-lin, turns-lin, turns-add, turn-lt, turns-lt, turned-lt, behind}
 
 -- ---- bits
 
@@ -41,48 +42,48 @@ bit-turn z bit hz hb =
     (ap (λ (n : ℕ). n % 2 * polynomial) (xor-shr z (bit * 2 ^ 31) 31 ∙ ap (bitXor (z / 2 ^ 31)) (shl-shr bit 31))
     ∙ ap (λ (n : ℕ). n * polynomial) (mod-eq-of-lt top)))
 
-reduced-bit : (bit : ℕ) → bit < 2 → turn (bit * 2 ^ 31) ≡ reduced bit
-unfolding reduced turns turn
-reduced-bit zero h = refl
-reduced-bit (suc zero) h = refl
-reduced-bit (suc (suc bit)) h = absurd (omega arith)
+bit-down : (bit : ℕ) → bit < 2 → turn (bit * 2 ^ 31) ≡ turns 32 bit
+unfolding turns turn
+bit-down zero h = refl
+bit-down (suc zero) h = refl
+bit-down (suc (suc bit)) h = absurd (omega arith)
 
-bit-in : (z bit : ℕ) → z < 2 ^ 32 → bit < 2 → crcBit z bit ≡ bitXor (turn z) (reduced bit)
-bit-in z bit hz hb = bit-turn z bit hz hb ∙ turn-lin .at z (bit * 2 ^ 31) ∙ ap (bitXor (turn z)) (reduced-bit bit hb)
+bit-in : (z bit : ℕ) → z < 2 ^ 32 → bit < 2 → crcBit z bit ≡ bitXor (turn z) (turns 32 bit)
+bit-in z bit hz hb = bit-turn z bit hz hb ∙ turn-lin .at z (bit * 2 ^ 31) ∙ ap (bitXor (turn z)) (bit-down bit hb)
 
 -- nothing comes in; what comes in fits
-in-none : (z : ℕ) → bitXor z (reduced 0) ≡ z
-unfolding reduced turns turn
+in-none : (z : ℕ) → bitXor z (turns 32 0) ≡ z
+unfolding turns turn
 in-none z = xor-zero-r z
 
-in-lt : (z x : ℕ) → z < 2 ^ 32 → bitXor z (reduced x) < 2 ^ 32
-in-lt z x h = xor-lt 32 z (reduced x) h (reduced-lt x)
+in-lt : (z x : ℕ) → z < 2 ^ 32 → bitXor z (turns 32 x) < 2 ^ 32
+in-lt z x h = xor-lt 32 z (turns 32 x) h (turned-lt 31 x)
 
 -- what came in with x, and n bits y behind it
-then : (k n z x y : ℕ) → y < 2 ^ n → x * 2 ^ n + y < 2 ^ 64
-    → bitXor (turns n (bitXor (turns k z) (reduced x))) (reduced y) ≡ bitXor (turns (k + n) z) (reduced (x * 2 ^ n + y))
+then : (k n z x y : ℕ) → y < 2 ^ n → x * 2 ^ n + y < 2 ^ 32
+    → bitXor (turns n (bitXor (turns k z) (turns 32 x))) (turns 32 y) ≡ bitXor (turns (k + n) z) (turns 32 (x * 2 ^ n + y))
 then k n z x y h l =
-    ap (λ (m : ℕ). bitXor m (reduced y)) (turns-lin n .at (turns k z) (reduced x))
-    ∙ xor-assoc (turns n (turns k z)) (turns n (reduced x)) (reduced y)
+    ap (λ (m : ℕ). bitXor m (turns 32 y)) (turns-lin n .at (turns k z) (turns 32 x))
+    ∙ xor-assoc (turns n (turns k z)) (turns n (turns 32 x)) (turns 32 y)
     ∙ ap₂ bitXor (sym (turns-add k n z)) (sym (behind n x y h l))
 
-bits-in : (n x z : ℕ) → n ≤ 64 → z < 2 ^ 32 → crcBits z (bits n x) ≡ bitXor (turns n z) (reduced (x % 2 ^ n))
+bits-in : (n x z : ℕ) → n ≤ 32 → z < 2 ^ 32 → crcBits z (bits n x) ≡ bitXor (turns n z) (turns 32 (x % 2 ^ n))
 unfolding crcBits bits turns
-bits-in zero x z h hz = sym (ap (λ (k : ℕ). bitXor z (reduced k)) (mod-one x) ∙ in-none z)
+bits-in zero x z h hz = sym (ap (λ (k : ℕ). bitXor z (turns 32 k)) (mod-one x) ∙ in-none z)
 bits-in (suc n) x z h hz =
     let d : ℕ = x / 2 ^ n % 2 in
     let hd : d < 2 = mod-lt (x / 2 ^ n) (lit< tt) in
     let y : ℕ = x % 2 ^ n in
     let hy : y < 2 ^ n = mod-lt x (pow-pos n) in
     let e : x % 2 ^ suc n ≡ d * 2 ^ n + y = ap (λ (k : ℕ). x % 2 ^ k) (sym (one-add n)) ∙ mod-pow-add x 1 n in
-    let l : d * 2 ^ n + y < 2 ^ 64 =
+    let l : d * 2 ^ n + y < 2 ^ 32 =
     lt-of-lt-of-le (subst (λ (k : ℕ). k < 2 ^ suc n) e (mod-lt x (pow-pos (suc n)))) (pow-mono h)
     in
-    let b : crcBit z d ≡ bitXor (turn z) (reduced d) = bit-in z d hz hd in
+    let b : crcBit z d ≡ bitXor (turn z) (turns 32 d) = bit-in z d hz hd in
     bits-in n x (crcBit z d) (omega arith) (rw b (in-lt (turn z) d (turn-lt z)))
-    ∙ ap (λ (k : ℕ). bitXor (turns n k) (reduced y)) b
+    ∙ ap (λ (k : ℕ). bitXor (turns n k) (turns 32 y)) b
     ∙ then 1 n z d y hy l
-    ∙ ap₂ (λ (k m : ℕ). bitXor (turns k z) (reduced m)) (one-add n) (sym e)
+    ∙ ap₂ (λ (k m : ℕ). bitXor (turns k z) (turns 32 m)) (one-add n) (sym e)
 
 -- the next bit of the n that are left
 pub bits-next : (n x z : ℕ) → 0 < n → crcBits z (bits n x) ≡ crcBits (crcBit z (x / 2 ^ (n - 1) % 2)) (bits (n - 1) x)
@@ -106,10 +107,10 @@ unfolding crcBytes messageBits crcBits
 bytes-append z [] ys = refl
 bytes-append z (x ∷ xs) ys = byte-step z x (xs ++ ys) ∙ bytes-append (crcBits z (bits 8 x)) xs ys ∙ ap (λ (k : ℕ). crcBytes k ys) (sym (byte-step z x xs))
 
-pub byte-in : (z b : ℕ) (bs : List ℕ) → z < 2 ^ 32 → b < 256 → crcBytes z (b ∷ bs) ≡ crcBytes (bitXor (turns 8 z) (reduced b)) bs
+pub byte-in : (z b : ℕ) (bs : List ℕ) → z < 2 ^ 32 → b < 256 → crcBytes z (b ∷ bs) ≡ crcBytes (bitXor (turns 8 z) (turns 32 b)) bs
 byte-in z b bs hz hb =
     byte-step z b bs
-    ∙ ap (λ (k : ℕ). crcBytes k bs) (bits-in 8 b z (omega arith) hz ∙ ap (λ (k : ℕ). bitXor (turns 8 z) (reduced k)) (mod-eq-of-lt hb))
+    ∙ ap (λ (k : ℕ). crcBytes k bs) (bits-in 8 b z (omega arith) hz ∙ ap (λ (k : ℕ). bitXor (turns 8 z) (turns 32 k)) (mod-eq-of-lt hb))
 
 -- ---- a message from a place on
 
@@ -158,28 +159,23 @@ module _ (s : List ℕ) (bytes : (k : ℕ) → getD s k 0 < 256) (at : ℕ) wher
   pub number-fits : (n m : ℕ) → n ≤ m → numberAt s at n < 2 ^ (8 * m)
   number-fits n m h = lt-of-lt-of-le (number-lt s bytes at n) (pow-mono {j = 8 * m} (omega arith))
 
-  -- of m + n bytes the n last are the lowest: two shifts leave them
-  pub number-last : (m n down : ℕ) → 8 * n + down ≡ 64 → numberAt s at (m + n) * 2 ^ down % 2 ^ 64 / 2 ^ down ≡ numberAt s (at + m) n
-  number-last m n down e =
-      let x : ℕ = numberAt s at (m + n) in
-      ap (λ (k : ℕ). x * 2 ^ down % 2 ^ k / 2 ^ down) (sym e)
-      ∙ field (x * 2 ^ down) (8 * n) down
-      ∙ ap (λ (k : ℕ). k % 2 ^ (8 * n)) (shl-shr x down ∙ number-add s at m n)
-      ∙ low (numberAt s at m) (8 * n) (number-lt s bytes (at + m) n)
+  -- of n + m bytes the n first are the highest: a shift leaves them
+  pub number-first : (n m : ℕ) → numberAt s at (n + m) / 2 ^ (8 * m) ≡ numberAt s at n
+  number-first n m = ap (λ (k : ℕ). k / 2 ^ (8 * m)) (number-add s at n m) ∙ high (numberAt s at n) (8 * m) (number-lt s bytes (at + n) m)
 
-  pub pass : (n z : ℕ) → n ≤ 8 → at + n ≤ length s → z < 2 ^ 32
-      → crcBytes z (drop at s) ≡ crcBytes (bitXor (turns (8 * n) z) (reduced (numberAt s at n))) (drop (at + n) s)
+  pub pass : (n z : ℕ) → n ≤ 4 → at + n ≤ length s → z < 2 ^ 32
+      → crcBytes z (drop at s) ≡ crcBytes (bitXor (turns (8 * n) z) (turns 32 (numberAt s at n))) (drop (at + n) s)
   unfolding numberAt turns
   pass zero z h l hz = ap₂ (λ (k i : ℕ). crcBytes k (drop i s)) (sym (in-none z)) (sym (add-zero at))
   pass (suc n) z h l hz =
       let x : ℕ = numberAt s at n in
       let y : ℕ = getD s (at + n) 0 in
-      let w : ℕ = bitXor (turns (8 * n) z) (reduced x) in
+      let w : ℕ = bitXor (turns (8 * n) z) (turns 32 x) in
       let hw : w < 2 ^ 32 = in-lt (turns (8 * n) z) x (turns-lt (8 * n) z hz) in
-      let f : x * 2 ^ 8 + y < 2 ^ 64 = number-fits (suc n) 8 h in
+      let f : x * 2 ^ 8 + y < 2 ^ 32 = number-fits (suc n) 4 h in
       pass n z (omega arith) (omega arith) hz
       ∙ ap (crcBytes w) (drop-cons s (at + n) 0 (omega arith))
       ∙ byte-in w y (drop (suc (at + n)) s) hw (bytes (at + n))
       ∙ ap₂ (λ (k i : ℕ). crcBytes k (drop i s))
-      (then (8 * n) 8 z x y (bytes (at + n)) f ∙ ap (λ (k : ℕ). bitXor (turns k z) (reduced (x * 256 + y))) (sym (mul-suc 8 n)))
+      (then (8 * n) 8 z x y (bytes (at + n)) f ∙ ap (λ (k : ℕ). bitXor (turns k z) (turns 32 (x * 256 + y))) (sym (mul-suc 8 n)))
       (sym (add-suc at n))

@@ -16,9 +16,10 @@ use lib.Seq.{getD-drop}
 use lib.Pow.{shr-shr, split}
 use lib.Bits.{bitXor, xor-self, xor-lt}
 use Rattle.crc.specs.Crc.{polynomial, allOnes, fed, crcBit, crcBits, messageBits, crcOf, crcBytesOf}
-use Rattle.crc.specs.Window.{turn, turns, reduced, crcBytes, numberAt}
+use Rattle.crc_table.specs.Turns.{turn, turns}
+use Rattle.crc.specs.Walk.{crcBytes, numberAt}
 use Rattle.crc.proofs.Bytes.{past-none, bytes-append, pass}
-use Rattle.crc.proofs.Turns.{turn-lt, turns-lin, reduced-word}
+use Rattle.crc.proofs.Turns.{turn-lt, turns-lin}
 use Rattle.crc.proofs.Xor.{xor-zero→eq}
 
 -- ---- the register stays below 2 ^ 32, whatever comes in
@@ -62,7 +63,7 @@ four-behind m a b c d ha hb hc hd =
     let n : numberAt x 0 4 ≡ four a b c d = omega arith in
     sym (past-none (m ++ x)) ∙ bytes-append allOnes m x ∙ ap (λ (k : ℕ). crcBytes k x) (past-none m)
     ∙ pass x (four-are-bytes a b c d ha hb hc hd) 0 4 z (omega arith) (omega arith) (crc-lt m)
-    ∙ ap (bitXor (turns 32 z)) (ap reduced n ∙ reduced-word (four a b c d) (omega arith))
+    ∙ ap (λ (k : ℕ). bitXor (turns 32 z) (turns 32 k)) n
     ∙ sym (turns-lin 32 .at z (four a b c d))
 
 -- a number of 32 bits is that of its four bytes

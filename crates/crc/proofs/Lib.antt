@@ -4,5 +4,4 @@ pub mod Laws
 pub mod Linear
 pub mod Turns
 pub mod Vectors
-pub mod Windows
 pub mod Xor

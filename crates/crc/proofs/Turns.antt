@@ -1,9 +1,9 @@
--- The register's steps and `reduced` as linear maps: what the fast form and the laws rest on.
---     turn-lin, turns-lin, reduced-lin    they are linear
+-- The register's steps and the order of its bytes as linear maps: what the fast form and the laws rest on.
+--     turn-lin, turns-lin, reversed-lin   they are linear
 --     turns-add, turns-swap               steps after steps
---     turn-lt, turns-lt, turned-lt, reduced-lt       they stay below 2 ^ 32
---     reduced-word                        of 32 bits `reduced` is 32 steps
---     reduced-shl, behind                 zeros, and other bits, behind the bits that come in
+--     turn-lt, turns-lt, turned-lt        they stay below 2 ^ 32
+--     turns-low, behind                   zeros, and other bits, behind the bits that come in
+--     reversed-twice                      the other order of the other order
 -- Assumes nothing.
 use mathlib.Core.Path.{_≡_, refl, sym, ap, ap₂, _∙_}
 use Prim.Native.Nat.{ℕ, zero, suc, _+_, _*_, _/_, _%_, _^_, _<_, _≤_}
@@ -11,9 +11,9 @@ use native.Mathlib.Nat.{zero-add, add-comm, mul-comm, mul-assoc, mul-one, pow-su
 use native.Mathlib.Omega.{arith}
 use lib.Dec.{lit<}
 use lib.Pow.{pow-pos}
-use lib.Bits.{bitXor, xor-lt, xor-shifted}
+use lib.Bits.{bitXor, xor-lt, xor-shifted, xor-zero-r}
 use Rattle.crc.specs.Crc.{polynomial}
-use Rattle.crc.specs.Window.{turn, turns, reduced}
+use Rattle.crc_table.specs.Turns.{turn, turns, reversed}
 use Rattle.crc.proofs.Linear.{Linear, same-lin, xor-lin, after-lin, shr-lin, mod-lin, times-lin, shl-lin, agree}
 
 -- ---- linear
@@ -49,9 +49,11 @@ unfolding turns
 turns-lin zero = same-lin
 turns-lin (suc n) = after-lin turn-lin (turns-lin n)
 
-pub reduced-lin : Linear reduced
-unfolding reduced
-reduced-lin = xor-lin (after-lin (shr-lin same-lin 32) (turns-lin 64)) (after-lin (mod-lin same-lin 32) (turns-lin 32))
+pub reversed-lin : Linear reversed
+unfolding reversed
+reversed-lin =
+    xor-lin (xor-lin (times-lin (mod-lin same-lin 8) 24) (times-lin (mod-lin (shr-lin same-lin 8) 8) 16))
+    (xor-lin (times-lin (mod-lin (shr-lin same-lin 16) 8) 8) (mod-lin (shr-lin same-lin 24) 8))
 
 -- ---- steps after steps
 
@@ -79,30 +81,29 @@ pub turned-lt : (n z : ℕ) → turns (suc n) z < 2 ^ 32
 unfolding turns
 turned-lt n z = turns-lt n (turn z) (turn-lt z)
 
-pub reduced-lt : (x : ℕ) → reduced x < 2 ^ 32
-unfolding reduced
-reduced-lt x = xor-lt 32 (turns 64 (x / 2 ^ 32)) (turns 32 (x % 2 ^ 32)) (turned-lt 63 (x / 2 ^ 32)) (turned-lt 31 (x % 2 ^ 32))
-
 -- ---- what comes in
 
-pub reduced-word : (x : ℕ) → x < 2 ^ 32 → reduced x ≡ turns 32 x
-unfolding reduced turns turn
-reduced-word x h = ap₂ (λ (a b : ℕ). bitXor (turns 64 a) (turns 32 b)) (div-eq-of-lt h) (mod-eq-of-lt h)
+-- a step that nothing falls out of is a shift
+turn-low : (x : ℕ) → x * 2 < 2 ^ 32 → turn x ≡ x * 2
+unfolding turn
+turn-low x h = let l : x < 2 ^ 31 = omega arith in ap₂ (λ (a b : ℕ). bitXor a (b % 2 * polynomial)) (mod-eq-of-lt h) (div-eq-of-lt l) ∙ xor-zero-r (x * 2)
 
-reduced-double : (x : ℕ) → x < 2 ^ 63 → reduced (x * 2) ≡ turn (reduced x)
-unfolding reduced turns turn
-reduced-double = agree (λ x. reduced (x * 2)) (λ x. turn (reduced x)) (after-lin (times-lin same-lin 1) reduced-lin) (after-lin reduced-lin turn-lin) refl 63 tt
-
-pub reduced-shl : (n x : ℕ) → x * 2 ^ n < 2 ^ 64 → reduced (x * 2 ^ n) ≡ turns n (reduced x)
+pub turns-low : (n x : ℕ) → x * 2 ^ n < 2 ^ 32 → turns n x ≡ x * 2 ^ n
 unfolding turns
-reduced-shl zero x h = ap reduced (mul-one x)
-reduced-shl (suc n) x h =
+turns-low zero x h = sym (mul-one x)
+turns-low (suc n) x h =
     let e : x * 2 ^ suc n ≡ x * 2 * 2 ^ n = ap (λ (k : ℕ). x * k) (pow-suc 2 n ∙ mul-comm (2 ^ n) 2) ∙ sym (mul-assoc x 2 (2 ^ n)) in
     let l : x * 2 ≤ x * 2 * 2 ^ n = le-mul-of-pos-right (x * 2) (pow-pos n) in
-    ap reduced e ∙ reduced-shl n (x * 2) (omega arith) ∙ ap (turns n) (reduced-double x (omega arith))
+    ap (turns n) (turn-low x (omega arith)) ∙ turns-low n (x * 2) (omega arith) ∙ sym e
 
 -- x, and n bits y behind it
-pub behind : (n x y : ℕ) → y < 2 ^ n → x * 2 ^ n + y < 2 ^ 64 → reduced (x * 2 ^ n + y) ≡ bitXor (turns n (reduced x)) (reduced y)
+pub behind : (n x y : ℕ) → y < 2 ^ n → x * 2 ^ n + y < 2 ^ 32 → turns 32 (x * 2 ^ n + y) ≡ bitXor (turns n (turns 32 x)) (turns 32 y)
 behind n x y h l =
-    ap reduced (sym (xor-shifted x n y h)) ∙ reduced-lin .at (x * 2 ^ n) y
-    ∙ ap (λ (k : ℕ). bitXor k (reduced y)) (reduced-shl n x (omega arith))
+    ap (turns 32) (sym (xor-shifted x n y h)) ∙ turns-lin 32 .at (x * 2 ^ n) y
+    ∙ ap (λ (k : ℕ). bitXor k (turns 32 y)) (ap (turns 32) (sym (turns-low n x (omega arith))) ∙ turns-swap 32 n x)
+
+-- ---- bytes in the other order
+
+pub reversed-twice : (x : ℕ) → x < 2 ^ 32 → reversed (reversed x) ≡ x
+unfolding reversed
+reversed-twice = agree (λ x. reversed (reversed x)) (λ x. x) (after-lin reversed-lin reversed-lin) same-lin refl 32 tt

@@ -10,6 +10,11 @@ use Rattle.names.specs.declared.flags.RestrictionsRead.{RestrictionsRead}
 use Rattle.table.proofs.Lists.{zero-one}
 use Rattle.crc.proofs.crc32.Reads as crc32
 use Rattle.crc.proofs.crc32_plain.Reads as crc32-plain
+use Rattle.crc_table.proofs.reverse.Reads as reverse
+use Rattle.crc_table.proofs.first_byte.turned_56.Reads as turned-56
+use Rattle.crc_table.proofs.second_byte.turned_48.Reads as turned-48
+use Rattle.crc_table.proofs.third_byte.turned_40.Reads as turned-40
+use Rattle.crc_table.proofs.last_byte.turned_32.Reads as turned-32
 use Rattle.table.proofs.numbers.wide.Reads as wide
 use Rattle.table.proofs.numbers.byte.Reads as byte
 use Rattle.table.proofs.numbers.bits.Reads as bits
@@ -96,13 +101,28 @@ restrictions-told (RestrictionsRead.Is a) RestrictionsRead.Refused e = zero-one 
 restrictions-told RestrictionsRead.Refused (RestrictionsRead.Is b) e = zero-one cc
 restrictions-told RestrictionsRead.Refused RestrictionsRead.Refused e = refl
 
--- ---- crc
+-- ---- crc, crc_table
 
 pub crc32-is-fixed : Fixed crc32.Asked crc32.Learnt
 crc32-is-fixed = record { takes-any = λ κ a. tt; one-answer = λ κ a x y e f p q. p ∙ sym q }
 
 pub crc32-plain-is-fixed : Fixed crc32-plain.Asked crc32-plain.Learnt
 crc32-plain-is-fixed = record { takes-any = λ κ a. tt; one-answer = λ κ a x y e f p q. p ∙ sym q }
+
+pub reverse-is-fixed : Fixed reverse.Asked reverse.Learnt
+reverse-is-fixed = record { takes-any = λ κ a. tt; one-answer = λ κ a x y e f p q. p ∙ sym q }
+
+pub turned-56-is-fixed : Fixed turned-56.Asked turned-56.Learnt
+turned-56-is-fixed = record { takes-any = λ κ a. tt; one-answer = λ κ a x y e f p q. p ∙ sym q }
+
+pub turned-48-is-fixed : Fixed turned-48.Asked turned-48.Learnt
+turned-48-is-fixed = record { takes-any = λ κ a. tt; one-answer = λ κ a x y e f p q. p ∙ sym q }
+
+pub turned-40-is-fixed : Fixed turned-40.Asked turned-40.Learnt
+turned-40-is-fixed = record { takes-any = λ κ a. tt; one-answer = λ κ a x y e f p q. p ∙ sym q }
+
+pub turned-32-is-fixed : Fixed turned-32.Asked turned-32.Learnt
+turned-32-is-fixed = record { takes-any = λ κ a. tt; one-answer = λ κ a x y e f p q. p ∙ sym q }
 
 -- ---- table
 

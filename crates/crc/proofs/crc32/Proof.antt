@@ -1,56 +1,60 @@
--- `crc::crc32` meets its contract: the register that the window stands for, taken on over the bytes that are left, is the CRC of the whole.
--- Assumes nothing.
-use mathlib.Core.Path.{_≡_, refl, sym, ap, ap₂, _∙_}
+-- `crc::crc32` meets its contract: the register after the word that is taken next, taken on over the bytes that are left, is the CRC of the
+-- whole. Assumes nothing.
+use mathlib.Core.Path.{_≡_, sym, ap, _∙_}
 use mathlib.Core.List.{List}
-use mathlib.Core.Logic.{⊎-elim}
-use Prim.Native.Nat.{ℕ, _+_, _-_, _<_, _≤_}
+use Prim.Native.Nat.{ℕ, _+_, _*_, _/_, _%_, _-_, _^_, _<_, _≤_}
+use native.Mathlib.Nat.{zero-add}
 use native.Mathlib.Omega.{arith}
 use borrow.Author.Needs.{needs}
-use lib.Bits.{bitXor, xor-comm}
+use lib.Bits.{bitXor}
 use lib.Dec.{lit<}
 use lib.ListN.{length, getD, drop}
+use Rattle.crc_table.specs.Turns.{turns, reversed}
 use Rattle.crc.specs.Crc.{allOnes, crcOf}
-use Rattle.crc.specs.Window.{turn, turns, reduced, registerOf, crcBytes, numberAt}
-use Rattle.crc.proofs.Bytes.{past-none, pass}
-use Rattle.crc.proofs.Turns.{reduced-lin, reduced-lt}
-use Rattle.crc.proofs.Windows.{register-lt}
+use Rattle.crc.specs.Walk.{crcBytes, numberAt}
+use Rattle.crc.proofs.Bytes.{past-none, past-all, number-fits, number-first, pass}
+use Rattle.crc.proofs.Turns.{turns-lin, turns-add, turned-lt, reversed-lin, reversed-twice}
 use Rattle.crc.proofs.crc32.Statement.{statement}
 use Rattle.crc.proofs.crc32.Tie as tie
 
--- ones in front of a word are ones at its top
-abbrev ones : ℕ
-ones = 0xFFFF_FFFF_0000_0000
-
-ones-in : reduced ones ≡ turns 64 allOnes
-unfolding reduced turns turn
-ones-in = refl
+-- x comes into a register, both in the other order
+comes-in : (y w x : ℕ) → w ≡ reversed x → x < 2 ^ 32 → turns 32 (reversed (bitXor y w)) ≡ bitXor (turns 32 (reversed y)) (turns 32 x)
+comes-in y w x e h =
+    ap (turns 32) (reversed-lin .at y w ∙ ap (bitXor (reversed y)) (ap reversed e ∙ reversed-twice x h)) ∙ turns-lin 32 .at (reversed y) x
 
 module _ (s : List ℕ) (bytes : (k : ℕ) → getD s k 0 < 256) where
-  abbrev first : ℕ
-  first = bitXor (numberAt s 0 8) ones
-
-  first-in : 8 ≤ length s → crcBytes (reduced first) (drop 8 s) ≡ crcOf s
-  first-in h =
-      let x : ℕ = numberAt s 0 8 in
-      ap (λ (z : ℕ). crcBytes z (drop 8 s))
-      (reduced-lin .at x ones ∙ xor-comm (reduced x) (reduced ones) ∙ ap (λ (z : ℕ). bitXor z (reduced x)) ones-in)
-      ∙ sym (pass s bytes 0 8 allOnes (omega arith) (omega arith) (lit< tt))
+  -- zeros in front, which take a start to all ones, and the bytes up to the first whole word
+  first-in : (zeros y w : ℕ) → zeros < 4 → 4 ≤ length s → turns (8 * zeros) (reversed y) ≡ allOnes → w ≡ reversed (numberAt s 0 4 / 2 ^ (8 * zeros))
+      → crcBytes (turns 32 (reversed (bitXor y w))) (drop (4 - zeros) s) ≡ crcOf s
+  first-in zeros y w h l a e =
+      let n : ℕ = 4 - zeros in
+      let x : ℕ = numberAt s 0 n in
+      let m : 4 ≡ n + zeros = omega arith in
+      let k : 32 ≡ 8 * zeros + 8 * n = omega arith in
+      let f : w ≡ reversed x = e ∙ ap reversed (ap (λ (i : ℕ). numberAt s 0 i / 2 ^ (8 * zeros)) m ∙ number-first s bytes 0 n zeros) in
+      let t : turns 32 (reversed y) ≡ turns (8 * n) allOnes =
+      ap (λ (i : ℕ). turns i (reversed y)) k ∙ turns-add (8 * zeros) (8 * n) (reversed y) ∙ ap (turns (8 * n)) a
+      in
+      ap (λ (z : ℕ). crcBytes z (drop n s)) (comes-in y w x f (number-fits s bytes 0 n 4 (omega arith)) ∙ ap (λ (z : ℕ). bitXor z (turns 32 x)) t)
+      ∙ ap (λ (i : ℕ). crcBytes (bitXor (turns (8 * n) allOnes) (turns 32 x)) (drop i s)) (sym (zero-add n))
+      ∙ sym (pass s bytes 0 n allOnes (omega arith) (omega arith) (lit< tt))
       ∙ past-none s
 
-  -- alone in the window, or above the second word
-  one-in : 8 ≤ length s → crcBytes (registerOf 0 first) (drop 8 s) ≡ crcOf s
-  unfolding registerOf reduced turns turn
-  one-in h = first-in h
-
-  two-in : 16 ≤ length s → crcBytes (registerOf first (numberAt s 8 8)) (drop 16 s) ≡ crcOf s
-  unfolding registerOf
-  two-in h = sym (pass s bytes 8 8 (reduced first) (omega arith) (omega arith) (reduced-lt first)) ∙ first-in (omega arith)
+  -- a word comes into the register z
+  next-in : (i z y w : ℕ) → i + 4 ≤ length s → z < 2 ^ 32 → y ≡ reversed z → w ≡ reversed (numberAt s i 4)
+      → crcBytes (turns 32 (reversed (bitXor y w))) (drop (i + 4) s) ≡ crcBytes z (drop i s)
+  next-in i z y w l h e f =
+      let x : ℕ = numberAt s i 4 in
+      ap (λ (k : ℕ). crcBytes k (drop (i + 4) s))
+      (comes-in y w x f (number-fits s bytes i 4 4 (omega arith))
+      ∙ ap (λ (k : ℕ). bitXor (turns 32 k) (turns 32 x)) (ap reversed e ∙ reversed-twice z h))
+      ∙ sym (pass s bytes i 4 z (omega arith) l h)
 
 abbrev Inv-loop : tie.InvT-loop
-Inv-loop s first w₀ i₀ w i = (8 ≤ i) × (i ≤ length s) × (crcBytes (registerOf (w .high) (w .low)) (drop i s) ≡ crcOf s)
+Inv-loop s zeros y₀ i₀ y i = (i ≤ length s) × ((length s - i) % 4 ≡ 0) × (crcBytes (turns 32 (reversed y)) (drop i s) ≡ crcOf s)
 
 abbrev μ-loop : tie.MeasureT-loop
-μ-loop s first w₀ i₀ w i = length s - i
+μ-loop s zeros y₀ i₀ y i = length s - i
 
 crc32-plain-requires : tie.Need-crc32-plain-requires Inv-loop μ-loop
 crc32-plain-requires c κs = search needs
@@ -58,43 +62,66 @@ crc32-plain-requires c κs = search needs
 returns : tie.Need-returns Inv-loop μ-loop
 returns c = c .crc32-plain .ensures
 
+sub-zeros : tie.Need-sub-zeros Inv-loop μ-loop
+sub-zeros c = omega arith
+
+start-requires : tie.Need-start-requires Inv-loop μ-loop
+start-requires c κs = omega arith
+
 word-requires : tie.Need-word-requires Inv-loop μ-loop
 word-requires c κs = omega arith
 
-word-requires-2 : tie.Need-word-requires-2 Inv-loop μ-loop
-word-requires-2 c κs = omega arith
+mul-reverse : tie.Need-mul-reverse Inv-loop μ-loop
+mul-reverse c = omega arith
+
+cast-reverse : tie.Need-cast-reverse Inv-loop μ-loop
+cast-reverse c = omega arith
+
+shr-reverse : tie.Need-shr-reverse Inv-loop μ-loop
+shr-reverse c = omega arith
+
+reverse-requires : tie.Need-reverse-requires Inv-loop μ-loop
+reverse-requires c κs = search needs
+
+sub-i : tie.Need-sub-i Inv-loop μ-loop
+sub-i c = omega arith
 
 loop-holds : tie.Need-loop-holds Inv-loop μ-loop
 loop-holds c =
     let word = c .before in
-    let b = word .before .before in
+    let start = word .before in
+    let b = start .before .before in
     let s : List ℕ = b .before .args .s .now in
-    let bytes : (k : ℕ) → getD s k 0 < 256 = λ k. b .shared-slice-known .given k .fits in
-    ⊎-elim
-    (λ v. (
+    let zeros : ℕ = (4 - length s % 4) % 4 in
+    let e : c .reverse .result ≡ reversed (numberAt s 0 4 / 2 ^ (8 * zeros)) =
+    c .reverse .ensures ∙ ap (λ (n : ℕ). reversed (n / 2 ^ (8 * zeros))) (word .word .ensures)
+    in (
       omega arith,
       omega arith,
-      ap₂ (λ w i. crcBytes (registerOf (w .high) (w .low)) (drop i s)) (v .2) (v .3)
-          ∙ ap₂ (λ (m n : ℕ). crcBytes (registerOf (bitXor m ones) n) (drop 16 s)) (word .word .ensures) (v .1 .ensures)
-          ∙ two-in s bytes (omega arith),
-    ))
-    (λ v. (
-      omega arith,
-      omega arith,
-      ap₂ (λ w i. crcBytes (registerOf (w .high) (w .low)) (drop i s)) (v .1) (v .2)
-          ∙ ap (λ (n : ℕ). crcBytes (registerOf 0 (bitXor n ones)) (drop 8 s)) (word .word .ensures)
-          ∙ one-in s bytes (omega arith),
-    ))
-    (c .if2 .came)
-
-sub-loop : tie.Need-sub-loop Inv-loop μ-loop
-sub-loop c = omega arith
-
-word-requires-3 : tie.Need-word-requires-3 Inv-loop μ-loop
-word-requires-3 c κs = omega arith
+      first-in s (λ k. b .shared-slice-known .given k .fits) zeros (start .start .result) (c .reverse .result) (omega arith) (omega arith) (start .start .ensures) e,
+    )
 
 take-word-requires : tie.Need-take-word-requires Inv-loop μ-loop
-take-word-requires c κs = omega arith
+take-word-requires c κs = search needs
+
+reverse-requires-2 : tie.Need-reverse-requires-2 Inv-loop μ-loop
+reverse-requires-2 c κs = search needs
+
+returns-2 : tie.Need-returns-2 Inv-loop μ-loop
+returns-2 c =
+    let taken = c .before .before in
+    let l = taken .before .loop in
+    let s : List ℕ = taken .before .before .before .before .before .before .before .args .s .now in
+    let z : ℕ = turns 32 (reversed (l .y)) in
+    c .reverse2 .ensures ∙ ap reversed (taken .take-word .ensures) ∙ reversed-twice z (turned-lt 31 (reversed (l .y)))
+    ∙ sym (past-all s z (l .i) (omega arith))
+    ∙ l .inv .2
+
+word-requires-2 : tie.Need-word-requires-2 Inv-loop μ-loop
+word-requires-2 c κs = omega arith
+
+reverse-requires-3 : tie.Need-reverse-requires-3 Inv-loop μ-loop
+reverse-requires-3 c κs = search needs
 
 add-i : tie.Need-add-i Inv-loop μ-loop
 add-i c = omega arith
@@ -104,27 +131,20 @@ loop-less c = omega arith
 
 loop-again : tie.Need-loop-again Inv-loop μ-loop
 loop-again c =
-    let taken = c .before in
-    let word = taken .before in
-    let l = word .before .before .loop in
-    let b = word .before .before .before .before .before .before in
+    let word = c .before in
+    let taken = word .before .before in
+    let l = taken .before .loop in
+    let b = taken .before .before .before .before .before .before in
     let s : List ℕ = b .before .args .s .now in
-    let z : ℕ = registerOf (l .w .high) (l .w .low) in (
+    let z : ℕ = turns 32 (reversed (l .y)) in (
       omega arith,
       omega arith,
-      ap (λ (n : ℕ). crcBytes n (drop (l .i + 8) s)) (taken .take-word .ensures ∙ ap (λ (n : ℕ). bitXor (turns 64 z) (reduced n)) (word .word3 .ensures))
-          ∙ sym (pass s (λ k. b .shared-slice-known .given k .fits) (l .i) 8 z (omega arith) (omega arith) (register-lt (l .w .high) (l .w .low)))
+      next-in s (λ k. b .shared-slice-known .given k .fits) (l .i) z (taken .take-word .result) (c .reverse3 .result) (omega arith)
+          (turned-lt 31 (reversed (l .y)))
+          (taken .take-word .ensures)
+          (c .reverse3 .ensures ∙ ap reversed (word .word2 .ensures))
           ∙ l .inv .2,
     )
-
-take-rest-requires : tie.Need-take-rest-requires Inv-loop μ-loop
-take-rest-requires c κs = (omega arith, omega arith, omega arith)
-
-remainder-requires : tie.Need-remainder-requires Inv-loop μ-loop
-remainder-requires c κs = search needs
-
-returns-2 : tie.Need-returns-2 Inv-loop μ-loop
-returns-2 c = c .remainder .ensures ∙ c .before .take-rest .ensures ∙ c .before .before .before .loop .inv .2
 
 pub crc32-spec : {M : Type 1} → statement M
 crc32-spec =
@@ -134,15 +154,20 @@ crc32-spec =
     μ-loop
     crc32-plain-requires
     returns
+    sub-zeros
+    start-requires
     word-requires
-    word-requires-2
+    mul-reverse
+    cast-reverse
+    shr-reverse
+    reverse-requires
+    sub-i
     loop-holds
-    sub-loop
-    word-requires-3
     take-word-requires
+    reverse-requires-2
+    returns-2
+    word-requires-2
+    reverse-requires-3
     add-i
     loop-less
-    loop-again
-    take-rest-requires
-    remainder-requires
-    returns-2)
+    loop-again)

@@ -5,7 +5,7 @@ use native.Mathlib.Omega.{arith}
 use borrow.Author.Needs.{needs}
 use lib.ListN.{length, drop}
 use Rattle.crc.specs.Crc.{crcOf}
-use Rattle.crc.specs.Window.{crcBytes}
+use Rattle.crc.specs.Walk.{crcBytes}
 use Rattle.crc.proofs.Bytes.{past-none, past-one, past-all}
 use Rattle.crc.proofs.crc32_plain.Statement.{statement}
 use Rattle.crc.proofs.crc32_plain.Tie as tie
