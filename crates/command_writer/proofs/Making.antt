@@ -36,7 +36,8 @@ use Rattle.command_writer.specs.Fields.{ink, timeFields, unlessFields, c
 use Rattle.command_writer.specs.Made.{counted, timesFit, insertMade, commandMade, measuredOf}
 use Rattle.command_writer.specs.Survey.{Countable, timeBytes, adding, surveyed, Tags, shapeOf, modeBytes, breakBytes, measured, activeMeasured}
 use Rattle.command_writer.specs.declared.Measured.{Measured}
-use Rattle.command_writer.proofs.Surveys.{survey-fits, survey-alike}
+use Rattle.command_writer.specs.declared.measure.Survey.{Survey}
+use Rattle.command_writer.proofs.Surveys.{survey-fits, survey-alike, survey-none}
 use Rattle.command_writer.proofs.Ties.{time-fields, insert-fields}
 
 and-one : (b : Bool) → b && true ≡ b
@@ -332,6 +333,17 @@ module _ (i : Insertion) (x : Insert) (places : List ComponentSplice) (is : i .�
           → (let cs = take (count (x .«splice_mode»)) places in
           activeMeasured kept (x .«splice_mode») (x .duration) (surveyed (immediateIn x cs) cs) ≡ measuredOf (insertMade (counted (record { «splice_event_id» = event; reserved = kept; «splice_detail» = d }) places)))
       go event kept d is ev = rw is (measured-active event kept x (take (count (x .«splice_mode»)) places) (length-take-le (count (x .«splice_mode»)) places there) ev n p a e h)
+
+-- by program there is no component
+pub program-active : (i : Insertion) (x : Insert) (t : SpliceTime) (places : List ComponentSplice) → i .«splice_detail» ≡ SpliceInsert.Insert x → x .«splice_mode» ≡ SpliceMode.Program t
+    → i .«splice_event_id» < 2 ^ 32 → x .«unique_program_id» < 2 ^ 16 → x .«avail_num» < 256 → x .«avails_expected» < 256
+    → activeMeasured (i .reserved) (x .«splice_mode») (x .duration) (record { fits = true; alike = true; bytes = 0 }) ≡ measuredOf (insertMade (counted i places))
+program-active i x t places is k ev p a e =
+    let n = count (x .«splice_mode») in
+    let z : n ≡ 0 = ap count k in
+    let s = survey-none (immediateIn x (take n places)) places n z in
+    ap (λ (y : Survey). activeMeasured (i .reserved) (x .«splice_mode») (x .duration) y) (s .0)
+    ∙ insert-active i x places is (omega (arith, z)) ev (omega (arith, z)) p a e (s .1)
 
 module _ (c : SpliceCommand) (places : List ComponentSplice) (lent : List ℕ) where
   pub command-null : c ≡ SpliceCommand.SpliceNull → record { refusal = 0; size = 0 } ≡ measuredOf (commandMade c places lent)

@@ -7,6 +7,7 @@ use native.Mathlib.Numerals.{add-one}
 use native.Mathlib.Omega.{arith}
 use lib.ListN.{length, take, getD, length-append}
 use lib.Seq.{take-suc}
+use Rattle.command.specs.Insert.{immediate, count}
 use Rattle.command.specs.declared.components.ComponentSplice.{ComponentSplice}
 use Rattle.command.specs.declared.insert.Break.{Break}
 use Rattle.command.specs.declared.insert.Insert.{Insert}
@@ -28,7 +29,7 @@ use Rattle.table.proofs.Bits.{all-num}
 use Rattle.table.proofs.Lists.{append-nil}
 use Rattle.table.proofs.Steppings.{Settled, settled-at}
 use Rattle.table.proofs.Walks.{print-bits}
-use Rattle.command_writer.specs.Fields.{ink, timeFields, componentFields, listFields, modeFields, automatic, breakFields, tailFields, flagFields, placesOf, activeFields, insertFields}
+use Rattle.command_writer.specs.Fields.{ink, timeFields, componentFields, listFields, modeFields, automatic, breakFields, tailFields, flagFields, immediateIn, placesOf, activeFields, insertFields}
 use Rattle.command_writer.specs.Made.{counted}
 
 module _ (t : List ℕ) (c : Cursor) (u : List ℕ) (d : Cursor) where
@@ -201,3 +202,19 @@ active-insert i x places e = go (i .«splice_event_id») (i .reserved) (i .«spl
     go : (event kept : ℕ) (d : SpliceInsert) → d ≡ SpliceInsert.Insert x
         → insertFields (counted (record { «splice_event_id» = event; reserved = kept; «splice_detail» = d }) places) ≡ bits 32 event ∷ bits 1 0 ∷ bits 7 kept ∷ activeFields x (placesOf x places)
     go event kept d e = rw e
+
+pub program-insert : (i : Insertion) (x : Insert) (t : SpliceTime) (places : List ComponentSplice) → i .«splice_detail» ≡ SpliceInsert.Insert x → x .«splice_mode» ≡ SpliceMode.Program t
+    → insertFields (counted i places) ≡ bits 32 (i .«splice_event_id») ∷ bits 1 0 ∷ bits 7 (i .reserved) ∷ activeFields x []
+program-insert i x t places e k =
+    active-insert i x places e
+    ∙ ap (λ (m : SpliceMode). bits 32 (i .«splice_event_id») ∷ bits 1 0 ∷ bits 7 (i .reserved) ∷ activeFields x (take (count m) places)) k
+
+pub program-now : (i : Insert) (t : SpliceTime) → i .«splice_mode» ≡ SpliceMode.Program t → immediate t ≡ immediateIn i []
+program-now i t e = rw e
+
+-- the same bits, said otherwise
+pub fits-bits : (t : List ℕ) (c : Cursor) (b r : List ℕ) → b ≡ r → Fits t c b → Fits t c r
+fits-bits t c b r e h = rw (← e) h
+
+pub goes-bits : (t : List ℕ) (c : Cursor) (b r u : List ℕ) (d : Cursor) (m : List ℕ) → b ≡ r → Goes t c b u d m → Goes t c r u d m
+goes-bits t c b r u d m e g = rw (← e) g

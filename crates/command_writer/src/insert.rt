@@ -1,24 +1,30 @@
 // Writing a splice_insert(), field by field as its table stands.
 ghost use Prim.Native.Nat.{_≤_};
 ghost use lib.ListN.{take};
+ghost use mathlib.Core.List.{[]};
 ghost use mathlib.Core.Path.{_≡_};
 ghost use Rattle.command.specs.Insert.{outOfNetwork, byProgram, lasting};
+ghost use Rattle.command.specs.Command.{array};
 ghost use Rattle.command.specs.declared.insert.Break.{Break};
+ghost use Rattle.command.specs.declared.insert.SpliceMode.{SpliceMode};
 ghost use Rattle.command_writer.specs.Fields.{ink, componentFields, listFields, automatic, insertFlags, breakFields, tailFields, endFields, placesOf, activeFields, insertFields};
 ghost use Rattle.command_writer.specs.Made.{counted};
 ghost use Rattle.pen.specs.Pen.{Fits, Pens};
 ghost use Rattle.table.specs.Bits.{AllBytes};
 ghost use Rattle.table.specs.Table.{flagNumber};
 ghost use Rattle.table.proofs.Steppings.{Settled};
+use crate::measure::is_immediate;
 use crate::measure::shape_of;
 use crate::time::store_time;
 use command::components::ComponentSplice;
+use command::components::blanks;
 use command::insert::Break;
 use command::insert::Insert;
 use command::insert::Insertion;
 use command::insert::SpliceDuration;
 use command::insert::SpliceInsert;
 use command::insert::SpliceMode;
+use header::time::SpliceTime;
 use names::flags::NetworkIndicator;
 use names::flags::ReturnMode;
 use pen::put_bits;
@@ -226,4 +232,38 @@ pub(crate) fn store_insert(
             store_active(out, c, insert, components)
         }
     }
+}
+
+// What is not cancelled, by program.
+fn store_by_program(out: &mut [u8], c: Cursor, insert: Insert, time: SpliceTime) -> Cursor
+    requires { ⌜ (insert .«splice_mode» ≡ SpliceMode.Program time) × Fits (now out) c (ink (activeFields insert [])) ⌝ }
+    ensures { λ r. ⌜ Pens (now (out .entry)) c (ink (activeFields insert [])) (now (out .exit)) r ⌝ }
+{
+    let at_once = is_immediate(time);
+    let c = store_flags(out, c, insert, at_once);
+    if at_once {
+        return store_end(out, c, insert);
+    }
+    let c = store_time(out, c, time);
+    store_end(out, c, insert)
+}
+
+// An insert whose components are all blank: one by program has none, and needs no array.
+pub(crate) fn store_bare_insert(out: &mut [u8], c: Cursor, i: Insertion) -> Cursor
+    requires { ⌜ Fits (now out) c (ink (insertFields (counted i (array [])))) ⌝ }
+    ensures { λ r. ⌜ Pens (now (out .entry)) c (ink (insertFields (counted i (array [])))) (now (out .exit)) r ⌝ }
+{
+    let detail = i.splice_detail;
+    let insert = match detail {
+        SpliceInsert::Insert(x) => x,
+        SpliceInsert::Cancel => return store_insert(out, c, i, blanks()),
+    };
+    let mode = insert.splice_mode;
+    let time = match mode {
+        SpliceMode::Program(t) => t,
+        SpliceMode::Components(_) => return store_insert(out, c, i, blanks()),
+    };
+    let event = i.splice_event_id as u64 * 256 + wide(i.reserved) % 128;
+    let c = put_bits(out, c, 40, event);
+    store_by_program(out, c, insert, time)
 }

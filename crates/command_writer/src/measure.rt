@@ -5,6 +5,7 @@ ghost use mathlib.Core.List.{[]};
 ghost use Prim.Native.Nat.{_^_, _<_, _≤_};
 ghost use lib.Dec.{ltb};
 ghost use lib.ListN.{take, getD};
+ghost use Rattle.command.specs.Command.{array};
 ghost use Rattle.command.specs.Insert as insert;
 ghost use Rattle.command.specs.Insert.{immediate, programTime, blank};
 ghost use Rattle.command_writer.specs.Made.{counted, insertMade, measuredOf};
@@ -14,6 +15,7 @@ ghost use Rattle.table.specs.Bits.{pick};
 ghost use Rattle.table.specs.Writing.{make};
 use crate::Measured;
 use command::components::ComponentSplice;
+use command::components::blanks;
 use command::insert::Break;
 use command::insert::Insert;
 use command::insert::Insertion;
@@ -49,7 +51,7 @@ fn verdict(fits: bool, fair: bool, size: usize) -> Measured
     }
 }
 
-fn is_immediate(time: SpliceTime) -> bool
+pub(crate) fn is_immediate(time: SpliceTime) -> bool
     ensures { λ r. ⌜ r ≡ immediate time ⌝ }
 {
     match time {
@@ -272,4 +274,28 @@ pub(crate) fn measure_insert(i: Insertion, components: [ComponentSplice; 255]) -
     let shape = shape_of(mode, components);
     let s = look_at(components, shape.count, shape.now);
     measure_active(reserved, insert, s)
+}
+
+// An insert whose components are all blank: one by program has none, and needs no array.
+pub(crate) fn measure_bare_insert(i: Insertion) -> Measured
+    ensures { λ r. ⌜ (r ≡ measuredOf (insertMade (counted i (array [])))) × (insert.count (insert.insertOf (i .«splice_detail») .«splice_mode») ≤ 255) ⌝ }
+{
+    let reserved = i.reserved;
+    let detail = i.splice_detail;
+    let insert = match detail {
+        SpliceInsert::Insert(x) => x,
+        SpliceInsert::Cancel => return measure_insert(i, blanks()),
+    };
+    let mode = insert.splice_mode;
+    match mode {
+        SpliceMode::Program(_) => {
+            let none = Survey {
+                fits: true,
+                alike: true,
+                bytes: 0,
+            };
+            measure_active(reserved, insert, none)
+        }
+        SpliceMode::Components(_) => measure_insert(i, blanks()),
+    }
 }

@@ -1,8 +1,15 @@
 // The section writer over the C boundary: a section from the words of a header, of a command and of its components.
+ghost use mathlib.Core.List.{[]};
 ghost use mathlib.Core.Path.{_≡_};
+ghost use Prim.Native.Nat.{_≤_};
+ghost use Rattle.command.specs.Command.{array};
+ghost use Rattle.command_writer.specs.Made.{commandMade};
 ghost use Rattle.flat_section_writer.specs.SectionWords.{headerFrom, headerWords, headerRefusal, either, sectionWordsMade};
-ghost use Rattle.flat_writer.specs.Words.{flatWritten};
+ghost use Rattle.flat_writer.specs.CommandWords.{countIn, componentsFrom};
+ghost use Rattle.flat_writer.specs.Words.{flatWritten, noLess};
 ghost use Rattle.pen.specs.Written.{answerOf, laterOf};
+ghost use Rattle.section_writer.specs.Writing.{sectionMade, kindOf};
+use command::SpliceCommand;
 use flat::headers::FlatHeader;
 use flat::headers::flat_header_read;
 use flat_writer::FlatWritten;
@@ -11,6 +18,7 @@ use flat_writer::are_within;
 use flat_writer::commands::command_given;
 use flat_writer::commands::command_refusal;
 use flat_writer::commands::components_given;
+use flat_writer::commands::count_in;
 use flat_writer::flat_written;
 use flat_writer::lower_refusal;
 use flat_writer::word_at;
@@ -18,6 +26,7 @@ use header::header::HeaderRead;
 use header::header::SpliceInfoHeader;
 use names::algorithm::EncryptionAlgorithm;
 use names::command::SpliceCommandType;
+use section_writer::write_bare_section;
 use section_writer::write_section;
 
 // The header that words make. Its command length and type are the writer's to work out.
@@ -77,6 +86,59 @@ fn either_refusal(m: u64, n: u64) -> u64
     if n < m { n } else { m }
 }
 
+// A section whose command has no components; its words have a refusal of their own, or 0.
+fn write_bare_words(
+    refusal: u64,
+    header: SpliceInfoHeader,
+    command: SpliceCommand,
+    lent: &[u8],
+    descriptors: &[u8],
+    target: &mut [u8],
+) -> FlatWritten
+    requires { ⌜ refusal ≤ 36 ⌝ }
+    ensures answer { λ r. ⌜ r ≡ flatWritten (answerOf (noLess refusal (sectionMade header (commandMade command (array []) (now (lent .entry))) (kindOf command) (now (descriptors .entry)))) (now (target .entry))) ⌝ }
+    ensures bytes { λ _. ⌜ now (target .exit) ≡ laterOf (noLess refusal (sectionMade header (commandMade command (array []) (now (lent .entry))) (kindOf command) (now (descriptors .entry)))) (now (target .entry)) ⌝ }
+{
+    if refusal == 0 {
+        return flat_written(write_bare_section(header, command, lent, descriptors, target));
+    }
+    lower_refusal(
+        refusal,
+        write_bare_section(header, command, lent, descriptors, &mut target[0..0]),
+    )
+}
+
+// And one whose command has some.
+fn write_listed_words(
+    refusal: u64,
+    header: SpliceInfoHeader,
+    command: SpliceCommand,
+    components: &[u64],
+    lent: &[u8],
+    descriptors: &[u8],
+    target: &mut [u8],
+) -> FlatWritten
+    requires { ⌜ refusal ≤ 36 ⌝ }
+    ensures answer { λ r. ⌜ r ≡ flatWritten (answerOf (noLess refusal (sectionMade header (commandMade command (componentsFrom (countIn command) (now (components .entry))) (now (lent .entry))) (kindOf command) (now (descriptors .entry)))) (now (target .entry))) ⌝ }
+    ensures bytes { λ _. ⌜ now (target .exit) ≡ laterOf (noLess refusal (sectionMade header (commandMade command (componentsFrom (countIn command) (now (components .entry))) (now (lent .entry))) (kindOf command) (now (descriptors .entry)))) (now (target .entry)) ⌝ }
+{
+    let places = components_given(command, components);
+    if 0 < refusal {
+        return lower_refusal(
+            refusal,
+            write_section(
+                header,
+                command,
+                places,
+                lent,
+                descriptors,
+                &mut target[0..0],
+            ),
+        );
+    }
+    flat_written(write_section(header, command, places, lent, descriptors, target))
+}
+
 // A section from the target's first byte on, or a refusal: 31 to 36.
 pub fn write_section_words(
     header: &[u64],
@@ -91,16 +153,12 @@ pub fn write_section_words(
 {
     let h = header_from(header);
     let c = command_given(command);
-    let places = components_given(c, components);
     let refusal = either_refusal(
         header_refusal(header),
         command_refusal(c, command, components),
     );
-    if 0 < refusal {
-        return lower_refusal(
-            refusal,
-            write_section(h, c, places, lent, descriptors, &mut target[0..0]),
-        );
+    if count_in(c) == 0 {
+        return write_bare_words(refusal, h, c, lent, descriptors, target);
     }
-    flat_written(write_section(h, c, places, lent, descriptors, target))
+    write_listed_words(refusal, h, c, components, lent, descriptors, target)
 }

@@ -13,8 +13,8 @@ use Rattle.command.specs.Command.{array}
 use Rattle.command.specs.Insert.{blank}
 use Rattle.command.specs.declared.components.ComponentSplice.{ComponentSplice}
 use Rattle.flat.specs.FlatCommand.{flatComponent}
-use Rattle.flat_writer.specs.CommandWords.{componentFrom, componentWords, ownComponent}
-use Rattle.flat_writer.specs.Words.{word, same}
+use Rattle.flat_writer.specs.CommandWords.{componentFrom, componentsFrom, componentWords, ownComponent}
+use Rattle.flat_writer.specs.Words.{word, same, placesOf}
 use Rattle.flat_writer.proofs.Words.{and-unit, word-drop, word-drop-two, filled-front}
 
 -- ---- one component
@@ -53,3 +53,8 @@ module _ (words : List ℕ) where
 pub filled-array : (out s : List ComponentSplice) (i n : ℕ) → length s ≡ n → n ≡ i → out ≡ paste (array []) 0 s i → out ≡ array s
 unfolding array
 filled-array out s i n l e p = filled-front 255 blank out s i n l e p
+
+-- no place, no component
+pub no-places : (n : ℕ) (words : List ℕ) → n ≡ 0 → array [] ≡ componentsFrom n words
+unfolding componentsFrom placesOf
+no-places n words e = rw e

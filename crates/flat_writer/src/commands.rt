@@ -1,8 +1,12 @@
 // Commands.
+ghost use mathlib.Core.List.{[]};
 ghost use mathlib.Core.Path.{_≡_};
+ghost use Prim.Native.Nat.{_≤_};
+ghost use Rattle.command.specs.Command.{array};
+ghost use Rattle.command_writer.specs.Made.{commandMade};
 ghost use Rattle.flat_writer.specs.CommandWords.{modeIn, breakIn, insertIn, commandIn, modeFrom, breakFrom, insertFrom, insertionFrom, commandFrom, commandWords, commandWidths, countIn};
 ghost use Rattle.flat_writer.specs.CommandWords.{componentsFrom, commandGiven, commandRefusal, commandWordsMade};
-ghost use Rattle.flat_writer.specs.Words.{flatWritten};
+ghost use Rattle.flat_writer.specs.Words.{flatWritten, noLess};
 ghost use Rattle.pen.specs.Written.{answerOf, laterOf};
 use crate::FlatWritten;
 use crate::are_same;
@@ -24,6 +28,7 @@ use command::insert::Insertion;
 use command::insert::SpliceDuration;
 use command::insert::SpliceInsert;
 use command::insert::SpliceMode;
+use command_writer::write_bare_command;
 use command_writer::write_command;
 use flat::FlatTime;
 use flat::FlatView;
@@ -253,7 +258,7 @@ pub(crate) fn command_from(c: FlatCommand) -> SpliceCommand
 }
 
 // How many components it has.
-pub(crate) fn count_in(c: SpliceCommand) -> u8
+pub fn count_in(c: SpliceCommand) -> u8
     ensures { λ r. ⌜ r ≡ countIn c ⌝ }
 {
     let insertion = match c {
@@ -313,6 +318,48 @@ pub fn command_refusal(c: SpliceCommand, words: &[u64], components: &[u64]) -> u
     0
 }
 
+// The payload of a command without components, whose words have a refusal of their own, or 0.
+fn write_bare_words(
+    refusal: u64,
+    command: SpliceCommand,
+    lent: &[u8],
+    target: &mut [u8],
+) -> FlatWritten
+    requires { ⌜ refusal ≤ 36 ⌝ }
+    ensures answer { λ r. ⌜ r ≡ flatWritten (answerOf (noLess refusal (commandMade command (array []) (now (lent .entry)))) (now (target .entry))) ⌝ }
+    ensures bytes { λ _. ⌜ now (target .exit) ≡ laterOf (noLess refusal (commandMade command (array []) (now (lent .entry)))) (now (target .entry)) ⌝ }
+{
+    if refusal == 0 {
+        return flat_written(write_bare_command(command, lent, target));
+    }
+    lower_refusal(
+        refusal,
+        write_bare_command(command, lent, &mut target[0..0]),
+    )
+}
+
+// And of one with components.
+fn write_listed_words(
+    refusal: u64,
+    command: SpliceCommand,
+    components: &[u64],
+    lent: &[u8],
+    target: &mut [u8],
+) -> FlatWritten
+    requires { ⌜ refusal ≤ 36 ⌝ }
+    ensures answer { λ r. ⌜ r ≡ flatWritten (answerOf (noLess refusal (commandMade command (componentsFrom (countIn command) (now (components .entry))) (now (lent .entry)))) (now (target .entry))) ⌝ }
+    ensures bytes { λ _. ⌜ now (target .exit) ≡ laterOf (noLess refusal (commandMade command (componentsFrom (countIn command) (now (components .entry))) (now (lent .entry)))) (now (target .entry)) ⌝ }
+{
+    let places = components_given(command, components);
+    if 0 < refusal {
+        return lower_refusal(
+            refusal,
+            write_command(command, places, lent, &mut target[0..0]),
+        );
+    }
+    flat_written(write_command(command, places, lent, target))
+}
+
 // A command's payload from the target's first byte on, or a refusal: 31, 32, 33 or 36.
 pub fn write_command_words(
     words: &[u64],
@@ -324,13 +371,9 @@ pub fn write_command_words(
     ensures bytes { λ _. ⌜ now (target .exit) ≡ laterOf (commandWordsMade (now (words .entry)) (now (components .entry)) (now (lent .entry))) (now (target .entry)) ⌝ }
 {
     let command = command_given(words);
-    let places = components_given(command, components);
     let refusal = command_refusal(command, words, components);
-    if 0 < refusal {
-        return lower_refusal(
-            refusal,
-            write_command(command, places, lent, &mut target[0..0]),
-        );
+    if count_in(command) == 0 {
+        return write_bare_words(refusal, command, lent, target);
     }
-    flat_written(write_command(command, places, lent, target))
+    write_listed_words(refusal, command, components, lent, target)
 }

@@ -1,10 +1,12 @@
 // The section writer: header, command and loop as a section's bytes.
 ghost use mathlib.Core.Path.{_≡_};
 ghost use mathlib.Core.Bool.{true};
+ghost use mathlib.Core.List.{[]};
 ghost use Prim.Native.Nat.{_+_, _^_, _<_, _≤_};
 ghost use lib.ListN.{length, take};
 ghost use Rattle.section_writer.specs.Frame.{head, sectionLength, numbersFit, fairHead};
 ghost use Rattle.section_writer.specs.Canonical.{canonicalFrame, canonicalSection};
+ghost use Rattle.command.specs.Command.{array};
 ghost use Rattle.command_writer.specs.Made.{commandMade};
 ghost use Rattle.pen.specs.Written.{answerOf, laterOf};
 ghost use Rattle.section_writer.specs.Writing.{conditions, kindOf, madeIf, sectionMade};
@@ -15,7 +17,9 @@ use canonical_command::is_canonical_command;
 use canonical_loop::is_canonical_loop;
 use command::SpliceCommand;
 use command::components::ComponentSplice;
+use command_writer::measure_bare;
 use command_writer::measure_command;
+use command_writer::put_bare;
 use command_writer::put_command;
 use crc::crc32;
 use header::header::SpliceInfoHeader;
@@ -197,6 +201,51 @@ pub fn write_section(
         descriptors,
         target,
     )
+}
+
+// ---- of a command whose components are all blank: one that has none needs no array
+
+// Whether the loop is canonical (35) is handed in. No byte is stored before the last test.
+fn write_bare_if(
+    canonical: bool,
+    header: SpliceInfoHeader,
+    command: SpliceCommand,
+    lent: &[u8],
+    descriptors: &[u8],
+    target: &mut [u8],
+) -> Written
+    ensures answer { λ r. ⌜ r ≡ answerOf (madeIf canonical header (commandMade command (array []) (now (lent .entry))) (kindOf command) (now (descriptors .entry))) (now (target .entry)) ⌝ }
+    ensures bytes { λ _. ⌜ now (target .exit) ≡ laterOf (madeIf canonical header (commandMade command (array []) (now (lent .entry))) (kindOf command) (now (descriptors .entry))) (now (target .entry)) ⌝ }
+{
+    let measured = measure_bare(command, lent);
+    let size = measured.size;
+    let refusal = refusal_of(header, measured.refusal, size, descriptors.len(), canonical);
+    if 0 < refusal {
+        return Written::Refused(refusal);
+    }
+    let total = 20 + size + descriptors.len();
+    if target.len() < total {
+        return Written::Refused(36);
+    }
+    put_head(target, header, kind_of(command), size, descriptors.len());
+    put_bare(target, 14, command, lent);
+    put_tail(target, 14 + size, descriptors);
+    Written::Wrote(total)
+}
+
+// A section from the target's first byte on, or a refusal: 31 to 36.
+pub fn write_bare_section(
+    header: SpliceInfoHeader,
+    command: SpliceCommand,
+    lent: &[u8],
+    descriptors: &[u8],
+    target: &mut [u8],
+) -> Written
+    ensures answer { λ r. ⌜ r ≡ answerOf (sectionMade header (commandMade command (array []) (now (lent .entry))) (kindOf command) (now (descriptors .entry))) (now (target .entry)) ⌝ }
+    ensures bytes { λ _. ⌜ now (target .exit) ≡ laterOf (sectionMade header (commandMade command (array []) (now (lent .entry))) (kindOf command) (now (descriptors .entry))) (now (target .entry)) ⌝ }
+{
+    let sound = is_canonical_loop(descriptors);
+    write_bare_if(sound, header, command, lent, descriptors, target)
 }
 
 // ---- the canonical form

@@ -19,6 +19,7 @@ use Rattle.flat_writer.proofs.words_from.Reads as words-from
 use Rattle.flat_writer.proofs.are_within.Reads as are-within
 use Rattle.flat_writer.proofs.are_same.Reads as are-same
 use Rattle.flat_writer.proofs.commands.command_given.Reads as command-given
+use Rattle.flat_writer.proofs.commands.count_in.Reads as count-in
 use Rattle.flat_writer.proofs.commands.components_given.Reads as components-given
 use Rattle.flat_writer.proofs.commands.command_refusal.Reads as command-refusal
 use Rattle.flat_writer.proofs.commands.write_command_words.Reads as write-command-words
@@ -108,6 +109,9 @@ are-same-is-fixed = record { takes-any = λ κ a. tt; one-answer = λ κ a x y e
 
 pub command-given-is-fixed : Fixed command-given.Asked command-given.Learnt
 command-given-is-fixed = record { takes-any = λ κ a. tt; one-answer = λ κ a x y e f p q. p ∙ sym q }
+
+pub count-in-is-fixed : Fixed count-in.Asked count-in.Learnt
+count-in-is-fixed = record { takes-any = λ κ a. tt; one-answer = λ κ a x y e f p q. p ∙ sym q }
 
 pub components-given-is-fixed : Fixed components-given.Asked components-given.Learnt
 components-given-is-fixed = record { takes-any = λ κ a. tt; one-answer = λ κ a x y e f p q. p ∙ sym q }

@@ -19,11 +19,15 @@ use Rattle.descriptor_form.proofs.segment.sub_size.Reads as sub-size
 use Rattle.canonical_loop.proofs.is_canonical_descriptor.Reads as is-canonical-descriptor
 use Rattle.canonical_loop.proofs.is_canonical_loop.Reads as is-canonical-loop
 use Rattle.descriptor_writer.proofs.write_descriptor.Reads as write-descriptor
+use Rattle.command_writer.proofs.measure_bare.Reads as measure-bare
+use Rattle.command_writer.proofs.put_bare.Reads as put-bare
+use Rattle.command_writer.proofs.write_bare_command.Reads as write-bare-command
 use Rattle.command_writer.proofs.measure_command.Reads as measure-command
 use Rattle.command_writer.proofs.put_command.Reads as put-command
 use Rattle.command_writer.proofs.write_command.Reads as write-command
 use Rattle.canonical_command.proofs.is_canonical_command.Reads as is-canonical-command
 use Rattle.section_writer.proofs.write_section.Reads as write-section
+use Rattle.section_writer.proofs.write_bare_section.Reads as write-bare-section
 use Rattle.section_writer.proofs.is_canonical_frame.Reads as is-canonical-frame
 use Rattle.section_writer.proofs.is_canonical_section.Reads as is-canonical-section
 use Rattle.theorems.specs.FixedAnswers.{Fixed, FixedIn}
@@ -113,6 +117,18 @@ write-command-is-fixed = record { takes-any = λ κ a. tt; one-answer = λ κ a 
 pub write-command-fixes-the-target : FixedIn write-command.Asked write-command.Learnt (λ κ answer after. now (after .1 .1 .1 .0))
 write-command-fixes-the-target = record { takes-any = λ κ a. tt; seen = λ κ a x y e f p q. p .1 ∙ sym (q .1) }
 
+pub measure-bare-is-fixed : Fixed measure-bare.Asked measure-bare.Learnt
+measure-bare-is-fixed = record { takes-any = λ κ a. tt; one-answer = λ κ a x y e f p q. p .0 ∙ sym (q .0) }
+
+pub put-bare-fixes-the-target : FixedIn put-bare.Asked put-bare.Learnt (λ κ answer after. now (after .0))
+put-bare-fixes-the-target = record { takes-any = λ κ a. tt; seen = λ κ a x y e f p q. p ∙ sym q }
+
+pub write-bare-command-is-fixed : Fixed write-bare-command.Asked write-bare-command.Learnt
+write-bare-command-is-fixed = record { takes-any = λ κ a. tt; one-answer = λ κ a x y e f p q. p .0 ∙ sym (q .0) }
+
+pub write-bare-command-fixes-the-target : FixedIn write-bare-command.Asked write-bare-command.Learnt (λ κ answer after. now (after .1 .1 .0))
+write-bare-command-fixes-the-target = record { takes-any = λ κ a. tt; seen = λ κ a x y e f p q. p .1 ∙ sym (q .1) }
+
 -- ---- canonical_command
 
 pub is-canonical-command-is-fixed : Fixed is-canonical-command.Asked is-canonical-command.Learnt
@@ -125,6 +141,12 @@ write-section-is-fixed = record { takes-any = λ κ a. tt; one-answer = λ κ a 
 
 pub write-section-fixes-the-target : FixedIn write-section.Asked write-section.Learnt (λ κ answer after. now (after .1 .1 .1 .1 .1 .0))
 write-section-fixes-the-target = record { takes-any = λ κ a. tt; seen = λ κ a x y e f p q. p .1 ∙ sym (q .1) }
+
+pub write-bare-section-is-fixed : Fixed write-bare-section.Asked write-bare-section.Learnt
+write-bare-section-is-fixed = record { takes-any = λ κ a. tt; one-answer = λ κ a x y e f p q. p .0 ∙ sym (q .0) }
+
+pub write-bare-section-fixes-the-target : FixedIn write-bare-section.Asked write-bare-section.Learnt (λ κ answer after. now (after .1 .1 .1 .1 .0))
+write-bare-section-fixes-the-target = record { takes-any = λ κ a. tt; seen = λ κ a x y e f p q. p .1 ∙ sym (q .1) }
 
 pub is-canonical-frame-is-fixed : Fixed is-canonical-frame.Asked is-canonical-frame.Learnt
 is-canonical-frame-is-fixed = record { takes-any = λ κ a. tt; one-answer = λ κ a x y e f p q. p ∙ sym q }

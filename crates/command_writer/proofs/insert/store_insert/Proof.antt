@@ -3,21 +3,13 @@ use Prim.Native.Nat.{ℕ, _+_, _*_, _%_, _≤_}
 use mathlib.Core.Path.{_≡_, refl, ap, sym, _∙_}
 use native.Mathlib.Omega.{arith}
 use mathlib.Core.List.{List, [], _∷_}
-use Rattle.pen.specs.Pen.{Fits}
 use Rattle.pen.proofs.Tables.{Goes, pens-same}
 use Rattle.table.specs.Writing.{Field, bits}
-use Rattle.table.specs.declared.cursor.Cursor.{Cursor}
 use Rattle.command_writer.specs.Fields.{ink, placesOf, activeFields}
-use Rattle.command_writer.proofs.Storing.{pens-next, pens-all, fits-same, cancel-fields, active-insert, head-bits}
+use Rattle.command_writer.proofs.Storing.{pens-next, pens-all, fits-same, fits-bits, goes-bits, cancel-fields, active-insert, head-bits}
 use borrow.Author.Needs.{needs}
 use Rattle.command_writer.proofs.insert.store_insert.Statement.{statement}
 use Rattle.command_writer.proofs.insert.store_insert.Tie as tie
-
-fits-bits : (t : List ℕ) (c : Cursor) (b r : List ℕ) → b ≡ r → Fits t c b → Fits t c r
-fits-bits t c b r e h = rw (← e) h
-
-goes-bits : (t : List ℕ) (c : Cursor) (b r u : List ℕ) (d : Cursor) (m : List ℕ) → b ≡ r → Goes t c b u d m → Goes t c r u d m
-goes-bits t c b r u d m e g = rw (← e) g
 
 -- what is not cancelled follows one number
 one : (p : tie.After-put-bits2) →

@@ -1,15 +1,18 @@
--- `flat_writer::commands::write_command_words`: where the words are refused, the value is tried on no byte. Assumes nothing.
+-- `flat_writer::commands::write_command_words`: with an array of components only where there are some. Assumes nothing.
 use borrow.Author.Needs.{needs}
 use Prim.Native.Nat.{ℕ, _≤_}
-use mathlib.Core.List.{List, _++_}
-use mathlib.Core.Path.{_≡_, ap, _∙_}
+use mathlib.Core.List.{List, []}
+use mathlib.Core.Path.{_≡_, refl, ap, sym, _∙_}
 use native.Mathlib.Omega.{arith}
+use Rattle.command.specs.Command.{array}
 use Rattle.command.specs.declared.SpliceCommand.{SpliceCommand}
 use Rattle.command.specs.declared.components.ComponentSplice.{ComponentSplice}
 use Rattle.command_writer.specs.Made.{commandMade}
-use Rattle.flat_writer.specs.Words.{noLess}
+use Rattle.pen.specs.Written.{answerOf, laterOf}
+use Rattle.table.specs.Writing.{Made}
+use Rattle.flat_writer.specs.Words.{noLess, flatWritten}
 use Rattle.flat_writer.specs.CommandWords.{commandGiven, countIn, componentsFrom, commandRefusal, commandWordsMade}
-use Rattle.flat_writer.proofs.Words.{words-refused, words-taken, later-nil}
+use Rattle.flat_writer.proofs.Components.{no-places}
 use Rattle.flat_writer.proofs.Refusals.{command-small}
 use Rattle.flat_writer.proofs.commands.write_command_words.Statement.{statement}
 use Rattle.flat_writer.proofs.commands.write_command_words.Tie as tie
@@ -20,83 +23,69 @@ parts : (words components lent : List ℕ) (g : SpliceCommand) (p : List Compone
 unfolding commandWordsMade
 parts words components lent g p r e h i = rw (i, h, e)
 
-made : (k : tie.After-command-refusal) →
-    let a = k .before .before .before .before .before .before .before .args in
-    noLess (k .command-refusal .result) (commandMade (k .before .before .command-given .result) (k .before .components-given .result) (a .lent .now)) ≡ commandWordsMade (a .words .now) (a .components .now) (a .lent .now)
-made k =
-    let a = k .before .before .before .before .before .before .before .args in
-    parts (a .words .now) (a .components .now) (a .lent .now) _ _ _ (k .before .before .command-given .ensures) (k .before .components-given .ensures) (k .command-refusal .ensures)
+made : (k : tie.After-command-refusal) (p : List ComponentSplice) →
+    let g = k .before .command-given .result in
+    let a = k .before .before .before .before .before .before .args in
+    p ≡ componentsFrom (countIn g) (a .components .now)
+    → noLess (k .command-refusal .result) (commandMade g p (a .lent .now)) ≡ commandWordsMade (a .words .now) (a .components .now) (a .lent .now)
+made k p e =
+    let a = k .before .before .before .before .before .before .args in
+    parts (a .words .now) (a .components .now) (a .lent .now) _ p _ (k .before .command-given .ensures) e (k .command-refusal .ensures)
 
 small : (k : tie.After-command-refusal) → k .command-refusal .result ≤ 36
 small k =
-    let a = k .before .before .before .before .before .before .before .args in
-    omega (arith, k .command-refusal .ensures, command-small (k .before .before .command-given .result) (a .words .now) (a .components .now))
+    let a = k .before .before .before .before .before .before .args in
+    omega (arith, k .command-refusal .ensures, command-small (k .before .command-given .result) (a .words .now) (a .components .now))
 
 command-given-requires : tie.Need-command-given-requires
 command-given-requires c κs = search needs
 
-components-given-requires : tie.Need-components-given-requires
-components-given-requires c κs = search needs
-
 command-refusal-requires : tie.Need-command-refusal-requires
 command-refusal-requires c κs = search needs
 
-sub-write-command : tie.Need-sub-write-command
-sub-write-command c = search needs
+count-in-requires : tie.Need-count-in-requires
+count-in-requires c κs = search needs
 
-part-write-command-start : tie.Need-part-write-command-start
-part-write-command-start c = search needs
-
-part-write-command-end : tie.Need-part-write-command-end
-part-write-command-end c = search needs
-
-write-command-requires : tie.Need-write-command-requires
-write-command-requires c κs = search needs
-
-lower-refusal-requires : tie.Need-lower-refusal-requires
-lower-refusal-requires c κs = search needs
+write-bare-words-requires : tie.Need-write-bare-words-requires
+write-bare-words-requires c κs = small (c .before .before .before)
 
 same-length : tie.Need-same-length
 same-length c = search needs
 
 returns : tie.Need-returns
 returns c =
-    let k = c .before .before .before .before .before .before in
-    let a = c .before .before .before .before .before .before .before .before .before .before .before .before .before .args in
-    let w = words-refused _ _ (k .command-refusal .result) (a .target .now) (c .before .before .before .write-command .result) (made k) (c .before .before .before .before .before .if1 .taken) (small k) (c .before .before .before .write-command .ensures .0) in
-    (c .lower-refusal .ensures ∙ w .0, ap (λ (l : List ℕ). l ++ a .target .now) (c .before .before .before .write-command .ensures .1 ∙ later-nil (commandMade (k .before .before .command-given .result) (k .before .components-given .result) (a .lent .now))) ∙ w .1)
+    let q = c .before .before in
+    let t = q .before .before in
+    let n = t .before in
+    let k = n .before in
+    let a = k .before .before .before .before .before .before .args in
+    let e = made k (array []) (no-places (countIn (k .before .command-given .result)) (a .components .now) (sym (n .count-in .ensures) ∙ t .if1 .taken)) in
+    (q .write-bare-words .ensures .0 ∙ ap (λ (m : Made). flatWritten (answerOf m (a .target .now))) e, q .write-bare-words .ensures .1 ∙ ap (λ (m : Made). laterOf m (a .target .now)) e)
 
-write-command-requires-2 : tie.Need-write-command-requires-2
-write-command-requires-2 c κs = search needs
-
-flat-written-requires : tie.Need-flat-written-requires
-flat-written-requires c κs = search needs
+write-listed-words-requires : tie.Need-write-listed-words-requires
+write-listed-words-requires c κs = small (c .before .before .before)
 
 same-length-2 : tie.Need-same-length-2
 same-length-2 c = search needs
 
 returns-2 : tie.Need-returns-2
 returns-2 c =
-    let k = c .before .before .before .before .before .before in
-    let a = c .before .before .before .before .before .before .before .before .before .before .before .before .before .args in
-    let w = words-taken _ _ (k .command-refusal .result) (a .target .now) (c .before .before .before .write-command2 .result) (made k) _ (c .before .before .before .before .before .if1 .left) (c .before .before .before .write-command2 .ensures .0) (c .before .before .before .write-command2 .ensures .1) in
-    (c .flat-written .ensures ∙ w .0, w .1)
+    let q = c .before .before in
+    let k = q .before .before .before .before in
+    let a = k .before .before .before .before .before .before .args in
+    let e = made k _ refl in
+    (q .write-listed-words .ensures .0 ∙ ap (λ (m : Made). flatWritten (answerOf m (a .target .now))) e, q .write-listed-words .ensures .1 ∙ ap (λ (m : Made). laterOf m (a .target .now)) e)
 
 pub write-command-words-spec : {M : Type 1} → statement M
 write-command-words-spec =
     tie.close
     (tie.spec
     command-given-requires
-    components-given-requires
     command-refusal-requires
-    sub-write-command
-    part-write-command-start
-    part-write-command-end
-    write-command-requires
-    lower-refusal-requires
+    count-in-requires
+    write-bare-words-requires
     same-length
     returns
-    write-command-requires-2
-    flat-written-requires
+    write-listed-words-requires
     same-length-2
     returns-2)
