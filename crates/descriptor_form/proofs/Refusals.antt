@@ -2,19 +2,20 @@
 use Prim.Native.Nat.{ℕ, _+_, _^_, _<_, _≤_}
 use mathlib.Core.Bool.{Bool, true, false, not, _&&_}
 use mathlib.Core.List.{List, [], _∷_, _++_}
-use mathlib.Core.Path.{_≡_, refl, ap, ap₂, sym, _∙_}
+use mathlib.Core.Path.{_≡_, refl, ap, ap₂, sym, subst, _∙_}
 use native.Mathlib.Omega.{arith}
 use lib.Dec.{leb, ltb, eqb}
 use lib.ListN.{length, take}
 use lib.Seq.{length-take-le}
-use borrow.Author.Tests.{not-true, not-false, lt-ltb, le-leb, lt-leb, eq-eqb, ne-eqb}
+use borrow.Author.Tests.{leb-true, leb-false, not-true, not-false, lt-ltb, le-leb, lt-leb, eq-eqb, ne-eqb}
 use Rattle.names.specs.Flags.{restrictionsBits}
 use Rattle.names.specs.declared.flags.DeviceRestrictions.{DeviceRestrictions}
 use Rattle.table.specs.Bits.{pick, bytesOf}
 use Rattle.table.specs.Table.{flagNumber}
 use Rattle.table.specs.Writing.{Field, bits, run, rest, walk, seen, within, contents, print, Made, made, refused, makeOf, make}
 use Rattle.table.proofs.Lists.{and-assoc}
-use Rattle.descriptor.specs.Segmentation.{blankUpid, byProgram, countOf, fairDetail, lasting, segmentation, unrestricted}
+use Rattle.descriptor.specs.Segmentation.{blankUpid, byProgram, countOf, fairDetail, frontOf, lasting, segmentation, unrestricted}
+use Rattle.descriptor.specs.Whole.{blanks}
 use Rattle.descriptor.specs.declared.segmentation.DeliveryRestrictionFlags.{DeliveryRestrictionFlags}
 use Rattle.descriptor.specs.declared.segmentation.ModeComponent.{ModeComponent}
 use Rattle.descriptor.specs.declared.segmentation.SegmentationDescriptor.{SegmentationDescriptor}
@@ -26,9 +27,10 @@ use Rattle.descriptor.specs.declared.segmentation.SegmentationMode.{Segmentatio
 use Rattle.descriptor.specs.declared.segmentation.SegmentationUpid.{SegmentationUpid}
 use Rattle.descriptor.specs.declared.segmentation.SubSegments.{SubSegments}
 use Rattle.descriptor_form.specs.Parts.{deliveryFields, componentsFields, modeFields, durationFields, upidFields, subFields, backFields, segmentFields, numbersFit, numberIn}
+use Rattle.descriptor_form.specs.Walk.{ModeFits, RefusedSo}
 use Rattle.descriptor_form.specs.Writing.{allZero, fairUpid, fairSegment, segmentationMade, upidSource, writtenKind, writtenUpid}
 use Rattle.descriptor_form.proofs.Fields.{fields-are}
-use Rattle.descriptor_form.proofs.Tests.{upid-beside, upid-none}
+use Rattle.descriptor_form.proofs.Tests.{blanks-fit, blanks-length, no-mode-fit, upid-beside, upid-none}
 
 -- ---- the views and the numbers of fields one after the other
 pub seen-append : (l : List ℕ) (fs gs : List Field) → seen l (fs ++ gs) ≡ seen l fs && seen l gs
@@ -194,6 +196,37 @@ module _ (event : ℕ) (i : SegmentationInsert) (id : List ℕ) (cs : List ModeC
               pub no-refusal : not g ≡ false → 0 ≡ numberIn M
               unfolding fairSegment
               no-refusal q = sym (made-so ∙ rw (not-false n v, ← ez, not-false z w, ← ef, not-false f y, ← eg, not-false g q))
+
+      -- a component over its field
+      pub mode-over : length cs ≡ 255 → length eidr ≡ 12 → event < 2 ^ 32 → u .kind < 256 → (m : Bool)
+          → (m ≡ within (modeFields (i .«segmentation_mode») (take (countOf (i .«segmentation_mode»)) cs))) × (countOf (i .«segmentation_mode») < 256) → not m ≡ true → 32 ≡ numberIn M
+      mode-over many twelve ev kind m em v = go (leb (u .bytes .len) 255) refl
+        where
+          go : (w : Bool) → leb (u .bytes .len) 255 ≡ w → 32 ≡ numberIn M
+          go true e = numbers-over (leb-true (u .bytes .len) 255 e) many twelve ev kind (numbersFit i (take (countOf (i .«segmentation_mode»)) cs)) (refl, em .1) (sym (ap not (no-mode-fit i (take (countOf (i .«segmentation_mode»)) cs) m (em .0) v)))
+          go false e = upid-long (leb-false (u .bytes .len) 255 e)
+
+-- ---- a number that holds for all components, or for all that fit
+module _ (x : SegmentationDescriptor) (id eidr lent : List ℕ) (n : ℕ) where
+  abbrev So : List ModeComponent → Type 0
+  So cs = n ≡ numberIn (segmentationMade x id (record { components = cs; eidr = eidr }) lent)
+
+  pub refused-all : ((cs : List ModeComponent) → So cs) → RefusedSo x id eidr lent n
+  refused-all h = record { bare = h blanks; others = λ cs l f. h cs }
+
+  pub refused-fit : countOf (frontOf (x .«descriptor_detail») .«segmentation_mode») < 256 → ((cs : List ModeComponent) → length cs ≡ 255 → ModeFits x cs → So cs) → RefusedSo x id eidr lent n
+  refused-fit few h = record { bare = h blanks blanks-length (blanks-fit (frontOf (x .«descriptor_detail») .«segmentation_mode») few); others = h }
+
+  pub refused-insert : (i : SegmentationInsert) → x .«descriptor_detail» ≡ Insert i
+      → RefusedSo (record { «segmentation_event_id» = x .«segmentation_event_id»; «descriptor_detail» = Insert i }) id eidr lent n → RefusedSo x id eidr lent n
+  refused-insert i is s = subst (λ (d : SegmentationDetail). RefusedSo (record { «segmentation_event_id» = x .«segmentation_event_id»; «descriptor_detail» = d }) id eidr lent n) (sym is) s
+
+pub cancel-fits : (x : SegmentationDescriptor) (cs : List ModeComponent) → x .«descriptor_detail» ≡ Cancel → ModeFits x cs
+cancel-fits x cs is = rw is
+
+pub insert-fits : (x : SegmentationDescriptor) (i : SegmentationInsert) (cs : List ModeComponent) → x .«descriptor_detail» ≡ Insert i → (m : Bool)
+    → m ≡ within (modeFields (i .«segmentation_mode») (take (countOf (i .«segmentation_mode»)) cs)) → not m ≡ false → ModeFits x cs
+insert-fits x i cs is m em v = rw is (sym em ∙ not-false m v)
 
 -- ---- a cancelled one
 module _ (x : SegmentationDescriptor) (id : List ℕ) (cs : List ModeComponent) (eidr lent : List ℕ) (is : x .«descriptor_detail» ≡ Cancel) (ev : x .«segmentation_event_id» < 2 ^ 32) where

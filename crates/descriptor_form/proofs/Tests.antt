@@ -7,7 +7,7 @@ use native.Mathlib.Nat.{zero-add}
 use native.Mathlib.Numerals.{add-one}
 use native.Mathlib.Omega.{arith}
 use lib.Dec.{leb, ltb, eqb}
-use lib.ListN.{length, getD, take, drop, length-take}
+use lib.ListN.{length, getD, take, drop, replicate, length-take, length-replicate}
 use lib.Seq.{drop-cons, drop-length, length-take-le}
 use borrow.Author.Tests.{ltb-true, ltb-false, leb-true, leb-false, eqb-true, not-true, not-false, lt-ltb, le-ltb, le-leb, lt-leb, eq-eqb, ne-eqb}
 use Rattle.names.specs.Segmentation.{segmentationNumber, fairSegmentation}
@@ -18,6 +18,7 @@ use Rattle.upid.specs.Upid.{checkOf}
 use Rattle.upid.specs.declared.UpidRead.{UpidRead}
 use Rattle.descriptor.specs.Descriptor.{isCuei}
 use Rattle.descriptor.specs.Segmentation.{agrees, blankComponent, byProgram, countOf, lasting, unrestricted, fairFront, fairDetail}
+use Rattle.descriptor.specs.Whole.{blanks}
 use Rattle.descriptor.specs.declared.segmentation.ModeComponent.{ModeComponent}
 use Rattle.descriptor.specs.declared.segmentation.SegmentationDetail.the-variants.{Insert}
 use Rattle.descriptor.specs.declared.segmentation.SegmentationDuration.{SegmentationDuration}
@@ -26,7 +27,7 @@ use Rattle.descriptor.specs.declared.segmentation.SegmentationMode.{Segmentatio
 use Rattle.descriptor.specs.declared.segmentation.SegmentationUpid.{SegmentationUpid}
 use Rattle.descriptor.specs.declared.segmentation.SubSegment.{SubSegment}
 use Rattle.descriptor.specs.declared.segmentation.SubSegments.{SubSegments}
-use Rattle.descriptor_form.specs.Parts.{componentsFields, modeFields, durationFields, subFields, numbersFit}
+use Rattle.descriptor_form.specs.Parts.{componentsFields, modeFields, durationFields, subFields, backFields, numbersFit}
 use Rattle.descriptor_form.specs.Writing.{accepts, allZero, alone, fairReserved, fairUpid, writtenKind}
 
 -- ---- a view in the lent bytes, summed without wrapping
@@ -112,6 +113,32 @@ mode-byte k n cs r e h er = rw e (rw (lt-ltb n 256 h) er, h)
 
 pub mode-none : (k : SegmentationMode) (cs : List ModeComponent) → k ≡ SegmentationMode.Program → (true ≡ within (modeFields k (take (countOf k) cs))) × (countOf k < 256)
 mode-none k cs e = rw e (refl, (let z : 0 < 256 = omega arith in z))
+
+-- a count alone
+pub count-byte : (k : SegmentationMode) (n w : ℕ) → k ≡ SegmentationMode.Component n → w ≡ n → n < 256 → (ltb w 256 ≡ within (modeFields k [])) × (countOf k < 256)
+count-byte k n w e ew h = rw (e, ew) (and-tt (ltb n 256), h)
+
+pub count-none : (k : SegmentationMode) → k ≡ SegmentationMode.Program → (true ≡ within (modeFields k [])) × (countOf k < 256)
+count-none k e = rw e (refl, (let z : 0 < 256 = omega arith in z))
+
+none-fits : (k : SegmentationMode) → countOf k < 256 → within (modeFields k []) ≡ true
+none-fits SegmentationMode.Program h = refl
+none-fits (SegmentationMode.Component n) h = rw (lt-ltb n 256 h)
+
+-- blank components fit
+all-blank : (n m : ℕ) → within (componentsFields (take n (replicate m blankComponent))) ≡ true
+all-blank zero m = refl
+all-blank (suc n) zero = refl
+all-blank (suc n) (suc m) = all-blank n m
+
+pub blanks-fit : (k : SegmentationMode) → countOf k < 256 → within (modeFields k (take (countOf k) blanks)) ≡ true
+unfolding blanks
+blanks-fit SegmentationMode.Program h = refl
+blanks-fit (SegmentationMode.Component n) h = rw (lt-ltb n 256 h) (all-blank n 255)
+
+pub blanks-length : length blanks ≡ 255
+unfolding blanks
+blanks-length = length-replicate 255 blankComponent
 
 -- ---- components: likewise
 module _ (cs : List ModeComponent) (i : ℕ) (inv : within (componentsFields (drop i cs)) ≡ within (componentsFields cs)) (h : i < length cs)
@@ -203,7 +230,13 @@ module _ (u : SegmentationUpid) (eidr lent : List ℕ) where
           upid-read f part w r ep ew er =
               rw (ne-eqb (u .kind) 10 ne, ← ez, not-false z t, ne-eqb (u .kind) 0 k, ne-eqb (u .bytes .len) 0 l, ne-eqb (u .kind) 5 f, ← ep, ← ew, ← er)
 
--- ---- the numbers of an insert
+-- ---- the numbers of an insert: those of components that fit change nothing
+pub numbers-with : (i : SegmentationInsert) (cs : List ModeComponent) (n : Bool) → within (modeFields (i .«segmentation_mode») cs) ≡ true
+    → (n ≡ numbersFit i []) × (countOf (i .«segmentation_mode») < 256) → (n ≡ numbersFit i cs) × (countOf (i .«segmentation_mode») < 256)
+unfolding numbersFit
+numbers-with i cs n f e =
+    (e .0 ∙ ap (λ (b : Bool). b && (within (durationFields (i .«segmentation_duration»)) && within (backFields i))) (none-fits (i .«segmentation_mode») (e .1) ∙ sym f), e .1)
+
 module _ (i : SegmentationInsert) (cs : List ModeComponent) (m : Bool) (em : m ≡ within (modeFields (i .«segmentation_mode») cs)) where
   pub no-mode-fit : not m ≡ true → false ≡ numbersFit i cs
   unfolding numbersFit

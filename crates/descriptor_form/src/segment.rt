@@ -1,11 +1,14 @@
 // A segmentation descriptor that is written: refusals 31 to 33, and its bytes.
 ghost use mathlib.Core.Path.{_≡_};
 ghost use Prim.Native.Nat.{_<_};
+ghost use mathlib.Core.List.{[]};
 ghost use lib.ListN.{take};
-ghost use Rattle.descriptor.specs.Segmentation.{agrees, byProgram, countOf, fairDetail, lasting, unrestricted, subBytes};
+ghost use Rattle.descriptor.specs.Segmentation.{agrees, byProgram, countOf, fairDetail, frontOf, lasting, unrestricted, subBytes};
+ghost use Rattle.descriptor.specs.Whole.{blanks};
 ghost use Rattle.descriptor.specs.declared.segmentation.SegmentationDetail.the-variants.{Insert};
 ghost use Rattle.table.specs.Writing.{within};
 ghost use Rattle.descriptor_form.specs.Parts.{componentsFields, modeFields, durationFields, subFields, numbersFit, modeSize, durationSize, numberIn};
+ghost use Rattle.descriptor_form.specs.Walk.{RefusedSo};
 ghost use Rattle.descriptor_form.specs.Writing.{segmentationMade};
 use crate::is_zero;
 use crate::lies_in;
@@ -125,14 +128,25 @@ fn sub_segments_fit(sub_segments: SubSegments) -> bool
     }
 }
 
-fn numbers_fit(i: SegmentationInsert, components: [ModeComponent; 255]) -> bool
-    ensures { λ r. ⌜ (r ≡ numbersFit i (take (countOf (i .«segmentation_mode»)) components)) × (countOf (i .«segmentation_mode») < 256) ⌝ }
+// Of a count alone, without its components.
+fn count_fits(mode: SegmentationMode) -> bool
+    ensures { λ r. ⌜ (r ≡ within (modeFields mode [])) × (countOf mode < 256) ⌝ }
+{
+    match mode {
+        SegmentationMode::Program => true,
+        SegmentationMode::Component(n) => wide(n) < 256,
+    }
+}
+
+// All but the components' numbers.
+fn numbers_fit(i: SegmentationInsert) -> bool
+    ensures { λ r. ⌜ (r ≡ numbersFit i []) × (countOf (i .«segmentation_mode») < 256) ⌝ }
 {
     let mode = i.segmentation_mode;
     let duration = i.segmentation_duration;
     let kind = i.segmentation_type_id;
     let sub_segments = i.sub_segments;
-    if !mode_fits(mode, components) {
+    if !count_fits(mode) {
         return false;
     }
     if !duration_fits(duration) {
@@ -144,17 +158,16 @@ fn numbers_fit(i: SegmentationInsert, components: [ModeComponent; 255]) -> bool
     sub_segments_fit(sub_segments)
 }
 
-// ---- the number of the first refusal of 31, 32 and 33, or 0
+// ---- the number of the first refusal of 31, 32 and 33, or 0. It is worked out without the components, and holds for all that fit.
 
 fn refusal_of_insert(
     event: u32,
     i: SegmentationInsert,
     identifier: [u8; 4],
-    components: [ModeComponent; 255],
     eidr: [u8; 12],
     lent: &[u8],
 ) -> u8
-    ensures { λ r. ⌜ r ≡ numberIn (segmentationMade (record { «segmentation_event_id» = event; «descriptor_detail» = Insert i }) identifier (record { components = components; eidr = eidr }) (now (lent .entry))) ⌝ }
+    ensures { λ r. ⌜ RefusedSo (record { «segmentation_event_id» = event; «descriptor_detail» = Insert i }) identifier eidr (now (lent .entry)) r ⌝ }
 {
     let upid = i.segmentation_upid;
     let bytes = upid.bytes;
@@ -164,7 +177,7 @@ fn refusal_of_insert(
     if 255 < bytes.len {
         return 32;
     }
-    if !numbers_fit(i, components) {
+    if !numbers_fit(i) {
         return 32;
     }
     if !is_zero(&identifier[..]) {
@@ -179,14 +192,13 @@ fn refusal_of_insert(
     0
 }
 
-pub fn refusal_of_segmentation(
+fn refusal_without_components(
     x: SegmentationDescriptor,
     identifier: [u8; 4],
-    components: [ModeComponent; 255],
     eidr: [u8; 12],
     lent: &[u8],
 ) -> u8
-    ensures { λ r. ⌜ r ≡ numberIn (segmentationMade x identifier (record { components = components; eidr = eidr }) (now (lent .entry))) ⌝ }
+    ensures { λ r. ⌜ RefusedSo x identifier eidr (now (lent .entry)) r ⌝ }
 {
     let detail = x.descriptor_detail;
     match detail {
@@ -200,19 +212,68 @@ pub fn refusal_of_segmentation(
             0
         }
         SegmentationDetail::Insert(i) => {
-            refusal_of_insert(
-                x.segmentation_event_id,
-                i,
-                identifier,
-                components,
-                eidr,
-                lent,
-            )
+            refusal_of_insert(x.segmentation_event_id, i, identifier, eidr, lent)
         }
     }
 }
 
+// With blank components, which fit.
+pub fn refusal_of_bare(
+    x: SegmentationDescriptor,
+    identifier: [u8; 4],
+    eidr: [u8; 12],
+    lent: &[u8],
+) -> u8
+    ensures { λ r. ⌜ r ≡ numberIn (segmentationMade x identifier (record { components = blanks; eidr = eidr }) (now (lent .entry))) ⌝ }
+{
+    refusal_without_components(x, identifier, eidr, lent)
+}
+
+pub fn refusal_of_segmentation(
+    x: SegmentationDescriptor,
+    identifier: [u8; 4],
+    components: [ModeComponent; 255],
+    eidr: [u8; 12],
+    lent: &[u8],
+) -> u8
+    ensures { λ r. ⌜ r ≡ numberIn (segmentationMade x identifier (record { components = components; eidr = eidr }) (now (lent .entry))) ⌝ }
+{
+    let detail = x.descriptor_detail;
+    let i = match detail {
+        SegmentationDetail::Cancel => {
+            return refusal_without_components(x, identifier, eidr, lent);
+        }
+        SegmentationDetail::Insert(i) => i,
+    };
+    let mode = i.segmentation_mode;
+    let upid = i.segmentation_upid;
+    let bytes = upid.bytes;
+    if !lies_in(lent, bytes) {
+        return 31;
+    }
+    if !mode_fits(mode, components) {
+        return 32;
+    }
+    refusal_without_components(x, identifier, eidr, lent)
+}
+
 // ---- the bytes of a payload
+
+// How many components it has.
+pub fn count_of(x: SegmentationDescriptor) -> u8
+    ensures { λ r. ⌜ r ≡ countOf (frontOf (x .«descriptor_detail») .«segmentation_mode») ⌝ }
+{
+    let detail = x.descriptor_detail;
+    let insert = match detail {
+        SegmentationDetail::Cancel => return 0,
+        SegmentationDetail::Insert(i) => i,
+    };
+    let mode = insert.segmentation_mode;
+    match mode {
+        SegmentationMode::Program => 0,
+        SegmentationMode::Component(n) => n,
+    }
+}
 
 pub fn mode_size(mode: SegmentationMode) -> usize
     ensures { λ r. ⌜ (r ≡ modeSize mode) × (r < 1532) ⌝ }

@@ -6,6 +6,7 @@ use Rattle.table.specs.Table.{number}
 use Rattle.table.specs.Writing.{make}
 use Rattle.table.specs.declared.View.{View}
 use Rattle.descriptor.specs.Plain.{avail, dtmf, time, privateBytes}
+use Rattle.descriptor.specs.Whole.{blanks}
 use Rattle.descriptor.specs.declared.Descriptor.{Descriptor}
 use Rattle.descriptor.specs.declared.Descriptor.the-variants.{Avail, Dtmf, Segmentation, Time, Reserved}
 use Rattle.descriptor.specs.declared.plain.AvailDescriptor.{AvailDescriptor}
@@ -39,3 +40,24 @@ module _ (d : Descriptor) (id : List ℕ) (beside : Beside) (lent t v : List ℕ
       → Writes (descriptorMade d id beside lent) t v r
   unfolding descriptorMade payloadMade
   as-reserved tag b e w = rw e w
+
+-- what has no components is written alike beside any
+module _ (d : Descriptor) (id : List ℕ) (beside : Beside) (lent t v : List ℕ) (r : Written) where
+  abbrev Bare : Type 0
+  Bare = Writes (descriptorMade d id (record { components = blanks; eidr = beside .eidr }) lent) t v r
+
+  pub bare-avail : (x : AvailDescriptor) → d ≡ Avail x → Bare → Writes (descriptorMade d id beside lent) t v r
+  unfolding descriptorMade payloadMade
+  bare-avail x e w = rw e (rw e at w)
+
+  pub bare-dtmf : (x : DTMFDescriptor) → d ≡ Dtmf x → Bare → Writes (descriptorMade d id beside lent) t v r
+  unfolding descriptorMade payloadMade
+  bare-dtmf x e w = rw e (rw e at w)
+
+  pub bare-time : (x : TimeDescriptor) → d ≡ Time x → Bare → Writes (descriptorMade d id beside lent) t v r
+  unfolding descriptorMade payloadMade
+  bare-time x e w = rw e (rw e at w)
+
+  pub bare-reserved : (tag : ℕ) (b : View) → d ≡ Reserved tag b → Bare → Writes (descriptorMade d id beside lent) t v r
+  unfolding descriptorMade payloadMade
+  bare-reserved tag b e w = rw e (rw e at w)

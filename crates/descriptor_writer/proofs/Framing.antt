@@ -20,7 +20,7 @@ use Rattle.pen.specs.declared.Written.{Written}
 use Rattle.pen.proofs.Penned.{penned-whole}
 use Rattle.descriptor_writer.specs.Stores.{Stores, Writes, start, frameContents}
 
-place-start : place start ≡ 0
+pub place-start : place start ≡ 0
 unfolding place
 place-start = refl
 

@@ -1,5 +1,6 @@
 pub mod Storing
 pub mod Framing
 pub mod Plainly
+pub mod Listing
 pub mod Segmenting
 pub mod Describing

@@ -14,6 +14,7 @@ use Rattle.table.specs.Writing.{Field, Content, number, bytes, contents, print,
 use Rattle.table.specs.declared.View.{View}
 use Rattle.table.specs.declared.cursor.Cursor.{Cursor}
 use Rattle.descriptor.specs.Segmentation.{byProgram, countOf, frontOf, lasting, subBytes, unrestricted}
+use Rattle.descriptor.specs.Whole.{blanks, blankBeside}
 use Rattle.descriptor.specs.declared.segmentation.ModeComponent.{ModeComponent}
 use Rattle.descriptor.specs.declared.segmentation.SegmentationDescriptor.{SegmentationDescriptor}
 use Rattle.descriptor.specs.declared.segmentation.SegmentationDetail.{SegmentationDetail}
@@ -101,10 +102,9 @@ insert-stores i cs src p l f ep el ef t₀ t₁ t₂ t₃ t₄ t₅ t₆ c₀ c�
     (then-fields src t₄ c₄ ups (backFields i) t₅ c₅ t₆ c₆ s₅ s₆))))
 
 -- ---- a payload
-module _ (x : SegmentationDescriptor) (comps : List ModeComponent) (eidr lent t : List ℕ) (c : Cursor) where
+module _ (x : SegmentationDescriptor) (cs : List ModeComponent) (eidr lent t : List ℕ) (c : Cursor) where
   abbrev All : List ℕ → Cursor → Type 0
-  All v e = Stores t c (contents (upidSource (upidIn x) eidr lent)
-      (segmentFields (x .«segmentation_event_id») (x .«descriptor_detail») (take (countOf (frontOf (x .«descriptor_detail») .«segmentation_mode»)) comps))) v e
+  All v e = Stores t c (contents (upidSource (upidIn x) eidr lent) (segmentFields (x .«segmentation_event_id») (x .«descriptor_detail») cs)) v e
 
   pub cancel-stores : (v : List ℕ) (e : Cursor) → x .«descriptor_detail» ≡ Cancel → ((from : List ℕ) → Stores t c (contents from (headFields (x .«segmentation_event_id») true)) v e) → All v e
   unfolding segmentFields
@@ -112,11 +112,18 @@ module _ (x : SegmentationDescriptor) (comps : List ModeComponent) (eidr lent t 
 
   pub payload-stores : (i : SegmentationInsert) (u v : List ℕ) (d e : Cursor) → x .«descriptor_detail» ≡ Insert i
       → ((from : List ℕ) → Stores t c (contents from (headFields (x .«segmentation_event_id») false)) u d)
-      → Stores u d (contents (upidSource (i .«segmentation_upid») eidr lent) (insertFields i (take (countOf (i .«segmentation_mode»)) comps))) v e → All v e
+      → Stores u d (contents (upidSource (i .«segmentation_upid») eidr lent) (insertFields i cs)) v e → All v e
   unfolding segmentFields
   payload-stores i u v d e is s q =
       let src = upidSource (i .«segmentation_upid») eidr lent in
-      rw is (then-fields src t c (headFields (x .«segmentation_event_id») false) (insertFields i (take (countOf (i .«segmentation_mode»)) comps)) u d v e (s src) q)
+      rw is (then-fields src t c (headFields (x .«segmentation_event_id») false) (insertFields i cs) u d v e (s src) q)
+
+-- ---- with blank components
+pub with-blanks : (x : SegmentationDescriptor) (id eidr lent t v : List ℕ) (r : Written) (b : Beside) → b ≡ blankBeside
+    → Writes (framedMade 2 cuei (segmentationMade x id (record { components = b .components; eidr = eidr }) lent)) t v r
+    → Writes (framedMade 2 cuei (segmentationMade x id (record { components = blanks; eidr = eidr }) lent)) t v r
+unfolding blankBeside
+with-blanks x id eidr lent t v r b e w = rw e at w
 
 -- ---- the whole
 number-refused : (m : Made) (n : ℕ) → n ≡ numberIn m → (n ≡ 0 → ⊥) → m ≡ refused n

@@ -1,11 +1,13 @@
 // The descriptor writer (document 01, "Canonical form and writer"): all tests first, in the order of the refusals' numbers, and then the stores, so that a
 // refused write changes no byte.
+ghost use Rattle.descriptor.specs.Whole.{blanks};
 ghost use Rattle.descriptor_form.specs.Writing.{descriptorMade};
 ghost use Rattle.descriptor_writer.specs.Stores.{Writes};
 use crate::plain::write_avail;
 use crate::plain::write_dtmf;
 use crate::plain::write_reserved;
 use crate::plain::write_time;
+use crate::segmentation::write_bare_segmentation;
 use crate::segmentation::write_segmentation;
 use descriptor::Descriptor;
 use descriptor::whole::Beside;
@@ -16,7 +18,29 @@ mod parts;
 mod plain;
 mod segmentation;
 
-// The descriptor of an item, whose views are of the lent bytes. The identifier is that of a reserved one, all zero with any other.
+// The descriptor of an item, whose views are of the lent bytes. The identifier is that of a reserved one, all zero with any other. It has no components, or
+// blank ones.
+pub fn write_bare_descriptor(
+    d: Descriptor,
+    identifier: [u8; 4],
+    eidr: [u8; 12],
+    lent: &[u8],
+    target: &mut [u8],
+) -> Written
+    ensures { λ r. ⌜ Writes (descriptorMade d identifier (record { components = blanks; eidr = eidr }) (now (lent .entry))) (now (target .entry)) (now (target .exit)) r ⌝ }
+{
+    match d {
+        Descriptor::Avail(x) => write_avail(x, identifier, eidr, target),
+        Descriptor::Dtmf(x) => write_dtmf(x, identifier, eidr, lent, target),
+        Descriptor::Segmentation(x) => write_bare_segmentation(x, identifier, eidr, lent, target),
+        Descriptor::Time(x) => write_time(x, identifier, eidr, target),
+        Descriptor::Reserved { tag, private_bytes } => {
+            write_reserved(tag, private_bytes, identifier, eidr, lent, target)
+        }
+    }
+}
+
+// With its components.
 pub fn write_descriptor(
     d: Descriptor,
     identifier: [u8; 4],
@@ -27,16 +51,16 @@ pub fn write_descriptor(
     ensures { λ r. ⌜ Writes (descriptorMade d identifier beside (now (lent .entry))) (now (target .entry)) (now (target .exit)) r ⌝ }
 {
     let eidr = beside.eidr;
-    match d {
-        Descriptor::Avail(x) => write_avail(x, identifier, eidr, target),
-        Descriptor::Dtmf(x) => write_dtmf(x, identifier, eidr, lent, target),
-        Descriptor::Segmentation(x) => {
-            let components = beside.components;
-            write_segmentation(x, identifier, components, eidr, lent, target)
-        }
-        Descriptor::Time(x) => write_time(x, identifier, eidr, target),
-        Descriptor::Reserved { tag, private_bytes } => {
-            write_reserved(tag, private_bytes, identifier, eidr, lent, target)
-        }
-    }
+    let x = match d {
+        Descriptor::Avail(_) => return write_bare_descriptor(d, identifier, eidr, lent, target),
+        Descriptor::Dtmf(_) => return write_bare_descriptor(d, identifier, eidr, lent, target),
+        Descriptor::Segmentation(x) => x,
+        Descriptor::Time(_) => return write_bare_descriptor(d, identifier, eidr, lent, target),
+        Descriptor::Reserved {
+            tag: _,
+            private_bytes: _,
+        } => return write_bare_descriptor(d, identifier, eidr, lent, target),
+    };
+    let components = beside.components;
+    write_segmentation(x, identifier, components, eidr, lent, target)
 }

@@ -4,10 +4,10 @@ ghost use mathlib.Core.Path.{_≡_};
 ghost use mathlib.Core.List.{List, [], _∷_};
 ghost use Prim.Native.Nat.{ℕ, _<_};
 ghost use lib.ListN.{length, take};
-ghost use Rattle.descriptor.specs.Segmentation.{countOf};
+ghost use Rattle.descriptor.specs.declared.segmentation.ModeComponent.{ModeComponent};
 ghost use Rattle.descriptor_form.specs.Parts.{headFields, flagFields, deliveryFields, componentsFields, modeFields, durationFields, subFields, backFields};
 ghost use Rattle.table.specs.Writing.{number, bytes, contents};
-ghost use Rattle.descriptor_writer.specs.Stores.{Stores};
+ghost use Rattle.descriptor_writer.specs.Stores.{Stores, componentBytes};
 use crate::frame::number_of;
 use descriptor::segmentation::DeliveryRestrictionFlags;
 use descriptor::segmentation::ModeComponent;
@@ -70,7 +70,12 @@ fn store_component(out: &mut [u8], c: Cursor, component: ModeComponent) -> Curso
 }
 
 // The first n components.
-fn store_components(out: &mut [u8], c: Cursor, components: [ModeComponent; 255], n: usize) -> Cursor
+pub(crate) fn store_components(
+    out: &mut [u8],
+    c: Cursor,
+    components: [ModeComponent; 255],
+    n: usize,
+) -> Cursor
     requires { ⌜ n < 256 ⌝ }
     ensures { λ r. ⌜ ((from : List ℕ) → Stores (now (out .entry)) c (contents from (componentsFields (take n components))) (now (out .exit)) r) ⌝ }
 {
@@ -84,19 +89,15 @@ fn store_components(out: &mut [u8], c: Cursor, components: [ModeComponent; 255],
     next
 }
 
-pub(crate) fn store_mode(
-    out: &mut [u8],
-    c: Cursor,
-    mode: SegmentationMode,
-    components: [ModeComponent; 255],
-) -> Cursor
-    ensures { λ r. ⌜ ((from : List ℕ) → Stores (now (out .entry)) c (contents from (modeFields mode (take (countOf mode) components))) (now (out .exit)) r) ⌝ }
+// With its components' bytes.
+pub(crate) fn store_mode(out: &mut [u8], c: Cursor, mode: SegmentationMode, listed: &[u8]) -> Cursor
+    ensures { λ r. ⌜ ((from : List ℕ) (cs : List ModeComponent) → now (listed .entry) ≡ componentBytes cs → Stores (now (out .entry)) c (contents from (modeFields mode cs)) (now (out .exit)) r) ⌝ }
 {
     match mode {
         SegmentationMode::Program => put_bits(out, c, 0, 0),
         SegmentationMode::Component(n) => {
             let second = put_bits(out, c, 8, wide(n));
-            store_components(out, second, components, n as usize)
+            put_run(out, second, listed)
         }
     }
 }

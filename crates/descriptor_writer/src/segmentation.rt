@@ -1,16 +1,20 @@
 // Segmentation descriptors.
 ghost use mathlib.Core.Path.{_≡_};
+ghost use mathlib.Core.List.{List};
 ghost use Prim.Native.Nat.{_+_, _≤_};
-ghost use lib.ListN.{length, take};
+ghost use lib.ListN.{length};
 ghost use Rattle.descriptor.specs.Segmentation.{countOf, frontOf};
+ghost use Rattle.descriptor.specs.Whole.{blanks};
+ghost use Rattle.descriptor.specs.declared.segmentation.ModeComponent.{ModeComponent};
 ghost use Rattle.descriptor.specs.declared.segmentation.SegmentationDetail.the-variants.{Insert};
 ghost use Rattle.descriptor_form.specs.Parts.{upidFields, insertFields, segmentFields, payloadSize};
 ghost use Rattle.descriptor_form.specs.Writing.{cuei, framedMade, segmentationMade, upidIn, upidSource, writtenUpid};
 ghost use Rattle.table.specs.Writing.{contents};
-ghost use Rattle.descriptor_writer.specs.Stores.{Stores, Writes};
+ghost use Rattle.descriptor_writer.specs.Stores.{Stores, Writes, WritesFair, componentBytes};
 use crate::frame::cuei;
 use crate::frame::store_frame;
 use crate::parts::store_back;
+use crate::parts::store_components;
 use crate::parts::store_delivery;
 use crate::parts::store_duration;
 use crate::parts::store_flags;
@@ -22,11 +26,14 @@ use descriptor::segmentation::SegmentationDescriptor;
 use descriptor::segmentation::SegmentationDetail;
 use descriptor::segmentation::SegmentationInsert;
 use descriptor::segmentation::SegmentationUpid;
+use descriptor::whole::blank_beside;
 use descriptor_form::segment::by_program;
+use descriptor_form::segment::count_of;
 use descriptor_form::segment::duration_size;
 use descriptor_form::segment::is_free;
 use descriptor_form::segment::lasts;
 use descriptor_form::segment::mode_size;
+use descriptor_form::segment::refusal_of_bare;
 use descriptor_form::segment::refusal_of_segmentation;
 use descriptor_form::segment::sub_size;
 use descriptor_form::upids::upid_size;
@@ -84,12 +91,12 @@ fn store_insert(
     out: &mut [u8],
     c: Cursor,
     i: SegmentationInsert,
-    components: [ModeComponent; 255],
+    listed: &[u8],
     eidr: [u8; 12],
     lent: &[u8],
 ) -> Cursor
     requires { ⌜ i .«segmentation_upid» .bytes .at + i .«segmentation_upid» .bytes .len ≤ length (now lent) ⌝ }
-    ensures { λ r. ⌜ Stores (now (out .entry)) c (contents (upidSource (i .«segmentation_upid») eidr (now (lent .entry))) (insertFields i (take (countOf (i .«segmentation_mode»)) components))) (now (out .exit)) r ⌝ }
+    ensures { λ r. ⌜ ((cs : List ModeComponent) → now (listed .entry) ≡ componentBytes cs → Stores (now (out .entry)) c (contents (upidSource (i .«segmentation_upid») eidr (now (lent .entry))) (insertFields i cs)) (now (out .exit)) r) ⌝ }
 {
     let mode = i.segmentation_mode;
     let duration = i.segmentation_duration;
@@ -97,7 +104,7 @@ fn store_insert(
     let upid = i.segmentation_upid;
     let second = store_flags(out, c, by_program(mode), lasts(duration), is_free(delivery));
     let third = store_delivery(out, second, delivery);
-    let fourth = store_mode(out, third, mode, components);
+    let fourth = store_mode(out, third, mode, listed);
     let fifth = store_duration(out, fourth, duration);
     let sixth = store_written_upid(out, fifth, upid, eidr, lent);
     store_back(out, sixth, i)
@@ -107,24 +114,48 @@ fn store_segmentation(
     out: &mut [u8],
     c: Cursor,
     x: SegmentationDescriptor,
-    components: [ModeComponent; 255],
+    listed: &[u8],
     eidr: [u8; 12],
     lent: &[u8],
 ) -> Cursor
     requires { ⌜ upidIn x .bytes .at + upidIn x .bytes .len ≤ length (now lent) ⌝ }
-    ensures { λ r. ⌜ Stores (now (out .entry)) c (contents (upidSource (upidIn x) eidr (now (lent .entry))) (segmentFields (x .«segmentation_event_id») (x .«descriptor_detail») (take (countOf (frontOf (x .«descriptor_detail») .«segmentation_mode»)) components))) (now (out .exit)) r ⌝ }
+    ensures { λ r. ⌜ ((cs : List ModeComponent) → now (listed .entry) ≡ componentBytes cs → Stores (now (out .entry)) c (contents (upidSource (upidIn x) eidr (now (lent .entry))) (segmentFields (x .«segmentation_event_id») (x .«descriptor_detail») cs)) (now (out .exit)) r) ⌝ }
 {
     let detail = x.descriptor_detail;
     match detail {
         SegmentationDetail::Cancel => store_head(out, c, x.segmentation_event_id, true),
         SegmentationDetail::Insert(i) => {
             let second = store_head(out, c, x.segmentation_event_id, false);
-            store_insert(out, second, i, components, eidr, lent)
+            store_insert(out, second, i, listed, eidr, lent)
         }
     }
 }
 
 // ---- the descriptor
+
+// One that nothing of 31 to 33 refuses, with its components' bytes.
+fn write_fair_segmentation(
+    x: SegmentationDescriptor,
+    listed: &[u8],
+    eidr: [u8; 12],
+    lent: &[u8],
+    target: &mut [u8],
+) -> Written
+    requires { ⌜ (upidIn x .bytes .len ≤ 255) × (upidIn x .bytes .at + upidIn x .bytes .len ≤ length (now lent)) ⌝ }
+    ensures { λ r. ⌜ WritesFair x (now (listed .entry)) eidr (now (lent .entry)) (now (target .entry)) (now (target .exit)) r ⌝ }
+{
+    let size = size_of(x);
+    if 250 < size {
+        return Written::Refused(34);
+    }
+    if target.len() < size + 6 {
+        return Written::Refused(36);
+    }
+    let id = cuei();
+    let c = store_frame(target, 2, size + 4, &id[..]);
+    let _last = store_segmentation(target, c, x, listed, eidr, lent);
+    Written::Wrote(size + 6)
+}
 
 pub(crate) fn write_segmentation(
     x: SegmentationDescriptor,
@@ -140,15 +171,31 @@ pub(crate) fn write_segmentation(
     if refusal != 0 {
         return Written::Refused(refusal);
     }
-    let size = size_of(x);
-    if 250 < size {
-        return Written::Refused(34);
+    let n = count_of(x) as usize;
+    let mut room = [0u8; 1530];
+    let _last = store_components(&mut room[..], Cursor { byte: 0, bit: 0 }, components, n);
+    let end = n * 6;
+    write_fair_segmentation(x, &room[0..end], eidr, lent, target)
+}
+
+// Without components no array of them is made. One that has some is written with blank ones.
+pub(crate) fn write_bare_segmentation(
+    x: SegmentationDescriptor,
+    identifier: [u8; 4],
+    eidr: [u8; 12],
+    lent: &[u8],
+    target: &mut [u8],
+) -> Written
+    ensures { λ r. ⌜ Writes (framedMade 2 cuei (segmentationMade x identifier (record { components = blanks; eidr = eidr }) (now (lent .entry)))) (now (target .entry)) (now (target .exit)) r ⌝ }
+{
+    if 0 < count_of(x) {
+        let blank = blank_beside();
+        let components = blank.components;
+        return write_segmentation(x, identifier, components, eidr, lent, target);
     }
-    if target.len() < size + 6 {
-        return Written::Refused(36);
+    let refusal = refusal_of_bare(x, identifier, eidr, lent);
+    if refusal != 0 {
+        return Written::Refused(refusal);
     }
-    let id = cuei();
-    let c = store_frame(target, 2, size + 4, &id[..]);
-    let _last = store_segmentation(target, c, x, components, eidr, lent);
-    Written::Wrote(size + 6)
+    write_fair_segmentation(x, &lent[0..0], eidr, lent, target)
 }

@@ -46,7 +46,7 @@ fn places_from(count: usize, words: &[u64]) -> [ModeComponent; 255]
     out
 }
 
-fn eidr_from(words: &[u64]) -> [u8; 12]
+pub(crate) fn eidr_from(words: &[u64]) -> [u8; 12]
     ensures { λ r. ⌜ r ≡ eidrFrom (now (words .entry)) ⌝ }
 {
     let mut out = [0u8; 12];

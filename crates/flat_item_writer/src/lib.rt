@@ -1,10 +1,14 @@
 // The descriptor writer over the C boundary: an item from the words of its step, and of what stands beside it.
 ghost use mathlib.Core.Path.{_≡_};
-ghost use Rattle.flat_item_writer.specs.ItemWords.{countIn, ownItem, descriptorRefusal, descriptorWordsMade};
+ghost use Prim.Native.Nat.{_≤_};
+ghost use Rattle.descriptor_form.specs.Writing.{descriptorMade};
+ghost use Rattle.descriptor_writer.specs.Stores.{Writes};
+ghost use Rattle.flat_item_writer.specs.ItemWords.{countIn, besideFrom, ownItem, descriptorRefusal, descriptorWordsMade};
 ghost use Rattle.flat_writer.specs.Words.{flatWritten};
 ghost use Rattle.pen.specs.Written.{answerOf, laterOf};
 use crate::beside::beside_from;
 use crate::beside::beside_within;
+use crate::beside::eidr_from;
 use crate::beside::identifier_from;
 use crate::values::descriptor_given;
 use crate::values::item_widths;
@@ -12,6 +16,7 @@ use crate::values::item_words;
 use descriptor::Descriptor;
 use descriptor::segmentation::SegmentationDetail;
 use descriptor::segmentation::SegmentationMode;
+use descriptor_writer::write_bare_descriptor;
 use descriptor_writer::write_descriptor;
 use flat_items::steps::flat_step;
 use flat_writer::FlatWritten;
@@ -22,6 +27,7 @@ use flat_writer::lower_refusal;
 use flat_writer::words_from;
 use items::Item;
 use items::Step;
+use pen::Written;
 
 pub mod beside;
 pub mod values;
@@ -83,6 +89,26 @@ pub fn descriptor_refusal(d: Descriptor, words: &[u64], beside: &[u64]) -> u64
     0
 }
 
+// A descriptor with the components and the EIDR that the words make. Where it has no components no array of them is made.
+fn write_given(
+    d: Descriptor,
+    identifier: [u8; 4],
+    count: usize,
+    beside: &[u64],
+    lent: &[u8],
+    target: &mut [u8],
+) -> Written
+    requires { ⌜ count ≤ 255 ⌝ }
+    ensures { λ r. ⌜ Writes (descriptorMade d identifier (besideFrom count (now (beside .entry))) (now (lent .entry))) (now (target .entry)) (now (target .exit)) r ⌝ }
+{
+    if count == 0 {
+        let eidr = eidr_from(beside);
+        return write_bare_descriptor(d, identifier, eidr, lent, target);
+    }
+    let aside = beside_from(count, beside);
+    write_descriptor(d, identifier, aside, lent, target)
+}
+
 // A descriptor from the target's first byte on, or a refusal: 31 to 34 or 36.
 pub fn write_descriptor_words(
     words: &[u64],
@@ -95,13 +121,13 @@ pub fn write_descriptor_words(
 {
     let d = descriptor_given(words);
     let identifier = identifier_from(words);
-    let aside = beside_from(count_in(d) as usize, beside);
+    let count = count_in(d) as usize;
     let refusal = descriptor_refusal(d, words, beside);
     if 0 < refusal {
         return lower_refusal(
             refusal,
-            write_descriptor(d, identifier, aside, lent, &mut target[0..0]),
+            write_given(d, identifier, count, beside, lent, &mut target[0..0]),
         );
     }
-    flat_written(write_descriptor(d, identifier, aside, lent, target))
+    flat_written(write_given(d, identifier, count, beside, lent, target))
 }

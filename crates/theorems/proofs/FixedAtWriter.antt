@@ -12,12 +12,15 @@ use Rattle.descriptor_form.proofs.upids.upid_size.Reads as upid-size
 use Rattle.descriptor_form.proofs.segment.by_program.Reads as by-program
 use Rattle.descriptor_form.proofs.segment.lasts.Reads as lasts
 use Rattle.descriptor_form.proofs.segment.is_free.Reads as is-free
+use Rattle.descriptor_form.proofs.segment.refusal_of_bare.Reads as refusal-of-bare
 use Rattle.descriptor_form.proofs.segment.refusal_of_segmentation.Reads as refusal-of-segmentation
+use Rattle.descriptor_form.proofs.segment.count_of.Reads as count-of
 use Rattle.descriptor_form.proofs.segment.mode_size.Reads as mode-size
 use Rattle.descriptor_form.proofs.segment.duration_size.Reads as duration-size
 use Rattle.descriptor_form.proofs.segment.sub_size.Reads as sub-size
 use Rattle.canonical_loop.proofs.is_canonical_descriptor.Reads as is-canonical-descriptor
 use Rattle.canonical_loop.proofs.is_canonical_loop.Reads as is-canonical-loop
+use Rattle.descriptor_writer.proofs.write_bare_descriptor.Reads as write-bare-descriptor
 use Rattle.descriptor_writer.proofs.write_descriptor.Reads as write-descriptor
 use Rattle.command_writer.proofs.measure_bare.Reads as measure-bare
 use Rattle.command_writer.proofs.put_bare.Reads as put-bare
@@ -75,8 +78,14 @@ lasts-is-fixed = record { takes-any = λ κ a. tt; one-answer = λ κ a x y e f 
 pub is-free-is-fixed : Fixed is-free.Asked is-free.Learnt
 is-free-is-fixed = record { takes-any = λ κ a. tt; one-answer = λ κ a x y e f p q. p ∙ sym q }
 
+pub refusal-of-bare-is-fixed : Fixed refusal-of-bare.Asked refusal-of-bare.Learnt
+refusal-of-bare-is-fixed = record { takes-any = λ κ a. tt; one-answer = λ κ a x y e f p q. p ∙ sym q }
+
 pub refusal-of-segmentation-is-fixed : Fixed refusal-of-segmentation.Asked refusal-of-segmentation.Learnt
 refusal-of-segmentation-is-fixed = record { takes-any = λ κ a. tt; one-answer = λ κ a x y e f p q. p ∙ sym q }
+
+pub count-of-is-fixed : Fixed count-of.Asked count-of.Learnt
+count-of-is-fixed = record { takes-any = λ κ a. tt; one-answer = λ κ a x y e f p q. p ∙ sym q }
 
 pub mode-size-is-fixed : Fixed mode-size.Asked mode-size.Learnt
 mode-size-is-fixed = record { takes-any = λ κ a. tt; one-answer = λ κ a x y e f p q. p .0 ∙ sym (q .0) }
@@ -96,6 +105,12 @@ pub is-canonical-loop-is-fixed : Fixed is-canonical-loop.Asked is-canonical-loop
 is-canonical-loop-is-fixed = record { takes-any = λ κ a. tt; one-answer = λ κ a x y e f p q. p ∙ sym q }
 
 -- ---- descriptor_writer
+
+pub write-bare-descriptor-is-fixed : Fixed write-bare-descriptor.Asked write-bare-descriptor.Learnt
+write-bare-descriptor-is-fixed = record { takes-any = λ κ a. tt; one-answer = λ κ a x y e f p q. p .answer ∙ sym (q .answer) }
+
+pub write-bare-descriptor-fixes-the-target : FixedIn write-bare-descriptor.Asked write-bare-descriptor.Learnt (λ κ answer after. now (after .1 .1 .1 .1 .0))
+write-bare-descriptor-fixes-the-target = record { takes-any = λ κ a. tt; seen = λ κ a x y e f p q. p .target-later ∙ sym (q .target-later) }
 
 pub write-descriptor-is-fixed : Fixed write-descriptor.Asked write-descriptor.Learnt
 write-descriptor-is-fixed = record { takes-any = λ κ a. tt; one-answer = λ κ a x y e f p q. p .answer ∙ sym (q .answer) }

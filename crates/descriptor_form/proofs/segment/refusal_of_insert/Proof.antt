@@ -2,14 +2,13 @@
 use Prim.Native.Nat.{ℕ, _<_}
 use mathlib.Core.Path.{_≡_}
 use native.Mathlib.Omega.{arith}
-use lib.ListN.{length}
+use lib.ListN.{length, take}
 use borrow.Author.Needs.{needs}
-use Rattle.descriptor_form.proofs.Refusals.{view-out, upid-long, numbers-over, with-identifier, unfair-insert, unfair-upid, no-refusal}
+use Rattle.descriptor.specs.Segmentation.{countOf}
+use Rattle.descriptor_form.proofs.Refusals.{view-out, upid-long, numbers-over, with-identifier, unfair-insert, unfair-upid, no-refusal, refused-all, refused-fit}
+use Rattle.descriptor_form.proofs.Tests.{numbers-with}
 use Rattle.descriptor_form.proofs.segment.refusal_of_insert.Statement.{statement}
 use Rattle.descriptor_form.proofs.segment.refusal_of_insert.Tie as tie
-
-many : (c : tie.Start) → length (c .args .components) ≡ 255
-many c = search needs
 
 twelve : (c : tie.Start) → length (c .args .eidr) ≡ 12
 twelve c = search needs
@@ -20,12 +19,12 @@ lies-in-requires c κs = search needs
 returns : tie.Need-returns
 returns c =
     let a = c .before .before .before .before .before .args in
-    view-out (a .event) (a .i) (a .t3) (a .components) (a .eidr) (a .lent .now) _ (c .before .lies-in .ensures) (c .if1 .taken)
+    refused-all _ _ _ _ _ (λ cs. view-out (a .event) (a .i) (a .t3) cs (a .eidr) (a .lent .now) _ (c .before .lies-in .ensures) (c .if1 .taken))
 
 returns-2 : tie.Need-returns-2
 returns-2 c =
     let a = c .before .before .before .before .before .before .before .args in
-    upid-long (a .event) (a .i) (a .t3) (a .components) (a .eidr) (a .lent .now) _ (c .before .before .before .lies-in .ensures) (c .before .before .if1 .left) (c .if2 .taken)
+    refused-all _ _ _ _ _ (λ cs. upid-long (a .event) (a .i) (a .t3) cs (a .eidr) (a .lent .now) _ (c .before .before .before .lies-in .ensures) (c .before .before .if1 .left) (c .if2 .taken))
 
 numbers-fit-requires : tie.Need-numbers-fit-requires
 numbers-fit-requires c κs = search needs
@@ -33,7 +32,7 @@ numbers-fit-requires c κs = search needs
 returns-3 : tie.Need-returns-3
 returns-3 c =
     let a = c .before .before .before .before .before .before .before .before .before .args in
-    numbers-over (a .event) (a .i) (a .t3) (a .components) (a .eidr) (a .lent .now) _ (c .before .before .before .before .before .lies-in .ensures) (c .before .before .before .before .if1 .left) (c .before .before .if2 .left) (many (c .before .before .before .before .before .before .before .before .before)) (twelve (c .before .before .before .before .before .before .before .before .before)) (omega (arith, c .before .before .before .before .before .before .before .before .before)) (omega (arith, c .before .before .before .before .before .before .before .before .before)) _ (c .before .numbers-fit .ensures) (c .if3 .taken)
+    refused-fit _ _ _ _ _ (c .before .numbers-fit .ensures .1) (λ cs many fits. numbers-over (a .event) (a .i) (a .t3) cs (a .eidr) (a .lent .now) _ (c .before .before .before .before .before .lies-in .ensures) (c .before .before .before .before .if1 .left) (c .before .before .if2 .left) many (twelve (c .before .before .before .before .before .before .before .before .before)) (omega (arith, c .before .before .before .before .before .before .before .before .before)) (omega (arith, c .before .before .before .before .before .before .before .before .before)) _ (numbers-with (a .i) (take (countOf (a .i .«segmentation_mode»)) cs) _ fits (c .before .numbers-fit .ensures)) (c .if3 .taken))
 
 slice-aggregate-is-zero : tie.Need-slice-aggregate-is-zero
 slice-aggregate-is-zero c = search needs
@@ -44,7 +43,7 @@ is-zero-requires c κs = search needs
 returns-4 : tie.Need-returns-4
 returns-4 c =
     let a = c .before .before .before .before .before .before .before .before .before .before .before .before .args in
-    with-identifier (a .event) (a .i) (a .t3) (a .components) (a .eidr) (a .lent .now) _ (c .before .before .before .before .before .before .before .before .lies-in .ensures) (c .before .before .before .before .before .before .before .if1 .left) (c .before .before .before .before .before .if2 .left) (many (c .before .before .before .before .before .before .before .before .before .before .before .before)) (twelve (c .before .before .before .before .before .before .before .before .before .before .before .before)) (omega (arith, c .before .before .before .before .before .before .before .before .before .before .before .before)) (omega (arith, c .before .before .before .before .before .before .before .before .before .before .before .before)) _ (c .before .before .before .before .numbers-fit .ensures) (c .before .before .before .if3 .left) _ (c .before .is-zero .ensures) (c .if4 .taken)
+    refused-fit _ _ _ _ _ (c .before .before .before .before .numbers-fit .ensures .1) (λ cs many fits. with-identifier (a .event) (a .i) (a .t3) cs (a .eidr) (a .lent .now) _ (c .before .before .before .before .before .before .before .before .lies-in .ensures) (c .before .before .before .before .before .before .before .if1 .left) (c .before .before .before .before .before .if2 .left) many (twelve (c .before .before .before .before .before .before .before .before .before .before .before .before)) (omega (arith, c .before .before .before .before .before .before .before .before .before .before .before .before)) (omega (arith, c .before .before .before .before .before .before .before .before .before .before .before .before)) _ (numbers-with (a .i) (take (countOf (a .i .«segmentation_mode»)) cs) _ fits (c .before .before .before .before .numbers-fit .ensures)) (c .before .before .before .if3 .left) _ (c .before .is-zero .ensures) (c .if4 .taken))
 
 is-fair-insert-requires : tie.Need-is-fair-insert-requires
 is-fair-insert-requires c κs = search needs
@@ -52,7 +51,7 @@ is-fair-insert-requires c κs = search needs
 returns-5 : tie.Need-returns-5
 returns-5 c =
     let a = c .before .before .before .before .before .before .before .before .before .before .before .before .before .before .args in
-    unfair-insert (a .event) (a .i) (a .t3) (a .components) (a .eidr) (a .lent .now) _ (c .before .before .before .before .before .before .before .before .before .before .lies-in .ensures) (c .before .before .before .before .before .before .before .before .before .if1 .left) (c .before .before .before .before .before .before .before .if2 .left) (many (c .before .before .before .before .before .before .before .before .before .before .before .before .before .before)) (twelve (c .before .before .before .before .before .before .before .before .before .before .before .before .before .before)) (omega (arith, c .before .before .before .before .before .before .before .before .before .before .before .before .before .before)) (omega (arith, c .before .before .before .before .before .before .before .before .before .before .before .before .before .before)) _ (c .before .before .before .before .before .before .numbers-fit .ensures) (c .before .before .before .before .before .if3 .left) _ (c .before .before .before .is-zero .ensures) (c .before .before .if4 .left) _ (c .before .is-fair-insert .ensures) (c .if5 .taken)
+    refused-fit _ _ _ _ _ (c .before .before .before .before .before .before .numbers-fit .ensures .1) (λ cs many fits. unfair-insert (a .event) (a .i) (a .t3) cs (a .eidr) (a .lent .now) _ (c .before .before .before .before .before .before .before .before .before .before .lies-in .ensures) (c .before .before .before .before .before .before .before .before .before .if1 .left) (c .before .before .before .before .before .before .before .if2 .left) many (twelve (c .before .before .before .before .before .before .before .before .before .before .before .before .before .before)) (omega (arith, c .before .before .before .before .before .before .before .before .before .before .before .before .before .before)) (omega (arith, c .before .before .before .before .before .before .before .before .before .before .before .before .before .before)) _ (numbers-with (a .i) (take (countOf (a .i .«segmentation_mode»)) cs) _ fits (c .before .before .before .before .before .before .numbers-fit .ensures)) (c .before .before .before .before .before .if3 .left) _ (c .before .before .before .is-zero .ensures) (c .before .before .if4 .left) _ (c .before .is-fair-insert .ensures) (c .if5 .taken))
 
 is-fair-upid-requires : tie.Need-is-fair-upid-requires
 is-fair-upid-requires c κs = search needs
@@ -60,12 +59,12 @@ is-fair-upid-requires c κs = search needs
 returns-6 : tie.Need-returns-6
 returns-6 c =
     let a = c .before .before .before .before .before .before .before .before .before .before .before .before .before .before .before .before .args in
-    unfair-upid (a .event) (a .i) (a .t3) (a .components) (a .eidr) (a .lent .now) _ (c .before .before .before .before .before .before .before .before .before .before .before .before .lies-in .ensures) (c .before .before .before .before .before .before .before .before .before .before .before .if1 .left) (c .before .before .before .before .before .before .before .before .before .if2 .left) (many (c .before .before .before .before .before .before .before .before .before .before .before .before .before .before .before .before)) (twelve (c .before .before .before .before .before .before .before .before .before .before .before .before .before .before .before .before)) (omega (arith, c .before .before .before .before .before .before .before .before .before .before .before .before .before .before .before .before)) (omega (arith, c .before .before .before .before .before .before .before .before .before .before .before .before .before .before .before .before)) _ (c .before .before .before .before .before .before .before .before .numbers-fit .ensures) (c .before .before .before .before .before .before .before .if3 .left) _ (c .before .before .before .before .before .is-zero .ensures) (c .before .before .before .before .if4 .left) _ (c .before .before .before .is-fair-insert .ensures) (c .before .before .if5 .left) _ (c .before .is-fair-upid .ensures) (c .if6 .taken)
+    refused-fit _ _ _ _ _ (c .before .before .before .before .before .before .before .before .numbers-fit .ensures .1) (λ cs many fits. unfair-upid (a .event) (a .i) (a .t3) cs (a .eidr) (a .lent .now) _ (c .before .before .before .before .before .before .before .before .before .before .before .before .lies-in .ensures) (c .before .before .before .before .before .before .before .before .before .before .before .if1 .left) (c .before .before .before .before .before .before .before .before .before .if2 .left) many (twelve (c .before .before .before .before .before .before .before .before .before .before .before .before .before .before .before .before)) (omega (arith, c .before .before .before .before .before .before .before .before .before .before .before .before .before .before .before .before)) (omega (arith, c .before .before .before .before .before .before .before .before .before .before .before .before .before .before .before .before)) _ (numbers-with (a .i) (take (countOf (a .i .«segmentation_mode»)) cs) _ fits (c .before .before .before .before .before .before .before .before .numbers-fit .ensures)) (c .before .before .before .before .before .before .before .if3 .left) _ (c .before .before .before .before .before .is-zero .ensures) (c .before .before .before .before .if4 .left) _ (c .before .before .before .is-fair-insert .ensures) (c .before .before .if5 .left) _ (c .before .is-fair-upid .ensures) (c .if6 .taken))
 
 returns-7 : tie.Need-returns-7
 returns-7 c =
     let a = c .before .before .before .before .before .before .before .before .before .before .before .before .before .before .before .before .args in
-    no-refusal (a .event) (a .i) (a .t3) (a .components) (a .eidr) (a .lent .now) _ (c .before .before .before .before .before .before .before .before .before .before .before .before .lies-in .ensures) (c .before .before .before .before .before .before .before .before .before .before .before .if1 .left) (c .before .before .before .before .before .before .before .before .before .if2 .left) (many (c .before .before .before .before .before .before .before .before .before .before .before .before .before .before .before .before)) (twelve (c .before .before .before .before .before .before .before .before .before .before .before .before .before .before .before .before)) (omega (arith, c .before .before .before .before .before .before .before .before .before .before .before .before .before .before .before .before)) (omega (arith, c .before .before .before .before .before .before .before .before .before .before .before .before .before .before .before .before)) _ (c .before .before .before .before .before .before .before .before .numbers-fit .ensures) (c .before .before .before .before .before .before .before .if3 .left) _ (c .before .before .before .before .before .is-zero .ensures) (c .before .before .before .before .if4 .left) _ (c .before .before .before .is-fair-insert .ensures) (c .before .before .if5 .left) _ (c .before .is-fair-upid .ensures) (c .if6 .left)
+    refused-fit _ _ _ _ _ (c .before .before .before .before .before .before .before .before .numbers-fit .ensures .1) (λ cs many fits. no-refusal (a .event) (a .i) (a .t3) cs (a .eidr) (a .lent .now) _ (c .before .before .before .before .before .before .before .before .before .before .before .before .lies-in .ensures) (c .before .before .before .before .before .before .before .before .before .before .before .if1 .left) (c .before .before .before .before .before .before .before .before .before .if2 .left) many (twelve (c .before .before .before .before .before .before .before .before .before .before .before .before .before .before .before .before)) (omega (arith, c .before .before .before .before .before .before .before .before .before .before .before .before .before .before .before .before)) (omega (arith, c .before .before .before .before .before .before .before .before .before .before .before .before .before .before .before .before)) _ (numbers-with (a .i) (take (countOf (a .i .«segmentation_mode»)) cs) _ fits (c .before .before .before .before .before .before .before .before .numbers-fit .ensures)) (c .before .before .before .before .before .before .before .if3 .left) _ (c .before .before .before .before .before .is-zero .ensures) (c .before .before .before .before .if4 .left) _ (c .before .before .before .is-fair-insert .ensures) (c .before .before .if5 .left) _ (c .before .is-fair-upid .ensures) (c .if6 .left))
 
 pub refusal-of-insert-spec : {M : Type 1} → statement M
 refusal-of-insert-spec =

@@ -1,62 +1,69 @@
--- `descriptor_form::segment::refusal_of_segmentation`, cancelled or not.
-use mathlib.Core.Path.{_≡_, ap, sym, _∙_}
+-- `descriptor_form::segment::refusal_of_segmentation`: the components' numbers between 31 and the others.
 use native.Mathlib.Omega.{arith}
+use lib.ListN.{length}
+use mathlib.Core.Path.{_≡_}
 use borrow.Author.Needs.{needs}
-use Rattle.descriptor_form.proofs.Refusals.{cancel-identifier, cancel-eidr, cancel-fair, insert-so}
+use Rattle.descriptor_form.proofs.Refusals.{cancel-fits, insert-fits, insert-so, mode-over, view-out}
 use Rattle.descriptor_form.proofs.segment.refusal_of_segmentation.Statement.{statement}
 use Rattle.descriptor_form.proofs.segment.refusal_of_segmentation.Tie as tie
+
+many : (c : tie.Start) → length (c .args .components) ≡ 255
+many c = search needs
+
+twelve : (c : tie.Start) → length (c .args .eidr) ≡ 12
+twelve c = search needs
 
 enum-told : tie.Need-enum-told
 enum-told c = search needs
 
-slice-aggregate-is-zero : tie.Need-slice-aggregate-is-zero
-slice-aggregate-is-zero c = search needs
-
-is-zero-requires : tie.Need-is-zero-requires
-is-zero-requires c κs = search needs
+refusal-without-components-requires : tie.Need-refusal-without-components-requires
+refusal-without-components-requires c κs = search needs
 
 returns : tie.Need-returns
 returns c =
-    let a = c .before .before .before .before .before .before .args in
-    cancel-identifier (a .x) (a .t2) (a .components) (a .t4) (a .lent .now) (c .before .before .before .enum-told .given .1) (omega (arith, c .before .before .before .before .before .before)) _ (c .before .is-zero .ensures) (c .if1 .taken)
-
-slice-aggregate-is-zero-2 : tie.Need-slice-aggregate-is-zero-2
-slice-aggregate-is-zero-2 c = search needs
-
-is-zero-requires-2 : tie.Need-is-zero-requires-2
-is-zero-requires-2 c κs = search needs
-
-returns-2 : tie.Need-returns-2
-returns-2 c =
-    let a = c .before .before .before .before .before .before .before .before .before .args in
-    cancel-eidr (a .x) (a .t2) (a .components) (a .t4) (a .lent .now) (c .before .before .before .before .before .before .enum-told .given .1) (omega (arith, c .before .before .before .before .before .before .before .before .before)) _ (c .before .before .before .before .is-zero .ensures) (c .before .before .before .if1 .left) _ (c .before .is-zero2 .ensures) (c .if2 .taken)
+    let z = c .before .before .before .before in
+    c .refusal-without-components .ensures .others (z .args .components) (many z) (cancel-fits (z .args .x) (z .args .components) (c .before .enum-told .given .1))
 
 enum-known-detail : tie.Need-enum-known-detail
 enum-known-detail c = search needs
 
-refusal-of-insert-requires : tie.Need-refusal-of-insert-requires
-refusal-of-insert-requires c κs = search needs
+lies-in-requires : tie.Need-lies-in-requires
+lies-in-requires c κs = search needs
+
+returns-2 : tie.Need-returns-2
+returns-2 c =
+    let a = c .before .before .before .before .before .before .before .before .args in
+    insert-so (a .x) _ (a .identifier) (a .components) (a .eidr) (a .lent .now) 31 (c .before .before .before .before .before .detail .given .1) (view-out (a .x .«segmentation_event_id») _ (a .identifier) (a .components) (a .eidr) (a .lent .now) _ (c .before .lies-in .ensures) (c .if1 .taken))
+
+mode-fits-requires : tie.Need-mode-fits-requires
+mode-fits-requires c κs = search needs
 
 returns-3 : tie.Need-returns-3
 returns-3 c =
-    let a = c .before .before .before .before .before .before .before .before .before .args in
-    cancel-fair (a .x) (a .t2) (a .components) (a .t4) (a .lent .now) (c .before .before .before .before .before .before .enum-told .given .1) (omega (arith, c .before .before .before .before .before .before .before .before .before)) _ (c .before .before .before .before .is-zero .ensures) (c .before .before .before .if1 .left) _ (c .before .is-zero2 .ensures) (c .if2 .left)
+    let z = c .before .before .before .before .before .before .before .before .before .before in
+    let a = z .args in
+    insert-so (a .x) _ (a .identifier) (a .components) (a .eidr) (a .lent .now) 32 (c .before .before .before .before .before .before .before .detail .given .1) (mode-over (a .x .«segmentation_event_id») _ (a .identifier) (a .components) (a .eidr) (a .lent .now) _ (c .before .before .before .lies-in .ensures) (c .before .before .if1 .left) (many z) (twelve z) (omega (arith, z)) (omega (arith, c .before .before .before .before .before .before .known-told .given .0 .1 .1 .1 .1 .1 .1)) _ (c .before .mode-fits .ensures) (c .if2 .taken))
+
+refusal-without-components-requires-2 : tie.Need-refusal-without-components-requires-2
+refusal-without-components-requires-2 c κs = search needs
 
 returns-4 : tie.Need-returns-4
-returns-4 c = insert-so _ _ _ _ _ _ _ (c .before .before .detail .given .1) (c .refusal-of-insert .ensures)
+returns-4 c =
+    let z = c .before .before .before .before .before .before .before .before .before .before .before in
+    let a = z .args in
+    c .refusal-without-components2 .ensures .others (a .components) (many z) (insert-fits (a .x) _ (a .components) (c .before .before .before .before .before .before .before .before .detail .given .1) _ (c .before .before .mode-fits .ensures .0) (c .before .if2 .left))
 
 pub refusal-of-segmentation-spec : {M : Type 1} → statement M
 refusal-of-segmentation-spec =
     tie.close
     (tie.spec
     enum-told
-    slice-aggregate-is-zero
-    is-zero-requires
+    refusal-without-components-requires
     returns
-    slice-aggregate-is-zero-2
-    is-zero-requires-2
-    returns-2
     enum-known-detail
-    refusal-of-insert-requires
+    lies-in-requires
+    returns-2
+    mode-fits-requires
     returns-3
+    refusal-without-components-requires-2
     returns-4)

@@ -37,9 +37,9 @@ same-length c = search needs
 
 returns : tie.Need-returns
 returns c =
-    let a = c .before .before .before .before .before .before .before .before .before .before .before .before .before .before .before .before .before .before .before .before .before .before .before .before .before .before .before .before .before .before .args in
+    let a = c .before .before .before .before .before .before .before .before .before .before .before .before .before .before .before .before .before .before .before .before .before .before .before .before .before .before .before .before .before .before .before .args in
     let src = upidSource (a .i .«segmentation_upid») (a .eidr) (a .lent .now) in
-    insert-stores (a .i) _ src _ _ _ (c .before .before .before .before .before .before .before .before .before .before .before .before .before .before .before .before .before .before .before .before .before .before .before .before .before .by-program .ensures) (c .before .before .before .before .before .before .before .before .before .before .before .before .before .before .before .before .before .before .before .before .before .before .before .before .lasts .ensures) (c .before .before .before .before .before .before .before .before .before .before .before .before .before .before .before .before .before .before .before .before .before .before .before .is-free .ensures) _ _ _ _ _ _ _ _ _ _ _ _ _ _ (c .before .before .before .before .before .before .before .before .before .before .before .before .before .before .before .before .before .before .before .before .before .before .store-flags .ensures src) (c .before .before .before .before .before .before .before .before .before .before .before .before .before .before .before .before .before .before .store-delivery .ensures src) (c .before .before .before .before .before .before .before .before .before .before .before .before .before .before .store-mode .ensures src) (c .before .before .before .before .before .before .before .before .before .before .store-duration .ensures src) (c .before .before .before .before .before .before .store-written-upid .ensures) (c .before .before .store-back .ensures src)
+    λ cs e. insert-stores (a .i) cs src _ _ _ (c .before .before .before .before .before .before .before .before .before .before .before .before .before .before .before .before .before .before .before .before .before .before .before .before .before .by-program .ensures) (c .before .before .before .before .before .before .before .before .before .before .before .before .before .before .before .before .before .before .before .before .before .before .before .before .lasts .ensures) (c .before .before .before .before .before .before .before .before .before .before .before .before .before .before .before .before .before .before .before .before .before .before .before .is-free .ensures) _ _ _ _ _ _ _ _ _ _ _ _ _ _ (c .before .before .before .before .before .before .before .before .before .before .before .before .before .before .before .before .before .before .before .before .before .before .store-flags .ensures src) (c .before .before .before .before .before .before .before .before .before .before .before .before .before .before .before .before .before .before .store-delivery .ensures src) (c .before .before .before .before .before .before .before .before .before .before .before .before .before .before .store-mode .ensures src cs e) (c .before .before .before .before .before .before .before .before .before .before .store-duration .ensures src) (c .before .before .before .before .before .before .store-written-upid .ensures) (c .before .before .store-back .ensures src)
 
 pub store-insert-spec : {M : Type 1} → statement M
 store-insert-spec =

@@ -17,23 +17,23 @@ store-head-requires-2 : tie.Need-store-head-requires-2
 store-head-requires-2 c κs = search needs
 
 store-insert-requires : tie.Need-store-insert-requires
-store-insert-requires c κs = insert-seen _ _ _ (c .before .before .before .before .before .before .detail .given .1) (c .before .before .before .before .before .before .before .before .before .before .pre)
+store-insert-requires c κs = insert-seen _ _ _ (c .before .before .before .before .before .before .detail .given .1) (c .before .before .before .before .before .before .before .before .before .before .before .pre)
 
 same-length : tie.Need-same-length
 same-length c = search needs
 
 returns : tie.Need-returns
 returns c =
-    let a = c .before .before .before .before .before .before .before .before .args in
-    cancel-stores (a .x) _ _ _ _ _ _ _ (c .before .before .before .before .enum-told .given .1) (c .before .before .store-head .ensures)
+    let a = c .before .before .before .before .before .before .before .before .before .args in
+    λ cs e. cancel-stores (a .x) _ _ _ _ _ _ _ (c .before .before .before .before .enum-told .given .1) (c .before .before .store-head .ensures)
 
 same-length-2 : tie.Need-same-length-2
 same-length-2 c = search needs
 
 returns-2 : tie.Need-returns-2
 returns-2 c =
-    let a = c .before .before .before .before .before .before .before .before .before .before .before .before .before .args in
-    payload-stores (a .x) _ _ _ _ _ _ _ _ _ _ (c .before .before .before .before .before .before .before .before .before .detail .given .1) (c .before .before .before .before .before .before .store-head2 .ensures) (c .before .before .store-insert .ensures)
+    let a = c .before .before .before .before .before .before .before .before .before .before .before .before .before .before .args in
+    λ cs e. payload-stores (a .x) _ _ _ _ _ _ _ _ _ _ (c .before .before .before .before .before .before .before .before .before .detail .given .1) (c .before .before .before .before .before .before .store-head2 .ensures) (c .before .before .store-insert .ensures cs e)
 
 pub store-segmentation-spec : {M : Type 1} → statement M
 store-segmentation-spec =

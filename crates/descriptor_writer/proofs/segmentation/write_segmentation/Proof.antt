@@ -1,7 +1,12 @@
--- `descriptor_writer::segmentation::write_segmentation`, answer by answer.
+-- `descriptor_writer::segmentation::write_segmentation`: the components as bytes, and then the whole.
+use Prim.Native.Nat.{ℕ}
+use mathlib.Core.List.{[]}
+use mathlib.Core.Path.{_≡_, sym, _∙_}
 use native.Mathlib.Omega.{arith}
+use lib.ListN.{length, length-replicate}
+use Rattle.descriptor_writer.proofs.Listing.{all-zeros, listed-so}
+use Rattle.descriptor_writer.proofs.Segmenting.{segment-refused, segment-view}
 use borrow.Author.Needs.{needs}
-use Rattle.descriptor_writer.proofs.Segmenting.{segment-refused, segment-view, segment-long, segment-short, segment-writes}
 use Rattle.descriptor_writer.proofs.segmentation.write_segmentation.Statement.{statement}
 use Rattle.descriptor_writer.proofs.segmentation.write_segmentation.Tie as tie
 
@@ -13,51 +18,46 @@ returns c =
     let a = c .before .before .before .before .args in
     segment-refused (a .x) _ (record { components = a .components; eidr = a .eidr }) (a .lent .now) (a .target .now) _ (c .before .refusal-of-segmentation .ensures) (c .if1 .taken)
 
-size-of-requires : tie.Need-size-of-requires
-size-of-requires c κs =
-    let a = c .before .before .before .before .args in
-    segment-view (a .x) _ (record { components = a .components; eidr = a .eidr }) (a .lent .now) (a .target .now) _ (c .before .refusal-of-segmentation .ensures) (c .if1 .left) .0
+count-of-requires : tie.Need-count-of-requires
+count-of-requires c κs = search needs
 
-returns-2 : tie.Need-returns-2
-returns-2 c =
-    let a = c .before .before .before .before .before .before .args in
-    segment-long (a .x) _ (record { components = a .components; eidr = a .eidr }) (a .lent .now) (a .target .now) _ (c .before .before .before .refusal-of-segmentation .ensures) (c .before .before .if1 .left) (omega (arith, c .before .size-of .ensures .1, c .before .before .before .before .before .before)) _ (c .before .size-of .ensures .0) (c .if2 .taken)
+cast-n : tie.Need-cast-n
+cast-n c = search needs
 
-add-if3 : tie.Need-add-if3
-add-if3 c = search needs
+slice-aggregate-store-components : tie.Need-slice-aggregate-store-components
+slice-aggregate-store-components c = search needs
 
-returns-3 : tie.Need-returns-3
-returns-3 c =
-    let a = c .before .before .before .before .before .before .before .args in
-    segment-short (a .x) _ (record { components = a .components; eidr = a .eidr }) (a .lent .now) (a .target .now) _ (c .before .before .before .before .refusal-of-segmentation .ensures) (c .before .before .before .if1 .left) (omega (arith, c .before .before .size-of .ensures .1, c .before .before .before .before .before .before .before)) _ (c .before .before .size-of .ensures .0) (c .before .if2 .left) (c .if3 .taken)
+store-components-requires : tie.Need-store-components-requires
+store-components-requires c κs = search needs
 
-cuei-requires : tie.Need-cuei-requires
-cuei-requires c κs = search needs
+mul-end : tie.Need-mul-end
+mul-end c = search needs
 
-add-store-frame : tie.Need-add-store-frame
-add-store-frame c = search needs
+sub-write-fair-segmentation : tie.Need-sub-write-fair-segmentation
+sub-write-fair-segmentation c = search needs
 
-slice-aggregate-store-frame : tie.Need-slice-aggregate-store-frame
-slice-aggregate-store-frame c = search needs
+part-write-fair-segmentation-start : tie.Need-part-write-fair-segmentation-start
+part-write-fair-segmentation-start c = search needs
 
-store-frame-requires : tie.Need-store-frame-requires
-store-frame-requires c κs = search needs
+part-write-fair-segmentation-end : tie.Need-part-write-fair-segmentation-end
+part-write-fair-segmentation-end c = search needs
 
-store-segmentation-requires : tie.Need-store-segmentation-requires
-store-segmentation-requires c κs =
-    let a = c .before .before .before .before .before .before .before .before .before .before .before .before .before .before .args in
-    segment-view (a .x) _ (record { components = a .components; eidr = a .eidr }) (a .lent .now) (a .target .now) _ (c .before .before .before .before .before .before .before .before .before .before .before .refusal-of-segmentation .ensures) (c .before .before .before .before .before .before .before .before .before .before .if1 .left) .1
-
-add-t14 : tie.Need-add-t14
-add-t14 c = search needs
+write-fair-segmentation-requires : tie.Need-write-fair-segmentation-requires
+write-fair-segmentation-requires c κs =
+    let a = c .before .before .before .before .before .before .before .before .before .before .before .args in
+    segment-view (a .x) _ (record { components = a .components; eidr = a .eidr }) (a .lent .now) (a .target .now) _ (c .before .before .before .before .before .before .before .before .refusal-of-segmentation .ensures) (c .before .before .before .before .before .before .before .if1 .left)
 
 same-length : tie.Need-same-length
 same-length c = search needs
 
-returns-4 : tie.Need-returns-4
-returns-4 c =
-    let a = c .before .before .before .before .before .before .before .before .before .before .before .before .before .before .before .before .before .args in
-    segment-writes (a .x) _ (record { components = a .components; eidr = a .eidr }) (a .lent .now) (a .target .now) _ (c .before .before .before .before .before .before .before .before .before .before .before .before .before .before .refusal-of-segmentation .ensures) (c .before .before .before .before .before .before .before .before .before .before .before .before .before .if1 .left) (omega (arith, c .before .before .before .before .before .before .before .before .before .before .before .before .size-of .ensures .1, c .before .before .before .before .before .before .before .before .before .before .before .before .before .before .before .before .before)) _ (c .before .before .before .before .before .before .before .before .before .before .before .before .size-of .ensures .0) (c .before .before .before .before .before .before .before .before .before .before .before .if2 .left) _ _ _ _ _ (c .before .before .before .before .before .before .before .before .before .before .if3 .left) (c .before .before .before .before .before .before .before .before .before .cuei .ensures) (c .before .before .before .before .before .before .store-frame .ensures) (c .before .before .store-segmentation .ensures)
+returns-2 : tie.Need-returns-2
+returns-2 c =
+    let z = c .before .before .before .before .before .before .before .before .before .before .before .before .before .before in
+    let a = z .args in
+    let n = c .before .before .before .before .before .before .before .before .before .count-of in
+    let many : length (a .components) ≡ 255 = omega (arith, z) in
+    c .before .before .write-fair-segmentation .ensures .fair (a .identifier) (a .components) many (sym (c .before .before .before .before .before .before .before .before .before .before .before .refusal-of-segmentation .ensures) ∙ c .before .before .before .before .before .before .before .before .before .before .if1 .left)
+    (listed-so (a .x) (a .components) _ (n .ensures) many (omega (arith, n)) _ (all-zeros 1530) (length-replicate {A = ℕ} 1530 0) _ _ (c .before .before .before .before .before .before .before .store-components .ensures []))
 
 pub write-segmentation-spec : {M : Type 1} → statement M
 write-segmentation-spec =
@@ -65,15 +65,14 @@ write-segmentation-spec =
     (tie.spec
     refusal-of-segmentation-requires
     returns
-    size-of-requires
-    returns-2
-    add-if3
-    returns-3
-    cuei-requires
-    add-store-frame
-    slice-aggregate-store-frame
-    store-frame-requires
-    store-segmentation-requires
-    add-t14
+    count-of-requires
+    cast-n
+    slice-aggregate-store-components
+    store-components-requires
+    mul-end
+    sub-write-fair-segmentation
+    part-write-fair-segmentation-start
+    part-write-fair-segmentation-end
+    write-fair-segmentation-requires
     same-length
-    returns-4)
+    returns-2)

@@ -1,0 +1,76 @@
+-- `descriptor_writer::segmentation::write_bare_segmentation`, with components or without.
+use Prim.Native.Nat.{_<_}
+use mathlib.Core.Path.{_≡_, sym, _∙_}
+use native.Mathlib.Omega.{arith}
+use Rattle.descriptor.specs.Whole.{blanks}
+use Rattle.descriptor_form.proofs.Tests.{blanks-length}
+use Rattle.descriptor_writer.proofs.Listing.{none-listed}
+use Rattle.descriptor_writer.proofs.Segmenting.{segment-refused, segment-view, with-blanks}
+use borrow.Author.Needs.{needs}
+use Rattle.descriptor_writer.proofs.segmentation.write_bare_segmentation.Statement.{statement}
+use Rattle.descriptor_writer.proofs.segmentation.write_bare_segmentation.Tie as tie
+
+count-of-requires : tie.Need-count-of-requires
+count-of-requires c κs = search needs
+
+blank-beside-requires : tie.Need-blank-beside-requires
+blank-beside-requires c κs = search needs
+
+write-segmentation-requires : tie.Need-write-segmentation-requires
+write-segmentation-requires c κs = search needs
+
+same-length : tie.Need-same-length
+same-length c = search needs
+
+returns : tie.Need-returns
+returns c =
+    with-blanks _ _ _ _ _ _ _ _ (c .before .before .before .before .before .blank-beside .ensures) (c .before .before .write-segmentation .ensures)
+
+refusal-of-bare-requires : tie.Need-refusal-of-bare-requires
+refusal-of-bare-requires c κs = search needs
+
+returns-2 : tie.Need-returns-2
+returns-2 c =
+    let a = c .before .before .before .before .before .before .args in
+    segment-refused (a .x) _ (record { components = blanks; eidr = a .eidr }) (a .lent .now) (a .target .now) _ (c .before .refusal-of-bare .ensures) (c .if2 .taken)
+
+sub-write-fair-segmentation : tie.Need-sub-write-fair-segmentation
+sub-write-fair-segmentation c = search needs
+
+part-write-fair-segmentation-start : tie.Need-part-write-fair-segmentation-start
+part-write-fair-segmentation-start c = search needs
+
+part-write-fair-segmentation-end : tie.Need-part-write-fair-segmentation-end
+part-write-fair-segmentation-end c = search needs
+
+write-fair-segmentation-requires : tie.Need-write-fair-segmentation-requires
+write-fair-segmentation-requires c κs =
+    let a = c .before .before .before .before .before .before .before .before .args in
+    segment-view (a .x) _ (record { components = blanks; eidr = a .eidr }) (a .lent .now) (a .target .now) _ (c .before .before .before .refusal-of-bare .ensures) (c .before .before .if2 .left)
+
+same-length-2 : tie.Need-same-length-2
+same-length-2 c = search needs
+
+returns-3 : tie.Need-returns-3
+returns-3 c =
+    let a = c .before .before .before .before .before .before .before .before .before .before .before .args in
+    c .before .before .write-fair-segmentation .ensures .fair (a .identifier) blanks blanks-length (sym (c .before .before .before .before .before .before .refusal-of-bare .ensures) ∙ c .before .before .before .before .before .if2 .left)
+    (none-listed _ blanks (sym (c .before .before .before .before .before .before .before .before .count-of .ensures) ∙ omega (arith, c .before .before .before .before .before .before .before .if1 .left)))
+
+pub write-bare-segmentation-spec : {M : Type 1} → statement M
+write-bare-segmentation-spec =
+    tie.close
+    (tie.spec
+    count-of-requires
+    blank-beside-requires
+    write-segmentation-requires
+    same-length
+    returns
+    refusal-of-bare-requires
+    returns-2
+    sub-write-fair-segmentation
+    part-write-fair-segmentation-start
+    part-write-fair-segmentation-end
+    write-fair-segmentation-requires
+    same-length-2
+    returns-3)
