@@ -61,9 +61,9 @@ at-once s i =
     let b : i * 8 / 8 ≡ i = omega arith in
     rw (b, begins i)
 
-pub at-a-time : (s : List ℕ) (i : ℕ) (r : TimeRead) → r ≡ timeRead (parse spliceTime (bitsOf s) (place (record { byte = i; bit = 0 }))) → r ≡ timeRead (parse (timeUnless false) (bitsOf s) (i * 8))
-unfolding timeUnless place
-at-a-time s i r e = e ∙ ap (λ (p : ℕ). timeRead (parse spliceTime (bitsOf s) p)) (add-zero (i * 8))
+pub at-a-time : (s : List ℕ) (i : ℕ) (r : TimeRead) → r ≡ timeRead (parse spliceTime (bitsOf s) (i * 8)) → r ≡ timeRead (parse (timeUnless false) (bitsOf s) (i * 8))
+unfolding timeUnless
+at-a-time s i r e = e
 
 -- one that was read, and the byte after it
 timed : (s : List ℕ) (b : Bool) (i : ℕ) (t : Timed) → TimeRead.Got t ≡ timeRead (parse (timeUnless b) (bitsOf s) (i * 8)) → parse (timeUnless b) (bitsOf s) (i * 8) ≡ got (t .time) (t .next .byte * 8)

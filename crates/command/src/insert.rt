@@ -17,7 +17,7 @@ use crate::components::skim;
 use header::time::SpliceTime;
 use header::time::TimeRead;
 use header::time::Timed;
-use header::time::read_splice_time;
+use header::time::read_whole_time;
 use names::flags::NetworkIndicator;
 use names::flags::ReturnMode;
 use table::cursor::Cursor;
@@ -115,14 +115,13 @@ fn returning(automatic: bool) -> ReturnMode
 pub(crate) fn read_time_unless(s: &[u8], at: usize, immediate: bool) -> TimeRead
     ensures { λ r. ⌜ r ≡ timeRead (parse (timeUnless immediate) (bitsOf (now (s .entry))) (at * 8)) ⌝ }
 {
-    let c = Cursor { byte: at, bit: 0 };
     if immediate {
         return TimeRead::Got(Timed {
             time: SpliceTime::Immediate,
-            next: c,
+            next: Cursor { byte: at, bit: 0 },
         });
     }
-    read_splice_time(s, c)
+    read_whole_time(s, at)
 }
 
 fn read_mode(s: &[u8], at: usize, program: bool, immediate: bool) -> ModedRead

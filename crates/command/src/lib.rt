@@ -11,7 +11,7 @@ use crate::insert::Insertion;
 use crate::insert::read_insert;
 use header::time::SpliceTime;
 use header::time::TimeRead;
-use header::time::read_splice_time;
+use header::time::read_whole_time;
 use table::View;
 use table::cursor::Cursor;
 use table::cursor::Taken;
@@ -51,7 +51,7 @@ fn read_empty(s: &[u8], command: SpliceCommand) -> CommandRead
 fn read_time_signal(s: &[u8]) -> CommandRead
     ensures { λ r. ⌜ r ≡ read SpliceCommand.TimeSignal (parse spliceTime (bitsOf (now (s .entry))) 0) ⌝ }
 {
-    match read_splice_time(s, Cursor { byte: 0, bit: 0 }) {
+    match read_whole_time(s, 0) {
         TimeRead::Got(t) => {
             let time = t.time;
             CommandRead::Is(SpliceCommand::TimeSignal(time))

@@ -1,10 +1,17 @@
--- The flat form of a section. This is a definition.
+-- The flat form of a section. These are definitions.
+use Rattle.command.specs.declared.SpliceCommand.{SpliceCommand}
+use Rattle.table.specs.declared.View.{View}
 use Rattle.section.specs.Section.{numberOf}
 use Rattle.section.specs.declared.SectionRead.{SectionRead}
 use Rattle.section.specs.declared.SectionRead.the-variants.{Is, Refused}
 use Rattle.flat.specs.Flat.{flatHeader, noHeader, flatView, noView}
 use Rattle.flat.specs.FlatCommand.{flatCommand, noCommand}
+use Rattle.flat.specs.declared.headers.FlatHeader.{FlatHeader}
 use Rattle.flat.specs.declared.sections.FlatSection.{FlatSection}
+
+-- of a section's parts, whose header is flat already
+abbrev pub flatParts : FlatHeader → SpliceCommand → View → FlatSection
+flatParts h c v = record { refusal = 0; header = h; command = flatCommand c; descriptors = flatView v }
 
 unfoldable pub flatSectionRead : SectionRead → FlatSection
 flatSectionRead (Is x) =

@@ -1,10 +1,14 @@
 // A splice header, and an adjusted time.
 ghost use mathlib.Core.Path.{_≡_};
 ghost use Rattle.flat.specs.Flat.{noHeader, flatHeader, flatHeaderRead, flatAdjusted};
+ghost use Rattle.header.specs.Header.{headerOf};
 use crate::flat_flag;
 use header::header::HeaderRead;
 use header::header::SpliceInfoHeader;
 use header::time::AdjustedTime;
+use table::numbers::big_endian;
+use table::numbers::time33;
+use table::numbers::wide;
 
 #[repr(C)]
 pub struct FlatHeader {
@@ -35,7 +39,28 @@ pub(crate) fn no_header(refusal: u64) -> FlatHeader
     }
 }
 
-pub(crate) fn flat_header(h: SpliceInfoHeader) -> FlatHeader
+// The flat form of the header in the first eleven bytes: numbers cross as they stand, and none is named on the way.
+pub fn read_flat_header(s: &[u8]) -> FlatHeader
+    ensures { λ r. ⌜ r ≡ flatHeaderRead (headerOf (now (s .entry))) ⌝ }
+{
+    if s.len() < 11 {
+        return no_header(5);
+    }
+    let flags = wide(s[1]);
+    FlatHeader {
+        refusal: 0,
+        protocol_version: wide(s[0]),
+        encrypted_packet: flags / 128,
+        encryption_algorithm: flags / 2 % 64,
+        pts_adjustment: time33(s, 1),
+        cw_index: wide(s[6]),
+        tier: big_endian(s, 7, 2) / 16,
+        splice_command_length: big_endian(s, 8, 2) % 4096,
+        splice_command_type: wide(s[10]),
+    }
+}
+
+fn flat_header(h: SpliceInfoHeader) -> FlatHeader
     ensures { λ r. ⌜ r ≡ flatHeader h ⌝ }
 {
     let algorithm = h.encryption_algorithm;

@@ -2,17 +2,17 @@
 ghost use mathlib.Core.Path.{_≡_};
 ghost use Rattle.section.specs.Section.{numberOf};
 ghost use Rattle.section.specs.declared.SectionRead.{SectionRead};
-ghost use Rattle.flat.specs.FlatSection.{flatSectionRead};
+ghost use Rattle.flat.specs.FlatSection.{flatSectionRead, flatParts};
 use crate::FlatView;
 use crate::commands::FlatCommand;
 use crate::commands::flat_command;
 use crate::commands::no_command;
 use crate::flat_view;
 use crate::headers::FlatHeader;
-use crate::headers::flat_header;
 use crate::headers::no_header;
+use command::SpliceCommand;
 use section::Refusal;
-use section::Section;
+use table::View;
 
 #[repr(C)]
 pub struct FlatSection {
@@ -53,16 +53,13 @@ pub fn no_section(r: Refusal) -> FlatSection
     }
 }
 
-// One that is read.
-pub fn flat_section(x: Section) -> FlatSection
-    ensures { λ r. ⌜ r ≡ flatSectionRead (SectionRead.Is x) ⌝ }
+// One that is read: its header, its command, and where its loop lies.
+pub fn flat_section(header: FlatHeader, command: SpliceCommand, descriptors: View) -> FlatSection
+    ensures { λ r. ⌜ r ≡ flatParts header command descriptors ⌝ }
 {
-    let header = x.header;
-    let command = x.command;
-    let descriptors = x.descriptors;
     FlatSection {
         refusal: 0,
-        header: flat_header(header),
+        header,
         command: flat_command(command),
         descriptors: flat_view(descriptors),
     }

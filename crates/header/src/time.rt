@@ -31,7 +31,7 @@ pub enum TimeRead {
 }
 
 // The splice_time() that starts with a byte, as all of the standard's do.
-fn read_whole_time(s: &[u8], at: usize) -> TimeRead
+pub fn read_whole_time(s: &[u8], at: usize) -> TimeRead
     ensures { λ r. ⌜ r ≡ timeRead (parse spliceTime (bitsOf (now (s .entry))) (at * 8)) ⌝ }
 {
     if s.len() <= at {

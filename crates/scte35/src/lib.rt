@@ -15,8 +15,11 @@ ghost use Rattle.items.specs.Items.{stepOf, readingOf};
 ghost use Rattle.section.specs.Section.{sectionOf};
 ghost use Rattle.upid.specs.Upid.{upidOf};
 ghost use Rattle.scte35.specs.FlatNumber.{timeFrom};
+use command::CommandRead;
 use command::SpliceCommand;
 use command::components::read_components;
+use command::insert::InsertRead;
+use command::insert::read_insert;
 use command::read_command;
 use crc::crc32;
 use flat::commands::FlatCommand;
@@ -26,7 +29,7 @@ use flat::components::flat_splices;
 use flat::headers::FlatAdjusted;
 use flat::headers::FlatHeader;
 use flat::headers::flat_adjusted;
-use flat::headers::flat_header_read;
+use flat::headers::read_flat_header;
 use flat::sections::FlatSection;
 use flat::sections::flat_section;
 use flat::sections::no_section;
@@ -36,13 +39,16 @@ use flat_items::steps::FlatStep;
 use flat_items::steps::flat_step;
 use flat_items::upids::FlatUpid;
 use flat_items::upids::flat_upid;
-use header::header::read_header;
 use header::time::SpliceTime;
+use header::time::TimeRead;
 use header::time::adjusted_time;
+use header::time::read_whole_time;
 use items::iteration::step;
 use items::reading::read_item;
-use section::SectionRead;
-use section::read_section;
+use section::FrameRead;
+use section::Refusal;
+use section::read_command_part;
+use section::read_frame;
 use upid::read_upid;
 
 pub mod canonical;
@@ -64,26 +70,49 @@ pub(crate) fn rest(s: &[u8], at: usize) -> &[u8]
 pub extern "C" fn scte35_header(s: &[u8], at: usize) -> FlatHeader
     ensures { λ r. ⌜ r ≡ flatHeaderRead (headerOf (drop at (now (s .entry)))) ⌝ }
 {
-    flat_header_read(read_header(rest(s, at)))
+    read_flat_header(rest(s, at))
 }
 
+// Header and loop are read as numbers, and each command into its flat form, with a return in each arm: answers that meet behind a match are held word by word.
 #[no_mangle]
 pub extern "C" fn scte35_section(s: &[u8], at: usize) -> FlatSection
     ensures { λ r. ⌜ r ≡ flatSectionRead (sectionOf (drop at (now (s .entry)))) ⌝ }
 {
-    // An arm with a return for each kind of command: answers that meet behind a match are held word by word and then copied.
-    match read_section(rest(s, at)) {
-        SectionRead::Is(x) => {
-            let command = x.command;
-            match command {
-                SpliceCommand::SpliceNull => return flat_section(x),
-                SpliceCommand::SpliceInsert(_) => return flat_section(x),
-                SpliceCommand::TimeSignal(_) => return flat_section(x),
-                SpliceCommand::BandwidthReservation => return flat_section(x),
-                SpliceCommand::PrivateCommand(_) => return flat_section(x),
+    let s = rest(s, at);
+    let place = match read_frame(s) {
+        FrameRead::Whole(v) => v,
+        FrameRead::Refused(r) => return no_section(r),
+    };
+    let header = read_flat_header(&s[3..]);
+    let end = place.at - 2;
+    let payload = &s[14..end];
+    match s[13] {
+        0x00 => {
+            if payload.len() == 0 {
+                return flat_section(header, SpliceCommand::SpliceNull, place);
             }
+            return no_section(Refusal::MalformedCommand);
         }
-        SectionRead::Refused(r) => return no_section(r),
+        0x05 => match read_insert(payload) {
+            InsertRead::Got(i) => return flat_section(
+                header,
+                SpliceCommand::SpliceInsert(i),
+                place,
+            ),
+            InsertRead::Lacks(_) => return no_section(Refusal::MalformedCommand),
+        },
+        0x06 => match read_whole_time(payload, 0) {
+            TimeRead::Got(t) => {
+                let time = t.time;
+                return flat_section(header, SpliceCommand::TimeSignal(time), place);
+            }
+            TimeRead::Lacks(_) => return no_section(Refusal::MalformedCommand),
+        },
+        kind => match read_command_part(kind, payload) {
+            CommandRead::Is(c) => return flat_section(header, c, place),
+            CommandRead::UnknownType => return no_section(Refusal::UnknownCommand),
+            CommandRead::Malformed => return no_section(Refusal::MalformedCommand),
+        },
     }
 }
 

@@ -1,5 +1,5 @@
 -- The section's refusals one after the other, as the reader comes to them.
-use Prim.Native.Nat.{ℕ, _+_, _*_, _-_, _^_, _%_, _<_, _≤_}
+use Prim.Native.Nat.{ℕ, _+_, _*_, _-_, _/_, _^_, _%_, _<_, _≤_}
 use mathlib.Core.Bool.{Bool, true, false}
 use mathlib.Core.List.{List}
 use mathlib.Core.Path.{_≡_, refl, ap, sym, _∙_}
@@ -7,7 +7,7 @@ use native.Mathlib.Omega.{arith}
 use lib.Dec.{ltb, eqb}
 use lib.ListN.{length, getD, take, drop, length-drop}
 use lib.Seq.{take-all}
-use borrow.Author.Tests.{lt-ltb, le-ltb, eq-eqb, ne-eqb}
+use borrow.Author.Tests.{lt-ltb, le-ltb, ltb-false, eq-eqb, ne-eqb}
 use Rattle.command.specs.Command.{commandOf}
 use Rattle.command.specs.declared.CommandRead.{CommandRead}
 use Rattle.command.specs.declared.Private.{Private}
@@ -17,40 +17,45 @@ use Rattle.crc.specs.Crc.{crcOf}
 use Rattle.header.specs.Header.{headerOf}
 use Rattle.header.specs.declared.header.HeaderRead.{HeaderRead}
 use Rattle.header.specs.declared.header.SpliceInfoHeader.{SpliceInfoHeader}
-use Rattle.header.proofs.Headers.{low-part}
-use Rattle.table.specs.Bits.{bitsOf, field}
+use Rattle.table.specs.Bits.{pick, bitsOf, field}
 use Rattle.table.specs.declared.View.{View}
+use Rattle.table.proofs.Fields.{byte-field, field-in, field-byte}
 use Rattle.table.proofs.Reading.{bits-are}
-use Rattle.section.specs.Section.{commandLength, commandType, commandBytes, roomAfter, loopLength, loopPlace, moved, accepted, laidOut, sectionOf}
-use Rattle.section.specs.Walk.{viewStart}
+use Rattle.section.specs.Section.{under3, over4096, otherTable, wrongCrc, under18, encrypted, commandTooLong, noLoopLength, loopTooLong, commandLength, commandType, commandBytes, roomAfter, loopLength, loopPlace, moved, movedRead, frameOf, accepted, laidOut, sectionOf}
+use Rattle.section.specs.Walk.{viewStart, layoutOf}
+use Rattle.section.specs.declared.FrameRead.{FrameRead}
 use Rattle.section.specs.declared.Refusal.{Refusal}
 use Rattle.section.specs.declared.SectionRead.{SectionRead}
 
 -- ---- 1 to 5
 module _ (s : List ℕ) where
-  pub is-short : length s < 3 → SectionRead.Refused Refusal.TooShort ≡ sectionOf s
-  unfolding sectionOf
+  pub is-short : length s < 3 → FrameRead.Refused Refusal.TooShort ≡ frameOf s
+  unfolding frameOf
   is-short h = rw (lt-ltb (length s) 3 h)
 
   module _ (long : 3 ≤ length s) where
-    pub is-long : 4096 < length s → SectionRead.Refused Refusal.TooLong ≡ sectionOf s
-    unfolding sectionOf
+    pub is-long : 4096 < length s → FrameRead.Refused Refusal.TooLong ≡ frameOf s
+    unfolding frameOf
     is-long h = rw (le-ltb (length s) 3 long, lt-ltb 4096 (length s) h)
 
     module _ (fits : length s ≤ 4096) where
-      pub is-other : (getD s 0 0 ≡ 0xfc → ⊥) → SectionRead.Refused Refusal.OtherTable ≡ sectionOf s
-      unfolding sectionOf
+      pub is-other : (getD s 0 0 ≡ 0xfc → ⊥) → FrameRead.Refused Refusal.OtherTable ≡ frameOf s
+      unfolding frameOf
       is-other h = rw (le-ltb (length s) 3 long, le-ltb 4096 (length s) fits, ne-eqb (getD s 0 0) 0xfc h)
 
       module _ (table : getD s 0 0 ≡ 0xfc) where
-        pub is-wrong : (crcOf s ≡ 0 → ⊥) → SectionRead.Refused Refusal.WrongCrc ≡ sectionOf s
-        unfolding sectionOf
+        pub is-wrong : (crcOf s ≡ 0 → ⊥) → FrameRead.Refused Refusal.WrongCrc ≡ frameOf s
+        unfolding frameOf
         is-wrong h = rw (le-ltb (length s) 3 long, le-ltb 4096 (length s) fits, eq-eqb (getD s 0 0) 0xfc table, ne-eqb (crcOf s) 0 h)
 
         module _ (right : crcOf s ≡ 0) where
-          pub is-headless : length s < 18 → SectionRead.Refused Refusal.NoHeader ≡ sectionOf s
-          unfolding sectionOf
+          pub is-headless : length s < 18 → FrameRead.Refused Refusal.NoHeader ≡ frameOf s
+          unfolding frameOf
           is-headless h = rw (le-ltb (length s) 3 long, le-ltb 4096 (length s) fits, eq-eqb (getD s 0 0) 0xfc table, eq-eqb (crcOf s) 0 right, lt-ltb (length s) 18 h)
+
+          pub is-framed : (r : FrameRead) → 18 ≤ length s → r ≡ layoutOf s → r ≡ frameOf s
+          unfolding frameOf layoutOf
+          is-framed r h e = rw (le-ltb (length s) 3 long, le-ltb 4096 (length s) fits, eq-eqb (getD s 0 0) 0xfc table, eq-eqb (crcOf s) 0 right, le-ltb (length s) 18 h) e
 
           pub is-laid-out : (r : SectionRead) → 18 ≤ length s → r ≡ laidOut s → r ≡ sectionOf s
           unfolding sectionOf
@@ -62,47 +67,175 @@ module _ (s : List ℕ) where
   unfolding commandLength
   size-is v e = bits-are s 92 12 v (omega arith) e
 
-  pub size-of : (v : ℕ) → 18 ≤ length s → v ≡ field (bitsOf s) 88 16 % 2 ^ 64 → v % 4096 ≡ commandLength s
+  -- four bits of byte 11, and byte 12
+  pub size-of : (x y : ℕ) → 18 ≤ length s → x ≡ getD s 11 0 → x < 256 → y ≡ getD s 12 0 → y < 256 → x % 16 * 256 + y ≡ commandLength s
   unfolding commandLength
-  size-of v h e = low-part s 88 4 12 v (omega arith) (omega arith) e
+  size-of x y h ex bx ey by =
+      let four : field (bitsOf s) 92 4 ≡ getD s 11 0 / 1 % 16 = field-in s 11 (omega arith) (rw (← ex) bx) 4 4 0 refl in
+      let whole = field-byte s 12 (omega arith) (rw (← ey) by) 92 4 refl in
+      sym (whole ∙ omega (arith, four, ex, ey))
 
-  pub extent-is : (n v : ℕ) → n ≡ commandLength s → v ≡ field (bitsOf s) ((14 + n) * 8) 16 % 2 ^ 64 → (v ≡ loopLength s) × (v < 2 ^ 16)
+  pub number-of : (at x y : ℕ) → at + 2 ≤ length s → x ≡ getD s at 0 → x < 256 → y ≡ getD s (at + 1) 0 → y < 256 → x * 256 + y ≡ field (bitsOf s) (at * 8) 16
+  number-of at x y h ex bx ey by =
+      let high = byte-field s at (omega arith) (rw (← ex) bx) in
+      let whole = field-byte s (at + 1) (omega arith) (rw (← ey) by) (at * 8) 8 (omega arith) in
+      sym (whole ∙ omega (arith, high, ex, ey))
+
+  pub extent-is : (n v : ℕ) → n ≡ commandLength s → v ≡ field (bitsOf s) ((14 + n) * 8) 16 → v ≡ loopLength s
   unfolding loopLength
-  extent-is n v h e =
-      let z : field (bitsOf s) ((14 + n) * 8) 16 ≡ field (bitsOf s) ((14 + commandLength s) * 8) 16 = rw h in
-      let b = bits-are s ((14 + n) * 8) 16 v (omega arith) e in
-      (b .0 ∙ z, b .1)
+  extent-is n v h e = e ∙ ap (λ (m : ℕ). field (bitsOf s) ((14 + m) * 8) 16) h
 
-  bit-is : (v : ℕ) → v ≡ field (bitsOf s) 32 1 % 2 ^ 64 → v ≡ field (bitsOf s) 32 1
-  bit-is v e = bits-are s 32 1 v (omega arith) e .0
+  module _ (long : 18 ≤ length s) (byte : getD s 4 0 < 256) where
+    bit-is : field (bitsOf s) 32 1 ≡ getD s 4 0 / 128 % 2
+    bit-is = field-in s 4 (omega arith) byte 0 1 7 refl
 
-  module _ (v : ℕ) (ev : v ≡ field (bitsOf s) 32 1 % 2 ^ 64) where
-    pub is-encrypted : v ≡ 1 → SectionRead.Refused Refusal.Encrypted ≡ laidOut s
-    unfolding laidOut
-    is-encrypted h = rw (← (bit-is v ev), h)
+    pub is-encrypted : 128 ≤ getD s 4 0 → FrameRead.Refused Refusal.Encrypted ≡ layoutOf s
+    unfolding layoutOf
+    is-encrypted h = rw (eq-eqb (field (bitsOf s) 32 1) 1 (omega (arith, bit-is)))
 
-    module _ (clear : v ≡ 1 → ⊥) where
+    module _ (clear : getD s 4 0 < 128) where
       clear-bit : eqb (field (bitsOf s) 32 1) 1 ≡ false
-      clear-bit = ne-eqb (field (bitsOf s) 32 1) 1 (λ e. clear (bit-is v ev ∙ e))
+      clear-bit = ne-eqb (field (bitsOf s) 32 1) 1 (λ e. omega (arith, bit-is, e))
 
       module _ (n : ℕ) (en : n ≡ commandLength s) where
-        pub is-command-long : length s - 18 < n → SectionRead.Refused Refusal.CommandTooLong ≡ laidOut s
-        unfolding laidOut
+        pub is-command-long : length s - 18 < n → FrameRead.Refused Refusal.CommandTooLong ≡ layoutOf s
+        unfolding layoutOf
         is-command-long h = rw (clear-bit, ← en, lt-ltb (length s - 18) n h)
 
         module _ (fits : n ≤ length s - 18) where
-          pub is-loopless : length s - 18 - n < 2 → SectionRead.Refused Refusal.NoLoopLength ≡ laidOut s
-          unfolding laidOut roomAfter
+          pub is-loopless : length s - 18 - n < 2 → FrameRead.Refused Refusal.NoLoopLength ≡ layoutOf s
+          unfolding layoutOf roomAfter
           is-loopless h = rw (clear-bit, ← en, le-ltb (length s - 18) n fits, lt-ltb (length s - 18 - n) 2 h)
 
           module _ (room : 2 ≤ length s - 18 - n) (m : ℕ) (em : m ≡ loopLength s) where
-            pub is-loop-long : length s - 18 - n < m + 2 → SectionRead.Refused Refusal.LoopTooLong ≡ laidOut s
-            unfolding laidOut roomAfter
+            pub is-loop-long : length s - 18 - n < m + 2 → FrameRead.Refused Refusal.LoopTooLong ≡ layoutOf s
+            unfolding layoutOf roomAfter
             is-loop-long h = rw (clear-bit, ← em, ← en, le-ltb (length s - 18) n fits, le-ltb (length s - 18 - n) 2 room, lt-ltb (length s - 18 - n) (m + 2) h)
 
-            pub has-parts : (r : SectionRead) → m + 2 ≤ length s - 18 - n → r ≡ accepted (headerOf (drop 3 s)) (commandOf (commandType s) (commandBytes s)) (loopPlace s) → r ≡ laidOut s
-            unfolding laidOut roomAfter
-            has-parts r h e = rw (clear-bit, ← em, ← en, le-ltb (length s - 18) n fits, le-ltb (length s - 18 - n) 2 room, le-ltb (length s - 18 - n) (m + 2) h) e
+            pub is-whole : m + 2 ≤ length s - 18 - n → FrameRead.Whole (record { at = 16 + n; len = m }) ≡ layoutOf s
+            unfolding layoutOf roomAfter loopPlace
+            is-whole h = rw (clear-bit, ← em, ← en, le-ltb (length s - 18) n fits, le-ltb (length s - 18 - n) 2 room, le-ltb (length s - 18 - n) (m + 2) h)
+
+  module _ (v : ℕ) (ev : v ≡ field (bitsOf s) 32 1 % 2 ^ 64) (clear : v ≡ 1 → ⊥) (n : ℕ) (en : n ≡ commandLength s) (fits : n ≤ length s - 18) where
+    not-set : eqb (field (bitsOf s) 32 1) 1 ≡ false
+    not-set = ne-eqb (field (bitsOf s) 32 1) 1 (λ e. clear (bits-are s 32 1 v (omega arith) ev .0 ∙ e))
+
+    pub no-loop : length s - 18 - n < 2 → SectionRead.Refused Refusal.NoLoopLength ≡ laidOut s
+    unfolding laidOut roomAfter
+    no-loop h = rw (not-set, ← en, le-ltb (length s - 18) n fits, lt-ltb (length s - 18 - n) 2 h)
+
+    module _ (room : 2 ≤ length s - 18 - n) (m : ℕ) (em : m ≡ loopLength s) where
+      pub has-parts : (r : SectionRead) → m + 2 ≤ length s - 18 - n → r ≡ accepted (headerOf (drop 3 s)) (commandOf (commandType s) (commandBytes s)) (loopPlace s) → r ≡ laidOut s
+      unfolding laidOut roomAfter
+      has-parts r h e = rw (not-set, ← em, ← en, le-ltb (length s - 18) n fits, le-ltb (length s - 18 - n) 2 room, le-ltb (length s - 18 - n) (m + 2) h) e
+
+-- ---- from the frame to the section
+abbrev through : FrameRead → SectionRead → SectionRead
+through (FrameRead.Whole v) r = r
+through (FrameRead.Refused x) r = SectionRead.Refused x
+
+chain : (b₁ b₂ b₃ b₄ b₅ b₆ b₇ b₈ b₉ : Bool) (v : View) (r : SectionRead)
+    → pick b₁ (SectionRead.Refused Refusal.TooShort)
+    (pick b₂ (SectionRead.Refused Refusal.TooLong)
+    (pick b₃ (SectionRead.Refused Refusal.OtherTable)
+    (pick b₄ (SectionRead.Refused Refusal.WrongCrc)
+    (pick b₅ (SectionRead.Refused Refusal.NoHeader)
+    (pick b₆ (SectionRead.Refused Refusal.Encrypted)
+    (pick b₇ (SectionRead.Refused Refusal.CommandTooLong)
+    (pick b₈ (SectionRead.Refused Refusal.NoLoopLength)
+    (pick b₉ (SectionRead.Refused Refusal.LoopTooLong) r))))))))
+    ≡ through
+    (pick b₁ (FrameRead.Refused Refusal.TooShort)
+    (pick b₂ (FrameRead.Refused Refusal.TooLong)
+    (pick b₃ (FrameRead.Refused Refusal.OtherTable)
+    (pick b₄ (FrameRead.Refused Refusal.WrongCrc)
+    (pick b₅ (FrameRead.Refused Refusal.NoHeader)
+    (pick b₆ (FrameRead.Refused Refusal.Encrypted)
+    (pick b₇ (FrameRead.Refused Refusal.CommandTooLong)
+    (pick b₈ (FrameRead.Refused Refusal.NoLoopLength)
+    (pick b₉ (FrameRead.Refused Refusal.LoopTooLong) (FrameRead.Whole v)))))))))) r
+chain true b₂ b₃ b₄ b₅ b₆ b₇ b₈ b₉ v r = refl
+chain false true b₃ b₄ b₅ b₆ b₇ b₈ b₉ v r = refl
+chain false false true b₄ b₅ b₆ b₇ b₈ b₉ v r = refl
+chain false false false true b₅ b₆ b₇ b₈ b₉ v r = refl
+chain false false false false true b₆ b₇ b₈ b₉ v r = refl
+chain false false false false false true b₇ b₈ b₉ v r = refl
+chain false false false false false false true b₈ b₉ v r = refl
+chain false false false false false false false true b₉ v r = refl
+chain false false false false false false false false true v r = refl
+chain false false false false false false false false false v r = refl
+
+abbrev pub commandRead : List ℕ → CommandRead
+commandRead s = commandOf (commandType s) (commandBytes s)
+
+of-frame : (s : List ℕ) → sectionOf s ≡ through (frameOf s) (accepted (headerOf (drop 3 s)) (commandRead s) (loopPlace s))
+unfolding sectionOf laidOut frameOf
+of-frame s =
+    chain (under3 s) (over4096 s) (otherTable s) (wrongCrc s) (under18 s) (encrypted s) (commandTooLong s) (noLoopLength s) (loopTooLong s) (loopPlace s)
+    (accepted (headerOf (drop 3 s)) (commandRead s) (loopPlace s))
+
+pub is-refused : (s : List ℕ) (x : Refusal) → FrameRead.Refused x ≡ frameOf s → SectionRead.Refused x ≡ sectionOf s
+is-refused s x e = sym (of-frame s ∙ ap (λ (f : FrameRead). through f (accepted (headerOf (drop 3 s)) (commandRead s) (loopPlace s))) (sym e))
+
+pub is-accepted : (s : List ℕ) (v : View) (r : SectionRead) → FrameRead.Whole v ≡ frameOf s → r ≡ accepted (headerOf (drop 3 s)) (commandRead s) (loopPlace s) → r ≡ sectionOf s
+is-accepted s v r e f = f ∙ sym (of-frame s ∙ ap (λ (x : FrameRead). through x (accepted (headerOf (drop 3 s)) (commandRead s) (loopPlace s))) (sym e))
+
+-- what a whole frame says
+abbrev asNumber : FrameRead → ℕ
+asNumber (FrameRead.Whole v) = 1
+asNumber (FrameRead.Refused x) = 0
+
+not-whole : {A : Type 0} (x : Refusal) (v : View) → FrameRead.Whole v ≡ FrameRead.Refused x → A
+not-whole x v e = let z : _≡_ {A = ℕ} 1 0 = ap asNumber e in absurd (omega (arith, z))
+
+abbrev placeIn : FrameRead → View → View
+placeIn (FrameRead.Whole v) w = v
+placeIn (FrameRead.Refused x) w = w
+
+tests : (b₁ b₂ b₃ b₄ b₅ b₆ b₇ b₈ b₉ : Bool) (v w : View)
+    → FrameRead.Whole w ≡ pick b₁ (FrameRead.Refused Refusal.TooShort)
+    (pick b₂ (FrameRead.Refused Refusal.TooLong)
+    (pick b₃ (FrameRead.Refused Refusal.OtherTable)
+    (pick b₄ (FrameRead.Refused Refusal.WrongCrc)
+    (pick b₅ (FrameRead.Refused Refusal.NoHeader)
+    (pick b₆ (FrameRead.Refused Refusal.Encrypted)
+    (pick b₇ (FrameRead.Refused Refusal.CommandTooLong)
+    (pick b₈ (FrameRead.Refused Refusal.NoLoopLength)
+    (pick b₉ (FrameRead.Refused Refusal.LoopTooLong) (FrameRead.Whole v)))))))))
+    → (w ≡ v) × (b₂ ≡ false) × (b₅ ≡ false) × (b₇ ≡ false) × (b₈ ≡ false) × (b₉ ≡ false)
+tests true b₂ b₃ b₄ b₅ b₆ b₇ b₈ b₉ v w e = not-whole _ w e
+tests false true b₃ b₄ b₅ b₆ b₇ b₈ b₉ v w e = not-whole _ w e
+tests false false true b₄ b₅ b₆ b₇ b₈ b₉ v w e = not-whole _ w e
+tests false false false true b₅ b₆ b₇ b₈ b₉ v w e = not-whole _ w e
+tests false false false false true b₆ b₇ b₈ b₉ v w e = not-whole _ w e
+tests false false false false false true b₇ b₈ b₉ v w e = not-whole _ w e
+tests false false false false false false true b₈ b₉ v w e = not-whole _ w e
+tests false false false false false false false true b₉ v w e = not-whole _ w e
+tests false false false false false false false false true v w e = not-whole _ w e
+tests false false false false false false false false false v w e = (ap (λ (f : FrameRead). placeIn f v) e, refl, refl, refl, refl, refl)
+
+pub record Framed (s : List ℕ) (v : View) : Type 0 where
+  pub place : v ≡ loopPlace s
+  pub at : v .at ≡ 16 + commandLength s
+  pub short : length s ≤ 4096
+  pub long : 18 ≤ length s
+  pub fits : 20 + commandLength s + loopLength s ≤ length s
+
+pub framed : (s : List ℕ) (v : View) → FrameRead.Whole v ≡ frameOf s → Framed s v
+unfolding frameOf roomAfter loopPlace
+framed s v e =
+    let t = tests (under3 s) (over4096 s) (otherTable s) (wrongCrc s) (under18 s) (encrypted s) (commandTooLong s) (noLoopLength s) (loopTooLong s) (loopPlace s) v e in
+    let h₅ = ltb-false (length s) 18 (t .2) in
+    let h₇ = ltb-false (length s - 18) (commandLength s) (t .3) in
+    let h₈ = ltb-false (length s - 18 - commandLength s) 2 (t .4) in
+    let h₉ = ltb-false (length s - 18 - commandLength s) (loopLength s + 2) (t .5) in
+    record {
+      place = t .0;
+      at = ap (λ (u : View). u .at) (t .0);
+      short = ltb-false 4096 (length s) (t .1);
+      long = h₅;
+      fits = omega (arith, h₅, h₇, h₈, h₉);
+    }
 
 -- ---- 10, 11 and the reading
 pub no-header : (h : HeaderRead) (r : CommandRead) (v : View) → h ≡ HeaderRead.TooShort → SectionRead.Refused Refusal.NoHeader ≡ accepted h r v
@@ -122,6 +255,34 @@ module _ (h : HeaderRead) (x : SpliceInfoHeader) (eh : h ≡ HeaderRead.Header x
   unfolding accepted
   is-section c d u e f g = rw (eh, e, f, g)
 
+-- the same of a command as the section has it
+abbrev pub sectionWith : SpliceInfoHeader → CommandRead → View → SectionRead
+sectionWith x (CommandRead.Is c) v = SectionRead.Is (record { header = x; command = c; descriptors = v })
+sectionWith x CommandRead.UnknownType v = SectionRead.Refused Refusal.UnknownCommand
+sectionWith x CommandRead.Malformed v = SectionRead.Refused Refusal.MalformedCommand
+
+pub in-section : (h : HeaderRead) (x : SpliceInfoHeader) (r : CommandRead) (v : View) → h ≡ HeaderRead.Header x → accepted h r v ≡ sectionWith x (movedRead r) v
+unfolding accepted movedRead
+in-section h x (CommandRead.Is c) v e = rw e
+in-section h x CommandRead.UnknownType v e = rw e
+in-section h x CommandRead.Malformed v e = rw e
+
+pub section-is : (s : List ℕ) (p : View) (x : SpliceInfoHeader) (y : CommandRead) → headerOf (drop 3 s) ≡ HeaderRead.Header x → y ≡ movedRead (commandRead s) → p ≡ loopPlace s
+    → sectionWith x y p ≡ accepted (headerOf (drop 3 s)) (commandRead s) (loopPlace s)
+section-is s p x y eh ey ep = rw (ep, ey) (sym (in-section (headerOf (drop 3 s)) x (commandRead s) (loopPlace s) eh))
+
+pub is-moved : (r : CommandRead) (c d : SpliceCommand) → r ≡ CommandRead.Is c → d ≡ moved 14 c → CommandRead.Is d ≡ movedRead r
+unfolding movedRead
+is-moved r c d e f = rw (e, f)
+
+pub unknown-moved : (r : CommandRead) → r ≡ CommandRead.UnknownType → CommandRead.UnknownType ≡ movedRead r
+unfolding movedRead
+unknown-moved r e = rw e
+
+pub malformed-moved : (r : CommandRead) → r ≡ CommandRead.Malformed → CommandRead.Malformed ≡ movedRead r
+unfolding movedRead
+malformed-moved r e = rw e
+
 -- the views of a command begin within four bytes of its payload
 pub within-four : (k : ℕ) (s : List ℕ) (c : SpliceCommand) → commandOf k s ≡ CommandRead.Is c → viewStart c ≤ 4
 within-four k s (SpliceCommand.PrivateCommand p) e = omega (arith, private-behind k s p e)
@@ -130,16 +291,14 @@ within-four k s (SpliceCommand.SpliceInsert i) e = omega arith
 within-four k s (SpliceCommand.TimeSignal t) e = omega arith
 within-four k s SpliceCommand.BandwidthReservation e = omega arith
 
-pub loop-at : (s : List ℕ) (n m : ℕ) → n ≡ commandLength s → m ≡ loopLength s → record { at = 14 + n + 2; len = m } ≡ loopPlace s
+pub place-at : (s : List ℕ) (p : View) → p ≡ loopPlace s → p .at ≡ 16 + commandLength s
 unfolding loopPlace
-loop-at s n m e f =
-    let z : 14 + n + 2 ≡ 16 + commandLength s = omega arith in
-    rw (z, f)
+place-at s p e = ap (λ (u : View). u .at) e
 
-pub command-at : (s : List ℕ) (n : ℕ) → n ≡ commandLength s → commandOf (getD s 13 0) (take (14 + n - 14) (drop 14 s)) ≡ commandOf (commandType s) (commandBytes s)
+pub command-at : (s : List ℕ) (p : View) → p ≡ loopPlace s → commandOf (getD s 13 0) (take (p .at - 2 - 14) (drop 14 s)) ≡ commandRead s
 unfolding commandType commandBytes
-command-at s n e =
-    let z : 14 + n - 14 ≡ commandLength s = omega arith in
+command-at s p e =
+    let z : p .at - 2 - 14 ≡ commandLength s = omega (arith, place-at s p e) in
     rw z
 
 pub header-at : (s : List ℕ) → headerOf (take (length s - 3) (drop 3 s)) ≡ headerOf (drop 3 s)

@@ -22,7 +22,7 @@ use Rattle.section.specs.Section.{commandLength, commandType, commandByt
 use Rattle.section.specs.Whole.{wholeSectionOf}
 use Rattle.section.specs.declared.Refusal.{Refusal}
 use Rattle.section.specs.declared.SectionRead.{SectionRead}
-use Rattle.section.proofs.Frame.{is-laid-out, is-loopless, has-parts, is-section}
+use Rattle.section.proofs.Frame.{is-laid-out, no-loop, has-parts, is-section}
 
 -- a section with right CRC and command length 0, not encrypted
 pub record Plain (s : List ℕ) : Type 0 where
@@ -45,7 +45,7 @@ module _ {s : List ℕ} (p : Plain s) where
   no-loop-length : 18 ≤ length s → length s ≤ 19 → numberOf (sectionOf s) ≡ 8
   unfolding numberOf
   no-loop-length h k =
-      sym (ap numberOf (laid-out (SectionRead.Refused Refusal.NoLoopLength) h (omega arith) (is-loopless s 0 clear-bit not-one 0 (sym (p .none)) (omega arith) (omega arith))))
+      sym (ap numberOf (laid-out (SectionRead.Refused Refusal.NoLoopLength) h (omega arith) (no-loop s 0 clear-bit not-one 0 (sym (p .none)) (omega arith) (omega arith))))
 
   pub row-18 : length s ≡ 18 → numberOf (sectionOf s) ≡ 8
   row-18 e = no-loop-length (omega arith) (omega arith)

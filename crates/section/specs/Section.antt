@@ -13,6 +13,7 @@ use Rattle.header.specs.Header.{headerOf}
 use Rattle.header.specs.declared.header.HeaderRead.{HeaderRead}
 use Rattle.table.specs.Bits.{pick, bitsOf, field}
 use Rattle.table.specs.declared.View.{View}
+use Rattle.section.specs.declared.FrameRead.{FrameRead}
 use Rattle.section.specs.declared.Refusal.{Refusal}
 use Rattle.section.specs.declared.SectionRead.{SectionRead}
 
@@ -94,6 +95,20 @@ first n [] = 0
 first n (true ∷ bs) = n
 first n (false ∷ bs) = first (suc n) bs
 
+-- ---- the frame: refusals 1 to 9, those that come before the command, or where the loop lies
+unfoldable pub frameOf : List ℕ → FrameRead
+frameOf s =
+    pick (under3 s) (FrameRead.Refused Refusal.TooShort)
+    (pick (over4096 s) (FrameRead.Refused Refusal.TooLong)
+    (pick (otherTable s) (FrameRead.Refused Refusal.OtherTable)
+    (pick (wrongCrc s) (FrameRead.Refused Refusal.WrongCrc)
+    (pick (under18 s) (FrameRead.Refused Refusal.NoHeader)
+    (pick (encrypted s) (FrameRead.Refused Refusal.Encrypted)
+    (pick (commandTooLong s) (FrameRead.Refused Refusal.CommandTooLong)
+    (pick (noLoopLength s) (FrameRead.Refused Refusal.NoLoopLength)
+    (pick (loopTooLong s) (FrameRead.Refused Refusal.LoopTooLong)
+    (FrameRead.Whole (loopPlace s))))))))))
+
 -- ---- the reading
 -- a command whose views count from `base` bytes before its payload
 unfoldable pub moved : ℕ → SpliceCommand → SpliceCommand
@@ -103,6 +118,12 @@ moved base SpliceCommand.SpliceNull = SpliceCommand.SpliceNull
 moved base (SpliceCommand.SpliceInsert i) = SpliceCommand.SpliceInsert i
 moved base (SpliceCommand.TimeSignal t) = SpliceCommand.TimeSignal t
 moved base SpliceCommand.BandwidthReservation = SpliceCommand.BandwidthReservation
+
+-- what is read of a command, as a section has it
+unfoldable pub movedRead : CommandRead → CommandRead
+movedRead (CommandRead.Is c) = CommandRead.Is (moved 14 c)
+movedRead CommandRead.UnknownType = CommandRead.UnknownType
+movedRead CommandRead.Malformed = CommandRead.Malformed
 
 -- the header, the command and the loop's place; 10 and 11. (A section of 18 bytes has a header.)
 unfoldable pub accepted : HeaderRead → CommandRead → View → SectionRead

@@ -1,10 +1,11 @@
 // A section: header, command, and the place of its descriptor loop.
 ghost use mathlib.Core.Path.{_≡_};
-ghost use Prim.Native.Nat.{_+_, _≤_};
+ghost use Prim.Native.Nat.{_+_, _*_, _<_, _≤_};
 ghost use lib.ListN.{length};
-ghost use Rattle.section.specs.Section.{commandLength, commandType, commandBytes, loopLength, loopPlace, moved, accepted, laidOut, sectionOf, privateView};
+ghost use Rattle.section.specs.Section.{commandLength, commandType, commandBytes, loopPlace, moved, movedRead, accepted, frameOf, sectionOf, privateView};
 ghost use Rattle.table.specs.Lent.{viewed};
-ghost use Rattle.section.specs.Walk.{viewStart};
+ghost use Rattle.section.specs.Walk.{viewStart, layoutOf};
+ghost use Rattle.table.specs.Bits.{bitsOf, field};
 ghost use Rattle.command.specs.Command.{commandOf};
 ghost use Rattle.header.specs.Header.{headerOf};
 ghost use lib.ListN.{drop};
@@ -18,8 +19,7 @@ use header::header::SpliceInfoHeader;
 use header::header::read_header;
 use table::View;
 use table::lent::view;
-use table::numbers::big_endian;
-use table::numbers::bits;
+use table::numbers::wide;
 
 pub mod whole;
 
@@ -43,6 +43,12 @@ pub enum Refusal {
     LoopTooLong,
     UnknownCommand,
     MalformedCommand,
+}
+
+// Where the loop lies; or refusals 1 to 9, those that come before the command.
+pub enum FrameRead {
+    Whole(View),
+    Refused(Refusal),
 }
 
 pub enum SectionRead {
@@ -73,73 +79,114 @@ fn move_command(c: SpliceCommand, base: usize) -> SpliceCommand
     }
 }
 
+// ---- the frame
+
+// splice_command_length: four bits of byte 11, and byte 12.
+fn command_length(s: &[u8]) -> usize
+    requires { ⌜ 18 ≤ length (now s) ⌝ }
+    ensures { λ r. ⌜ (r ≡ commandLength (now (s .entry))) × (r < 4096) ⌝ }
+{
+    (wide(s[11]) % 16 * 256 + wide(s[12])) as usize
+}
+
+// The number in the two bytes at a place.
+fn two_bytes(s: &[u8], at: usize) -> usize
+    requires { ⌜ at + 2 ≤ length (now s) ⌝ }
+    ensures { λ r. ⌜ (r ≡ field (bitsOf (now (s .entry))) (at * 8) 16) × (r < 65536) ⌝ }
+{
+    (wide(s[at]) * 256 + wide(s[at + 1])) as usize
+}
+
+// Refusals 6 to 9.
+fn read_layout(s: &[u8]) -> FrameRead
+    requires { ⌜ (18 ≤ length (now s)) × (length (now s) ≤ 4096) ⌝ }
+    ensures { λ r. ⌜ r ≡ layoutOf (now (s .entry)) ⌝ }
+{
+    if 128 <= s[4] {
+        return FrameRead::Refused(Refusal::Encrypted);
+    }
+    let size = command_length(s);
+    if s.len() - 18 < size {
+        return FrameRead::Refused(Refusal::CommandTooLong);
+    }
+    let room = s.len() - 18 - size;
+    if room < 2 {
+        return FrameRead::Refused(Refusal::NoLoopLength);
+    }
+    let extent = two_bytes(s, 14 + size);
+    if room < extent + 2 {
+        return FrameRead::Refused(Refusal::LoopTooLong);
+    }
+    FrameRead::Whole(View {
+        at: 16 + size,
+        len: extent,
+    })
+}
+
+// The place of the loop, in a section whose parts are all there. Only its command is still to be read.
+pub fn read_frame(s: &[u8]) -> FrameRead
+    ensures { λ r. ⌜ r ≡ frameOf (now (s .entry)) ⌝ }
+{
+    if s.len() < 3 {
+        return FrameRead::Refused(Refusal::TooShort);
+    }
+    if 4096 < s.len() {
+        return FrameRead::Refused(Refusal::TooLong);
+    }
+    if s[0] != 0xFC {
+        return FrameRead::Refused(Refusal::OtherTable);
+    }
+    if crc32(s) != 0 {
+        return FrameRead::Refused(Refusal::WrongCrc);
+    }
+    if s.len() < 18 {
+        return FrameRead::Refused(Refusal::NoHeader);
+    }
+    read_layout(s)
+}
+
+// ---- the reading
+
+// The command of a type, in its payload, as a section has it: its views count from the section's first byte, 14 bytes before the payload.
+pub fn read_command_part(kind: u8, payload: &[u8]) -> CommandRead
+    ensures { λ r. ⌜ r ≡ movedRead (commandOf kind (now (payload .entry))) ⌝ }
+{
+    match read_command(kind, payload) {
+        CommandRead::Is(c) => CommandRead::Is(move_command(c, 14)),
+        CommandRead::UnknownType => CommandRead::UnknownType,
+        CommandRead::Malformed => CommandRead::Malformed,
+    }
+}
+
 // The header, the command and the loop's place, of a section whose parts are all there.
-fn read_parts(s: &[u8], size: usize, extent: usize) -> SectionRead
-    requires { ⌜ (14 + size ≤ length (now s)) × (size ≡ commandLength (now s)) × (extent ≡ loopLength (now s)) ⌝ }
+fn read_parts(s: &[u8], place: View) -> SectionRead
+    requires { ⌜ (place ≡ loopPlace (now s)) × (16 + commandLength (now s) ≤ length (now s)) ⌝ }
     ensures { λ r. ⌜ r ≡ accepted (headerOf (drop 3 (now (s .entry)))) (commandOf (commandType (now (s .entry))) (commandBytes (now (s .entry)))) (loopPlace (now (s .entry))) ⌝ }
 {
     let header = match read_header(&s[3..]) {
         HeaderRead::Header(h) => h,
         HeaderRead::TooShort => return SectionRead::Refused(Refusal::NoHeader),
     };
-    let end = 14 + size;
-    match read_command(s[13], &s[14..end]) {
-        CommandRead::Is(c) => SectionRead::Is(Section {
+    let end = place.at - 2;
+    match read_command_part(s[13], &s[14..end]) {
+        CommandRead::Is(command) => SectionRead::Is(Section {
             header,
-            command: move_command(c, 14),
-            descriptors: View {
-                at: end + 2,
-                len: extent,
-            },
+            command,
+            descriptors: place,
         }),
         CommandRead::UnknownType => SectionRead::Refused(Refusal::UnknownCommand),
         CommandRead::Malformed => SectionRead::Refused(Refusal::MalformedCommand),
     }
 }
 
-// Refusals 6 to 11.
-fn read_layout(s: &[u8]) -> SectionRead
-    requires { ⌜ (18 ≤ length (now s)) × (length (now s) ≤ 4096) ⌝ }
-    ensures { λ r. ⌜ r ≡ laidOut (now (s .entry)) ⌝ }
-{
-    if bits(s, 4, 0, 1) == 1 {
-        return SectionRead::Refused(Refusal::Encrypted);
-    }
-    let size = (big_endian(s, 11, 2) % 4096) as usize;
-    if s.len() - 18 < size {
-        return SectionRead::Refused(Refusal::CommandTooLong);
-    }
-    let room = s.len() - 18 - size;
-    if room < 2 {
-        return SectionRead::Refused(Refusal::NoLoopLength);
-    }
-    let extent = big_endian(s, 14 + size, 2) as usize;
-    if room < extent + 2 {
-        return SectionRead::Refused(Refusal::LoopTooLong);
-    }
-    read_parts(s, size, extent)
-}
-
 // The section in these bytes.
 pub fn read_section(s: &[u8]) -> SectionRead
     ensures { λ r. ⌜ r ≡ sectionOf (now (s .entry)) ⌝ }
 {
-    if s.len() < 3 {
-        return SectionRead::Refused(Refusal::TooShort);
+    match read_frame(s) {
+        FrameRead::Whole(place) => return read_parts(s, place),
+        FrameRead::Refused(r) => return SectionRead::Refused(r),
     }
-    if 4096 < s.len() {
-        return SectionRead::Refused(Refusal::TooLong);
-    }
-    if s[0] != 0xFC {
-        return SectionRead::Refused(Refusal::OtherTable);
-    }
-    if crc32(s) != 0 {
-        return SectionRead::Refused(Refusal::WrongCrc);
-    }
-    if s.len() < 18 {
-        return SectionRead::Refused(Refusal::NoHeader);
-    }
-    read_layout(s)
 }
 
 // The loop of a section, as a part of the lent bytes.

@@ -5,9 +5,18 @@ use mathlib.Core.List.{List}
 use mathlib.Core.Path.{_≡_, refl, ap, sym, _∙_}
 use native.Mathlib.Omega.{arith}
 use lib.Dec.{eqb}
-use lib.ListN.{length}
+use lib.ListN.{length, getD, take, drop, length-drop}
 use borrow.Author.Tests.{eqb-true, eq-eqb, ne-eqb}
-use Rattle.section.specs.Section.{commandLength, loopLength, loopPlace, sectionOf, numberOf}
+use Rattle.command.specs.Command.{commandOf}
+use Rattle.command.specs.declared.CommandRead.{CommandRead}
+use Rattle.command.specs.declared.SpliceCommand.{SpliceCommand}
+use Rattle.header.specs.Header.{headerOf}
+use Rattle.header.specs.declared.header.HeaderRead.{HeaderRead}
+use Rattle.header.specs.declared.header.SpliceInfoHeader.{SpliceInfoHeader}
+use Rattle.header.proofs.Headers.{header-there}
+use Rattle.section.proofs.Frame as frame
+use Rattle.section.specs.Section.{commandLength, loopLength, loopPlace, moved, frameOf, sectionOf, numberOf}
+use Rattle.section.specs.declared.FrameRead.{FrameRead}
 use Rattle.section.specs.declared.Refusal.{Refusal}
 use Rattle.section.specs.declared.Section.{Section}
 use Rattle.section.specs.declared.SectionRead.{SectionRead}
@@ -71,6 +80,27 @@ module _ (s : List ℕ) where
           no-spare-byte q =
               let z : length s ≡ sectionLength (commandLength s) (loopLength s) = omega (arith, q, loop-at .0, loop-at .1) in
               rw (e, is-high, is-low, eq-eqb (length s) (sectionLength (commandLength s) (loopLength s)) z)
+
+-- ---- the frame and the command make the section
+abbrev pub readAs : SpliceInfoHeader → SpliceCommand → View → Section
+readAs h c p = record { header = h; command = moved 14 c; descriptors = p }
+
+module _ (s : List ℕ) (p : View) (whole : FrameRead.Whole p ≡ frameOf s) where
+  there : (x : SpliceInfoHeader) × (headerOf (drop 3 s) ≡ HeaderRead.Header x)
+  there = header-there (drop 3 s) (omega (arith, length-drop 3 s, frame.framed s p whole .long))
+
+  here : (r : CommandRead) → commandOf (getD s 13 0) (take (p .at - 2 - 14) (drop 14 s)) ≡ r → frame.commandRead s ≡ r
+  here r e = sym (frame.command-at s p (frame.framed s p whole .place)) ∙ e
+
+  pub is-read : (c : SpliceCommand) → commandOf (getD s 13 0) (take (p .at - 2 - 14) (drop 14 s)) ≡ CommandRead.Is c → (x : SpliceInfoHeader) × (d : SpliceCommand) × (sectionOf s ≡ SectionRead.Is (readAs x d p))
+  is-read c e =
+      (there .0, c, sym (frame.is-accepted s p _ whole (frame.is-section _ (there .0) (there .1) _ _ c (moved 14 c) p (here (CommandRead.Is c) e) refl (frame.framed s p whole .place))))
+
+  pub is-unknown : commandOf (getD s 13 0) (take (p .at - 2 - 14) (drop 14 s)) ≡ CommandRead.UnknownType → false ≡ canonicalFrame s
+  is-unknown e = not-accepted s Refusal.UnknownCommand (sym (frame.is-accepted s p _ whole (frame.is-unknown _ (there .0) (there .1) _ _ (here CommandRead.UnknownType e))))
+
+  pub is-malformed : commandOf (getD s 13 0) (take (p .at - 2 - 14) (drop 14 s)) ≡ CommandRead.Malformed → false ≡ canonicalFrame s
+  is-malformed e = not-accepted s Refusal.MalformedCommand (sym (frame.is-accepted s p _ whole (frame.is-malformed _ (there .0) (there .1) _ _ (here CommandRead.Malformed e))))
 
 -- ---- what the canonical form of a frame says
 pub record Framed (s : List ℕ) : Type 0 where

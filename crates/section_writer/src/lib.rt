@@ -15,8 +15,10 @@ ghost use Rattle.section_writer.specs.Walk.{frontNumber, backNumber, tai
 ghost use Rattle.table.specs.Lent.{stored};
 use canonical_command::is_canonical_command;
 use canonical_loop::is_canonical_loop;
+use command::CommandRead;
 use command::SpliceCommand;
 use command::components::ComponentSplice;
+use command::read_command;
 use command_writer::measure_bare;
 use command_writer::measure_command;
 use command_writer::put_bare;
@@ -24,8 +26,8 @@ use command_writer::put_command;
 use crc::crc32;
 use header::header::SpliceInfoHeader;
 use pen::Written;
-use section::SectionRead;
-use section::read_section;
+use section::FrameRead;
+use section::read_frame;
 use table::numbers::bits;
 use table::numbers::wide;
 use table::store::put_bytes;
@@ -254,18 +256,23 @@ pub fn write_bare_section(
 pub fn is_canonical_frame(s: &[u8]) -> bool
     ensures { λ r. ⌜ r ≡ canonicalFrame (now (s .entry)) ⌝ }
 {
-    let read = match read_section(s) {
-        SectionRead::Is(x) => x,
-        SectionRead::Refused(_) => return false,
+    let place = match read_frame(s) {
+        FrameRead::Whole(v) => v,
+        FrameRead::Refused(_) => return false,
     };
+    let at = place.at;
+    let end = at - 2;
+    match read_command(s[13], &s[14..end]) {
+        CommandRead::Is(_) => {}
+        CommandRead::UnknownType => return false,
+        CommandRead::Malformed => return false,
+    }
     if bits(s, 1, 0, 4) != 0b0011 {
         return false;
     }
     if bits(s, 1, 4, 12) as usize != s.len() - 3 {
         return false;
     }
-    let place = read.descriptors;
-    let at = place.at;
     let len = place.len;
     if s.len() != at + len + 4 {
         return false;

@@ -49,6 +49,7 @@ use Rattle.names.proofs.flags.DeviceRestrictions.from_bits.Reads as restriction
 use Rattle.names.proofs.flags.DeviceRestrictions.bits.Reads as restrictions-bits
 use Rattle.header.proofs.header.read_header.Reads as read-header
 use Rattle.header.proofs.time.read_splice_time.Reads as read-splice-time
+use Rattle.header.proofs.time.read_whole_time.Reads as read-whole-time
 use Rattle.header.proofs.time.adjusted_time.Reads as adjusted-time
 use Rattle.upid.proofs.text.is_text.Reads as is-text
 use Rattle.upid.proofs.check_upid.Reads as check-upid
@@ -76,6 +77,8 @@ use Rattle.command.proofs.read_command.Reads as read-command
 use Rattle.command.proofs.insert.read_insert.Reads as read-insert
 use Rattle.command.proofs.components.read_components.Reads as read-components
 use Rattle.command.proofs.components.blanks.Reads as blank-components
+use Rattle.section.proofs.read_command_part.Reads as read-command-part
+use Rattle.section.proofs.read_frame.Reads as read-frame
 use Rattle.section.proofs.read_section.Reads as read-section
 use Rattle.section.proofs.loop_of.Reads as loop-of
 use Rattle.section.proofs.private_bytes_of.Reads as private-bytes-of
@@ -232,6 +235,9 @@ read-header-is-fixed = record { takes-any = λ κ a. tt; one-answer = λ κ a x 
 pub read-splice-time-is-fixed : Fixed read-splice-time.Asked read-splice-time.Learnt
 read-splice-time-is-fixed = record { takes-any = λ κ a. tt; one-answer = λ κ a x y e f p q. p ∙ sym q }
 
+pub read-whole-time-is-fixed : Fixed read-whole-time.Asked read-whole-time.Learnt
+read-whole-time-is-fixed = record { takes-any = λ κ a. tt; one-answer = λ κ a x y e f p q. p ∙ sym q }
+
 pub adjusted-time-is-fixed : Fixed adjusted-time.Asked adjusted-time.Learnt
 adjusted-time-is-fixed = record { takes-any = λ κ a. tt; one-answer = λ κ a x y e f p q. p ∙ sym q }
 
@@ -322,6 +328,12 @@ pub blank-components-is-fixed : Fixed blank-components.Asked blank-components.Le
 blank-components-is-fixed = record { takes-any = λ κ a. tt; one-answer = λ κ a x y e f p q. p ∙ sym q }
 
 -- ---- section
+
+pub read-frame-is-fixed : Fixed read-frame.Asked read-frame.Learnt
+read-frame-is-fixed = record { takes-any = λ κ a. tt; one-answer = λ κ a x y e f p q. p ∙ sym q }
+
+pub read-command-part-is-fixed : Fixed read-command-part.Asked read-command-part.Learnt
+read-command-part-is-fixed = record { takes-any = λ κ a. tt; one-answer = λ κ a x y e f p q. p ∙ sym q }
 
 pub read-section-is-fixed : Fixed read-section.Asked read-section.Learnt
 read-section-is-fixed = record { takes-any = λ κ a. tt; one-answer = λ κ a x y e f p q. p ∙ sym q }

@@ -5,6 +5,7 @@ use Rattle.flat.proofs.flat_flag.Reads as flat-flag
 use Rattle.flat.proofs.flat_view.Reads as flat-view
 use Rattle.flat.proofs.commands.flat_command_read.Reads as flat-command-read
 use Rattle.flat.proofs.headers.flat_header_read.Reads as flat-header-read
+use Rattle.flat.proofs.headers.read_flat_header.Reads as read-flat-header
 use Rattle.flat.proofs.headers.flat_adjusted.Reads as flat-adjusted
 use Rattle.flat.proofs.components.flat_splices.Reads as flat-splices
 use Rattle.flat.proofs.sections.flat_section.Reads as flat-section
@@ -63,6 +64,9 @@ flat-command-read-is-fixed = record { takes-any = λ κ a. tt; one-answer = λ �
 
 pub flat-header-read-is-fixed : Fixed flat-header-read.Asked flat-header-read.Learnt
 flat-header-read-is-fixed = record { takes-any = λ κ a. tt; one-answer = λ κ a x y e f p q. p ∙ sym q }
+
+pub read-flat-header-is-fixed : Fixed read-flat-header.Asked read-flat-header.Learnt
+read-flat-header-is-fixed = record { takes-any = λ κ a. tt; one-answer = λ κ a x y e f p q. p ∙ sym q }
 
 pub flat-adjusted-is-fixed : Fixed flat-adjusted.Asked flat-adjusted.Learnt
 flat-adjusted-is-fixed = record { takes-any = λ κ a. tt; one-answer = λ κ a x y e f p q. p ∙ sym q }

@@ -1,13 +1,12 @@
 -- `command::read_time_signal` meets its contract.
 use mathlib.Core.Path.{_≡_, sym, _∙_}
-use Rattle.table.specs.Cursor.{place}
 use Rattle.command.proofs.Payloads.{signal, no-signal}
 use borrow.Author.Needs.{needs}
 use Rattle.command.proofs.read_time_signal.Statement.{statement}
 use Rattle.command.proofs.read_time_signal.Tie as tie
 
-read-splice-time-requires : tie.Need-read-splice-time-requires
-read-splice-time-requires c κs = search needs
+read-whole-time-requires : tie.Need-read-whole-time-requires
+read-whole-time-requires c κs = search needs
 
 enum-known-t : tie.Need-enum-known-t
 enum-known-t c = search needs
@@ -16,17 +15,15 @@ enum-told : tie.Need-enum-told
 enum-told c = search needs
 
 returns : tie.Need-returns
-unfolding place
 returns c =
     let t = c .before in
     let r = t .before .before in
     let a = r .before .before .args in
-    signal _ _ (sym (t .t .given .1) ∙ r .read-splice-time .ensures)
+    signal _ _ (sym (t .t .given .1) ∙ r .read-whole-time .ensures)
 
 returns-2 : tie.Need-returns-2
-unfolding place
-returns-2 c = let r = c .before .before in no-signal _ _ (sym (c .enum-told .given .1) ∙ r .read-splice-time .ensures)
+returns-2 c = let r = c .before .before in no-signal _ _ (sym (c .enum-told .given .1) ∙ r .read-whole-time .ensures)
 
 pub read-time-signal-spec : {M : Type 1} → statement M
 read-time-signal-spec =
-    tie.close (tie.spec read-splice-time-requires enum-known-t enum-told returns returns-2)
+    tie.close (tie.spec read-whole-time-requires enum-known-t enum-told returns returns-2)

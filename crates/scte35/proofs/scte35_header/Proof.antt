@@ -1,5 +1,7 @@
 -- `scte35::scte35_header` meets its contract. Assumes nothing.
-use mathlib.Core.Path.{_≡_, ap, sym, _∙_}
+use mathlib.Core.List.{List}
+use mathlib.Core.Path.{_≡_, ap, _∙_}
+use Prim.Native.Nat.{ℕ}
 use borrow.Author.Needs.{needs}
 use Rattle.header.specs.Header.{headerOf}
 use Rattle.flat.specs.Flat.{flatHeaderRead}
@@ -9,15 +11,11 @@ use Rattle.scte35.proofs.scte35_header.Tie as tie
 rest-requires : tie.Need-rest-requires
 rest-requires c κs = search needs
 
-read-header-requires : tie.Need-read-header-requires
-read-header-requires c κs = search needs
-
-flat-header-read-requires : tie.Need-flat-header-read-requires
-flat-header-read-requires c κs = search needs
+read-flat-header-requires : tie.Need-read-flat-header-requires
+read-flat-header-requires c κs = search needs
 
 returns : tie.Need-returns
-returns c = c .flat-header-read .ensures ∙ ap flatHeaderRead (c .before .read-header .ensures ∙ ap headerOf (c .before .before .rest .ensures))
+returns c = c .read-flat-header .ensures ∙ ap (λ (x : List ℕ). flatHeaderRead (headerOf x)) (c .before .rest .ensures)
 
 pub scte35-header-spec : {M : Type 1} → statement M
-scte35-header-spec =
-    tie.close (tie.spec rest-requires read-header-requires flat-header-read-requires returns)
+scte35-header-spec = tie.close (tie.spec rest-requires read-flat-header-requires returns)

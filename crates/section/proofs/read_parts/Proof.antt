@@ -1,7 +1,9 @@
 -- `section::read_parts`: the header and the command, each read as a part of the section.
-use mathlib.Core.Path.{_≡_, refl, ap, sym, _∙_}
+use mathlib.Core.Path.{_≡_, ap, sym, _∙_}
 use native.Mathlib.Omega.{arith}
-use Rattle.section.proofs.Frame.{no-header, is-unknown, is-malformed, is-section, within-four, loop-at, header-at, command-at}
+use Rattle.command.specs.declared.CommandRead.{CommandRead}
+use Rattle.section.specs.Section.{movedRead}
+use Rattle.section.proofs.Frame.{no-header, sectionWith, section-is, place-at, header-at, command-at}
 use borrow.Author.Needs.{needs}
 use Rattle.section.proofs.read_parts.Statement.{statement}
 use Rattle.section.proofs.read_parts.Tie as tie
@@ -31,37 +33,38 @@ returns c =
     let a = st .args in
     no-header _ _ _ (sym (header-at (a .s .now)) ∙ sym (g .read-header .ensures) ∙ c .enum-told .given .1)
 
-add-end : tie.Need-add-end
-add-end c = search needs
-
-shared-slice-read-read-command : tie.Need-shared-slice-read-read-command
-shared-slice-read-read-command c = search needs
-
-sub-read-command : tie.Need-sub-read-command
-sub-read-command c = search needs
-
-part-read-command-start : tie.Need-part-read-command-start
-part-read-command-start c = search needs
-
-part-read-command-end : tie.Need-part-read-command-end
-part-read-command-end c = search needs
-
-read-command-requires : tie.Need-read-command-requires
-read-command-requires c κs = search needs
-
-enum-known-c : tie.Need-enum-known-c
-enum-known-c c = search needs
-
-move-command-requires : tie.Need-move-command-requires
-move-command-requires c κs =
-    let d = c .before in
-    let r = d .before .before in
-    let st = r .before .before .before .before .before .before .before .before .before in
+sub-end : tie.Need-sub-end
+sub-end c =
+    let st = c .before .before .before .before .before .before .before in
     let a = st .args in
-    (within-four _ _ _ (sym (r .read-command .ensures) ∙ d .c .given .1), omega arith)
+    omega (arith, place-at (a .s .now) (a .place) (st .pre .0))
 
-add-t23 : tie.Need-add-t23
-add-t23 c = search needs
+shared-slice-read-read-command-part : tie.Need-shared-slice-read-read-command-part
+shared-slice-read-read-command-part c = search needs
+
+sub-read-command-part : tie.Need-sub-read-command-part
+sub-read-command-part c =
+    let st = c .before .before .before .before .before .before .before .before in
+    let a = st .args in
+    omega (arith, place-at (a .s .now) (a .place) (st .pre .0), st .pre .1)
+
+part-read-command-part-start : tie.Need-part-read-command-part-start
+part-read-command-part-start c =
+    let st = c .before .before .before .before .before .before .before .before in
+    let a = st .args in
+    omega (arith, place-at (a .s .now) (a .place) (st .pre .0), st .pre .1)
+
+part-read-command-part-end : tie.Need-part-read-command-part-end
+part-read-command-part-end c =
+    let st = c .before .before .before .before .before .before .before .before in
+    let a = st .args in
+    omega (arith, place-at (a .s .now) (a .place) (st .pre .0), st .pre .1)
+
+read-command-part-requires : tie.Need-read-command-part-requires
+read-command-part-requires c κs = search needs
+
+enum-known-command : tie.Need-enum-known-command
+enum-known-command c = search needs
 
 enum-told-2 : tie.Need-enum-told-2
 enum-told-2 c = search needs
@@ -71,32 +74,33 @@ enum-told-3 c = search needs
 
 returns-2 : tie.Need-returns-2
 returns-2 c =
-    let v = c in
-    let d = v .before .before in
-    let r = d .before .before in
-    let h = r .before .before .before .before in
+    let r = c .before .before .before in
+    let h = r .before .before .before .before .before in
     let g = h .before .before in
     let st = g .before .before .before in
     let a = st .args in
-    is-section _ _ (sym (header-at (a .s .now)) ∙ sym (g .read-header .ensures) ∙ h .h .given .1) _ _ _ _ _ (sym (command-at (a .s .now) _ (st .pre .1)) ∙ sym (r .read-command .ensures) ∙ d .c .given .1) (v .move-command .ensures) (loop-at (a .s .now) _ _ (st .pre .1) (st .pre .2))
+    let read : _ ≡ movedRead _ = sym (c .before .command .given .1) ∙ r .read-command-part .ensures ∙ ap movedRead (command-at (a .s .now) (a .place) (st .pre .0)) in
+    section-is (a .s .now) (a .place) _ _ (sym (header-at (a .s .now)) ∙ sym (g .read-header .ensures) ∙ h .h .given .1) read (st .pre .0)
 
 returns-3 : tie.Need-returns-3
 returns-3 c =
     let r = c .before .before in
-    let h = r .before .before .before .before in
+    let h = r .before .before .before .before .before in
     let g = h .before .before in
     let st = g .before .before .before in
     let a = st .args in
-    is-unknown _ _ (sym (header-at (a .s .now)) ∙ sym (g .read-header .ensures) ∙ h .h .given .1) _ _ (sym (command-at (a .s .now) _ (st .pre .1)) ∙ sym (r .read-command .ensures) ∙ c .enum-told2 .given .1)
+    let read : _ ≡ movedRead _ = sym (c .enum-told2 .given .1) ∙ r .read-command-part .ensures ∙ ap movedRead (command-at (a .s .now) (a .place) (st .pre .0)) in
+    section-is (a .s .now) (a .place) _ _ (sym (header-at (a .s .now)) ∙ sym (g .read-header .ensures) ∙ h .h .given .1) read (st .pre .0)
 
 returns-4 : tie.Need-returns-4
 returns-4 c =
     let r = c .before .before in
-    let h = r .before .before .before .before in
+    let h = r .before .before .before .before .before in
     let g = h .before .before in
     let st = g .before .before .before in
     let a = st .args in
-    is-malformed _ _ (sym (header-at (a .s .now)) ∙ sym (g .read-header .ensures) ∙ h .h .given .1) _ _ (sym (command-at (a .s .now) _ (st .pre .1)) ∙ sym (r .read-command .ensures) ∙ c .enum-told3 .given .1)
+    let read : _ ≡ movedRead _ = sym (c .enum-told3 .given .1) ∙ r .read-command-part .ensures ∙ ap movedRead (command-at (a .s .now) (a .place) (st .pre .0)) in
+    section-is (a .s .now) (a .place) _ _ (sym (header-at (a .s .now)) ∙ sym (g .read-header .ensures) ∙ h .h .given .1) read (st .pre .0)
 
 pub read-parts-spec : {M : Type 1} → statement M
 read-parts-spec =
@@ -109,15 +113,13 @@ read-parts-spec =
     enum-known-h
     enum-told
     returns
-    add-end
-    shared-slice-read-read-command
-    sub-read-command
-    part-read-command-start
-    part-read-command-end
-    read-command-requires
-    enum-known-c
-    move-command-requires
-    add-t23
+    sub-end
+    shared-slice-read-read-command-part
+    sub-read-command-part
+    part-read-command-part-start
+    part-read-command-part-end
+    read-command-part-requires
+    enum-known-command
     enum-told-2
     enum-told-3
     returns-2

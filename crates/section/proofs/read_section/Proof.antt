@@ -1,82 +1,49 @@
--- `section::read_section`, refusal by refusal.
-use mathlib.Core.Path.{_≡_, refl, ap, sym, _∙_}
-use Rattle.section.proofs.Frame.{is-short, is-long, is-other, is-wrong, is-headless, is-laid-out}
+-- `section::read_section`: a frame that is refused refuses the section.
+use mathlib.Core.Path.{_≡_, sym, _∙_}
+use native.Mathlib.Omega.{arith}
+use Rattle.section.proofs.Frame.{Framed, framed, is-accepted, is-refused}
 use borrow.Author.Needs.{needs}
 use Rattle.section.proofs.read_section.Statement.{statement}
 use Rattle.section.proofs.read_section.Tie as tie
 
+read-frame-requires : tie.Need-read-frame-requires
+read-frame-requires c κs = search needs
+
+enum-known-place : tie.Need-enum-known-place
+enum-known-place c = search needs
+
+read-parts-requires : tie.Need-read-parts-requires
+read-parts-requires c κs =
+    let p = c .before in
+    let r = p .before .before in
+    let s = r .before .before .args .s .now in
+    let f = framed s _ (sym (p .place .given .1) ∙ r .read-frame .ensures) in
+    (f .place, omega (arith, f .fits))
+
 returns : tie.Need-returns
 returns c =
-    let i₁ = c in
-    let a = i₁ .before .before .args in
-    is-short (a .s .now) (i₁ .if1 .taken)
+    let p = c .before .before in
+    let r = p .before .before in
+    let s = r .before .before .args .s .now in
+    is-accepted s _ _ (sym (p .place .given .1) ∙ r .read-frame .ensures) (c .read-parts .ensures)
+
+enum-known-r : tie.Need-enum-known-r
+enum-known-r c = search needs
 
 returns-2 : tie.Need-returns-2
 returns-2 c =
-    let i₂ = c in
-    let i₁ = i₂ .before in
-    let a = i₁ .before .before .args in
-    is-long (a .s .now) (i₁ .if1 .left) (i₂ .if2 .taken)
-
-shared-slice-read-if3 : tie.Need-shared-slice-read-if3
-shared-slice-read-if3 c = search needs
-
-returns-3 : tie.Need-returns-3
-returns-3 c =
-    let i₃ = c in
-    let i₂ = i₃ .before .before in
-    let i₁ = i₂ .before in
-    let a = i₁ .before .before .args in
-    is-other (a .s .now) (i₁ .if1 .left) (i₂ .if2 .left) (i₃ .if3 .taken)
-
-crc32-requires : tie.Need-crc32-requires
-crc32-requires c κs = search needs
-
-returns-4 : tie.Need-returns-4
-returns-4 c =
-    let i₄ = c in
-    let k = i₄ .before in
-    let i₃ = k .before in
-    let i₂ = i₃ .before .before in
-    let i₁ = i₂ .before in
-    let a = i₁ .before .before .args in
-    is-wrong (a .s .now) (i₁ .if1 .left) (i₂ .if2 .left) (i₃ .if3 .left) (λ e. i₄ .if4 .taken (k .crc32 .ensures ∙ e))
-
-returns-5 : tie.Need-returns-5
-returns-5 c =
-    let i₅ = c in
-    let i₄ = i₅ .before in
-    let k = i₄ .before in
-    let i₃ = k .before in
-    let i₂ = i₃ .before .before in
-    let i₁ = i₂ .before in
-    let a = i₁ .before .before .args in
-    is-headless (a .s .now) (i₁ .if1 .left) (i₂ .if2 .left) (i₃ .if3 .left) (sym (k .crc32 .ensures) ∙ i₄ .if4 .left) (i₅ .if5 .taken)
-
-read-layout-requires : tie.Need-read-layout-requires
-read-layout-requires c κs = search needs
-
-returns-6 : tie.Need-returns-6
-returns-6 c =
-    let i₅ = c .before in
-    let i₄ = i₅ .before in
-    let k = i₄ .before in
-    let i₃ = k .before in
-    let i₂ = i₃ .before .before in
-    let i₁ = i₂ .before in
-    let a = i₁ .before .before .args in
-    is-laid-out (a .s .now) (i₁ .if1 .left) (i₂ .if2 .left) (i₃ .if3 .left) (sym (k .crc32 .ensures) ∙ i₄ .if4 .left) _ (i₅ .if5 .left) (c .read-layout .ensures)
+    let p = c .before in
+    let r = p .before .before in
+    let s = r .before .before .args .s .now in
+    is-refused s _ (sym (p .r .given .1) ∙ r .read-frame .ensures)
 
 pub read-section-spec : {M : Type 1} → statement M
 read-section-spec =
     tie.close
     (tie.spec
+    read-frame-requires
+    enum-known-place
+    read-parts-requires
     returns
-    returns-2
-    shared-slice-read-if3
-    returns-3
-    crc32-requires
-    returns-4
-    returns-5
-    read-layout-requires
-    returns-6)
+    enum-known-r
+    returns-2)

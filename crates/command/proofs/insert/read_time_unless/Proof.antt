@@ -7,12 +7,12 @@ use Rattle.command.proofs.insert.read_time_unless.Tie as tie
 returns : tie.Need-returns
 returns c = let a = c .before .before .args in rw (c .if1 .taken) (at-once (a .s .now) (a .at))
 
-read-splice-time-requires : tie.Need-read-splice-time-requires
-read-splice-time-requires c κs = search needs
+read-whole-time-requires : tie.Need-read-whole-time-requires
+read-whole-time-requires c κs = search needs
 
 returns-2 : tie.Need-returns-2
 returns-2 c =
-    let a = c .before .before .before .args in rw (c .before .if1 .left) (at-a-time (a .s .now) (a .at) _ (c .read-splice-time .ensures))
+    let a = c .before .before .before .args in rw (c .before .if1 .left) (at-a-time (a .s .now) (a .at) _ (c .read-whole-time .ensures))
 
 pub read-time-unless-spec : {M : Type 1} → statement M
-read-time-unless-spec = tie.close (tie.spec returns read-splice-time-requires returns-2)
+read-time-unless-spec = tie.close (tie.spec returns read-whole-time-requires returns-2)
