@@ -32,7 +32,7 @@ use Rattle.section.specs.Section.{moved, movedRead, frameOf, sectionOf}
 use Rattle.section.specs.declared.FrameRead.{FrameRead}
 use Rattle.section.specs.declared.Refusal.{Refusal}
 use Rattle.section.specs.declared.SectionRead.{SectionRead}
-use Rattle.section.proofs.Frame.{Framed, framed, is-accepted, section-is, sectionWith, commandRead, command-at, is-moved, malformed-moved}
+use Rattle.section.proofs.Frame.{Framed, framed, is-accepted, section-is, sectionWith, commandRead, command-at, header-at, is-moved, malformed-moved}
 
 -- what is told of a command as the section has it
 abbrev told : FlatHeader → CommandRead → View → FlatSection
@@ -50,12 +50,12 @@ flat-of : (h : FlatHeader) (r : HeaderRead) (x : SpliceInfoHeader) → h ≡ fla
 unfolding flatHeaderRead
 flat-of h r x e f = e ∙ ap flatHeaderRead f
 
-module _ (s : List ℕ) (p : View) (whole : FrameRead.Whole p ≡ frameOf s) (h : FlatHeader) (eh : h ≡ flatHeaderRead (headerOf (drop 3 s))) where
+module _ (s : List ℕ) (p : View) (whole : FrameRead.Whole p ≡ frameOf s) (h : FlatHeader) (eh : h ≡ flatHeaderRead (headerOf (take (length s - 3) (drop 3 s)))) where
   pub flat-with : (y : CommandRead) → y ≡ movedRead (commandRead s) → told h y p ≡ flatSectionRead (sectionOf s)
   flat-with y e =
       let f = framed s p whole in
       let there = header-there (drop 3 s) (omega (arith, length-drop 3 s, f .long)) in
-      told-is h (there .0) y p (flat-of h (headerOf (drop 3 s)) (there .0) eh (there .1))
+      told-is h (there .0) y p (flat-of h (headerOf (drop 3 s)) (there .0) (eh ∙ ap flatHeaderRead (header-at s)) (there .1))
       ∙ ap flatSectionRead (is-accepted s p (sectionWith (there .0) y p) whole (section-is s p (there .0) y (there .1) e (f .place)))
 
   -- the command's bytes, as a part of the section

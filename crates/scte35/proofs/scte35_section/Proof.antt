@@ -4,10 +4,9 @@ use mathlib.Core.List.{List}
 use mathlib.Core.Path.{_≡_, ap, sym, _∙_}
 use native.Mathlib.Omega.{arith}
 use borrow.Author.Needs.{needs}
-use Rattle.flat.specs.Flat.{flatHeaderRead}
 use Rattle.flat.specs.FlatSection.{flatSectionRead}
 use Rattle.section.specs.Section.{sectionOf}
-use Rattle.section.proofs.Frame.{Framed, framed, is-refused, header-at}
+use Rattle.section.proofs.Frame.{Framed, framed, is-refused}
 use Rattle.scte35.proofs.Sections.{a-null, no-null, an-insert, no-insert, a-signal, no-time-signal, another}
 use Rattle.scte35.proofs.scte35_section.Statement.{statement}
 use Rattle.scte35.proofs.scte35_section.Tie as tie
@@ -79,7 +78,7 @@ returns-2 c =
     let v = h .before .before .before in
     let r = v .before .before in
     c .flat-section .ensures
-    ∙ a-null _ _ (sym (v .v .given .1) ∙ r .read-frame .ensures) _ (h .read-flat-header .ensures ∙ ap flatHeaderRead (header-at _)) (m .match2 .keys1) (i .if1 .taken)
+    ∙ a-null _ _ (sym (v .v .given .1) ∙ r .read-frame .ensures) _ (h .read-flat-header .ensures) (m .match2 .keys1) (i .if1 .taken)
     ∙ ap (λ (z : List ℕ). flatSectionRead (sectionOf z)) (r .before .rest .ensures)
 
 no-section-requires-2 : tie.Need-no-section-requires-2
@@ -93,7 +92,7 @@ returns-3 c =
     let v = h .before .before .before in
     let r = v .before .before in
     c .no-section2 .ensures
-    ∙ no-null _ _ (sym (v .v .given .1) ∙ r .read-frame .ensures) _ (h .read-flat-header .ensures ∙ ap flatHeaderRead (header-at _)) (m .match2 .keys1) (i .if1 .left)
+    ∙ no-null _ _ (sym (v .v .given .1) ∙ r .read-frame .ensures) _ (h .read-flat-header .ensures) (m .match2 .keys1) (i .if1 .left)
     ∙ ap (λ (z : List ℕ). flatSectionRead (sectionOf z)) (r .before .rest .ensures)
 
 sub-read-insert : tie.Need-sub-read-insert
@@ -132,7 +131,7 @@ returns-4 c =
     let v = h .before .before .before in
     let r = v .before .before in
     c .flat-section2 .ensures
-    ∙ an-insert _ _ (sym (v .v .given .1) ∙ r .read-frame .ensures) _ (h .read-flat-header .ensures ∙ ap flatHeaderRead (header-at _)) _ (m .match2 .keys2) (sym (x .i .given .1) ∙ y .read-insert .ensures)
+    ∙ an-insert _ _ (sym (v .v .given .1) ∙ r .read-frame .ensures) _ (h .read-flat-header .ensures) _ (m .match2 .keys2) (sym (x .i .given .1) ∙ y .read-insert .ensures)
     ∙ ap (λ (z : List ℕ). flatSectionRead (sectionOf z)) (r .before .rest .ensures)
 
 enum-told : tie.Need-enum-told
@@ -150,7 +149,7 @@ returns-5 c =
     let v = h .before .before .before in
     let r = v .before .before in
     c .no-section3 .ensures
-    ∙ no-insert _ _ (sym (v .v .given .1) ∙ r .read-frame .ensures) _ (h .read-flat-header .ensures ∙ ap flatHeaderRead (header-at _)) _ (m .match2 .keys2) (sym (x .enum-told .given .1) ∙ y .read-insert .ensures)
+    ∙ no-insert _ _ (sym (v .v .given .1) ∙ r .read-frame .ensures) _ (h .read-flat-header .ensures) _ (m .match2 .keys2) (sym (x .enum-told .given .1) ∙ y .read-insert .ensures)
     ∙ ap (λ (z : List ℕ). flatSectionRead (sectionOf z)) (r .before .rest .ensures)
 
 sub-read-whole-time : tie.Need-sub-read-whole-time
@@ -189,7 +188,7 @@ returns-6 c =
     let v = h .before .before .before in
     let r = v .before .before in
     c .flat-section3 .ensures
-    ∙ a-signal _ _ (sym (v .v .given .1) ∙ r .read-frame .ensures) _ (h .read-flat-header .ensures ∙ ap flatHeaderRead (header-at _)) _ (m .match2 .keys3) (sym (x .x .given .1) ∙ y .read-whole-time .ensures)
+    ∙ a-signal _ _ (sym (v .v .given .1) ∙ r .read-frame .ensures) _ (h .read-flat-header .ensures) _ (m .match2 .keys3) (sym (x .x .given .1) ∙ y .read-whole-time .ensures)
     ∙ ap (λ (z : List ℕ). flatSectionRead (sectionOf z)) (r .before .rest .ensures)
 
 enum-told-2 : tie.Need-enum-told-2
@@ -207,7 +206,7 @@ returns-7 c =
     let v = h .before .before .before in
     let r = v .before .before in
     c .no-section4 .ensures
-    ∙ no-time-signal _ _ (sym (v .v .given .1) ∙ r .read-frame .ensures) _ (h .read-flat-header .ensures ∙ ap flatHeaderRead (header-at _)) _ (m .match2 .keys3) (sym (x .enum-told2 .given .1) ∙ y .read-whole-time .ensures)
+    ∙ no-time-signal _ _ (sym (v .v .given .1) ∙ r .read-frame .ensures) _ (h .read-flat-header .ensures) _ (m .match2 .keys3) (sym (x .enum-told2 .given .1) ∙ y .read-whole-time .ensures)
     ∙ ap (λ (z : List ℕ). flatSectionRead (sectionOf z)) (r .before .rest .ensures)
 
 sub-read-command-part : tie.Need-sub-read-command-part
@@ -246,7 +245,7 @@ returns-8 c =
     let v = h .before .before .before in
     let r = v .before .before in
     c .flat-section4 .ensures
-    ∙ another _ _ (sym (v .v .given .1) ∙ r .read-frame .ensures) _ (h .read-flat-header .ensures ∙ ap flatHeaderRead (header-at _)) _ (sym (x .c .given .1) ∙ y .read-command-part .ensures)
+    ∙ another _ _ (sym (v .v .given .1) ∙ r .read-frame .ensures) _ (h .read-flat-header .ensures) _ (sym (x .c .given .1) ∙ y .read-command-part .ensures)
     ∙ ap (λ (z : List ℕ). flatSectionRead (sectionOf z)) (r .before .rest .ensures)
 
 enum-told-3 : tie.Need-enum-told-3
@@ -264,7 +263,7 @@ returns-9 c =
     let v = h .before .before .before in
     let r = v .before .before in
     c .no-section5 .ensures
-    ∙ another _ _ (sym (v .v .given .1) ∙ r .read-frame .ensures) _ (h .read-flat-header .ensures ∙ ap flatHeaderRead (header-at _)) _ (sym (x .enum-told3 .given .1) ∙ y .read-command-part .ensures)
+    ∙ another _ _ (sym (v .v .given .1) ∙ r .read-frame .ensures) _ (h .read-flat-header .ensures) _ (sym (x .enum-told3 .given .1) ∙ y .read-command-part .ensures)
     ∙ ap (λ (z : List ℕ). flatSectionRead (sectionOf z)) (r .before .rest .ensures)
 
 enum-told-4 : tie.Need-enum-told-4
@@ -282,7 +281,7 @@ returns-10 c =
     let v = h .before .before .before in
     let r = v .before .before in
     c .no-section6 .ensures
-    ∙ another _ _ (sym (v .v .given .1) ∙ r .read-frame .ensures) _ (h .read-flat-header .ensures ∙ ap flatHeaderRead (header-at _)) _ (sym (x .enum-told4 .given .1) ∙ y .read-command-part .ensures)
+    ∙ another _ _ (sym (v .v .given .1) ∙ r .read-frame .ensures) _ (h .read-flat-header .ensures) _ (sym (x .enum-told4 .given .1) ∙ y .read-command-part .ensures)
     ∙ ap (λ (z : List ℕ). flatSectionRead (sectionOf z)) (r .before .rest .ensures)
 
 pub scte35-section-spec : {M : Type 1} → statement M
