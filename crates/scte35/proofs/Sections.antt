@@ -4,6 +4,7 @@ use mathlib.Core.List.{List}
 use mathlib.Core.Path.{_≡_, refl, ap, sym, _∙_}
 use native.Mathlib.Omega.{arith}
 use lib.ListN.{length, getD, take, drop, length-drop}
+use lib.Seq.{length-take-le}
 use Rattle.command.specs.Command.{commandOf}
 use Rattle.command.specs.Insert.{insert}
 use Rattle.command.specs.Walk.{insertRead}
@@ -31,7 +32,7 @@ use Rattle.section.specs.Section.{moved, movedRead, frameOf, sectionOf}
 use Rattle.section.specs.declared.FrameRead.{FrameRead}
 use Rattle.section.specs.declared.Refusal.{Refusal}
 use Rattle.section.specs.declared.SectionRead.{SectionRead}
-use Rattle.section.proofs.Frame.{Framed, framed, is-accepted, section-is, sectionWith, commandRead, command-at, is-moved, malformed-moved}
+use Rattle.section.proofs.Frame.{Framed, framed, is-accepted, section-is, sectionWith, commandRead, command-at, header-at, is-moved, malformed-moved}
 
 -- what is told of a command as the section has it
 abbrev told : FlatHeader → CommandRead → View → FlatSection
@@ -49,12 +50,12 @@ flat-of : (h : FlatHeader) (r : HeaderRead) (x : SpliceInfoHeader) → h ≡ fla
 unfolding flatHeaderRead
 flat-of h r x e f = e ∙ ap flatHeaderRead f
 
-module _ (s : List ℕ) (p : View) (whole : FrameRead.Whole p ≡ frameOf s) (h : FlatHeader) (eh : h ≡ flatHeaderRead (headerOf (drop 3 s))) where
+module _ (s : List ℕ) (p : View) (whole : FrameRead.Whole p ≡ frameOf s) (h : FlatHeader) (eh : h ≡ flatHeaderRead (headerOf (take (length s - 3) (drop 3 s)))) where
   pub flat-with : (y : CommandRead) → y ≡ movedRead (commandRead s) → told h y p ≡ flatSectionRead (sectionOf s)
   flat-with y e =
       let f = framed s p whole in
       let there = header-there (drop 3 s) (omega (arith, length-drop 3 s, f .long)) in
-      told-is h (there .0) y p (flat-of h (headerOf (drop 3 s)) (there .0) eh (there .1))
+      told-is h (there .0) y p (flat-of h (headerOf (drop 3 s)) (there .0) (eh ∙ ap flatHeaderRead (header-at s)) (there .1))
       ∙ ap flatSectionRead (is-accepted s p (sectionWith (there .0) y p) whole (section-is s p (there .0) y (there .1) e (f .place)))
 
   -- the command's bytes, as a part of the section
@@ -70,12 +71,19 @@ module _ (s : List ℕ) (p : View) (whole : FrameRead.Whole p ≡ frameOf s) (h 
   malformed : CommandRead.Malformed ≡ commandOf (getD s 13 0) bytes → flatSectionRead (SectionRead.Refused Refusal.MalformedCommand) ≡ flatSectionRead (sectionOf s)
   malformed e = flat-with CommandRead.Malformed (malformed-moved (commandRead s) (here CommandRead.Malformed e))
 
-  pub a-null : getD s 13 0 ≡ 0x00 → length bytes ≡ 0 → flatParts h SpliceCommand.SpliceNull p ≡ flatSectionRead (sectionOf s)
-  unfolding moved
-  a-null k n = own SpliceCommand.SpliceNull refl (of-null (getD s 13 0) bytes _ k (is-empty bytes SpliceCommand.SpliceNull n))
+  sized : length bytes ≡ p .at - 2 - 14
+  sized = let f = framed s p whole in length-take-le (p .at - 2 - 14) (drop 14 s) (omega (arith, length-drop 14 s, f .at, f .fits))
 
-  pub no-null : getD s 13 0 ≡ 0x00 → (length bytes ≡ 0 → ⊥) → flatSectionRead (SectionRead.Refused Refusal.MalformedCommand) ≡ flatSectionRead (sectionOf s)
-  no-null k n = malformed (of-null (getD s 13 0) bytes _ k (not-empty bytes SpliceCommand.SpliceNull n))
+  pub a-null : getD s 13 0 ≡ 0x00 → p .at ≡ 16 → flatParts h SpliceCommand.SpliceNull p ≡ flatSectionRead (sectionOf s)
+  unfolding moved
+  a-null k n =
+      let z : length bytes ≡ 0 = sized ∙ omega (arith, n) in
+      own SpliceCommand.SpliceNull refl (of-null (getD s 13 0) bytes _ k (is-empty bytes SpliceCommand.SpliceNull z))
+
+  pub no-null : getD s 13 0 ≡ 0x00 → (p .at ≡ 16 → ⊥) → flatSectionRead (SectionRead.Refused Refusal.MalformedCommand) ≡ flatSectionRead (sectionOf s)
+  no-null k n =
+      let z : length bytes ≡ 0 → ⊥ = λ e. n (omega (arith, sym sized ∙ e, framed s p whole .at)) in
+      malformed (of-null (getD s 13 0) bytes _ k (not-empty bytes SpliceCommand.SpliceNull z))
 
   pub an-insert : (i : Insertion) → getD s 13 0 ≡ 0x05 → InsertRead.Got i ≡ insertRead (parse insert (bitsOf bytes) 0) → flatParts h (SpliceCommand.SpliceInsert i) p ≡ flatSectionRead (sectionOf s)
   unfolding moved

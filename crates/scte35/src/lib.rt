@@ -78,37 +78,34 @@ pub extern "C" fn scte35_header(s: &[u8], at: usize) -> FlatHeader
 pub extern "C" fn scte35_section(s: &[u8], at: usize) -> FlatSection
     ensures { λ r. ⌜ r ≡ flatSectionRead (sectionOf (drop at (now (s .entry)))) ⌝ }
 {
-    let s = rest(s, at);
-    let place = match read_frame(s) {
+    let t = rest(s, at);
+    let place = match read_frame(t) {
         FrameRead::Whole(v) => v,
         FrameRead::Refused(r) => return no_section(r),
     };
-    let header = read_flat_header(&s[3..]);
-    let end = place.at - 2;
-    let payload = &s[14..end];
-    match s[13] {
+    let header = read_flat_header(&t[3..]);
+    let after = place.at;
+    let end = after - 2;
+    let kind = t[13];
+    match kind {
         0x00 => {
-            if payload.len() == 0 {
+            if after == 16 {
                 return flat_section(header, SpliceCommand::SpliceNull, place);
             }
             return no_section(Refusal::MalformedCommand);
         }
-        0x05 => match read_insert(payload) {
-            InsertRead::Got(i) => return flat_section(
-                header,
-                SpliceCommand::SpliceInsert(i),
-                place,
-            ),
+        0x05 => match read_insert(&t[14..end]) {
+            InsertRead::Got(i) => return flat_section(header, SpliceCommand::SpliceInsert(i), place),
             InsertRead::Lacks(_) => return no_section(Refusal::MalformedCommand),
         },
-        0x06 => match read_whole_time(payload, 0) {
-            TimeRead::Got(t) => {
-                let time = t.time;
+        0x06 => match read_whole_time(&t[14..end], 0) {
+            TimeRead::Got(x) => {
+                let time = x.time;
                 return flat_section(header, SpliceCommand::TimeSignal(time), place);
             }
             TimeRead::Lacks(_) => return no_section(Refusal::MalformedCommand),
         },
-        kind => match read_command_part(kind, payload) {
+        _ => match read_command_part(kind, &t[14..end]) {
             CommandRead::Is(c) => return flat_section(header, c, place),
             CommandRead::UnknownType => return no_section(Refusal::UnknownCommand),
             CommandRead::Malformed => return no_section(Refusal::MalformedCommand),
