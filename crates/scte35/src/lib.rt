@@ -95,7 +95,11 @@ pub extern "C" fn scte35_section(s: &[u8], at: usize) -> FlatSection
             return no_section(Refusal::MalformedCommand);
         }
         0x05 => match read_insert(&t[14..end]) {
-            InsertRead::Got(i) => return flat_section(header, SpliceCommand::SpliceInsert(i), place),
+            InsertRead::Got(i) => return flat_section(
+                header,
+                SpliceCommand::SpliceInsert(i),
+                place,
+            ),
             InsertRead::Lacks(_) => return no_section(Refusal::MalformedCommand),
         },
         0x06 => match read_whole_time(&t[14..end], 0) {
