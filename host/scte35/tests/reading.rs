@@ -162,6 +162,7 @@ fn headers_and_times() {
     assert_eq!(SpliceTime::Immediate.adjusted(1), Ok(None));
     assert_eq!(SpliceTime::At(1 << 33).adjusted(0), Err(TimeTooLarge));
     assert_eq!(SpliceTime::Unspecified.adjusted(1 << 33), Err(TimeTooLarge));
+    assert_eq!(raw::adjusted_time(2, 1 << 40, 0).refusal, 32);
     // of a section: of a time signal and of an insert by program
     let null = SpliceInfoHeader { pts_adjustment: 5, ..h };
     let section = |command| Section { header: null, command, descriptors: SpliceDescriptors(&[]) };
