@@ -11,9 +11,8 @@ use native.Mathlib.Omega.{arith}
 use lib.Dec.{eqb}
 use lib.ListN.{length, getD, drop}
 use borrow.Author.Tests.{eq-eqb, ne-eqb, eqb-true, eqb-false}
-use Rattle.descriptor_form.specs.Canonical.{takesAll, canonicalBy}
 use Rattle.table.specs.Bits.{bitsOf, field}
-use Rattle.table.specs.Table.{Table, done, must, inside, number, bit, reserved, list, uimsbf, flag, ones, Answer, got, short, parse, canonical}
+use Rattle.table.specs.Table.{Table, done, must, inside, number, bit, reserved, list, uimsbf, flag, ones, Answer, got, short, parse, canonical, takesAll, canonicalBy}
 use Rattle.table.proofs.Steps.{takes-number, takes-flag, takes-ones, reads-number, reads-flag, reads-ones, takes-in, reads-in, Reads, canonical-inside}
 use Rattle.canonical_command.specs.Walk.{Stands, Fails, Told, whole}
 use Rattle.canonical_command.specs.declared.Form.{Form}

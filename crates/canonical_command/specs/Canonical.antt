@@ -6,9 +6,9 @@ use lib.Dec.{eqb}
 use lib.ListN.{length}
 use Rattle.command.specs.Command.{private}
 use Rattle.command.specs.Insert.{insert}
-use Rattle.descriptor_form.specs.Canonical.{canonicalBy}
 use Rattle.header.specs.Time.{spliceTime}
 use Rattle.table.specs.Bits.{pick}
+use Rattle.table.specs.Table.{canonicalBy}
 
 -- Of a command, by its type: "every reserved bit 1; no spare byte in command". That "an insert by components with count 0 has immediate 0" is in its table.
 unfoldable pub canonicalCommand : ℕ → List ℕ → Bool

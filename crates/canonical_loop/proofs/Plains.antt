@@ -10,7 +10,7 @@ use borrow.Author.Tests.{leb-true, le-leb, eq-eqb, eqb-true}
 use Rattle.table.specs.Bits.{bitsOf, field}
 use Rattle.table.proofs.Fields.{field-in}
 use Rattle.descriptor.specs.Plain.{avail, dtmf, time, privateBytes}
-use Rattle.descriptor_form.specs.Canonical.{canonicalBy}
+use Rattle.table.specs.Table.{canonicalBy}
 use Rattle.canonical_loop.proofs.Through.{by-through, through-number, through-ones, through-part, through-remaining, guarded, under, over, drops, leb-bytes, eqb-bytes, ends-there, same-test}
 
 pub avail-by : (s : List ℕ) → canonicalBy avail s ≡ eqb (length s) 4

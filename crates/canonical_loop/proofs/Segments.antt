@@ -9,7 +9,7 @@ use lib.ListN.{length, getD, take, drop}
 use borrow.Author.Tests.{leb-true, le-leb, eqb-true, eqb-false, eq-eqb, ne-eqb}
 use Rattle.table.specs.Bits.{pick, bitsOf, field}
 use Rattle.table.specs.Lent.{viewed}
-use Rattle.table.specs.Table.{Table, done, inside, list, uimsbf, Answer, got, short, parse, canonical}
+use Rattle.table.specs.Table.{Table, done, inside, list, uimsbf, Answer, got, short, parse, canonical, canonicalBy, takesAll}
 use Rattle.table.proofs.Fields.{byte-field, field-in}
 use Rattle.table.proofs.Lists.{zero-one, and-true}
 use Rattle.upid.specs.Upid.{checkOf}
@@ -38,7 +38,7 @@ use Rattle.descriptor.specs.declared.segmentation.ModeComponent.{ModeComponent}
 use Rattle.descriptor.specs.declared.segmentation.SegmentationDuration.{SegmentationDuration}
 use Rattle.descriptor.specs.declared.segmentation.SegmentationUpid.{SegmentationUpid}
 use Rattle.descriptor.specs.declared.segmentation.SubSegments.{SubSegments}
-use Rattle.descriptor_form.specs.Canonical.{canonicalBy, canonicalUpid, upidCanonical, canonicalSegmentation, takesAll}
+use Rattle.descriptor_form.specs.Canonical.{canonicalUpid, upidCanonical, canonicalSegmentation}
 use Rattle.descriptor_form.specs.Writing.{accepts, upidIn}
 use Rattle.canonical_loop.specs.Walk.{flagsOnes, lastingBytes, componentsOnes, endsAt, upidAt, componentsAt, insertFits, segmentationFits}
 use Rattle.canonical_loop.proofs.Through.{

@@ -11,8 +11,9 @@ use borrow.Author.Tests.{le-leb, lt-leb, eq-eqb, ne-eqb, not-true, not-false}
 use Rattle.upid.specs.Upid.{checkOf}
 use Rattle.descriptor.specs.Descriptor.{isCuei}
 use Rattle.descriptor.specs.Plain.{dtmf}
-use Rattle.descriptor_form.specs.Canonical.{canonicalBy, canonicalSegmentation, canonicalPayload, canonicalDescriptor}
+use Rattle.descriptor_form.specs.Canonical.{canonicalSegmentation, canonicalPayload, canonicalDescriptor}
 use Rattle.descriptor_form.specs.Writing.{accepts}
+use Rattle.table.specs.Table.{canonicalBy}
 use Rattle.canonical_loop.specs.Walk.{flagsOnes, lastingBytes, componentsOnes, endsAt, upidAt, componentsAt, insertFits, segmentationFits}
 use Rattle.canonical_loop.proofs.Plains.{avail-by, time-by, private-by, dtmf-by}
 use Rattle.canonical_loop.proofs.Segments.{segmentation-by}

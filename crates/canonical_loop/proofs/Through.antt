@@ -11,12 +11,11 @@ use lib.Dec.{leb, eqb}
 use lib.ListN.{length, drop, getD}
 use borrow.Author.Tests.{leb-true, le-leb, eqb-true, eq-eqb}
 use Rattle.table.specs.Bits.{pick, bitsOf, field}
-use Rattle.table.specs.Table.{Table, must, inside, number, bit, reserved, part, remaining, list, uimsbf, flag, ones, Answer, got, short, parse, canonical}
+use Rattle.table.specs.Table.{Table, must, inside, number, bit, reserved, part, remaining, list, uimsbf, flag, ones, Answer, got, short, parse, canonical, takesAll, canonicalBy}
 use Rattle.table.specs.declared.View.{View}
 use Rattle.table.proofs.Bits.{length-bits}
 use Rattle.table.proofs.Lists.{and-true}
 use Rattle.table.proofs.Steps.{takes-in, lacks-in, canonical-inside}
-use Rattle.descriptor_form.specs.Canonical.{takesAll, canonicalBy}
 
 abbrev pub joined : {Y : Type 0} → (Y → ℕ → Bool) → Answer Y → Bool → Bool
 joined f (got y m) c = c && f y m

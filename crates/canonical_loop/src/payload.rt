@@ -1,7 +1,7 @@
 // The payload of a DTMF descriptor.
 ghost use mathlib.Core.Path.{_≡_};
 ghost use Rattle.descriptor.specs.Plain.{dtmf};
-ghost use Rattle.descriptor_form.specs.Canonical.{canonicalBy};
+ghost use Rattle.table.specs.Table.{canonicalBy};
 use crate::size;
 
 // Preroll, count and five reserved bits, and as many bytes as the count says.

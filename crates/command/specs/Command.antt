@@ -1,11 +1,13 @@
 -- The payloads of the commands by their type. 01, "Commands".
-use Prim.Native.Nat.{ℕ, _-_}
-use mathlib.Core.List.{List, [], _++_}
+use Prim.Native.Nat.{ℕ}
+use mathlib.Core.List.{List, []}
 use lib.Dec.{eqb}
-use lib.ListN.{length, replicate}
+use lib.ListN.{length}
 use Rattle.header.specs.Time.{spliceTime}
 use Rattle.table.specs.Bits.{pick, bitsOf}
+use Rattle.table.specs.Lent.{filledTo}
 use Rattle.table.specs.Table.{Table, done, inside, uimsbf, remaining, part, Answer, got, short, parse}
+use Rattle.table.specs.declared.View.{View}
 use Rattle.command.specs.Insert.{WithComponents, insert, blank}
 use Rattle.command.specs.declared.CommandRead.{CommandRead}
 use Rattle.command.specs.declared.Private.{Private}
@@ -46,9 +48,28 @@ numberOf (CommandRead.Is c) = 0
 numberOf CommandRead.UnknownType = 10
 numberOf CommandRead.Malformed = 11
 
--- "arrays with a count, 255 components, blank .. past it"
+-- ---- a value of one kind of command, and the blank of any other
+abbrev pub ofInsert : {A : Type 0} → (Insertion → A) → A → SpliceCommand → A
+ofInsert f none SpliceCommand.SpliceNull = none
+ofInsert f none (SpliceCommand.SpliceInsert i) = f i
+ofInsert f none (SpliceCommand.TimeSignal t) = none
+ofInsert f none SpliceCommand.BandwidthReservation = none
+ofInsert f none (SpliceCommand.PrivateCommand p) = none
+
+abbrev pub ofPrivate : {A : Type 0} → (Private → A) → A → SpliceCommand → A
+ofPrivate f none SpliceCommand.SpliceNull = none
+ofPrivate f none (SpliceCommand.SpliceInsert i) = none
+ofPrivate f none (SpliceCommand.TimeSignal t) = none
+ofPrivate f none SpliceCommand.BandwidthReservation = none
+ofPrivate f none (SpliceCommand.PrivateCommand p) = f p
+
+-- the same command with another view, if it has one
+abbrev pub withView : (View → View) → SpliceCommand → SpliceCommand
+withView f c = ofPrivate (λ p. SpliceCommand.PrivateCommand (record { identifier = p .identifier; «private_bytes» = f (p .«private_bytes») })) c c
+
+-- ---- "arrays with a count, 255 components, blank .. past it"
 unfoldable pub array : List ComponentSplice → List ComponentSplice
-array cs = cs ++ replicate (255 - length cs) blank
+array cs = filledTo 255 blank cs
 
 -- the components of an insert's payload, none where it is malformed
 abbrev pub componentsIn : Answer (WithComponents Insertion) → List ComponentSplice

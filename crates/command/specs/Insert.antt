@@ -5,8 +5,10 @@ use mathlib.Core.List.{List, [], _∷_}
 use lib.Dec.{ltb, eqb}
 use lib.ListN.{getD}
 use Rattle.header.specs.Time.{spliceTime}
+pub use Rattle.header.specs.Time.{immediate}
 use Rattle.header.specs.declared.time.SpliceTime.{SpliceTime}
-use Rattle.header.specs.declared.time.SpliceTime.the-variants.{Immediate, Unspecified, At}
+use Rattle.header.specs.declared.time.SpliceTime.the-variants.{Immediate, Unspecified}
+use Rattle.names.specs.Flags.{networkFlag, returnFlag}
 use Rattle.names.specs.declared.flags.NetworkIndicator.{NetworkIndicator}
 use Rattle.names.specs.declared.flags.ReturnMode.{ReturnMode}
 use Rattle.table.specs.Bits.{pick}
@@ -24,10 +26,6 @@ pub record WithComponents (X : Type 0) : Type 0 where
   pub components : List ComponentSplice
 
 -- ---- splice times of an insert
-abbrev pub immediate : SpliceTime → Bool
-immediate Immediate = true
-immediate Unspecified = false
-immediate (At t) = false
 
 -- "a splice_time unless immediate"
 unfoldable pub timeUnless : Bool → Table SpliceTime
@@ -79,11 +77,7 @@ lasting (Break.Lasts d) = true
 
 abbrev pub autoReturn : Break → Bool
 autoReturn Break.Absent = false
-autoReturn (Break.Lasts d) = automatic (d .«return_mode»)
-  where
-    automatic : ReturnMode → Bool
-    automatic ReturnMode.Automatic = true
-    automatic ReturnMode.Manual = false
+autoReturn (Break.Lasts d) = eqb (returnFlag (d .«return_mode»)) 1
 
 abbrev pub ticks : Break → ℕ
 ticks Break.Absent = 0
@@ -100,8 +94,7 @@ breakDuration duration-flag =
 
 -- ---- "Not cancelled: out 1, program 1, duration flag 1, immediate 1, reserved 4. [mode] [duration] Then program id 16, avail 8, expected 8."
 abbrev pub outOfNetwork : NetworkIndicator → Bool
-outOfNetwork NetworkIndicator.Out = true
-outOfNetwork NetworkIndicator.In = false
+outOfNetwork x = eqb (networkFlag x) 1
 
 abbrev pub modeOf : WithComponents Insert → WithComponents SpliceMode
 modeOf x = record { value = x .value .«splice_mode»; components = x .components }

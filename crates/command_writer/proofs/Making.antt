@@ -46,7 +46,7 @@ and-one false = refl
 
 -- ---- what is made of fields that have no view
 measured-pick : (w f : Bool) (p : List ℕ) (n : ℕ) → length p ≡ n * 8 → measuredOf (pick w (pick f (made (bytesOf p)) (refused 33)) (refused 32)) ≡ measured w f n
-unfolding measuredOf refusalIn bytesIn
+unfolding measuredOf bytesIn
 measured-pick true true p n e =
     let z : length (bytesOf p) ≡ n = length-bytesN (length p / 8) p ∙ omega arith in
     ap (λ (k : ℕ). record { refusal = 0; size = k }) z
@@ -221,7 +221,7 @@ alike-first i cs e = go (i .«splice_mode») cs e
 
 -- ---- an insert
 measured-either : (t w f : Bool) (m : Made) (n : ℕ) → (t ≡ true → measuredOf m ≡ measured w f n) → measured (t && w) f n ≡ measuredOf (pick t m (refused 32))
-unfolding measuredOf refusalIn bytesIn
+unfolding measuredOf bytesIn
 measured-either true w f m n e = sym (e refl)
 measured-either false w f m n e = refl
 
@@ -288,7 +288,7 @@ module _ (p : Private) (lent : List ℕ) where
   private-fields = refl
 
   pub private-outside : length lent < p .«private_bytes» .at + p .«private_bytes» .len → record { refusal = 31; size = 0 } ≡ measuredOf (make private true lent p)
-  unfolding measuredOf refusalIn bytesIn
+  unfolding measuredOf bytesIn
   private-outside h = rw (private-fields, lt-leb _ _ h)
 
   pub private-inside : p .identifier < 2 ^ 32 → p .«private_bytes» .at + p .«private_bytes» .len ≤ length lent → record { refusal = 0; size = 4 + p .«private_bytes» .len } ≡ measuredOf (make private true lent p)
@@ -347,11 +347,11 @@ program-active i x t places is k ev p a e =
 
 module _ (c : SpliceCommand) (places : List ComponentSplice) (lent : List ℕ) where
   pub command-null : c ≡ SpliceCommand.SpliceNull → record { refusal = 0; size = 0 } ≡ measuredOf (commandMade c places lent)
-  unfolding commandMade measuredOf refusalIn bytesIn
+  unfolding commandMade measuredOf bytesIn
   command-null e = rw e
 
   pub command-bandwidth : c ≡ SpliceCommand.BandwidthReservation → record { refusal = 0; size = 0 } ≡ measuredOf (commandMade c places lent)
-  unfolding commandMade measuredOf refusalIn bytesIn
+  unfolding commandMade measuredOf bytesIn
   command-bandwidth e = rw e
 
   pub command-insert : (i : Insertion) → c ≡ SpliceCommand.SpliceInsert i → measuredOf (insertMade (counted i places)) ≡ measuredOf (commandMade c places lent)

@@ -55,7 +55,7 @@ zero-31 e = absurd (omega arith)
 pick-payload : (s w f : Bool) (p : List ℕ) (n : ℕ) → length p ≡ n * 8
     → refusalIn (pick s (pick w (pick f (made (bytesOf p)) (refused 33)) (refused 32)) (refused 31)) ≡ 0
     → Payload (pick s (pick w (pick f (made (bytesOf p)) (refused 33)) (refused 32)) (refused 31)) p
-unfolding refusalIn bytesIn
+unfolding bytesIn
 pick-payload true true true p n e z = record { bytes = refl; whole = omega (arith, length-bytesN (length p / 8) p); is = refl }
 pick-payload true true false p n e z = absurd (omega arith)
 pick-payload true false f p n e z = absurd (omega arith)
@@ -65,7 +65,6 @@ make-payload : (fair : Bool) (lent : List ℕ) (fs : List Field) (n : ℕ) → l
 make-payload fair lent fs n e z = pick-payload (seen lent fs) (within fs) fair (print (contents lent fs)) n e z
 
 late-payload : (t : Bool) (m : Made) (p : List ℕ) → (refusalIn m ≡ 0 → Payload m p) → refusalIn (pick t m (refused 32)) ≡ 0 → Payload (pick t m (refused 32)) p
-unfolding refusalIn
 late-payload true m p h z = h z
 late-payload false m p h z = absurd (omega arith)
 
@@ -84,7 +83,6 @@ unfolding viewed
 seen-bytes lent v e = rw e
 
 private-payload : (p : Private) (lent : List ℕ) → refusalIn (make private true lent p) ≡ 0 → Payload (make private true lent p) (privateInk p lent)
-unfolding refusalIn
 private-payload p lent z = rw (private-fields p lent) (go (leb (at + n) (length lent)) refl (rw (private-fields p lent) at z))
   where
     at : ℕ
@@ -147,7 +145,7 @@ pub private-bits : (p : Private) (lent : List ℕ) → AllBits (privateInk p len
 private-bits p lent = all-append (bitsOfNum 32 (p .identifier)) (bitsOf (viewed lent (p .«private_bytes»))) (all-num 32 (p .identifier)) (all-bits (viewed lent (p .«private_bytes»)))
 
 pub refused-bytes : (m : Made) → 0 < refusalIn m → bytesIn m ≡ []
-unfolding refusalIn bytesIn
+unfolding bytesIn
 refused-bytes (made b) h = absurd (omega arith)
 refused-bytes (refused n) h = refl
 

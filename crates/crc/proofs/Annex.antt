@@ -12,7 +12,8 @@ use native.Mathlib.Omega.{arith}
 use lib.Dec.{lit<, eqb, eqb→eq}
 use lib.Pow.{shr-shr, shl-shr, field, mod-mod-pow}
 use lib.Bits.{bitXor, xor-shr, xor-mod, xor-zero-r, xor-lt}
-use Rattle.crc.specs.Crc.{polynomial, allOnes, fed, crcBit, crcBits, bits, messageBits, crcOf}
+use Rattle.crc.specs.Crc.{polynomial, allOnes, fed, crcBit, crcBits, crcOf}
+use Rattle.table.specs.Bits.{bitsOf, bitsOfNum}
 use Rattle.crc.proofs.Laws.{bit-lt}
 use Rattle.crc.proofs.Linear.{below}
 
@@ -111,15 +112,13 @@ all-append : (xs ys : List ℕ) → AllBits xs → AllBits ys → AllBits (xs ++
 all-append [] ys h k = k
 all-append (x ∷ xs) ys h k = (h .0, all-append xs ys (h .1) k)
 
-bits-all : (n x : ℕ) → AllBits (bits n x)
-unfolding bits
+bits-all : (n x : ℕ) → AllBits (bitsOfNum n x)
 bits-all zero x = tt
 bits-all (suc n) x = (mod-lt (x / 2 ^ n) (lit< tt), bits-all n x)
 
-message-all : (m : List ℕ) → AllBits (messageBits m)
-unfolding messageBits
+message-all : (m : List ℕ) → AllBits (bitsOf m)
 message-all [] = tt
-message-all (b ∷ bs) = all-append (bits 8 b) (messageBits bs) (bits-all 8 b) (message-all bs)
+message-all (b ∷ bs) = all-append (bitsOfNum 8 b) (bitsOf bs) (bits-all 8 b) (message-all bs)
 
 -- ---- a register that has a number's digits keeps them
 
@@ -140,6 +139,6 @@ all-ones : Has initial allOnes
 all-ones i h = eqb→eq (element allOnes i) 1 (below (λ k. eqb (element allOnes k) 1) 32 tt i h)
 
 -- the definition is the annex's register
-pub annex : (message : List ℕ) (i : ℕ) → i < 32 → element (crcOf message) i ≡ run initial (messageBits message) i
+pub annex : (message : List ℕ) (i : ℕ) → i < 32 → element (crcOf message) i ≡ run initial (bitsOf message) i
 unfolding crcOf
-annex message = run-has (messageBits message) initial allOnes (message-all message) all-ones (lit< tt)
+annex message = run-has (bitsOf message) initial allOnes (message-all message) all-ones (lit< tt)

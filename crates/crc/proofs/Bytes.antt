@@ -15,7 +15,8 @@ use lib.ListN.{length, getD, drop, drop-of-length-le}
 use lib.Seq.{drop-cons}
 use lib.Pow.{pow-pos, pow-add, pow-mono, shl-shr, mod-pow-add, high}
 use lib.Bits.{bitXor, xor-shr, xor-mod, xor-zero-r, xor-lt}
-use Rattle.crc.specs.Crc.{polynomial, fed, crcBit, crcBits, bits, messageBits, crcOf, allOnes}
+use Rattle.crc.specs.Crc.{polynomial, fed, crcBit, crcBits, crcOf, allOnes}
+use Rattle.table.specs.Bits.{bitsOf, bitsOfNum}
 use Rattle.crc_table.specs.Turns.{turn, turns}
 use Rattle.crc.specs.Walk.{crcBytes, numberAt}
 use Rattle.crc.proofs.Xor.{xor-assoc, xor-shl}
@@ -67,8 +68,8 @@ then k n z x y h l =
     ∙ xor-assoc (turns n (turns k z)) (turns n (turns 32 x)) (turns 32 y)
     ∙ ap₂ bitXor (sym (turns-add k n z)) (sym (behind n x y h l))
 
-bits-in : (n x z : ℕ) → n ≤ 32 → z < 2 ^ 32 → crcBits z (bits n x) ≡ bitXor (turns n z) (turns 32 (x % 2 ^ n))
-unfolding crcBits bits turns
+bits-in : (n x z : ℕ) → n ≤ 32 → z < 2 ^ 32 → crcBits z (bitsOfNum n x) ≡ bitXor (turns n z) (turns 32 (x % 2 ^ n))
+unfolding crcBits turns
 bits-in zero x z h hz = sym (ap (λ (k : ℕ). bitXor z (turns 32 k)) (mod-one x) ∙ in-none z)
 bits-in (suc n) x z h hz =
     let d : ℕ = x / 2 ^ n % 2 in
@@ -86,8 +87,8 @@ bits-in (suc n) x z h hz =
     ∙ ap₂ (λ (k m : ℕ). bitXor (turns k z) (turns 32 m)) (one-add n) (sym e)
 
 -- the next bit of the n that are left
-pub bits-next : (n x z : ℕ) → 0 < n → crcBits z (bits n x) ≡ crcBits (crcBit z (x / 2 ^ (n - 1) % 2)) (bits (n - 1) x)
-unfolding crcBits bits
+pub bits-next : (n x z : ℕ) → 0 < n → crcBits z (bitsOfNum n x) ≡ crcBits (crcBit z (x / 2 ^ (n - 1) % 2)) (bitsOfNum (n - 1) x)
+unfolding crcBits
 bits-next zero x z h = absurd (omega arith)
 bits-next (suc n) x z h = simp unary-clauses
 
@@ -98,14 +99,14 @@ bits-append z (x ∷ xs) ys = bits-append (crcBit z x) xs ys
 
 -- ---- bytes
 
-pub byte-step : (z b : ℕ) (bs : List ℕ) → crcBytes z (b ∷ bs) ≡ crcBytes (crcBits z (bits 8 b)) bs
-unfolding crcBytes messageBits
-byte-step z b bs = bits-append z (bits 8 b) (messageBits bs)
+pub byte-step : (z b : ℕ) (bs : List ℕ) → crcBytes z (b ∷ bs) ≡ crcBytes (crcBits z (bitsOfNum 8 b)) bs
+unfolding crcBytes
+byte-step z b bs = bits-append z (bitsOfNum 8 b) (bitsOf bs)
 
 pub bytes-append : (z : ℕ) (xs ys : List ℕ) → crcBytes z (xs ++ ys) ≡ crcBytes (crcBytes z xs) ys
-unfolding crcBytes messageBits crcBits
+unfolding crcBytes crcBits
 bytes-append z [] ys = refl
-bytes-append z (x ∷ xs) ys = byte-step z x (xs ++ ys) ∙ bytes-append (crcBits z (bits 8 x)) xs ys ∙ ap (λ (k : ℕ). crcBytes k ys) (sym (byte-step z x xs))
+bytes-append z (x ∷ xs) ys = byte-step z x (xs ++ ys) ∙ bytes-append (crcBits z (bitsOfNum 8 x)) xs ys ∙ ap (λ (k : ℕ). crcBytes k ys) (sym (byte-step z x xs))
 
 pub byte-in : (z b : ℕ) (bs : List ℕ) → z < 2 ^ 32 → b < 256 → crcBytes z (b ∷ bs) ≡ crcBytes (bitXor (turns 8 z) (turns 32 b)) bs
 byte-in z b bs hz hb =
@@ -118,11 +119,11 @@ pub past-none : (s : List ℕ) → crcBytes allOnes s ≡ crcOf s
 unfolding crcOf crcBytes
 past-none s = refl
 
-pub past-one : (s : List ℕ) (z i : ℕ) → i < length s → crcBytes z (drop i s) ≡ crcBytes (crcBits z (bits 8 (getD s i 0))) (drop (i + 1) s)
+pub past-one : (s : List ℕ) (z i : ℕ) → i < length s → crcBytes z (drop i s) ≡ crcBytes (crcBits z (bitsOfNum 8 (getD s i 0))) (drop (i + 1) s)
 past-one s z i h = rw (add-one, drop-cons s i 0) (byte-step z (getD s i 0) (drop (suc i) s))
 
 pub past-all : (s : List ℕ) (z i : ℕ) → length s ≤ i → crcBytes z (drop i s) ≡ z
-unfolding crcBytes messageBits crcBits
+unfolding crcBytes crcBits
 past-all s z i h = rw (drop-of-length-le s)
 
 -- ---- the number that bytes make

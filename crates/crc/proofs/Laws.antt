@@ -15,7 +15,8 @@ use lib.ListN.{length, getD, take, drop, take-append-drop, length-drop}
 use lib.Seq.{getD-drop}
 use lib.Pow.{shr-shr, split}
 use lib.Bits.{bitXor, xor-self, xor-lt}
-use Rattle.crc.specs.Crc.{polynomial, allOnes, fed, crcBit, crcBits, messageBits, crcOf, crcBytesOf}
+use Rattle.crc.specs.Crc.{polynomial, allOnes, fed, crcBit, crcBits, crcOf, crcBytesOf}
+use Rattle.table.specs.Bits.{bitsOf}
 use Rattle.crc_table.specs.Turns.{turn, turns}
 use Rattle.crc.specs.Walk.{crcBytes, numberAt}
 use Rattle.crc.proofs.Bytes.{past-none, bytes-append, pass}
@@ -39,7 +40,7 @@ bits-lt z (x ∷ xs) h = bits-lt (crcBit z x) xs (bit-lt z x)
 
 pub crc-lt : (m : List ℕ) → crcOf m < 2 ^ 32
 unfolding crcOf
-crc-lt m = bits-lt allOnes (messageBits m) (lit< tt)
+crc-lt m = bits-lt allOnes (bitsOf m) (lit< tt)
 
 -- ---- four bytes behind a message
 
@@ -56,7 +57,7 @@ four-are-bytes a b c d ha hb hc hd (suc (suc (suc (suc k)))) = lit< tt
 
 four-behind : (m : List ℕ) (a b c d : ℕ) → a < 256 → b < 256 → c < 256 → d < 256
     → crcOf (m ++ a ∷ b ∷ c ∷ d ∷ []) ≡ turns 32 (bitXor (crcOf m) (four a b c d))
-unfolding crcBytes messageBits crcBits numberAt
+unfolding crcBytes crcBits numberAt
 four-behind m a b c d ha hb hc hd =
     let x : List ℕ = a ∷ b ∷ c ∷ d ∷ [] in
     let z : ℕ = crcOf m in
@@ -67,12 +68,14 @@ four-behind m a b c d ha hb hc hd =
     ∙ sym (turns-lin 32 .at z (four a b c d))
 
 -- a number of 32 bits is that of its four bytes
-four-bytes : (c : ℕ) → c < 2 ^ 32 → four (c / 2 ^ 24 % 256) (c / 2 ^ 16 % 256) (c / 2 ^ 8 % 256) (c % 256) ≡ c
+four-bytes : (c : ℕ) → c < 2 ^ 32 → four (c / 2 ^ 24 % 256) (c / 2 ^ 16 % 256) (c / 2 ^ 8 % 256) (c / 2 ^ 0 % 256) ≡ c
 four-bytes c h =
     let top : c / 2 ^ 24 % 256 ≡ c / 2 ^ 24 = mod-eq-of-lt (omega arith) in
     let e : c / 2 ^ 24 * 256 + c / 2 ^ 16 % 256 ≡ c / 2 ^ 16 = ap (λ (n : ℕ). n * 256 + c / 2 ^ 16 % 256) (sym (shr-shr c 16 8)) ∙ split (c / 2 ^ 16) 8 in
     let f : c / 2 ^ 16 * 256 + c / 2 ^ 8 % 256 ≡ c / 2 ^ 8 = ap (λ (n : ℕ). n * 256 + c / 2 ^ 8 % 256) (sym (shr-shr c 8 8)) ∙ split (c / 2 ^ 8) 8 in
-    ap (λ (n : ℕ). four n (c / 2 ^ 16 % 256) (c / 2 ^ 8 % 256) (c % 256)) top
+    let last : c / 2 ^ 0 % 256 ≡ c % 256 = omega arith in
+    ap (λ (n : ℕ). four (c / 2 ^ 24 % 256) (c / 2 ^ 16 % 256) (c / 2 ^ 8 % 256) n) last
+    ∙ ap (λ (n : ℕ). four n (c / 2 ^ 16 % 256) (c / 2 ^ 8 % 256) (c % 256)) top
     ∙ ap (λ (n : ℕ). (n * 256 + c / 2 ^ 8 % 256) * 256 + c % 256) e
     ∙ ap (λ (n : ℕ). n * 256 + c % 256) f
     ∙ split c 8
@@ -81,7 +84,7 @@ pub crc-appended : (m : List ℕ) → crcOf (m ++ crcBytesOf m) ≡ 0
 unfolding turns turn
 crc-appended m =
     let c : ℕ = crcOf m in
-    four-behind m (c / 2 ^ 24 % 256) (c / 2 ^ 16 % 256) (c / 2 ^ 8 % 256) (c % 256) (omega arith) (omega arith) (omega arith) (omega arith)
+    four-behind m (c / 2 ^ 24 % 256) (c / 2 ^ 16 % 256) (c / 2 ^ 8 % 256) (c / 2 ^ 0 % 256) (omega arith) (omega arith) (omega arith) (omega arith)
     ∙ ap (λ (n : ℕ). turns 32 (bitXor c n)) (four-bytes c (crc-lt m))
     ∙ ap (turns 32) (xor-self c)
 
@@ -116,7 +119,7 @@ four-unique m a b c d ha hb hc hd e =
     let ea : a ≡ z / 2 ^ 24 % 256 = omega arith in
     let eb : b ≡ z / 2 ^ 16 % 256 = omega arith in
     let ec : c ≡ z / 2 ^ 8 % 256 = omega arith in
-    let ed : d ≡ z % 256 = omega arith in
+    let ed : d ≡ z / 2 ^ 0 % 256 = omega arith in
     cc
 
 pub crc-unique : (m b : List ℕ) → length b ≡ 4 → ((k : ℕ) → getD b k 0 < 256) → crcOf (m ++ b) ≡ 0 → b ≡ crcBytesOf m
@@ -135,4 +138,4 @@ crc-last s n l h e =
     (crc-unique (take n s) (drop n s) (simp length-drop (omega arith)) (λ k. rw getD-drop (h (n + k))) (ap crcOf whole ∙ e))
 
 pub crc-bytes : (m : List ℕ) (k : ℕ) → getD (crcBytesOf m) k 0 < 256
-crc-bytes m = let c : ℕ = crcOf m in four-are-bytes (c / 2 ^ 24 % 256) (c / 2 ^ 16 % 256) (c / 2 ^ 8 % 256) (c % 256) (omega arith) (omega arith) (omega arith) (omega arith)
+crc-bytes m = let c : ℕ = crcOf m in four-are-bytes (c / 2 ^ 24 % 256) (c / 2 ^ 16 % 256) (c / 2 ^ 8 % 256) (c / 2 ^ 0 % 256) (omega arith) (omega arith) (omega arith) (omega arith)

@@ -1,9 +1,10 @@
 -- The CRC of a section: ISO/IEC 13818-1, Annex A (document 01, "Section": polynomial 0x04C11DB7, start 0xFFFFFFFF, high bit first, no
 -- final change). The annex's 32 delay elements z(31) .. z(0) are one number z below 2 ^ 32, whose binary digit i is z(i).
 -- `proofs/Annex` has the same, delay element by delay element. Assumes nothing.
-use mathlib.Core.List.{List, [], _∷_, _++_}
+use mathlib.Core.List.{List, [], _∷_}
 use Prim.Native.Nat.{ℕ, zero, suc, _*_, _/_, _%_, _^_}
 use lib.Bits.{bitXor}
+use Rattle.table.specs.Bits.{bitsOf, bigEndian}
 
 -- x^26 + x^23 + x^22 + x^16 + x^12 + x^11 + x^10 + x^8 + x^7 + x^5 + x^4 + x^2 + x + 1, below x^32
 abbrev pub polynomial : ℕ
@@ -28,23 +29,10 @@ unfoldable pub crcBits : ℕ → List ℕ → ℕ
 crcBits z [] = z
 crcBits z (bit ∷ later) = crcBits (crcBit z bit) later
 
--- the n lowest bits of a number, the highest first: those of a byte are `bits 8`
-unfoldable pub bits : ℕ → ℕ → List ℕ
-bits zero x = []
-bits (suc n) x = x / 2 ^ n % 2 ∷ bits n x
-
--- the bits of a message: byte after byte, the highest bit of each first
-unfoldable pub messageBits : List ℕ → List ℕ
-messageBits [] = []
-messageBits (byte ∷ later) = bits 8 byte ++ messageBits later
-
--- the CRC of a message; a section, its own CRC included, is right where this is 0
+-- the CRC of a message, byte after byte, the highest bit of each first; a section, its own CRC included, is right where this is 0
 unfoldable pub crcOf : List ℕ → ℕ
-crcOf message = crcBits allOnes (messageBits message)
+crcOf message = crcBits allOnes (bitsOf message)
 
--- a number of 32 bits as four bytes, the highest first; the CRC of a message as a section carries it
-abbrev pub bigEndian : ℕ → List ℕ
-bigEndian c = c / 2 ^ 24 % 256 ∷ c / 2 ^ 16 % 256 ∷ c / 2 ^ 8 % 256 ∷ c % 256 ∷ []
-
+-- as a section carries it: four bytes, the highest first
 abbrev pub crcBytesOf : List ℕ → List ℕ
-crcBytesOf message = bigEndian (crcOf message)
+crcBytesOf message = bigEndian 4 (crcOf message)

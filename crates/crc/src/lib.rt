@@ -3,7 +3,8 @@ ghost use mathlib.Core.Path.{_≡_};
 ghost use Prim.Native.Nat.{_+_, _*_, _≤_, _<_};
 ghost use lib.ListN.{length};
 ghost use Rattle.crc_table.specs.Turns.{turns, reversed};
-ghost use Rattle.crc.specs.Crc.{allOnes, crcBit, crcBits, bits, crcOf};
+ghost use Rattle.crc.specs.Crc.{allOnes, crcBit, crcBits, crcOf};
+ghost use Rattle.table.specs.Bits.{bitsOfNum};
 ghost use Rattle.crc.specs.Walk.{numberAt};
 use crc_table::first_byte::turned_56;
 use crc_table::last_byte::turned_32;
@@ -28,7 +29,7 @@ fn take_bit(z: u32, bit: u32) -> u32
 }
 
 fn take_byte(z: u32, byte: u8) -> u32
-    ensures { λ r. ⌜ r ≡ crcBits z (bits 8 byte) ⌝ }
+    ensures { λ r. ⌜ r ≡ crcBits z (bitsOfNum 8 byte) ⌝ }
 {
     let mut r = z;
     let mut left: u32 = 8;

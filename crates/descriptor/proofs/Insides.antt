@@ -39,7 +39,8 @@ use Rattle.descriptor.specs.Descriptor.{
 }
 use Rattle.descriptor.specs.Plain.{avail, dtmf, time}
 use Rattle.descriptor.specs.Segmentation.{Fore, blankUpid, deliveryRestrictions, mode, duration, writtenUpid, parts, front, back, head}
-use Rattle.descriptor.specs.Views.{upidViews, refusalViews, readViews}
+use Rattle.descriptor.specs.Views.{upidViews, refusalViews}
+use Rattle.descriptor.specs.Walk.{readViews}
 use Rattle.descriptor.specs.declared.Descriptor.the-variants.{Avail, Dtmf, Time}
 use Rattle.descriptor.specs.declared.DescriptorRead.{DescriptorRead}
 use Rattle.descriptor.specs.declared.DescriptorRead.the-variants.{Is, Refused}

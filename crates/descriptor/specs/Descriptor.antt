@@ -1,11 +1,11 @@
 -- What a descriptor's payload is read as. 01, "Loop items". These are definitions.
-use Prim.Native.Nat.{ℕ, _+_}
+use Prim.Native.Nat.{ℕ}
 use mathlib.Core.Bool.{Bool, true, false, _&&_, _||_}
 use mathlib.Core.List.{List, [], _∷_}
 use lib.Dec.{ltb, eqb}
 use lib.ListN.{length, getD}
 use Rattle.table.specs.Bits.{pick, bitsOf}
-use Rattle.table.specs.Lent.{viewed}
+use Rattle.table.specs.Lent.{noView, shifted, viewed}
 use Rattle.table.specs.Table.{Answer, got, short, parse}
 use Rattle.table.specs.declared.View.{View}
 use Rattle.upid.specs.Upid.{checkOf}
@@ -52,12 +52,12 @@ abbrev pub moved : ℕ → Refusal → Refusal
 moved at TooLong = TooLong
 moved at (Short expected actual) = Short expected actual
 moved at Mismatch = Mismatch
-moved at (NotText kind text) = NotText kind (record { at = at + text .at; len = text .len })
+moved at (NotText kind text) = NotText kind (shifted at text)
 moved at (WrongLength kind expected actual) = WrongLength kind expected actual
 
 -- "Length 0 at top level is None"; "The EIDR identifier of 12 bytes is held by value. Else an item's UPID is its reported type and one view of its bytes"
 abbrev pub reportedUpid : ℕ → View → SegmentationUpid
-reportedUpid kind bytes = record { kind = kind; bytes = pick (eqb kind 0 || eqb kind 10) (record { at = 0; len = 0 }) bytes }
+reportedUpid kind bytes = record { kind = kind; bytes = pick (eqb kind 0 || eqb kind 10) noView bytes }
 
 abbrev pub ifFine : UpidRead → View → (SegmentationUpid → DescriptorRead) → DescriptorRead
 ifFine (UpidRead.Fine kind) bytes k = k (reportedUpid kind bytes)
@@ -84,8 +84,11 @@ segmentationOf s =
 -- ---- by tag and identifier
 
 -- "CUEI"
+abbrev pub cuei : List ℕ
+cuei = 0x43 ∷ 0x55 ∷ 0x45 ∷ 0x49 ∷ []
+
 unfoldable pub isCuei : List ℕ → Bool
-isCuei id = eqb (getD id 0 0) 0x43 && (eqb (getD id 1 0) 0x55 && (eqb (getD id 2 0) 0x45 && eqb (getD id 3 0) 0x49))
+isCuei id = eqb (getD id 0 0) (getD cuei 0 0) && (eqb (getD id 1 0) (getD cuei 1 0) && (eqb (getD id 2 0) (getD cuei 2 0) && eqb (getD id 3 0) (getD cuei 3 0)))
 
 unfoldable pub cueiOf : ℕ → List ℕ → DescriptorRead
 cueiOf tag s =

@@ -7,6 +7,7 @@ use Rattle.names.specs.Flags.{Answer, gives, refuses, restrictionsBits, restric
 use Rattle.names.specs.Segmentation.{segmentationNumber, segmentationOf, fairSegmentation}
 use Rattle.names.specs.declared.flags.DeviceRestrictions.{DeviceRestrictions}
 use Rattle.table.specs.Bits.{pick}
+use Rattle.table.specs.Lent.{noView}
 use Rattle.table.specs.Table.{Table, done, must, inside, part, remaining, list, uimsbf, flag, ones}
 use Rattle.descriptor.specs.declared.back.Back.{Back}
 use Rattle.descriptor.specs.declared.front.Front.{Front}
@@ -213,7 +214,7 @@ insertFrom f upid b = record {
 }
 
 abbrev pub blankUpid : SegmentationUpid
-blankUpid = record { kind = 0; bytes = record { at = 0; len = 0 } }
+blankUpid = record { kind = 0; bytes = noView }
 
 abbrev pub blankFront : Front
 blankFront = record {

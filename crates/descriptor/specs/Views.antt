@@ -6,10 +6,9 @@ use lib.Dec.{eqb}
 use Rattle.table.specs.declared.View.{View}
 use Rattle.upid.specs.declared.Refusal.{Refusal}
 use Rattle.upid.specs.declared.Refusal.the-variants.{TooLong, Short, Mismatch, NotText, WrongLength}
+use Rattle.descriptor.specs.Segmentation.{withUpid}
 use Rattle.descriptor.specs.declared.Descriptor.{Descriptor}
 use Rattle.descriptor.specs.declared.Descriptor.the-variants.{Avail, Dtmf, Segmentation, Time, Reserved}
-use Rattle.descriptor.specs.declared.DescriptorRead.{DescriptorRead}
-use Rattle.descriptor.specs.declared.DescriptorRead.the-variants.{Is, Refused}
 use Rattle.descriptor.specs.declared.segmentation.SegmentationDetail.{SegmentationDetail}
 use Rattle.descriptor.specs.declared.segmentation.SegmentationDetail.the-variants.{Cancel, Insert}
 use Rattle.descriptor.specs.declared.segmentation.SegmentationUpid.{SegmentationUpid}
@@ -38,6 +37,15 @@ refusalViews Mismatch = []
 refusalViews (NotText kind bytes) = bytes ∷ []
 refusalViews (WrongLength kind expected actual) = []
 
-abbrev pub readViews : DescriptorRead → List View
-readViews (Is d) = descriptorViews d
-readViews (Refused r) = refusalViews r
+-- ---- the same descriptor with other views: that of its UPID, and any other
+abbrev pub withUpids : (SegmentationUpid → SegmentationUpid) → SegmentationDetail → SegmentationDetail
+withUpids f Cancel = Cancel
+withUpids f (Insert i) = Insert (withUpid i (f (i .«segmentation_upid»)))
+
+abbrev pub withViews : (SegmentationUpid → SegmentationUpid) → (View → View) → Descriptor → Descriptor
+withViews f g (Avail x) = Avail x
+withViews f g (Dtmf x) = Dtmf (record { preroll = x .preroll; «dtmf_chars» = g (x .«dtmf_chars») })
+withViews f g (Segmentation x) =
+    Segmentation (record { «segmentation_event_id» = x .«segmentation_event_id»; «descriptor_detail» = withUpids f (x .«descriptor_detail») })
+withViews f g (Time x) = Time x
+withViews f g (Reserved tag bytes) = Reserved tag (g bytes)

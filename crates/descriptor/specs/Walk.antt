@@ -15,9 +15,10 @@ use Rattle.upid.specs.declared.Refusal.the-variants.{Short}
 use Rattle.upid.specs.declared.UpidRead.{UpidRead}
 use Rattle.descriptor.specs.Descriptor.{moved, reportedUpid}
 use Rattle.descriptor.specs.Segmentation.{deviceOf, Moded, Fore, Head}
+use Rattle.descriptor.specs.Views.{descriptorViews, refusalViews}
 use Rattle.descriptor.specs.Whole.{blanks}
 use Rattle.descriptor.specs.declared.DescriptorRead.{DescriptorRead}
-use Rattle.descriptor.specs.declared.DescriptorRead.the-variants.{Refused}
+use Rattle.descriptor.specs.declared.DescriptorRead.the-variants.{Is, Refused}
 use Rattle.descriptor.specs.declared.back.Back.{Back}
 use Rattle.descriptor.specs.declared.back.BackRead.{BackRead}
 use Rattle.descriptor.specs.declared.back.SubSegmentsRead.{SubSegmentsRead}
@@ -123,3 +124,8 @@ upidChecked s u = upidAnswer (checkOf (u .kind) (viewed s (u .bytes))) (u .bytes
 unfoldable pub filling : List ModeComponent → ℕ → Answer (List ModeComponent) → List ModeComponent
 filling out i (got cs at) = sets out i cs
 filling out i (short expected actual) = blanks
+
+-- the views in what is read
+abbrev pub readViews : DescriptorRead → List View
+readViews (Is d) = descriptorViews d
+readViews (Refused r) = refusalViews r

@@ -1,27 +1,45 @@
 -- What stands beside a descriptor. 01, "What must change shape": "arrays stand beside enums, not in them". These are definitions.
-use Prim.Native.Nat.{ℕ, _-_}
-use mathlib.Core.List.{List, [], _++_}
-use lib.ListN.{length, replicate}
+use Prim.Native.Nat.{ℕ}
+use mathlib.Core.List.{List, []}
+use lib.ListN.{replicate}
 use Rattle.table.specs.Bits.{bitsOf}
-use Rattle.table.specs.Lent.{viewed}
+use Rattle.table.specs.Lent.{filledTo, viewed}
 use Rattle.table.specs.Table.{Answer, got, short, parse}
 use Rattle.upid.specs.Upid.{eidrOf}
 use Rattle.descriptor.specs.Descriptor.{descriptorOf}
 use Rattle.descriptor.specs.Segmentation as table
 use Rattle.descriptor.specs.Segmentation.{blankComponent, frontOf, segmentation}
+use Rattle.descriptor.specs.declared.Descriptor.{Descriptor}
 use Rattle.descriptor.specs.declared.Descriptor.the-variants.{Avail, Dtmf, Segmentation, Time, Reserved}
 use Rattle.descriptor.specs.declared.DescriptorRead.{DescriptorRead}
 use Rattle.descriptor.specs.declared.DescriptorRead.the-variants.{Is, Refused}
 use Rattle.descriptor.specs.declared.segmentation.ModeComponent.{ModeComponent}
+use Rattle.descriptor.specs.declared.segmentation.SegmentationDescriptor.{SegmentationDescriptor}
 use Rattle.descriptor.specs.declared.whole.Beside.{Beside}
 use Rattle.descriptor.specs.declared.whole.WholeDescriptor.{WholeDescriptor}
 
+-- ---- a value of one kind of descriptor, and the blank of any other
+abbrev pub ofSegmentation : {A : Type 0} → (SegmentationDescriptor → A) → A → Descriptor → A
+ofSegmentation f none (Avail x) = none
+ofSegmentation f none (Dtmf x) = none
+ofSegmentation f none (Segmentation x) = f x
+ofSegmentation f none (Time x) = none
+ofSegmentation f none (Reserved tag v) = none
+
+abbrev pub ofReserved : {A : Type 0} → A → A → Descriptor → A
+ofReserved its none (Avail x) = none
+ofReserved its none (Dtmf x) = none
+ofReserved its none (Segmentation x) = none
+ofReserved its none (Time x) = none
+ofReserved its none (Reserved tag v) = its
+
+-- ---- the array of a segmentation descriptor, and its EIDR
 unfoldable pub blanks : List ModeComponent
-blanks = replicate 255 blankComponent
+blanks = filledTo 255 blankComponent []
 
 -- "arrays with a count, 255 components, blank (all zero ..) past it"
 unfoldable pub filled : List ModeComponent → List ModeComponent
-filled cs = cs ++ replicate (255 - length cs) blankComponent
+filled cs = filledTo 255 blankComponent cs
 
 unfoldable pub blankBeside : Beside
 blankBeside = record { components = blanks; eidr = replicate 12 0 }
@@ -38,20 +56,12 @@ besideOf s = besideIn s (parse segmentation (bitsOf s) 0)
 
 -- ---- beside any descriptor
 abbrev pub besideRead : DescriptorRead → List ℕ → Beside
-besideRead (Is (Avail x)) s = blankBeside
-besideRead (Is (Dtmf x)) s = blankBeside
-besideRead (Is (Segmentation x)) s = besideOf s
-besideRead (Is (Time x)) s = blankBeside
-besideRead (Is (Reserved tag v)) s = blankBeside
+besideRead (Is d) s = ofSegmentation (λ x. besideOf s) blankBeside d
 besideRead (Refused r) s = blankBeside
 
 -- the identifier of a reserved one; the others are "CUEI"
 abbrev pub identifierRead : DescriptorRead → List ℕ → List ℕ
-identifierRead (Is (Avail x)) id = replicate 4 0
-identifierRead (Is (Dtmf x)) id = replicate 4 0
-identifierRead (Is (Segmentation x)) id = replicate 4 0
-identifierRead (Is (Time x)) id = replicate 4 0
-identifierRead (Is (Reserved tag v)) id = id
+identifierRead (Is d) id = ofReserved id (replicate 4 0) d
 identifierRead (Refused r) id = replicate 4 0
 
 unfoldable pub wholeOf : ℕ → List ℕ → List ℕ → WholeDescriptor

@@ -48,7 +48,7 @@ use Rattle.descriptor.specs.declared.segmentation.SegmentationInsert.{Segmentat
 use Rattle.descriptor.specs.declared.segmentation.SegmentationMode.{SegmentationMode}
 use Rattle.descriptor.specs.declared.segmentation.SegmentationUpid.{SegmentationUpid}
 use Rattle.descriptor.specs.declared.segmentation.SubSegments.{SubSegments}
-use Rattle.descriptor_form.specs.Parts.{deliveryFields, componentFields, componentsFields, modeFields, durationFields, upidFields, subFields, backFields, flagFields, headFields, insertFields, segmentFields}
+use Rattle.descriptor_form.specs.Walk.{deliveryFields, componentFields, componentsFields, modeFields, durationFields, upidFields, subFields, backFields, flagFields, headFields, insertFields, segmentFields}
 use Rattle.descriptor_form.specs.Writing as writing
 use Rattle.descriptor_form.specs.Writing.{writtenInsert, writtenDetail}
 

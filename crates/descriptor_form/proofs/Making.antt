@@ -12,7 +12,7 @@ use lib.ListN.{length, take}
 use lib.Seq.{length-take-le}
 use borrow.Author.Tests.{leb-true}
 use Rattle.table.specs.Bits.{pick, bytesOf}
-use Rattle.table.specs.Writing.{Field, walk, seen, within, contents, print, Made, made, refused, makeOf, make}
+use Rattle.table.specs.Writing.{Field, walk, seen, within, contents, print, Made, made, refused, makeOf, make, refusalIn}
 use Rattle.table.proofs.Lists.{zero-one, and-true}
 use Rattle.table.proofs.Structure.{Wrote, wrote, write-size}
 use Rattle.table.proofs.Walks.{print-length}
@@ -26,8 +26,8 @@ use Rattle.descriptor.specs.declared.segmentation.SegmentationMode.{Segmentatio
 use Rattle.descriptor.specs.declared.segmentation.SegmentationUpid.{SegmentationUpid}
 use Rattle.descriptor.specs.declared.whole.Beside.{Beside}
 use Rattle.descriptor.proofs.SegmentationLaws.{modeBytes, durationBytes, detailBytes, segmentation-ends, segmentationStructure}
-use Rattle.descriptor_form.specs.Parts.{segmentFields, modeSize, durationSize, payloadSize, numberIn}
-use Rattle.descriptor_form.specs.Writing.{allZero, fairUpid, fairSegment, segmentationMade, upidIn, upidSource, written, writtenDetail}
+use Rattle.descriptor_form.specs.Walk.{segmentFields, payloadSize}
+use Rattle.descriptor_form.specs.Writing.{allZero, fairUpid, fairSegment, segmentationMade, upidIn, upidSource, written, writtenDetail, modeSize, durationSize}
 use Rattle.descriptor_form.proofs.Fields.{fields-are}
 
 -- ---- what is made, undone
@@ -35,11 +35,11 @@ if-made : (b : Bool) (m : Made) (n : ℕ) (s : List ℕ) → pick b m (refused n
 if-made true m n s e = (refl, e)
 if-made false m n s e = zero-one cc
 
-if-zero : (b : Bool) (m : Made) (n : ℕ) → 0 < n → numberIn (pick b m (refused n)) ≡ 0 → (b ≡ true) × (numberIn m ≡ 0)
+if-zero : (b : Bool) (m : Made) (n : ℕ) → 0 < n → refusalIn (pick b m (refused n)) ≡ 0 → (b ≡ true) × (refusalIn m ≡ 0)
 if-zero true m n h e = (refl, e)
 if-zero false m n h e = absurd (omega arith)
 
-makes : (fair : Bool) (l : List ℕ) (fs : List Field) → numberIn (makeOf fair l fs) ≡ 0 → makeOf fair l fs ≡ made (bytesOf (print (contents l fs)))
+makes : (fair : Bool) (l : List ℕ) (fs : List Field) → refusalIn (makeOf fair l fs) ≡ 0 → makeOf fair l fs ≡ made (bytesOf (print (contents l fs)))
 makes fair l fs e =
     let i = if-zero (seen l fs) _ 31 (omega arith) e in
     let j = if-zero (within fs) _ 32 (omega arith) (i .1) in
@@ -76,7 +76,7 @@ size-is Cancel = refl
 size-is (Insert i) = rw (mode-size (i .«segmentation_mode»), duration-size (i .«segmentation_duration»))
 
 -- no refusal: a UPID's view in the lent bytes, and not too long
-pub zero-view : (x : SegmentationDescriptor) (id : List ℕ) (beside : Beside) (lent : List ℕ) → numberIn (segmentationMade x id beside lent) ≡ 0
+pub zero-view : (x : SegmentationDescriptor) (id : List ℕ) (beside : Beside) (lent : List ℕ) → refusalIn (segmentationMade x id beside lent) ≡ 0
     → (upidIn x .bytes .len ≤ 255) × (upidIn x .bytes .at + upidIn x .bytes .len ≤ length lent)
 unfolding segmentationMade
 zero-view x id beside lent e =
@@ -94,7 +94,7 @@ module _ (x : SegmentationDescriptor) (id : List ℕ) (beside : Beside) (lent : 
   pub counted : length cs ≡ countOf (frontOf (x .«descriptor_detail») .«segmentation_mode»)
   counted = length-take-le (countOf (frontOf (x .«descriptor_detail») .«segmentation_mode»)) (beside .components) all
 
-  pub made-zero : numberIn (segmentationMade x id beside lent) ≡ 0
+  pub made-zero : refusalIn (segmentationMade x id beside lent) ≡ 0
       → segmentationMade x id beside lent ≡ made (bytesOf (print (contents source (segmentFields (x .«segmentation_event_id») (x .«descriptor_detail») cs))))
   unfolding segmentationMade
   made-zero e =

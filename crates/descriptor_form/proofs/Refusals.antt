@@ -12,7 +12,7 @@ use Rattle.names.specs.Flags.{restrictionsBits}
 use Rattle.names.specs.declared.flags.DeviceRestrictions.{DeviceRestrictions}
 use Rattle.table.specs.Bits.{pick, bytesOf}
 use Rattle.table.specs.Table.{flagNumber}
-use Rattle.table.specs.Writing.{Field, bits, run, rest, walk, seen, within, contents, print, Made, made, refused, makeOf, make}
+use Rattle.table.specs.Writing.{Field, bits, run, rest, walk, seen, within, contents, print, Made, made, refused, makeOf, make, refusalIn}
 use Rattle.table.proofs.Lists.{and-assoc}
 use Rattle.descriptor.specs.Segmentation.{blankUpid, byProgram, countOf, fairDetail, frontOf, lasting, segmentation, unrestricted}
 use Rattle.descriptor.specs.Whole.{blanks}
@@ -26,7 +26,7 @@ use Rattle.descriptor.specs.declared.segmentation.SegmentationInsert.{Segmentat
 use Rattle.descriptor.specs.declared.segmentation.SegmentationMode.{SegmentationMode}
 use Rattle.descriptor.specs.declared.segmentation.SegmentationUpid.{SegmentationUpid}
 use Rattle.descriptor.specs.declared.segmentation.SubSegments.{SubSegments}
-use Rattle.descriptor_form.specs.Parts.{deliveryFields, componentsFields, modeFields, durationFields, upidFields, subFields, backFields, segmentFields, numbersFit, numberIn}
+use Rattle.descriptor_form.specs.Walk.{deliveryFields, componentsFields, modeFields, durationFields, upidFields, subFields, backFields, segmentFields, numbersFit}
 use Rattle.descriptor_form.specs.Walk.{ModeFits, RefusedSo}
 use Rattle.descriptor_form.specs.Writing.{allZero, fairUpid, fairSegment, segmentationMade, upidSource, writtenKind, writtenUpid}
 use Rattle.descriptor_form.proofs.Fields.{fields-are}
@@ -101,10 +101,10 @@ upid-within u k h = go (eqb (u .kind) 10) (eqb (u .kind) 6 && eqb (u .bytes .len
     go false false = rw (lt-ltb (u .kind) 256 k, lt-ltb (u .bytes .len) 256 (omega arith))
 
 -- ---- what is made, when the views are seen
-numbered : (fair : Bool) (l : List ℕ) (fs : List Field) → seen l fs ≡ true → numberIn (makeOf fair l fs) ≡ pick (within fs) (pick fair 0 33) 32
+numbered : (fair : Bool) (l : List ℕ) (fs : List Field) → seen l fs ≡ true → refusalIn (makeOf fair l fs) ≡ pick (within fs) (pick fair 0 33) 32
 numbered fair l fs e = rw e (go (within fs) fair)
   where
-    go : (w f : Bool) → numberIn (pick w (pick f (made (bytesOf (print (contents l fs)))) (refused 33)) (refused 32)) ≡ pick w (pick f 0 33) 32
+    go : (w f : Bool) → refusalIn (pick w (pick f (made (bytesOf (print (contents l fs)))) (refused 33)) (refused 32)) ≡ pick w (pick f 0 33) 32
     go true true = refl
     go true false = refl
     go false f = refl
@@ -120,12 +120,12 @@ module _ (event : ℕ) (i : SegmentationInsert) (id : List ℕ) (cs : List ModeC
   M = segmentationMade x id (record { components = cs; eidr = eidr }) lent
 
   module _ (b : Bool) (eb : b ≡ leb (u .bytes .at + u .bytes .len) (length lent)) where
-    pub view-out : not b ≡ true → 31 ≡ numberIn M
+    pub view-out : not b ≡ true → 31 ≡ refusalIn M
     unfolding segmentationMade
     view-out t = rw (← eb, not-true b t)
 
     module _ (t : not b ≡ false) where
-      pub upid-long : 255 < u .bytes .len → 32 ≡ numberIn M
+      pub upid-long : 255 < u .bytes .len → 32 ≡ refusalIn M
       unfolding segmentationMade
       upid-long h = rw (← eb, not-false b t, lt-leb (u .bytes .len) 255 h)
 
@@ -166,50 +166,50 @@ module _ (event : ℕ) (i : SegmentationInsert) (id : List ℕ) (cs : List ModeC
             ∙ ap (λ (b : Bool). b && within (backFields i)) (upid-within u kind h))))
             ∙ sym (en .0))
 
-        made-so : numberIn M ≡ pick n (pick (fairSegment x id eidr lent) 0 33) 32
+        made-so : refusalIn M ≡ pick n (pick (fairSegment x id eidr lent) 0 33) 32
         unfolding segmentationMade fs
         made-so =
             let e : length listed ≡ countOf (i .«segmentation_mode») = length-take-le (countOf (i .«segmentation_mode»)) cs (omega (arith, en .1)) in
             rw (← eb, not-false b t, le-leb (u .bytes .len) 255 h)
-            (ap (λ (l : List Field). numberIn (makeOf (fairSegment x id eidr lent) source l)) (fields-are event (Insert i) listed e)
+            (ap (λ (l : List Field). refusalIn (makeOf (fairSegment x id eidr lent) source l)) (fields-are event (Insert i) listed e)
             ∙ numbered (fairSegment x id eidr lent) source fs all-seen
             ∙ ap (λ (b : Bool). pick b (pick (fairSegment x id eidr lent) 0 33) 32) all-within)
 
-        pub numbers-over : not n ≡ true → 32 ≡ numberIn M
+        pub numbers-over : not n ≡ true → 32 ≡ refusalIn M
         numbers-over v = sym (made-so ∙ rw (not-true n v))
 
         module _ (v : not n ≡ false) (z : Bool) (ez : z ≡ allZero id) where
-          pub with-identifier : not z ≡ true → 33 ≡ numberIn M
+          pub with-identifier : not z ≡ true → 33 ≡ refusalIn M
           unfolding fairSegment
           with-identifier w = sym (made-so ∙ rw (not-false n v, ← ez, not-true z w))
 
           module _ (w : not z ≡ false) (f : Bool) (ef : f ≡ fairDetail (Insert i)) where
-            pub unfair-insert : not f ≡ true → 33 ≡ numberIn M
+            pub unfair-insert : not f ≡ true → 33 ≡ refusalIn M
             unfolding fairSegment
             unfair-insert y = sym (made-so ∙ rw (not-false n v, ← ez, not-false z w, ← ef, not-true f y))
 
             module _ (y : not f ≡ false) (g : Bool) (eg : g ≡ fairUpid u eidr lent) where
-              pub unfair-upid : not g ≡ true → 33 ≡ numberIn M
+              pub unfair-upid : not g ≡ true → 33 ≡ refusalIn M
               unfolding fairSegment
               unfair-upid q = sym (made-so ∙ rw (not-false n v, ← ez, not-false z w, ← ef, not-false f y, ← eg, not-true g q))
 
-              pub no-refusal : not g ≡ false → 0 ≡ numberIn M
+              pub no-refusal : not g ≡ false → 0 ≡ refusalIn M
               unfolding fairSegment
               no-refusal q = sym (made-so ∙ rw (not-false n v, ← ez, not-false z w, ← ef, not-false f y, ← eg, not-false g q))
 
       -- a component over its field
       pub mode-over : length cs ≡ 255 → length eidr ≡ 12 → event < 2 ^ 32 → u .kind < 256 → (m : Bool)
-          → (m ≡ within (modeFields (i .«segmentation_mode») (take (countOf (i .«segmentation_mode»)) cs))) × (countOf (i .«segmentation_mode») < 256) → not m ≡ true → 32 ≡ numberIn M
+          → (m ≡ within (modeFields (i .«segmentation_mode») (take (countOf (i .«segmentation_mode»)) cs))) × (countOf (i .«segmentation_mode») < 256) → not m ≡ true → 32 ≡ refusalIn M
       mode-over many twelve ev kind m em v = go (leb (u .bytes .len) 255) refl
         where
-          go : (w : Bool) → leb (u .bytes .len) 255 ≡ w → 32 ≡ numberIn M
+          go : (w : Bool) → leb (u .bytes .len) 255 ≡ w → 32 ≡ refusalIn M
           go true e = numbers-over (leb-true (u .bytes .len) 255 e) many twelve ev kind (numbersFit i (take (countOf (i .«segmentation_mode»)) cs)) (refl, em .1) (sym (ap not (no-mode-fit i (take (countOf (i .«segmentation_mode»)) cs) m (em .0) v)))
           go false e = upid-long (leb-false (u .bytes .len) 255 e)
 
 -- ---- a number that holds for all components, or for all that fit
 module _ (x : SegmentationDescriptor) (id eidr lent : List ℕ) (n : ℕ) where
   abbrev So : List ModeComponent → Type 0
-  So cs = n ≡ numberIn (segmentationMade x id (record { components = cs; eidr = eidr }) lent)
+  So cs = n ≡ refusalIn (segmentationMade x id (record { components = cs; eidr = eidr }) lent)
 
   pub refused-all : ((cs : List ModeComponent) → So cs) → RefusedSo x id eidr lent n
   refused-all h = record { bare = h blanks; others = λ cs l f. h cs }
@@ -233,37 +233,37 @@ module _ (x : SegmentationDescriptor) (id : List ℕ) (cs : List ModeComponent) 
   abbrev y : SegmentationDescriptor
   y = record { «segmentation_event_id» = x .«segmentation_event_id»; «descriptor_detail» = Cancel }
 
-  cancel-made : numberIn (segmentationMade y id (record { components = cs; eidr = eidr }) lent) ≡ pick (fairSegment y id eidr lent) 0 33
+  cancel-made : refusalIn (segmentationMade y id (record { components = cs; eidr = eidr }) lent) ≡ pick (fairSegment y id eidr lent) 0 33
   unfolding segmentationMade upidSource segmentFields
   cancel-made =
       rw (le-leb 0 (length lent) (omega arith))
-      (ap (λ (l : List Field). numberIn (makeOf (fairSegment y id eidr lent) lent l)) (fields-are (x .«segmentation_event_id») Cancel [] refl)
+      (ap (λ (l : List Field). refusalIn (makeOf (fairSegment y id eidr lent) lent l)) (fields-are (x .«segmentation_event_id») Cancel [] refl)
       ∙ numbered (fairSegment y id eidr lent) lent (segmentFields (x .«segmentation_event_id») Cancel []) refl
       ∙ rw (lt-ltb (x .«segmentation_event_id») (2 ^ 32) ev))
 
   same : x ≡ y
   same = ap (λ (d : SegmentationDetail). record { «segmentation_event_id» = x .«segmentation_event_id»; «descriptor_detail» = d }) is
 
-  made-cancel : (r : ℕ) → pick (fairSegment y id eidr lent) 0 33 ≡ r → r ≡ numberIn (segmentationMade x id (record { components = cs; eidr = eidr }) lent)
-  made-cancel r e = sym (ap (λ (k : SegmentationDescriptor). numberIn (segmentationMade k id (record { components = cs; eidr = eidr }) lent)) same ∙ cancel-made ∙ e)
+  made-cancel : (r : ℕ) → pick (fairSegment y id eidr lent) 0 33 ≡ r → r ≡ refusalIn (segmentationMade x id (record { components = cs; eidr = eidr }) lent)
+  made-cancel r e = sym (ap (λ (k : SegmentationDescriptor). refusalIn (segmentationMade k id (record { components = cs; eidr = eidr }) lent)) same ∙ cancel-made ∙ e)
 
   module _ (z : Bool) (ez : z ≡ allZero id) where
-    pub cancel-identifier : not z ≡ true → 33 ≡ numberIn (segmentationMade x id (record { components = cs; eidr = eidr }) lent)
+    pub cancel-identifier : not z ≡ true → 33 ≡ refusalIn (segmentationMade x id (record { components = cs; eidr = eidr }) lent)
     unfolding fairSegment
     cancel-identifier t = made-cancel 33 (rw (← ez, not-true z t))
 
     module _ (t : not z ≡ false) (w : Bool) (ew : w ≡ allZero eidr) where
-      pub cancel-eidr : not w ≡ true → 33 ≡ numberIn (segmentationMade x id (record { components = cs; eidr = eidr }) lent)
+      pub cancel-eidr : not w ≡ true → 33 ≡ refusalIn (segmentationMade x id (record { components = cs; eidr = eidr }) lent)
       unfolding fairSegment fairDetail
       cancel-eidr v = made-cancel 33 (rw (← ez, not-false z t, ← (upid-beside blankUpid eidr lent (λ e. omega arith) w ew v)))
 
-      pub cancel-fair : not w ≡ false → 0 ≡ numberIn (segmentationMade x id (record { components = cs; eidr = eidr }) lent)
+      pub cancel-fair : not w ≡ false → 0 ≡ refusalIn (segmentationMade x id (record { components = cs; eidr = eidr }) lent)
       unfolding fairSegment fairDetail
       cancel-fair v = made-cancel 0 (rw (← ez, not-false z t, ← (upid-none blankUpid eidr lent (λ e. omega arith) w ew v refl)))
 
 -- ---- one that is not
 pub insert-so : (x : SegmentationDescriptor) (i : SegmentationInsert) (id : List ℕ) (cs : List ModeComponent) (eidr lent : List ℕ) (r : ℕ) → x .«descriptor_detail» ≡ Insert i
-    → r ≡ numberIn (segmentationMade (record { «segmentation_event_id» = x .«segmentation_event_id»; «descriptor_detail» = Insert i }) id (record { components = cs; eidr = eidr }) lent)
-    → r ≡ numberIn (segmentationMade x id (record { components = cs; eidr = eidr }) lent)
+    → r ≡ refusalIn (segmentationMade (record { «segmentation_event_id» = x .«segmentation_event_id»; «descriptor_detail» = Insert i }) id (record { components = cs; eidr = eidr }) lent)
+    → r ≡ refusalIn (segmentationMade x id (record { components = cs; eidr = eidr }) lent)
 insert-so x i id cs eidr lent r is e =
-    e ∙ ap (λ (d : SegmentationDetail). numberIn (segmentationMade (record { «segmentation_event_id» = x .«segmentation_event_id»; «descriptor_detail» = d }) id (record { components = cs; eidr = eidr }) lent)) (sym is)
+    e ∙ ap (λ (d : SegmentationDetail). refusalIn (segmentationMade (record { «segmentation_event_id» = x .«segmentation_event_id»; «descriptor_detail» = d }) id (record { components = cs; eidr = eidr }) lent)) (sym is)

@@ -27,7 +27,7 @@ use Rattle.descriptor.specs.declared.segmentation.SegmentationMode.{Segmentatio
 use Rattle.descriptor.specs.declared.segmentation.SegmentationUpid.{SegmentationUpid}
 use Rattle.descriptor.specs.declared.segmentation.SubSegment.{SubSegment}
 use Rattle.descriptor.specs.declared.segmentation.SubSegments.{SubSegments}
-use Rattle.descriptor_form.specs.Parts.{componentsFields, modeFields, durationFields, subFields, backFields, numbersFit}
+use Rattle.descriptor_form.specs.Walk.{componentsFields, modeFields, durationFields, subFields, backFields, numbersFit}
 use Rattle.descriptor_form.specs.Writing.{accepts, allZero, alone, fairReserved, fairUpid, writtenKind}
 
 -- ---- a view in the lent bytes, summed without wrapping

@@ -1,28 +1,19 @@
 -- The canonical form of a descriptor and of a loop. 01: "every reserved bit 1; no spare byte in .. descriptor ..; no refused item; a UPID empty at top
 -- level has type 0". These are definitions.
-use Prim.Native.Nat.{ℕ, zero, suc, _+_, _*_, _-_}
+use Prim.Native.Nat.{ℕ, zero, suc, _+_}
 use mathlib.Core.Bool.{Bool, true, false, _&&_}
 use mathlib.Core.List.{List, [], _∷_}
 use lib.Dec.{leb, eqb}
 use lib.ListN.{length, take, drop, getD}
 use Rattle.table.specs.Bits.{pick, bitsOf}
 use Rattle.table.specs.Lent.{viewed}
-use Rattle.table.specs.Table.{Table, Answer, got, short, parse, canonical}
+use Rattle.table.specs.Table.{Answer, got, short, parse, canonicalBy}
 use Rattle.upid.specs.Upid.{checkOf}
 use Rattle.descriptor.specs.Descriptor.{isCuei}
 use Rattle.descriptor.specs.Plain.{avail, dtmf, time, privateBytes}
 use Rattle.descriptor.specs.Segmentation.{Segmentation, segmentation}
 use Rattle.descriptor.specs.declared.segmentation.SegmentationUpid.{SegmentationUpid}
 use Rattle.descriptor_form.specs.Writing.{accepts, upidIn}
-
--- the table's fields take all of the bytes: none is missing, and none is spare
-abbrev pub takesAll : {X : Type 0} → Answer X → List ℕ → Bool
-takesAll (got x at) s = eqb at (length s * 8)
-takesAll (short expected actual) s = false
-
--- read, every reserved bit 1, and no spare byte
-unfoldable pub canonicalBy : {X : Type 0} → Table X → List ℕ → Bool
-canonicalBy t s = takesAll (parse t (bitsOf s) 0) s && canonical t (bitsOf s) 0
 
 -- a UPID as written, of a payload s: one that its reader takes, of type 0 where it is empty
 unfoldable pub canonicalUpid : List ℕ → SegmentationUpid → Bool

@@ -1,5 +1,4 @@
 pub mod Writing
 pub mod Canonical
 pub mod Same
-pub mod Parts
 pub mod Walk

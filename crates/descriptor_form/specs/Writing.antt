@@ -1,7 +1,7 @@
 -- What the descriptor writer makes of a readable item: its bytes, or the number of a refusal. 01, "Canonical form and writer". These are definitions.
 -- An item is a descriptor with what stands beside it: the identifier of a reserved one, the components and the EIDR of a segmentation descriptor, and
 -- the lent bytes that its views refer to.
-use Prim.Native.Nat.{ℕ, _+_}
+use Prim.Native.Nat.{ℕ, _+_, _*_}
 use mathlib.Core.Bool.{Bool, true, false, not, _&&_}
 use mathlib.Core.List.{List, [], _∷_, _++_}
 use lib.Dec.{leb, ltb, eqb}
@@ -13,24 +13,24 @@ use Rattle.table.specs.declared.View.{View}
 use Rattle.upid.specs.Upid.{checkOf}
 use Rattle.upid.specs.declared.UpidRead.{UpidRead}
 use Rattle.descriptor.specs.Descriptor.{isCuei}
+pub use Rattle.descriptor.specs.Descriptor.{cuei}
 use Rattle.descriptor.specs.Plain.{avail, dtmf, time, privateBytes}
 use Rattle.descriptor.specs.Segmentation as table
 use Rattle.descriptor.specs.Segmentation.{agrees, byProgram, countOf, fairDetail, frontOf, lasting, segmentation, unrestricted}
+use Rattle.descriptor.specs.Whole.{ofReserved}
 use Rattle.descriptor.specs.declared.Descriptor.{Descriptor}
 use Rattle.descriptor.specs.declared.Descriptor.the-variants.{Avail, Dtmf, Segmentation, Time, Reserved}
 use Rattle.descriptor.specs.declared.segmentation.ModeComponent.{ModeComponent}
 use Rattle.descriptor.specs.declared.segmentation.SegmentationDescriptor.{SegmentationDescriptor}
 use Rattle.descriptor.specs.declared.segmentation.SegmentationDetail.{SegmentationDetail}
 use Rattle.descriptor.specs.declared.segmentation.SegmentationDetail.the-variants.{Cancel, Insert}
+use Rattle.descriptor.specs.declared.segmentation.SegmentationDuration.{SegmentationDuration}
 use Rattle.descriptor.specs.declared.segmentation.SegmentationInsert.{SegmentationInsert}
+use Rattle.descriptor.specs.declared.segmentation.SegmentationMode.{SegmentationMode}
 use Rattle.descriptor.specs.declared.segmentation.SegmentationUpid.{SegmentationUpid}
 use Rattle.descriptor.specs.declared.whole.Beside.{Beside}
 
 -- ---- the frame: "tag, L, identifier of 4", and the payload
-
--- "CUEI"
-abbrev pub cuei : List ℕ
-cuei = 0x43 ∷ 0x55 ∷ 0x45 ∷ 0x49 ∷ []
 
 unfoldable pub framed : ℕ → List ℕ → List ℕ → List ℕ
 framed tag identifier payload = tag ∷ ((length payload + 4) ∷ (identifier ++ payload))
@@ -133,6 +133,15 @@ segmentationMade x identifier beside lent =
     (refused 32))
     (refused 31)
 
+-- how many bytes the mode with its components takes, and the duration
+abbrev pub modeSize : SegmentationMode → ℕ
+modeSize SegmentationMode.Program = 0
+modeSize (SegmentationMode.Component n) = 1 + n * 6
+
+abbrev pub durationSize : SegmentationDuration → ℕ
+durationSize SegmentationDuration.Absent = 0
+durationSize (SegmentationDuration.Ticks t) = 5
+
 -- ---- any descriptor: its payload's bytes, by its table, and refusals 31, 32 and 33 in that order
 
 unfoldable pub payloadMade : Descriptor → List ℕ → Beside → List ℕ → Made
@@ -150,11 +159,7 @@ tagOf (Time x) = 3
 tagOf (Reserved tag bytes) = tag
 
 abbrev pub identifierOf : Descriptor → List ℕ → List ℕ
-identifierOf (Avail x) identifier = cuei
-identifierOf (Dtmf x) identifier = cuei
-identifierOf (Segmentation x) identifier = cuei
-identifierOf (Time x) identifier = cuei
-identifierOf (Reserved tag bytes) identifier = identifier
+identifierOf d identifier = ofReserved identifier cuei d
 
 -- Refusals 31 to 34. 36, a short target, is `answerOf`'s and `laterOf`'s.
 unfoldable pub descriptorMade : Descriptor → List ℕ → Beside → List ℕ → Made

@@ -6,10 +6,10 @@ ghost use lib.ListN.{take};
 ghost use Rattle.descriptor.specs.Segmentation.{agrees, byProgram, countOf, fairDetail, frontOf, lasting, unrestricted, subBytes};
 ghost use Rattle.descriptor.specs.Whole.{blanks};
 ghost use Rattle.descriptor.specs.declared.segmentation.SegmentationDetail.the-variants.{Insert};
-ghost use Rattle.table.specs.Writing.{within};
-ghost use Rattle.descriptor_form.specs.Parts.{componentsFields, modeFields, durationFields, subFields, numbersFit, modeSize, durationSize, numberIn};
+ghost use Rattle.table.specs.Writing.{within, refusalIn};
+ghost use Rattle.descriptor_form.specs.Walk.{componentsFields, modeFields, durationFields, subFields, numbersFit};
 ghost use Rattle.descriptor_form.specs.Walk.{RefusedSo};
-ghost use Rattle.descriptor_form.specs.Writing.{segmentationMade};
+ghost use Rattle.descriptor_form.specs.Writing.{segmentationMade, modeSize, durationSize};
 use crate::is_zero;
 use crate::lies_in;
 use crate::upids::is_fair_upid;
@@ -224,7 +224,7 @@ pub fn refusal_of_bare(
     eidr: [u8; 12],
     lent: &[u8],
 ) -> u8
-    ensures { λ r. ⌜ r ≡ numberIn (segmentationMade x identifier (record { components = blanks; eidr = eidr }) (now (lent .entry))) ⌝ }
+    ensures { λ r. ⌜ r ≡ refusalIn (segmentationMade x identifier (record { components = blanks; eidr = eidr }) (now (lent .entry))) ⌝ }
 {
     refusal_without_components(x, identifier, eidr, lent)
 }
@@ -236,7 +236,7 @@ pub fn refusal_of_segmentation(
     eidr: [u8; 12],
     lent: &[u8],
 ) -> u8
-    ensures { λ r. ⌜ r ≡ numberIn (segmentationMade x identifier (record { components = components; eidr = eidr }) (now (lent .entry))) ⌝ }
+    ensures { λ r. ⌜ r ≡ refusalIn (segmentationMade x identifier (record { components = components; eidr = eidr }) (now (lent .entry))) ⌝ }
 {
     let detail = x.descriptor_detail;
     let i = match detail {

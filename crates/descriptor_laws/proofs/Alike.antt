@@ -12,9 +12,9 @@ use lib.Dec.{leb, eqb}
 use lib.ListN.{length, take, drop}
 use borrow.Author.Tests.{eqb-true, le-leb, leb-true}
 use Rattle.table.specs.Bits.{pick}
-use Rattle.table.specs.Lent.{viewed}
+use Rattle.table.specs.Lent.{viewed, noView}
 use Rattle.table.specs.Table as fields
-use Rattle.table.specs.Writing.{walk, seen, number, bytes, count, contents, Made, made, refused, makeOf, make}
+use Rattle.table.specs.Writing.{walk, seen, number, bytes, count, contents, Made, made, refused, makeOf, make, refusalIn}
 use Rattle.table.specs.declared.View.{View}
 use Rattle.table.proofs.Lists.{zero-one, and-true}
 use Rattle.table.proofs.Structure as laws
@@ -33,8 +33,8 @@ use Rattle.descriptor.specs.declared.segmentation.SegmentationDetail.the-varian
 use Rattle.descriptor.specs.declared.segmentation.SegmentationInsert.{SegmentationInsert}
 use Rattle.descriptor.specs.declared.segmentation.SegmentationUpid.{SegmentationUpid}
 use Rattle.descriptor.specs.declared.whole.Beside.{Beside}
-use Rattle.descriptor_form.specs.Parts.{upidFields, numberIn}
-use Rattle.descriptor_form.specs.Same.{SameReading, noView, viewless, viewlessDetail, bytesOfViews, componentsOf}
+use Rattle.descriptor_form.specs.Walk.{upidFields, viewlessDetail}
+use Rattle.descriptor_form.specs.Same.{SameReading, viewless, bytesOfViews, componentsOf}
 use Rattle.descriptor_form.specs.Writing.{framedMade, allZero, alone, fairReserved, accepts, fairUpid, fairSegment, segmentationMade, payloadMade, descriptorMade, tagOf, identifierOf, upidIn, upidSource, writtenDetail, writtenKind, writtenUpid}
 use Rattle.descriptor_form.proofs.Fields.{insert-fields}
 use Rattle.descriptor_form.proofs.Making.{all-fair, by-table, counted, zero-view}
@@ -207,7 +207,7 @@ module _ (s r : List ℕ) (w : View) (p id : List ℕ) (b : Beside) where
           let c = counted x id b s places in
           let f = all-fair x id b s places p e in
           let m = by-table x id b s places p e in
-          let n = zero-view x id b s (ap numberIn e) in
+          let n = zero-view x id b s (ap refusalIn e) in
           let fair : Bool = fairSegment y id (b .eidr) r in
           let is : fair ≡ true = rw (f .0, fair-detail (f .1)) (sym fair-alike ∙ f .2) in
           let source : List ℕ = upidSource u (b .eidr) s in
@@ -327,7 +327,7 @@ module _ (s p id : List ℕ) (b : Beside) where
   detail-told event Cancel places e = (omega arith, tt)
   detail-told event (Insert i) places e =
       let x : SegmentationDescriptor = record { «segmentation_event_id» = event; «descriptor_detail» = Insert i } in
-      (zero-view x id b s (ap numberIn e) .1, λ k. none-fair (i .«segmentation_upid») (b .eidr) s k (all-fair x id b s places p e .2))
+      (zero-view x id b s (ap refusalIn e) .1, λ k. none-fair (i .«segmentation_upid») (b .eidr) s k (all-fair x id b s places p e .2))
 
   payload-told : (d : Descriptor) → componentsOf d ≤ length (b .components) → payloadMade d id b s ≡ made p → (viewIn d .at + viewIn d .len ≤ length s) × NoneTold d
   unfolding payloadMade dtmf privateBytes fields.number fields.reserved fields.part fields.remaining

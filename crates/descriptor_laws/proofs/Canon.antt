@@ -21,8 +21,9 @@ use Rattle.descriptor.specs.declared.plain.DTMFDescriptor.{DTMFDescriptor}
 use Rattle.descriptor.specs.declared.plain.TimeDescriptor.{TimeDescriptor}
 use Rattle.descriptor.specs.declared.whole.Beside.{Beside}
 use Rattle.descriptor.proofs.Structures.{availStructure, dtmfStructure, timeStructure, privateStructure}
-use Rattle.descriptor_form.specs.Canonical.{canonicalBy, canonicalSegmentation, canonicalPayload, canonicalDescriptor}
+use Rattle.descriptor_form.specs.Canonical.{canonicalSegmentation, canonicalPayload, canonicalDescriptor}
 use Rattle.descriptor_form.specs.Writing.{cuei, framed, allZero, alone, fairReserved, payloadMade, descriptorMade}
+use Rattle.table.specs.Table.{canonicalBy}
 use Rattle.descriptor_laws.proofs.PlainLaws.{table-write-read}
 use Rattle.descriptor_laws.proofs.PlainTrips.{unframed}
 

@@ -8,7 +8,7 @@ use lib.Dec.{ltb, eqb}
 use lib.ListN.{length, replicate}
 use borrow.Author.Tests.{le-ltb}
 use Rattle.table.specs.Bits.{bitsOf, AllBytes}
-use Rattle.table.specs.Table.{got, parse}
+use Rattle.table.specs.Table.{got, parse, canonicalBy}
 use Rattle.table.specs.Writing.{made, make}
 use Rattle.table.specs.declared.View.{View}
 use Rattle.table.proofs.Structure as laws
@@ -21,7 +21,6 @@ use Rattle.descriptor.specs.declared.plain.AvailDescriptor.{AvailDescriptor}
 use Rattle.descriptor.specs.declared.plain.DTMFDescriptor.{DTMFDescriptor}
 use Rattle.descriptor.specs.declared.plain.TimeDescriptor.{TimeDescriptor}
 use Rattle.descriptor.proofs.Structures.{availStructure, dtmfStructure, timeStructure, privateStructure}
-use Rattle.descriptor_form.specs.Canonical.{canonicalBy}
 use Rattle.descriptor_form.specs.Writing.{allZero, alone, fairReserved, payloadMade}
 use Rattle.descriptor_laws.proofs.PlainLaws.{table-read-write}
 

@@ -9,7 +9,7 @@ use lib.ListN.{length, take, drop}
 use borrow.Author.Tests.{eq-eqb, eqb-true, le-ltb, le-leb, leb-true}
 use Rattle.table.specs.Bits.{pick, bitsOf, AllBytes}
 use Rattle.table.specs.Lent.{viewed}
-use Rattle.table.specs.Table.{Table, number, reserved, part, remaining, Answer, got, short, parse, canonical}
+use Rattle.table.specs.Table.{Table, number, reserved, part, remaining, Answer, got, short, parse, canonical, takesAll, canonicalBy}
 use Rattle.table.specs.Writing.{walk, Content, bytes, Same, made, makeOf, make}
 use Rattle.table.specs.declared.View.{View}
 use Rattle.table.proofs.Lists.{zero-one, and-true, append-nil}
@@ -22,7 +22,6 @@ use Rattle.descriptor.specs.declared.plain.AvailDescriptor.{AvailDescriptor}
 use Rattle.descriptor.specs.declared.plain.DTMFDescriptor.{DTMFDescriptor}
 use Rattle.descriptor.specs.declared.plain.TimeDescriptor.{TimeDescriptor}
 use Rattle.descriptor.proofs.Structures.{availStructure, dtmfStructure, dtmfMoved, timeStructure, privateStructure}
-use Rattle.descriptor_form.specs.Canonical.{takesAll, canonicalBy}
 
 -- ---- any table whose values are all fair
 module _ {X : Type 0} (t : Table X) (st : laws.Structure t) (always : (x : X) → st .fair x ≡ true) where

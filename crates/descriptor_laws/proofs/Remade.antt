@@ -19,7 +19,7 @@ use Rattle.descriptor.specs.declared.segmentation.SegmentationInsert.{Segmentat
 use Rattle.descriptor.specs.declared.segmentation.SegmentationMode.{SegmentationMode}
 use Rattle.descriptor.specs.declared.segmentation.SegmentationUpid.{SegmentationUpid}
 use Rattle.descriptor.specs.declared.segmentation.SubSegments.{SubSegments}
-use Rattle.descriptor_form.specs.Parts.{deliveryFields, componentsFields, modeFields, durationFields, upidFields, subFields, backFields}
+use Rattle.descriptor_form.specs.Walk.{deliveryFields, componentsFields, modeFields, durationFields, upidFields, subFields, backFields}
 use Rattle.descriptor_form.proofs.Fields.{foreFields}
 use Rattle.descriptor_form.proofs.Refusals.{seen-append}
 

@@ -10,7 +10,7 @@ use lib.Seq.{length-take-le, take-all, take-at}
 use borrow.Author.Tests.{eqb-true, eqb-false, ne-eqb, not-true}
 use Rattle.table.specs.Bits.{pick, AllBytes}
 use Rattle.table.specs.Lent.{viewed}
-use Rattle.table.specs.Writing.{contents, made}
+use Rattle.table.specs.Writing.{contents, made, refusalIn}
 use Rattle.table.specs.declared.View.{View}
 use Rattle.table.proofs.Lists.{zero-one, and-true}
 use Rattle.table.proofs.Structure as laws
@@ -33,11 +33,11 @@ use Rattle.descriptor.specs.declared.segmentation.SegmentationUpid.{Segmentatio
 use Rattle.descriptor.specs.declared.whole.Beside.{Beside}
 use Rattle.descriptor.proofs.SegmentationLaws.{segmentationStructure, upidAt, upidPlace}
 use Rattle.descriptor_form.specs.Canonical.{canonicalUpid, canonicalSegmentation, canonicalPayload, canonicalDescriptor}
-use Rattle.descriptor_form.specs.Parts.{numberIn}
-use Rattle.descriptor_form.specs.Same.{SameReading, viewlessDetail, bytesOfViews}
+use Rattle.descriptor_form.specs.Same.{SameReading, bytesOfViews}
 use Rattle.descriptor_form.specs.Writing.{cuei, allZero, accepts, fairUpid, segmentationMade, payloadMade, descriptorMade, upidSource, written, writtenKind, writtenUpid}
 use Rattle.descriptor_form.proofs.Fields.{flagged, insert-fields}
 use Rattle.descriptor_form.proofs.Making.{all-fair, by-table, counted, zero-view}
+use Rattle.descriptor_form.specs.Walk.{viewlessDetail}
 use Rattle.descriptor_laws.proofs.Canon.{framed-canonical}
 use Rattle.descriptor_laws.proofs.PlainLaws.{viewed-at}
 use Rattle.descriptor_laws.proofs.PlainTrips.{ReadsBack, unframed, zeros}
@@ -221,7 +221,7 @@ module _ (id : List ℕ) (beside : Beside) (lent : List ℕ) (four : length id �
 
       module _ (e : segmentationMade x id beside lent ≡ made p) where
         upid-is : Written u (beside .eidr) lent source w
-        upid-is = upid-written u (beside .eidr) lent twelve held all (zero-view x id beside lent (ap numberIn e) .1) (all-fair x id beside lent places p e .2)
+        upid-is = upid-written u (beside .eidr) lent twelve held all (zero-view x id beside lent (ap refusalIn e) .1) (all-fair x id beside lent places p e .2)
 
         -- its bytes are where they are written
         upid-bytes : viewed p (there .bytes) ≡ viewed source (w .bytes)

@@ -12,7 +12,7 @@ use lib.Seq.{take-all}
 use borrow.Author.Tests.{eqb-true, eqb-false, ne-eqb, le-leb, leb-true}
 use Rattle.table.specs.Bits.{pick, bitsOf, AllBytes}
 use Rattle.table.specs.Lent.{viewed}
-use Rattle.table.specs.Table.{Table, inside, bit, list, Answer, got, short, parse}
+use Rattle.table.specs.Table.{Table, inside, bit, list, Answer, got, short, parse, canonicalBy}
 use Rattle.table.specs.Table as fields
 use Rattle.table.specs.Writing.{walk, seen, contents, number, bytes, made, makeOf, make}
 use Rattle.table.proofs.Lists.{zero-one, and-true}
@@ -36,8 +36,8 @@ use Rattle.descriptor.specs.declared.segmentation.SegmentationInsert.{Segmentat
 use Rattle.descriptor.specs.declared.segmentation.SegmentationUpid.{SegmentationUpid}
 use Rattle.descriptor.specs.declared.whole.Beside.{Beside}
 use Rattle.descriptor.proofs.SegmentationLaws.{Counted}
-use Rattle.descriptor_form.specs.Canonical.{canonicalBy, canonicalUpid, canonicalSegmentation, upidCanonical}
-use Rattle.descriptor_form.specs.Parts.{upidFields}
+use Rattle.descriptor_form.specs.Canonical.{canonicalUpid, canonicalSegmentation, upidCanonical}
+use Rattle.descriptor_form.specs.Walk.{upidFields}
 use Rattle.descriptor_form.specs.Writing.{allZero, accepts, fairUpid, fairSegment, segmentationMade, upidIn, upidSource, writtenKind, writtenUpid}
 use Rattle.descriptor_form.proofs.Fields.{flagged, insert-fields}
 use Rattle.descriptor_laws.proofs.PlainLaws.{viewed-at}

@@ -6,7 +6,7 @@ use mathlib.Core.Path.{_≡_, refl, ap, sym, _∙_}
 use lib.ListN.{length, take}
 use borrow.Author.Tests.{eq-eqb, eqb-true}
 use Rattle.table.specs.Bits.{bitsOf, AllBytes}
-use Rattle.table.specs.Table.{Answer, got, short, parse, canonical}
+use Rattle.table.specs.Table.{Answer, got, short, parse, canonical, takesAll, canonicalBy}
 use Rattle.table.specs.Writing.{made, make}
 use Rattle.table.proofs.Lists.{zero-one, and-true, append-nil}
 use Rattle.table.proofs.Structure as laws
@@ -16,7 +16,6 @@ use Rattle.descriptor.specs.Segmentation.{countOf, fairDetail, frontOf, segment
 use Rattle.descriptor.specs.declared.segmentation.SegmentationDescriptor.{SegmentationDescriptor}
 use Rattle.descriptor.specs.declared.whole.Beside.{Beside}
 use Rattle.descriptor.proofs.SegmentationLaws.{segmentationStructure, segmentationMoved, detailMoved}
-use Rattle.descriptor_form.specs.Canonical.{takesAll, canonicalBy}
 use Rattle.descriptor_form.specs.Writing.{segmentationMade, upidIn, upidSource, written, writtenDetail}
 use Rattle.descriptor_form.proofs.Making.{by-table, counted, count-written}
 use Rattle.descriptor_laws.proofs.SegmentRead.{detailRead, segmentation-read}

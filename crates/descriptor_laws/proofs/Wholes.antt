@@ -22,9 +22,10 @@ use Rattle.descriptor.specs.declared.DescriptorRead.the-variants.{Is}
 use Rattle.descriptor.specs.declared.whole.Beside.{Beside}
 use Rattle.descriptor.specs.declared.whole.WholeDescriptor.{WholeDescriptor}
 use Rattle.descriptor.proofs.Tags.{is-foreign, is-avail, is-dtmf, is-segmentation, is-time, is-other}
-use Rattle.descriptor_form.specs.Canonical.{canonicalBy, canonicalSegmentation, canonicalPayload, canonicalDescriptor}
+use Rattle.descriptor_form.specs.Canonical.{canonicalSegmentation, canonicalPayload, canonicalDescriptor}
 use Rattle.descriptor_form.specs.Same.{SameReading, componentsOf}
 use Rattle.descriptor_form.specs.Writing.{cuei, framed, framedMade, payloadMade, descriptorMade, tagOf, identifierOf}
+use Rattle.table.specs.Table.{canonicalBy}
 use Rattle.descriptor_laws.specs.Trips.{wholeIn, ReadAs}
 use Rattle.descriptor_laws.proofs.Canon.{canonical-framed}
 use Rattle.descriptor_laws.proofs.PlainCanon.{avail-read-write, dtmf-read-write, time-read-write, reserved-read-write}

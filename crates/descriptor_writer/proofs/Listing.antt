@@ -18,7 +18,7 @@ use Rattle.table.proofs.Walks.{print-bits}
 use Rattle.descriptor.specs.Segmentation.{countOf, frontOf}
 use Rattle.descriptor.specs.declared.segmentation.ModeComponent.{ModeComponent}
 use Rattle.descriptor.specs.declared.segmentation.SegmentationDescriptor.{SegmentationDescriptor}
-use Rattle.descriptor_form.specs.Parts.{componentsFields}
+use Rattle.descriptor_form.specs.Walk.{componentsFields}
 use Rattle.pen.specs.Pen.{penned}
 use Rattle.pen.proofs.Penned.{penned-whole}
 use Rattle.descriptor_writer.specs.Stores.{Stores, start, componentBytes}

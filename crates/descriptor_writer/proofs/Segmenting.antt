@@ -10,7 +10,7 @@ use lib.Seq.{take-all}
 use borrow.Author.Tests.{eq-eqb, ne-eqb, leb-true, le-leb}
 use Rattle.table.specs.Bits.{pick, bytesOf, AllBytes}
 use Rattle.table.specs.Lent.{viewed}
-use Rattle.table.specs.Writing.{Field, Content, number, bytes, contents, print, Made, made, refused}
+use Rattle.table.specs.Writing.{Field, Content, number, bytes, contents, print, Made, made, refused, refusalIn}
 use Rattle.table.specs.declared.View.{View}
 use Rattle.table.specs.declared.cursor.Cursor.{Cursor}
 use Rattle.descriptor.specs.Segmentation.{byProgram, countOf, frontOf, lasting, subBytes, unrestricted}
@@ -23,8 +23,8 @@ use Rattle.descriptor.specs.declared.segmentation.SegmentationInsert.{Segmentat
 use Rattle.descriptor.specs.declared.segmentation.SegmentationMode.{SegmentationMode}
 use Rattle.descriptor.specs.declared.segmentation.SegmentationUpid.{SegmentationUpid}
 use Rattle.descriptor.specs.declared.whole.Beside.{Beside}
-use Rattle.descriptor_form.specs.Parts.{headFields, flagFields, deliveryFields, modeFields, durationFields, upidFields, backFields, insertFields, segmentFields, modeSize, durationSize, payloadSize, numberIn}
-use Rattle.descriptor_form.specs.Writing.{cuei, framedMade, segmentationMade, upidIn, upidSource, writtenKind, writtenUpid}
+use Rattle.descriptor_form.specs.Walk.{headFields, flagFields, deliveryFields, modeFields, durationFields, upidFields, backFields, insertFields, segmentFields, payloadSize}
+use Rattle.descriptor_form.specs.Writing.{cuei, framedMade, segmentationMade, upidIn, upidSource, writtenKind, writtenUpid, modeSize, durationSize}
 use Rattle.descriptor_form.proofs.Making.{zero-view, made-zero, made-size, made-bits}
 use Rattle.pen.specs.declared.Written.{Written}
 use Rattle.descriptor_writer.specs.Stores.{Stores, Writes, start, frameContents}
@@ -126,11 +126,11 @@ unfolding blankBeside
 with-blanks x id eidr lent t v r b e w = rw e at w
 
 -- ---- the whole
-number-refused : (m : Made) (n : ℕ) → n ≡ numberIn m → (n ≡ 0 → ⊥) → m ≡ refused n
+number-refused : (m : Made) (n : ℕ) → n ≡ refusalIn m → (n ≡ 0 → ⊥) → m ≡ refused n
 number-refused (made b) n e h = absurd (h e)
 number-refused (refused k) n e h = ap refused (sym e)
 
-module _ (x : SegmentationDescriptor) (id : List ℕ) (beside : Beside) (lent t : List ℕ) (n : ℕ) (en : n ≡ numberIn (segmentationMade x id beside lent)) where
+module _ (x : SegmentationDescriptor) (id : List ℕ) (beside : Beside) (lent t : List ℕ) (n : ℕ) (en : n ≡ refusalIn (segmentationMade x id beside lent)) where
   abbrev M : Made
   M = segmentationMade x id beside lent
 

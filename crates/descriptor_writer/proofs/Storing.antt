@@ -15,7 +15,7 @@ use Rattle.table.proofs.Lists.{append-nil}
 use Rattle.table.proofs.Walks.{print-bits}
 use Rattle.descriptor.specs.Segmentation.{blankComponent}
 use Rattle.descriptor.specs.declared.segmentation.ModeComponent.{ModeComponent}
-use Rattle.descriptor_form.specs.Parts.{componentFields, componentsFields}
+use Rattle.descriptor_form.specs.Walk.{componentFields, componentsFields}
 use Rattle.pen.specs.Pen.{Fits, Pens}
 use Rattle.pen.proofs.Tables.{pens-append, pens-last}
 use Rattle.descriptor_writer.specs.Stores.{Stores}

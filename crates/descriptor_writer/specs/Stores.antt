@@ -4,12 +4,12 @@ use mathlib.Core.List.{List, [], _∷_}
 use mathlib.Core.Path.{_≡_}
 use lib.ListN.{length, take}
 use Rattle.table.specs.Bits.{bytesOf}
-use Rattle.table.specs.Writing.{Content, number, bytes, contents, print, Made}
+use Rattle.table.specs.Writing.{Content, number, bytes, contents, print, Made, refusalIn}
 use Rattle.table.specs.declared.cursor.Cursor.{Cursor}
 use Rattle.descriptor.specs.Segmentation.{countOf, frontOf}
 use Rattle.descriptor.specs.declared.segmentation.ModeComponent.{ModeComponent}
 use Rattle.descriptor.specs.declared.segmentation.SegmentationDescriptor.{SegmentationDescriptor}
-use Rattle.descriptor_form.specs.Parts.{componentsFields, numberIn}
+use Rattle.descriptor_form.specs.Walk.{componentsFields}
 use Rattle.descriptor_form.specs.Writing.{cuei, framedMade, segmentationMade}
 use Rattle.pen.specs.Pen.{Fits, Pens}
 use Rattle.pen.specs.Written.{answerOf, laterOf}
@@ -40,6 +40,6 @@ pub record Writes (m : Made) (target : List ℕ) (later : List ℕ) (r : Written
 -- and components that is.
 pub record WritesFair (x : SegmentationDescriptor) (listed eidr lent target later : List ℕ) (r : Written) : Type 0 where
   pub fair : (identifier : List ℕ) (components : List ModeComponent) → length components ≡ 255
-      → numberIn (segmentationMade x identifier (record { components = components; eidr = eidr }) lent) ≡ 0
+      → refusalIn (segmentationMade x identifier (record { components = components; eidr = eidr }) lent) ≡ 0
       → listed ≡ componentBytes (take (countOf (frontOf (x .«descriptor_detail») .«segmentation_mode»)) components)
       → Writes (framedMade 2 cuei (segmentationMade x identifier (record { components = components; eidr = eidr }) lent)) target later r

@@ -5,7 +5,7 @@ ghost use mathlib.Core.List.{List, [], _∷_};
 ghost use Prim.Native.Nat.{ℕ, _<_};
 ghost use lib.ListN.{length, take};
 ghost use Rattle.descriptor.specs.declared.segmentation.ModeComponent.{ModeComponent};
-ghost use Rattle.descriptor_form.specs.Parts.{headFields, flagFields, deliveryFields, componentsFields, modeFields, durationFields, subFields, backFields};
+ghost use Rattle.descriptor_form.specs.Walk.{headFields, flagFields, deliveryFields, componentsFields, modeFields, durationFields, subFields, backFields};
 ghost use Rattle.table.specs.Writing.{number, bytes, contents};
 ghost use Rattle.descriptor_writer.specs.Stores.{Stores, componentBytes};
 use crate::frame::number_of;

@@ -7,7 +7,7 @@ ghost use Rattle.descriptor.specs.Segmentation.{countOf, frontOf};
 ghost use Rattle.descriptor.specs.Whole.{blanks};
 ghost use Rattle.descriptor.specs.declared.segmentation.ModeComponent.{ModeComponent};
 ghost use Rattle.descriptor.specs.declared.segmentation.SegmentationDetail.the-variants.{Insert};
-ghost use Rattle.descriptor_form.specs.Parts.{upidFields, insertFields, segmentFields, payloadSize};
+ghost use Rattle.descriptor_form.specs.Walk.{upidFields, insertFields, segmentFields, payloadSize};
 ghost use Rattle.descriptor_form.specs.Writing.{cuei, framedMade, segmentationMade, upidIn, upidSource, writtenUpid};
 ghost use Rattle.table.specs.Writing.{contents};
 ghost use Rattle.descriptor_writer.specs.Stores.{Stores, Writes, WritesFair, componentBytes};

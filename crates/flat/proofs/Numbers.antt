@@ -14,11 +14,12 @@ use Rattle.names.proofs.Commands.{command-laws}
 use Rattle.table.specs.Bits.{bitsOf, field}
 use Rattle.table.proofs.Fields.{byte-field}
 use Rattle.table.proofs.Reading.{field-lt}
-use Rattle.flat.specs.Flat.{flatFlag, flatHeader, noHeader, flatHeaderRead}
+use Rattle.table.specs.Table.{flagNumber}
+use Rattle.flat.specs.Flat.{flatHeader, noHeader, flatHeaderRead}
 use Rattle.flat.specs.declared.headers.FlatHeader.{FlatHeader}
 
 -- a bit is its own flag
-flag-of-bit : (x : ℕ) → x < 2 → flatFlag (eqb x 1) ≡ x
+flag-of-bit : (x : ℕ) → x < 2 → flagNumber (eqb x 1) ≡ x
 flag-of-bit zero h = refl
 flag-of-bit (suc zero) h = refl
 flag-of-bit (suc (suc n)) h = absurd (omega (arith, h))
@@ -48,5 +49,5 @@ module _ (s : List ℕ) where
   flat-header-is v₁ v₂ v₃ v₄ v₅ v₆ v₇ v₈ h e₁ e₂ e₃ e₄ e₅ e₆ e₇ e₈ =
       let a : algorithmNumber (algorithmOf (field (bitsOf s) 9 6)) ≡ field (bitsOf s) 9 6 = algorithm-laws .there (field (bitsOf s) 9 6) in
       let k : commandNumber (commandOf (field (bitsOf s) 80 8)) ≡ field (bitsOf s) 80 8 = command-laws .there (field (bitsOf s) 80 8) in
-      let b : flatFlag (eqb (field (bitsOf s) 8 1) 1) ≡ field (bitsOf s) 8 1 = flag-of-bit (field (bitsOf s) 8 1) (field-lt s 8 1) in
+      let b : flagNumber (eqb (field (bitsOf s) 8 1) 1) ≡ field (bitsOf s) 8 1 = flag-of-bit (field (bitsOf s) 8 1) (field-lt s 8 1) in
       rw (header-got s h, a, k, b, e₁, e₂, e₃, e₄, e₅, e₆, e₇, e₈)

@@ -1,6 +1,5 @@
 -- The flat forms of readings: structs of 64-bit words. A named number is its number, a flag 0 or 1; 0 stands where there is nothing. These are definitions.
 use Prim.Native.Nat.{ℕ}
-use mathlib.Core.Bool.{Bool, true, false}
 use Rattle.table.specs.declared.View.{View}
 use Rattle.header.specs.Header.{numberOf}
 use Rattle.header.specs.declared.header.HeaderRead.{HeaderRead}
@@ -11,14 +10,11 @@ use Rattle.header.specs.declared.time.SpliceTime.{SpliceTime}
 use Rattle.header.specs.declared.time.SpliceTime.the-variants.{Immediate, Unspecified, At}
 use Rattle.names.specs.Algorithm.{algorithmNumber}
 use Rattle.names.specs.Command.{commandNumber}
+use Rattle.table.specs.Table.{flagNumber}
 use Rattle.flat.specs.declared.FlatTime.{FlatTime}
 use Rattle.flat.specs.declared.FlatView.{FlatView}
 use Rattle.flat.specs.declared.headers.FlatAdjusted.{FlatAdjusted}
 use Rattle.flat.specs.declared.headers.FlatHeader.{FlatHeader}
-
-abbrev pub flatFlag : Bool → ℕ
-flatFlag false = 0
-flatFlag true = 1
 
 abbrev pub flatView : View → FlatView
 flatView v = record { at = v .at; len = v .len }
@@ -41,7 +37,7 @@ flatHeader h =
     record {
       refusal = 0;
       «protocol_version» = h .«protocol_version»;
-      «encrypted_packet» = flatFlag (h .«encrypted_packet»);
+      «encrypted_packet» = flagNumber (h .«encrypted_packet»);
       «encryption_algorithm» = algorithmNumber (h .«encryption_algorithm»);
       «pts_adjustment» = h .«pts_adjustment»;
       «cw_index» = h .«cw_index»;

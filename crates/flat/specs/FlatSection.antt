@@ -14,6 +14,5 @@ abbrev pub flatParts : FlatHeader → SpliceCommand → View → FlatSection
 flatParts h c v = record { refusal = 0; header = h; command = flatCommand c; descriptors = flatView v }
 
 unfoldable pub flatSectionRead : SectionRead → FlatSection
-flatSectionRead (Is x) =
-    record { refusal = 0; header = flatHeader (x .header); command = flatCommand (x .command); descriptors = flatView (x .descriptors) }
+flatSectionRead (Is x) = flatParts (flatHeader (x .header)) (x .command) (x .descriptors)
 flatSectionRead (Refused r) = record { refusal = numberOf (Refused r); header = noHeader 0; command = noCommand 0 0; descriptors = noView }

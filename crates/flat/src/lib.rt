@@ -1,6 +1,7 @@
 // The flat forms of readings: structs of 64-bit words alone, which is what crosses to C. A named number crosses as its number, a flag as 0 or 1.
 ghost use mathlib.Core.Path.{_≡_};
-ghost use Rattle.flat.specs.Flat.{flatFlag, flatView, flatTime};
+ghost use Rattle.table.specs.Table.{flagNumber};
+ghost use Rattle.flat.specs.Flat.{flatView, flatTime};
 use header::time::SpliceTime;
 use table::View;
 
@@ -24,7 +25,7 @@ pub struct FlatTime {
 }
 
 pub fn flat_flag(set: bool) -> u64
-    ensures { λ r. ⌜ r ≡ flatFlag set ⌝ }
+    ensures { λ r. ⌜ r ≡ flagNumber set ⌝ }
 {
     if set { 1 } else { 0 }
 }

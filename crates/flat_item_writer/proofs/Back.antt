@@ -6,7 +6,6 @@ use mathlib.Core.List.{_∷_}
 use mathlib.Core.Path.{_≡_, refl, ap, _∙_}
 use native.Mathlib.Nat.{mod-eq-of-lt}
 use lib.Dec.{eqb}
-use Rattle.descriptor.specs.Segmentation.{byProgram, lasting, unrestricted}
 use Rattle.descriptor.specs.declared.Descriptor.{Descriptor}
 use Rattle.descriptor.specs.declared.segmentation.DeliveryRestrictionFlags.{DeliveryRestrictionFlags}
 use Rattle.descriptor.specs.declared.segmentation.SegmentationDetail.{SegmentationDetail}
@@ -14,47 +13,15 @@ use Rattle.descriptor.specs.declared.segmentation.SegmentationDuration.{Segment
 use Rattle.descriptor.specs.declared.segmentation.SegmentationInsert.{SegmentationInsert}
 use Rattle.descriptor.specs.declared.segmentation.SegmentationMode.{SegmentationMode}
 use Rattle.descriptor.specs.declared.segmentation.SubSegments.{SubSegments}
-use Rattle.flat.specs.Flat.{flatFlag}
 use Rattle.flat_items.specs.FlatItem.{flatRestrictions, flatSubSegments, wholeSegmentation, bareSegmentation, segmentationItem, flatDescriptor}
 use Rattle.flat_items.specs.declared.descriptors.FlatItem.{FlatItem}
 use Rattle.names.specs.Flags.{restrictionsBits}
-use Rattle.names.specs.Segmentation.{segmentationNumber, fairSegmentation}
 use Rattle.names.specs.declared.flags.DeviceRestrictions.{DeviceRestrictions}
 use Rattle.names.proofs.Segmentations.{segmentation-laws}
+use Rattle.table.specs.Table.{flagNumber}
 use Rattle.table.specs.declared.View.{View}
 use Rattle.flat_item_writer.specs.ItemWords.{restrictionsIn, subSegmentsIn, segmentationIn, itemIn, itemWords, deviceFrom, restrictionsFrom, deliveryFrom, modeFrom, durationFrom, subSegmentsFrom, insertFrom, descriptorFrom, descriptorGiven}
-
--- ---- what is asked of a descriptor
-abbrev pub TypedMode : SegmentationMode → Type 0
-TypedMode SegmentationMode.Program = Unit {0}
-TypedMode (SegmentationMode.Component n) = n < 256
-
-abbrev pub TypedSubs : SubSegments → Type 0
-TypedSubs SubSegments.Absent = Unit {0}
-TypedSubs (SubSegments.Is x) = (x .«sub_segment_num» < 256) × (x .«sub_segments_expected» < 256)
-
-pub record TypedInsert (i : SegmentationInsert) : Type 0 where
-  pub mode : TypedMode (i .«segmentation_mode»)
-  pub subs : TypedSubs (i .«sub_segments»)
-  pub upid : i .«segmentation_upid» .kind < 256
-  pub type-number : segmentationNumber (i .«segmentation_type_id») < 256
-  pub num : i .«segment_num» < 256
-  pub expected : i .«segments_expected» < 256
-  pub program-flag : i .«program_segmentation_flag» ≡ byProgram (i .«segmentation_mode»)
-  pub duration-flag : i .«segmentation_duration_flag» ≡ lasting (i .«segmentation_duration»)
-  pub free-flag : i .«delivery_not_restricted_flag» ≡ unrestricted (i .«delivery_restrictions»)
-  pub type-fair : fairSegmentation (i .«segmentation_type_id») ≡ true
-
-abbrev pub TypedDetail : SegmentationDetail → Type 0
-TypedDetail SegmentationDetail.Cancel = Unit {0}
-TypedDetail (SegmentationDetail.Insert i) = TypedInsert i
-
-abbrev pub Typed : Descriptor → Type 0
-Typed (Descriptor.Avail x) = x .«provider_avail_id» < 2 ^ 32
-Typed (Descriptor.Dtmf x) = x .preroll < 256
-Typed (Descriptor.Segmentation x) = (x .«segmentation_event_id» < 2 ^ 32) × TypedDetail (x .«descriptor_detail»)
-Typed (Descriptor.Time x) = (x .«tai_nanoseconds» < 2 ^ 32) × (x .«utc_offset» < 65536)
-Typed (Descriptor.Reserved tag bytes) = tag < 256
+use Rattle.flat_item_writer.specs.Typed.{TypedMode, TypedSubs, TypedInsert, TypedDetail, Typed}
 
 -- ---- the struct that the words of a step are, whatever stands before its item
 pub words-back : (refusal a b c next identifier : ℕ) (f : FlatItem) → itemIn (refusal ∷ a ∷ b ∷ c ∷ next ∷ identifier ∷ itemWords f) ≡ f
@@ -62,7 +29,7 @@ unfolding itemIn segmentationIn restrictionsIn subSegmentsIn itemWords
 words-back refusal a b c next identifier f = refl
 
 -- ---- part by part
-flag-back : (b : Bool) → eqb (flatFlag b) 1 ≡ b
+flag-back : (b : Bool) → eqb (flagNumber b) 1 ≡ b
 flag-back true = refl
 flag-back false = refl
 

@@ -14,13 +14,14 @@ use Rattle.descriptor.specs.declared.segmentation.SegmentationDetail.{Segmentat
 use Rattle.descriptor.specs.declared.segmentation.SegmentationDetail.the-variants.{Cancel, Insert}
 use Rattle.descriptor.specs.declared.segmentation.SegmentationInsert.{SegmentationInsert}
 use Rattle.descriptor.specs.declared.segmentation.SubSegments.{SubSegments}
-use Rattle.flat.specs.Flat.{flatFlag, flatView, noView}
+use Rattle.flat.specs.Flat.{flatView, noView}
 use Rattle.flat.specs.declared.FlatView.{FlatView}
 use Rattle.items.specs.Items.{numberOf, valuesOf}
 use Rattle.items.specs.declared.Item.{Item}
 use Rattle.items.specs.declared.Item.the-variants.{End, Refused, Is}
 use Rattle.items.specs.declared.Step.{Step}
 use Rattle.items.specs.declared.reading.Reading.{Reading}
+use Rattle.table.specs.Table.{flagNumber}
 use Rattle.flat_items.specs.FlatUpid.{three}
 use Rattle.flat_items.specs.declared.beside.FlatBeside.{FlatBeside}
 use Rattle.flat_items.specs.declared.beside.FlatComponent.{FlatComponent}
@@ -37,9 +38,9 @@ flatRestrictions DeliveryRestrictionFlags.None =
     record { «web_delivery_allowed_flag» = 0; «no_regional_blackout_flag» = 0; «archive_allowed_flag» = 0; «device_restrictions» = 0 }
 flatRestrictions (DeliveryRestrictionFlags.DeliveryRestrictions d) =
     record {
-      «web_delivery_allowed_flag» = flatFlag (d .«web_delivery_allowed_flag»);
-      «no_regional_blackout_flag» = flatFlag (d .«no_regional_blackout_flag»);
-      «archive_allowed_flag» = flatFlag (d .«archive_allowed_flag»);
+      «web_delivery_allowed_flag» = flagNumber (d .«web_delivery_allowed_flag»);
+      «no_regional_blackout_flag» = flagNumber (d .«no_regional_blackout_flag»);
+      «archive_allowed_flag» = flagNumber (d .«archive_allowed_flag»);
       «device_restrictions» = restrictionsBits (d .«device_restrictions»);
     }
 
@@ -53,9 +54,9 @@ wholeSegmentation event i =
     record {
       «segmentation_event_id» = event;
       «segmentation_event_cancel_indicator» = 0;
-      «program_segmentation_flag» = flatFlag (i .«program_segmentation_flag»);
-      «segmentation_duration_flag» = flatFlag (i .«segmentation_duration_flag»);
-      «delivery_not_restricted_flag» = flatFlag (i .«delivery_not_restricted_flag»);
+      «program_segmentation_flag» = flagNumber (i .«program_segmentation_flag»);
+      «segmentation_duration_flag» = flagNumber (i .«segmentation_duration_flag»);
+      «delivery_not_restricted_flag» = flagNumber (i .«delivery_not_restricted_flag»);
       «delivery_restrictions» = flatRestrictions (i .«delivery_restrictions»);
       «component_count» = countOf (i .«segmentation_mode»);
       «segmentation_duration» = ticks (i .«segmentation_duration»);

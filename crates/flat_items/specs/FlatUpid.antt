@@ -1,7 +1,8 @@
 -- The flat form of a UPID, and the words of a refusal. These are definitions.
-use Prim.Native.Nat.{ℕ, _-_}
-use mathlib.Core.List.{List, [], _++_, map}
-use lib.ListN.{length, replicate}
+use Prim.Native.Nat.{ℕ}
+use mathlib.Core.List.{List, [], map}
+use lib.ListN.{replicate}
+use Rattle.table.specs.Lent.{filledTo}
 use Rattle.upid.specs.Upid.{numberOf, valuesOf}
 use Rattle.upid.specs.declared.Part.{Part}
 use Rattle.upid.specs.declared.PartList.{PartList}
@@ -13,7 +14,7 @@ use Rattle.flat_items.specs.declared.upids.FlatUpid.{FlatUpid}
 
 -- a refusal's values, 0 where there is none
 abbrev pub three : List ℕ → List ℕ
-three values = values ++ replicate (3 - length values) 0
+three values = filledTo 3 0 values
 
 unfoldable pub flatPart : Part → FlatPart
 flatPart p = record { kind = p .kind; level = p .level; start = p .start; len = p .len }

@@ -1,1 +1,2 @@
 pub mod SectionWords
+pub mod Typed

@@ -17,22 +17,7 @@ use Rattle.names.specs.declared.flags.NetworkIndicator.{NetworkIndicator}
 use Rattle.names.specs.declared.flags.ReturnMode.{ReturnMode}
 use Rattle.table.specs.Bits.{pick}
 use Rattle.flat_writer.specs.CommandWords.{modeIn, breakIn, insertIn, commandIn, commandWords, timeFrom, modeFrom, breakFrom, insertFrom, insertionFrom, commandFrom, commandGiven}
-
--- ---- each number is of its type, as every value of the code has it
-abbrev pub TypedMode : SpliceMode → Type 0
-TypedMode (SpliceMode.Program t) = Unit {0}
-TypedMode (SpliceMode.Components n) = n < 256
-
-abbrev pub TypedDetail : SpliceInsert → Type 0
-TypedDetail SpliceInsert.Cancel = Unit {0}
-TypedDetail (SpliceInsert.Insert i) = (i .«unique_program_id» < 65536) × (i .«avail_num» < 256) × (i .«avails_expected» < 256) × TypedMode (i .«splice_mode»)
-
-abbrev pub Typed : SpliceCommand → Type 0
-Typed SpliceCommand.SpliceNull = Unit {0}
-Typed (SpliceCommand.SpliceInsert x) = (x .«splice_event_id» < 2 ^ 32) × (x .reserved < 256) × TypedDetail (x .«splice_detail»)
-Typed (SpliceCommand.TimeSignal t) = Unit {0}
-Typed SpliceCommand.BandwidthReservation = Unit {0}
-Typed (SpliceCommand.PrivateCommand p) = p .identifier < 2 ^ 32
+use Rattle.flat_writer.specs.Typed.{TypedMode, TypedDetail, Typed}
 
 -- ---- the struct that the words of a struct are
 pub words-back : (f : FlatCommand) → commandIn (commandWords f) ≡ f

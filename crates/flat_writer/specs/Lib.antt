@@ -1,3 +1,4 @@
 pub mod Words
 pub mod CommandWords
 pub mod Walk
+pub mod Typed

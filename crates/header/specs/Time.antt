@@ -1,6 +1,6 @@
 -- splice_time() and the adjusted time. 01, "Commands".
 use Prim.Native.Nat.{ℕ, _+_, _^_}
-use mathlib.Core.Bool.{Bool, true, false}
+use mathlib.Core.Bool.{Bool, true, false, not}
 use mathlib.Core.List.{List, []}
 use lib.Dec.{ltb}
 use Rattle.table.specs.Bits.{pick}
@@ -32,11 +32,14 @@ spliceTime =
     (ones 7 (
     done Unspecified))
 
+abbrev pub immediate : SpliceTime → Bool
+immediate Immediate = true
+immediate Unspecified = false
+immediate (At t) = false
+
 -- refusal 33: "an immediate time in a time signal"
 abbrev pub notImmediate : SpliceTime → Bool
-notImmediate Immediate = false
-notImmediate Unspecified = true
-notImmediate (At t) = true
+notImmediate t = not (immediate t)
 
 -- what a reader answers
 unfoldable pub timeRead : Answer SpliceTime → TimeRead

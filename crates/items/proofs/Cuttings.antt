@@ -10,11 +10,12 @@ use native.Mathlib.Numerals.{add-one}
 use lib.ListN.{length, take, drop, getD, length-append, length-take, length-drop, take-append-drop}
 use lib.Seq.{take-append-seam, drop-append-seam, drop-cons, drop-drop, drop-length, take-all}
 use borrow.Author.Tests.{le-leb, lt-leb, lt-ltb, le-ltb}
+use Rattle.items.specs.Walk.{Run}
 use Rattle.table.specs.Lent.{viewed}
 use Rattle.table.specs.declared.View.{View}
 use Rattle.upid.proofs.Laws.{by-cases}
 use Rattle.upid.specs.Cover as all
-use Rattle.items.specs.Cover.{Ends, few, over, full, Whole, joined, Fair, none, rest, item, runOf, Follow, done, follows, lies, times, Run}
+use Rattle.items.specs.Cover.{Ends, few, over, full, Whole, joined, Fair, none, rest, item, runOf, Follow, done, follows, lies, times}
 use Rattle.items.specs.Items.{Listed, stepOf, listed}
 use Rattle.items.specs.Place.{viewsOf}
 use Rattle.items.proofs.Lists.{Walked, stop, step, at-end}

@@ -8,11 +8,13 @@ use mathlib.Core.List.{List, [], _∷_, map}
 use mathlib.Core.Path.{_≡_, refl, ap, sym}
 use lib.Dec.{eqb}
 use borrow.Author.Tests.{eq-eqb, ne-eqb}
+use Rattle.table.specs.Lent.{shifted}
 use Rattle.table.specs.declared.View.{View}
 use Rattle.upid.specs.Cover.{All, none, more}
 use Rattle.upid.specs.declared.Refusal.{Refusal}
 use Rattle.upid.specs.declared.Refusal.the-variants.{TooLong, Short, Mismatch, NotText, WrongLength}
-use Rattle.descriptor.specs.Views.{upidViews, detailViews, descriptorViews, refusalViews, readViews}
+use Rattle.descriptor.specs.Views.{upidViews, detailViews, descriptorViews, refusalViews}
+use Rattle.descriptor.specs.Walk.{readViews}
 use Rattle.descriptor.specs.declared.Descriptor.{Descriptor}
 use Rattle.descriptor.specs.declared.Descriptor.the-variants.{Avail, Dtmf, Segmentation, Time, Reserved}
 use Rattle.descriptor.specs.declared.DescriptorRead.{DescriptorRead}
@@ -24,8 +26,8 @@ use Rattle.descriptor.specs.declared.segmentation.SegmentationDescriptor.{Segme
 use Rattle.descriptor.specs.declared.segmentation.SegmentationInsert.{SegmentationInsert}
 use Rattle.descriptor.specs.declared.segmentation.SegmentationUpid.{SegmentationUpid}
 use Rattle.descriptor.specs.Segmentation.{withUpid}
-use Rattle.items.specs.Place.{viewsOf, moved, movedUpid, movedInsert, movedDetail, movedDescriptor, movedRefusal}
-use Rattle.items.specs.Walk.{Movable}
+use Rattle.items.specs.Place.{viewsOf, movedUpid, movedDescriptor, movedRefusal}
+use Rattle.items.specs.Walk.{Movable, movedInsert, movedDetail}
 use Rattle.items.specs.Items.{itemAt}
 
 module _ {A : Type 0} {P : A → Type 0} where
@@ -57,7 +59,7 @@ module _ (base : ℕ) (u : SegmentationUpid) where
       pub upid-first : Movable base (upidViews u) → base + u .bytes .at < 2 ^ 64
       upid-first m = all-first (rw (upid-view u some plain) at m)
 
-      pub upid-there : (v : View) → v ≡ moved base (u .bytes) → _≡_ {A = SegmentationUpid} (record { kind = u .kind; bytes = v }) (movedUpid base u)
+      pub upid-there : (v : View) → v ≡ shifted base (u .bytes) → _≡_ {A = SegmentationUpid} (record { kind = u .kind; bytes = v }) (movedUpid base u)
       upid-there v e = rw (ne-eqb _ _ some, ne-eqb _ _ plain, e)
 
 pub insert-there : (base : ℕ) (i : SegmentationInsert) (u : SegmentationUpid) → u ≡ movedUpid base (i .«segmentation_upid») → withUpid i u ≡ movedInsert base i
@@ -89,32 +91,32 @@ text-first base r kind v e m = all-first (rw e at m)
 -- ---- the views of what is moved
 
 by-test : (t : Bool) (base : ℕ) (u : SegmentationUpid)
-    → let there : SegmentationUpid = cond t u (record { kind = u .kind; bytes = moved base (u .bytes) }) in
-    cond t [] (there .bytes ∷ []) ≡ map (moved base) (cond t [] (u .bytes ∷ []))
+    → let there : SegmentationUpid = cond t u (record { kind = u .kind; bytes = shifted base (u .bytes) }) in
+    cond t [] (there .bytes ∷ []) ≡ map (shifted base) (cond t [] (u .bytes ∷ []))
 by-test true base u = refl
 by-test false base u = refl
 
-same-kind : (t : Bool) (base : ℕ) (u : SegmentationUpid) → (let there : SegmentationUpid = cond t u (record { kind = u .kind; bytes = moved base (u .bytes) }) in there .kind) ≡ u .kind
+same-kind : (t : Bool) (base : ℕ) (u : SegmentationUpid) → (let there : SegmentationUpid = cond t u (record { kind = u .kind; bytes = shifted base (u .bytes) }) in there .kind) ≡ u .kind
 same-kind true base u = refl
 same-kind false base u = refl
 
-upid-views : (base : ℕ) (u : SegmentationUpid) → upidViews (movedUpid base u) ≡ map (moved base) (upidViews u)
+upid-views : (base : ℕ) (u : SegmentationUpid) → upidViews (movedUpid base u) ≡ map (shifted base) (upidViews u)
 upid-views base u =
     let t : Bool = eqb (u .kind) 0 || eqb (u .kind) 10 in
     rw (same-kind t base u) (by-test t base u)
 
-detail-views : (base : ℕ) (d : SegmentationDetail) → detailViews (movedDetail base d) ≡ map (moved base) (detailViews d)
+detail-views : (base : ℕ) (d : SegmentationDetail) → detailViews (movedDetail base d) ≡ map (shifted base) (detailViews d)
 detail-views base Cancel = refl
 detail-views base (Insert i) = upid-views base (i .«segmentation_upid»)
 
-descriptor-views : (base : ℕ) (d : Descriptor) → descriptorViews (movedDescriptor base d) ≡ map (moved base) (descriptorViews d)
+descriptor-views : (base : ℕ) (d : Descriptor) → descriptorViews (movedDescriptor base d) ≡ map (shifted base) (descriptorViews d)
 descriptor-views base (Avail x) = refl
 descriptor-views base (Dtmf x) = refl
 descriptor-views base (Segmentation x) = detail-views base (x .«descriptor_detail»)
 descriptor-views base (Time x) = refl
 descriptor-views base (Reserved tag bytes) = refl
 
-refusal-views : (base : ℕ) (r : Refusal) → refusalViews (movedRefusal base r) ≡ map (moved base) (refusalViews r)
+refusal-views : (base : ℕ) (r : Refusal) → refusalViews (movedRefusal base r) ≡ map (shifted base) (refusalViews r)
 refusal-views base TooLong = refl
 refusal-views base (Short expected actual) = refl
 refusal-views base Mismatch = refl
@@ -122,6 +124,6 @@ refusal-views base (NotText kind bytes) = refl
 refusal-views base (WrongLength kind expected actual) = refl
 
 -- the views of an item are those of its payload's reading, moved
-pub item-views : (base : ℕ) (d : DescriptorRead) → viewsOf (itemAt base d) ≡ map (moved base) (readViews d)
+pub item-views : (base : ℕ) (d : DescriptorRead) → viewsOf (itemAt base d) ≡ map (shifted base) (readViews d)
 item-views base (read.Is d) = descriptor-views base d
 item-views base (read.Refused r) = refusal-views base r

@@ -18,7 +18,8 @@ use Rattle.descriptor.specs.declared.DescriptorRead.the-variants as read
 use Rattle.descriptor.proofs.Insides.{read-inside}
 use Rattle.items.specs.Cover.{Ends, few, over, full, TakesRest}
 use Rattle.items.specs.Items.{short, bare, itemAt, readAt, wholeAt, stepOf, unlessEnd, Listed}
-use Rattle.items.specs.Place.{viewsOf, moved}
+use Rattle.table.specs.Lent.{shifted}
+use Rattle.items.specs.Place.{viewsOf}
 use Rattle.items.specs.declared.Item.the-variants.{End, Refused, Is}
 use Rattle.items.specs.declared.ItemRefusal.{ItemRefusal}
 use Rattle.items.specs.declared.ItemRefusal.the-variants.{InvalidDescriptorLength, Other}
@@ -189,7 +190,7 @@ module _ {loop : List ℕ} {offset : ℕ} where
       let payload : List ℕ = take (L - 4) (drop (offset + 6) loop) in
       let size : length payload ≡ L - 4 = omega (arith, length-take (L - 4) (drop (offset + 6) loop), length-drop (offset + 6) loop, s .there) in
       rw (item-views (offset + 6))
-      (all-map (moved (offset + 6))
+      (all-map (shifted (offset + 6))
       (all-into (λ v i. (omega arith, omega (arith, size, i))) (read-inside (getD loop offset 0) (take 4 (drop (offset + 2) loop)) payload)))
 
   pub views-between : {s : Step} → Clause loop offset s → All (Between offset (s .next)) (viewsOf (s .item))

@@ -10,7 +10,8 @@ use Rattle.upid.proofs.Laws.{by-cases}
 use Rattle.upid.specs.Cover.{All}
 use Rattle.upid.specs.declared.Refusal.the-variants.{TooLong}
 use Rattle.descriptor.specs.Whole.{wholeOf}
-use Rattle.items.specs.Cover.{Ends, Cutting, TakesRest, Covered, Run}
+use Rattle.items.specs.Walk.{Run}
+use Rattle.items.specs.Cover.{Ends, Cutting, TakesRest, Covered}
 use Rattle.items.specs.Items.{bare, stepOf, readingOf, Listed, itemsOf, countOf}
 use Rattle.items.specs.Place.{viewsOf}
 use Rattle.items.specs.declared.Item.the-variants.{Refused}

@@ -11,7 +11,8 @@ use lib.Seq.{drop-cons}
 use Rattle.table.specs.declared.View.{View}
 use Rattle.upid.specs.declared.Refusal.{Refusal}
 use Rattle.descriptor.specs.Descriptor.{descriptorOf}
-use Rattle.descriptor.specs.Views.{descriptorViews, refusalViews, readViews}
+use Rattle.descriptor.specs.Views.{descriptorViews, refusalViews}
+use Rattle.descriptor.specs.Walk.{readViews}
 use Rattle.descriptor.specs.Whole.{identifierRead}
 use Rattle.descriptor.specs.declared.Descriptor.{Descriptor}
 use Rattle.descriptor.specs.declared.Descriptor.the-variants.{Avail, Dtmf, Segmentation, Time, Reserved}

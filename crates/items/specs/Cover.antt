@@ -5,8 +5,6 @@ use mathlib.Core.List.{List, [], _∷_, _++_, map}
 use mathlib.Core.Path.{_≡_}
 use lib.Dec.{leb, ltb}
 use lib.ListN.{length, take, drop, getD}
-use Rattle.table.specs.Lent.{viewed}
-use Rattle.table.specs.declared.View.{View}
 use Rattle.items.specs.Items.{bare, Listed}
 use Rattle.items.specs.declared.Item.the-variants.{Refused}
 use Rattle.items.specs.declared.ItemRefusal.{ItemRefusal}
@@ -77,9 +75,3 @@ pub record Covered (loop : List ℕ) (xs : List Listed) : Type 0 where
   pub only : (other : List (List ℕ)) → Cutting loop other → other ≡ map (runOf loop) xs
   pub follow : Follow 0 (length loop) xs
   pub once : (i : ℕ) → i < length loop → times i xs ≡ 1
-
--- a view lies in the bytes of its item, behind their head and identifier, and what it hands back is that run of the loop
-pub record Run (loop : List ℕ) (x : Listed) (v : View) : Type 0 where
-  pub behind : x .offset + 6 ≤ v .at
-  pub before : v .at + v .len ≤ x .offset + x .used
-  pub bytes : viewed loop v ≡ take (v .len) (drop (v .at) loop)

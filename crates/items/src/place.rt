@@ -1,10 +1,10 @@
 // Where the views of an item lie, and the bytes that they name.
 ghost use mathlib.Core.Path.{_≡_};
 ghost use Prim.Native.Nat.{_+_, _^_, _<_};
-ghost use Rattle.table.specs.Lent.{viewed};
+ghost use Rattle.table.specs.Lent.{shifted, viewed};
 ghost use Rattle.descriptor.specs.Views.{upidViews, descriptorViews, refusalViews};
-ghost use Rattle.items.specs.Place.{firstView, viewOf, moved, movedUpid, movedInsert, movedDescriptor, movedRefusal};
-ghost use Rattle.items.specs.Walk.{Movable};
+ghost use Rattle.items.specs.Place.{firstView, viewOf, movedUpid, movedDescriptor, movedRefusal};
+ghost use Rattle.items.specs.Walk.{Movable, movedInsert};
 use crate::Item;
 use crate::ItemRefusal;
 use descriptor::Descriptor;
@@ -20,7 +20,7 @@ use upid::Refusal;
 // A view of a part that lies at `base` of a whole, as a view of the whole.
 fn move_view(v: View, base: usize) -> View
     requires { ⌜ base + v .at < 2 ^ 64 ⌝ }
-    ensures { λ r. ⌜ r ≡ moved base v ⌝ }
+    ensures { λ r. ⌜ r ≡ shifted base v ⌝ }
 {
     View {
         at: base + v.at,

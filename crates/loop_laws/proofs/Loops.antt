@@ -13,7 +13,8 @@ use Rattle.table.specs.Writing.{Made, made, refused}
 use Rattle.table.specs.declared.View.{View}
 use Rattle.table.proofs.Lists.{zero-one}
 use Rattle.upid.specs.Cover.{All, none, more}
-use Rattle.descriptor.specs.Views.{descriptorViews, readViews}
+use Rattle.descriptor.specs.Views.{descriptorViews}
+use Rattle.descriptor.specs.Walk.{readViews}
 use Rattle.descriptor.specs.Whole.{wholeOf}
 use Rattle.descriptor.specs.declared.Descriptor.{Descriptor}
 use Rattle.descriptor.specs.declared.DescriptorRead.{DescriptorRead}

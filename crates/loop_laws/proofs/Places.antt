@@ -9,7 +9,7 @@ use native.Mathlib.Omega.{arith}
 use lib.Dec.{eqb}
 use lib.ListN.{length, take, drop, length-take, length-drop}
 use lib.Seq.{take-take, drop-drop}
-use Rattle.table.specs.Lent.{viewed}
+use Rattle.table.specs.Lent.{viewed, shifted}
 use Rattle.table.specs.declared.View.{View}
 use Rattle.upid.specs.Cover.{All, none, more}
 use Rattle.descriptor.specs.Segmentation.{countOf, frontOf}
@@ -20,11 +20,13 @@ use Rattle.descriptor.specs.declared.DescriptorRead.the-variants as read
 use Rattle.descriptor.specs.declared.segmentation.SegmentationDetail.{SegmentationDetail}
 use Rattle.descriptor.specs.declared.segmentation.SegmentationDetail.the-variants.{Cancel, Insert}
 use Rattle.descriptor.specs.declared.segmentation.SegmentationUpid.{SegmentationUpid}
-use Rattle.descriptor_form.specs.Same.{viewless, viewlessDetail, bytesOfViews, componentsOf}
+use Rattle.descriptor_form.specs.Same.{viewless, bytesOfViews, componentsOf}
+use Rattle.descriptor_form.specs.Walk.{viewlessDetail}
 use Rattle.descriptor_laws.proofs.Alike.{SameView, viewIn, detailView, DetailTold, NoneTold, by-bytes, both-none, no-views}
 use Rattle.descriptor_laws.proofs.PlainLaws.{viewed-at}
-use Rattle.items.specs.Place.{moved, movedUpid, movedDetail, movedDescriptor}
+use Rattle.items.specs.Place.{movedUpid, movedDescriptor}
 use Rattle.items.proofs.Places.{item-views}
+use Rattle.items.specs.Walk.{movedDetail}
 
 part-of-front : (a n m : ℕ) (l : List ℕ) → a + n ≤ m → take n (drop a (take m l)) ≡ take n (drop a l)
 part-of-front zero n m l h = take-take n m l (omega arith)
@@ -40,7 +42,7 @@ run-of-run s b m a n h = part-of-front a n m (drop b s) h ∙ ap (take n) (drop-
 pub kind-stays : (base : ℕ) (u : SegmentationUpid) → movedUpid base u .kind ≡ u .kind
 kind-stays base u = go (eqb (u .kind) 0 || eqb (u .kind) 10)
   where
-    go : (t : Bool) → (let there : SegmentationUpid = cond t u (record { kind = u .kind; bytes = moved base (u .bytes) }) in there .kind) ≡ u .kind
+    go : (t : Bool) → (let there : SegmentationUpid = cond t u (record { kind = u .kind; bytes = shifted base (u .bytes) }) in there .kind) ≡ u .kind
     go true = refl
     go false = refl
 
@@ -75,20 +77,20 @@ module _ (loop : List ℕ) (base n : ℕ) (there : base + n ≤ length loop) whe
   payload-size : length payload ≡ n
   payload-size = omega (arith, length-take n (drop base loop), length-drop base loop)
 
-  pub viewed-there : (v : View) → v .at + v .len ≤ length payload → viewed payload v ≡ viewed loop (moved base v)
+  pub viewed-there : (v : View) → v .at + v .len ≤ length payload → viewed payload v ≡ viewed loop (shifted base v)
   viewed-there v h =
       let z = payload-size in
       viewed-at payload (v .at) (v .len) h ∙ run-of-run loop base n (v .at) (v .len) (omega arith) ∙ sym (viewed-at loop (base + v .at) (v .len) (omega arith))
 
-  same-there : (v : View) → v .at + v .len ≤ length payload → SameView payload v loop (moved base v)
-  same-there v h = let z = payload-size in by-bytes payload v loop (moved base v) h (omega arith) (viewed-there v h)
+  same-there : (v : View) → v .at + v .len ≤ length payload → SameView payload v loop (shifted base v)
+  same-there v h = let z = payload-size in by-bytes payload v loop (shifted base v) h (omega arith) (viewed-there v h)
 
   detail-view : (d : SegmentationDetail) → (detailView d .at + detailView d .len ≤ length payload) × DetailTold d → SameView payload (detailView d) loop (detailView (movedDetail base d))
   detail-view Cancel f = no-views payload loop
   detail-view (Insert i) f = go (i .«segmentation_upid») (eqb (i .«segmentation_upid» .kind) 0 || eqb (i .«segmentation_upid» .kind) 10) refl (f .0) (f .1)
     where
       go : (u : SegmentationUpid) (t : Bool) → eqb (u .kind) 0 || eqb (u .kind) 10 ≡ t → u .bytes .at + u .bytes .len ≤ length payload → (eqb (u .kind) 0 || eqb (u .kind) 10 ≡ true → u .bytes .len ≡ 0)
-          → SameView payload (u .bytes) loop (let there : SegmentationUpid = cond t u (record { kind = u .kind; bytes = moved base (u .bytes) }) in there .bytes)
+          → SameView payload (u .bytes) loop (let there : SegmentationUpid = cond t u (record { kind = u .kind; bytes = shifted base (u .bytes) }) in there .bytes)
       go u true t h blank = let z = payload-size in both-none payload (u .bytes) loop (u .bytes) h (omega arith) (blank t) (blank t)
       go u false t h blank = same-there (u .bytes) h
 
@@ -99,7 +101,7 @@ module _ (loop : List ℕ) (base n : ℕ) (there : base + n ≤ length loop) whe
   moved-view (Time x) f = no-views payload loop
   moved-view (Reserved tag v) f = same-there v (f .0)
 
-  views-there : {vs : List View} → All (λ (v : View). v .at + v .len ≤ length payload) vs → bytesOfViews loop (map (moved base) vs) ≡ bytesOfViews payload vs
+  views-there : {vs : List View} → All (λ (v : View). v .at + v .len ≤ length payload) vs → bytesOfViews loop (map (shifted base) vs) ≡ bytesOfViews payload vs
   views-there none = refl
   views-there (more {x = v} h hs) = ap₂ (λ (b : List ℕ) (bs : List (List ℕ)). b ∷ bs) (sym (viewed-there v h)) (views-there hs)
 

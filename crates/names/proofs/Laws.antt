@@ -1,6 +1,6 @@
 -- Laws of every table, each proved once.
 use Prim.Native.Nat.{ℕ, zero, suc, _+_, _<_, _≤_}
-use mathlib.Core.Bool.{Bool, true, false, _&&_}
+use mathlib.Core.Bool.{Bool, true, false, cond, _&&_}
 use mathlib.Core.List.{List, [], _∷_}
 use mathlib.Core.Logic.{_⊎_, ⊎-elim}
 use mathlib.Core.Option.{Option, none, some}
@@ -10,7 +10,7 @@ use lib.Dec.{eqb}
 use lib.ListN.{length}
 use borrow.Author.Tests.{eqb-true, eq-eqb, ne-eqb}
 use types.Run.{OneOf}
-use Rattle.names.specs.Numbering.{Table, named, pick, nameOf, or, valueOf, fair}
+use Rattle.names.specs.Numbering.{Table, named, nameOf, or, valueOf, fair}
 
 and-left : (a b : Bool) → (a && b) ≡ true → a ≡ true
 and-left true b e = refl
@@ -86,7 +86,7 @@ module _ {A : Type 0} (number : A → ℕ) (n : ℕ) (y : A) where
   found e (x ∷ xs) = go (eqb n (number x)) refl (found e xs)
     where
       go : (b : Bool) → eqb n (number x) ≡ b → number (or (nameOf number xs n) y) ≡ n
-          → number (or (pick b (some x) (nameOf number xs n)) y) ≡ n
+          → number (or (cond b (some x) (nameOf number xs n)) y) ≡ n
       go true t r = sym (eqb-true n (number x) t)
       go false t r = r
 
@@ -96,9 +96,9 @@ module _ {A : Type 0} (number : A → ℕ) (n : ℕ) (y : A) where
   left-over class (x ∷ xs) t h =
       go (eqb n (number x)) h (left-over class xs (and-right (eqb (class x) named) (allNamed class xs) t))
     where
-      go : (b : Bool) → (class (or (pick b (some x) (nameOf number xs n)) y) ≡ named → ⊥)
+      go : (b : Bool) → (class (or (cond b (some x) (nameOf number xs n)) y) ≡ named → ⊥)
           → ((class (or (nameOf number xs n) y) ≡ named → ⊥) → or (nameOf number xs n) y ≡ y)
-          → or (pick b (some x) (nameOf number xs n)) y ≡ y
+          → or (cond b (some x) (nameOf number xs n)) y ≡ y
       go true k r = absurd (k (eqb-true (class x) named (and-left (eqb (class x) named) (allNamed class xs) t)))
       go false k r = r k
 

@@ -1,6 +1,6 @@
 -- encryption_algorithm, six bits of the splice header. 000: `EncryptionAlgorithm`.
 use Prim.Native.Nat.{ℕ}
-use mathlib.Core.Bool.{Bool}
+use mathlib.Core.Bool.{Bool, cond}
 use mathlib.Core.List.{List, [], _∷_}
 use lib.Dec.{ltb}
 use Rattle.names.specs.declared.algorithm.EncryptionAlgorithm.{EncryptionAlgorithm}
@@ -12,7 +12,7 @@ use Rattle.names.specs.declared.algorithm.EncryptionAlgorithm.the-varian
   Reserved,
   Private,
 }
-use Rattle.names.specs.Numbering.{Class, Entry, named, reserved, private, Table, valueOf, fair, pick}
+use Rattle.names.specs.Numbering.{Class, Entry, named, reserved, private, Table, valueOf, fair}
 
 -- The table: the number and the class of each value, the names in the order of their numbers.
 abbrev pub algorithmEntry : EncryptionAlgorithm → Entry
@@ -31,7 +31,7 @@ algorithmClass x = algorithmEntry x .1
 
 -- 01: 4 to 31 reserved, 32 to 63 private; as a bare number, 64 to 255 too
 abbrev pub otherAlgorithm : ℕ → EncryptionAlgorithm
-otherAlgorithm n = pick (ltb n 32) (Reserved n) (Private n)
+otherAlgorithm n = cond (ltb n 32) (Reserved n) (Private n)
 
 abbrev pub algorithms : Table EncryptionAlgorithm
 algorithms = record {

@@ -1,6 +1,6 @@
 -- Named numbers: what every table of this crate says, and how a number and a value are looked up in it.
 use Prim.Native.Nat.{ℕ}
-use mathlib.Core.Bool.{Bool, true, false}
+use mathlib.Core.Bool.{Bool, cond}
 use mathlib.Core.List.{List, [], _∷_}
 use mathlib.Core.Option.{Option, none, some}
 use lib.Dec.{eqb}
@@ -29,14 +29,10 @@ pub record Table (A : Type 0) : Type 0 where
   pub names : List A
   pub others : ℕ → A
 
-abbrev pub pick : {A : Type 0} → Bool → A → A → A
-pick true a b = a
-pick false a b = b
-
 -- the name that a number has, if it has one
 abbrev pub nameOf : {A : Type 0} → (A → ℕ) → List A → ℕ → Option A
 nameOf number [] n = none
-nameOf number (x ∷ names) n = pick (eqb n (number x)) (some x) (nameOf number names n)
+nameOf number (x ∷ names) n = cond (eqb n (number x)) (some x) (nameOf number names n)
 
 abbrev pub or : {A : Type 0} → Option A → A → A
 or none other = other

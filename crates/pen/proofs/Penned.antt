@@ -14,13 +14,14 @@ use lib.ListN.{length, take, drop, set, getD, length-append, length-drop, take-a
 use lib.Pow.{pow-pos, pow-add, shr-lt, split, high}
 use lib.Seq.{length-take-le, take-at, drop-at, drop-drop, set-split, split-at}
 use borrow.Author.Tests.{le-leb, lt-leb, leb-true}
+use Rattle.pen.specs.Walk.{withBits}
 use Rattle.table.specs.Bits.{pick, bitsOfNum, bitsOf, bytesN, bytesOf, bigEndian, AllBytes}
 use Rattle.table.specs.Lent.{stored}
 use Rattle.table.proofs.Bits.{AllBits, all-append, all-num, all-bits, all-take, all-drop, length-num, length-bits, length-bytesN, bits-append, bits-from, bits-split, bits-join, bytes-bits, bytes-num, bytes-append}
 use Rattle.table.proofs.Fields.{bits-bytes}
 use Rattle.table.proofs.Lists.{append-nil}
 use Rattle.table.proofs.Stores.{stored-fits, stored-none}
-use Rattle.pen.specs.Pen.{penned, withBits}
+use Rattle.pen.specs.Pen.{penned}
 
 -- ---- where there is room, and where there is none
 module _ (t : List ℕ) (at : ℕ) (b : List ℕ) where

@@ -6,6 +6,7 @@ use native.Mathlib.Nat.{mod-lt, mod-eq-of-lt, div-eq-of-lt, zero-mod}
 use native.Mathlib.Omega.{arith}
 use lib.ListN.{length, getD, set}
 use lib.Pow.{pow-pos, pow-mono, shl-exact, split, shr-shr}
+use Rattle.pen.specs.Walk.{withBits}
 use Rattle.table.specs.Bits.{bitsOfNum, bitsOf, bigEndian, AllBytes}
 use Rattle.table.specs.Lent.{stored}
 use Rattle.table.specs.Cursor.{place, cursorAt}
@@ -13,7 +14,7 @@ use Rattle.table.specs.declared.cursor.Cursor.{Cursor}
 use Rattle.table.proofs.Bits.{all-num, length-num, length-bits, length-bigEndian, bits-split}
 use Rattle.table.proofs.Reading.{mask}
 use Rattle.table.proofs.Steppings.{Settled}
-use Rattle.pen.specs.Pen.{penned, penAfter, Pens, withBits}
+use Rattle.pen.specs.Pen.{penned, penAfter, Pens}
 use Rattle.pen.proofs.Penned.{length-penned, penned-none, penned-append, penned-byte, penned-stored, low-bits, mixed-lt, bits-number, all-number}
 use borrow.Author.Tests.{le-leb, lt-leb}
 

@@ -18,12 +18,11 @@ use Rattle.pen.specs.declared.Written.{Written}
 
 -- ---- what was made, by its refusal
 pub refusal-refused : (m : Made) (n : ℕ) → refusalIn m ≡ n → 0 < n → m ≡ refused n
-unfolding refusalIn
 refusal-refused (made b) n e h = absurd (omega arith)
 refusal-refused (refused k) n e h = ap refused e
 
 pub refusal-made : (m : Made) (b : List ℕ) → m ≡ made b → (refusalIn m ≡ 0) × (bytesIn m ≡ b)
-unfolding refusalIn bytesIn
+unfolding bytesIn
 refusal-made m b e = rw e (refl, refl)
 
 -- ---- the answer and the target's later bytes

@@ -1,2 +1,3 @@
 pub mod Pen
 pub mod Written
+pub mod Walk

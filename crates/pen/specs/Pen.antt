@@ -1,13 +1,11 @@
 -- Bits stored into a lent target, from a cursor on.
-use Prim.Native.Nat.{ℕ, _+_, _-_, _*_, _/_, _%_, _^_, _≤_}
+use Prim.Native.Nat.{ℕ, _+_, _*_, _≤_}
 use mathlib.Core.List.{List, _++_}
 use mathlib.Core.Path.{_≡_}
 use lib.Dec.{leb}
 use lib.ListN.{length, take, drop}
 use Rattle.table.specs.Bits.{pick, bitsOf, bytesOf}
 use Rattle.table.specs.Cursor.{place, cursorAt}
-use Rattle.table.specs.Table.{Table}
-use Rattle.table.specs.Writing.{walk, contents, print}
 use Rattle.table.specs.declared.cursor.Cursor.{Cursor}
 
 -- the target with these bits from bit `at` on, and all else as it was; bits that do not fit are not stored
@@ -27,11 +25,3 @@ pub record Pens (target : List ℕ) (c : Cursor) (b : List ℕ) (later : List �
 -- there is room for them
 abbrev pub Fits : List ℕ → Cursor → List ℕ → Type 0
 Fits target c b = place c + length b ≤ length target * 8
-
--- the bits that a table writes of x from bit `at` on, whose views are of the lent bytes
-abbrev pub inked : {X : Type 0} → List ℕ → Table X → X → ℕ → List ℕ
-inked lent t x at = print (contents lent (walk t x at .fields))
-
--- a byte with the number x in n of its bits, of which j stand before them
-unfoldable pub withBits : ℕ → ℕ → ℕ → ℕ → ℕ
-withBits b j n x = b / 2 ^ (8 - j) * 2 ^ (8 - j) + (x * 2 ^ (8 - j - n) + b % 2 ^ (8 - j - n))

@@ -28,7 +28,7 @@ use Rattle.flat.specs.Flat.{flatHeader, flatHeaderRead}
 use Rattle.flat.specs.FlatSection.{flatParts, flatSectionRead}
 use Rattle.flat.specs.declared.headers.FlatHeader.{FlatHeader}
 use Rattle.flat.specs.declared.sections.FlatSection.{FlatSection}
-use Rattle.section.specs.Section.{moved, movedRead, frameOf, sectionOf}
+use Rattle.section.specs.Section.{moved, movedRead, accepted, frameOf, sectionOf}
 use Rattle.section.specs.declared.FrameRead.{FrameRead}
 use Rattle.section.specs.declared.Refusal.{Refusal}
 use Rattle.section.specs.declared.SectionRead.{SectionRead}
@@ -56,7 +56,8 @@ module _ (s : List ℕ) (p : View) (whole : FrameRead.Whole p ≡ frameOf s) (h 
       let f = framed s p whole in
       let there = header-there (drop 3 s) (omega (arith, length-drop 3 s, f .long)) in
       told-is h (there .0) y p (flat-of h (headerOf (drop 3 s)) (there .0) (eh ∙ ap flatHeaderRead (header-at s)) (there .1))
-      ∙ ap flatSectionRead (is-accepted s p (sectionWith (there .0) y p) whole (section-is s p (there .0) y (there .1) e (f .place)))
+      ∙ ap flatSectionRead
+      (is-accepted s p (sectionWith (there .0) y p) whole (section-is s p (there .0) y (there .1) e (f .place) ∙ ap (accepted (headerOf (drop 3 s)) (commandRead s)) (sym (f .place))))
 
   -- the command's bytes, as a part of the section
   abbrev bytes : List ℕ

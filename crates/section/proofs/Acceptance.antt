@@ -17,7 +17,8 @@ use Rattle.header.proofs.Headers.{header-there}
 use Rattle.table.specs.Bits.{pick}
 use Rattle.table.specs.declared.View.{View}
 use Rattle.table.proofs.Lists.{zero-one}
-use Rattle.section.specs.Section.{under3, over4096, otherTable, wrongCrc, under18, encrypted, commandTooLong, noLoopLength, loopTooLong, unknownCommand, malformedCommand, conditions, first, commandType, commandBytes, loopPlace, accepted, laidOut, sectionOf, numberOf}
+use Rattle.section.specs.Section.{under3, over4096, otherTable, wrongCrc, under18, encrypted, commandTooLong, noLoopLength, loopTooLong, unknownCommand, malformedCommand, conditions, first, None, commandType, commandBytes, loopPlace, layoutOf, frameOf, accepted, through, sectionOf, numberOf}
+use Rattle.section.specs.declared.FrameRead.{FrameRead}
 use Rattle.section.specs.declared.Refusal.{Refusal}
 use Rattle.section.specs.declared.Section.{Section}
 use Rattle.section.specs.declared.SectionRead.{SectionRead}
@@ -29,44 +30,41 @@ last (CommandRead.Is c) h v = refl
 last CommandRead.UnknownType h v = refl
 last CommandRead.Malformed h v = refl
 
-chain : (b₁ b₂ b₃ b₄ b₅ b₆ b₇ b₈ b₉ : Bool) (r : SectionRead) (bs : List Bool) → (b₅ ≡ false → numberOf r ≡ first 10 bs)
+chain : (b₁ b₂ b₃ b₄ b₅ b₆ b₇ b₈ b₉ : Bool) (h : HeaderRead) (r : CommandRead) (v : View) (bs : List Bool) → (b₅ ≡ false → numberOf (accepted h r v) ≡ first 10 bs)
     → numberOf
-    (pick b₁ (SectionRead.Refused Refusal.TooShort)
-    (pick b₂ (SectionRead.Refused Refusal.TooLong)
-    (pick b₃ (SectionRead.Refused Refusal.OtherTable)
-    (pick b₄ (SectionRead.Refused Refusal.WrongCrc)
-    (pick b₅ (SectionRead.Refused Refusal.NoHeader)
-    (pick b₆ (SectionRead.Refused Refusal.Encrypted)
-    (pick b₇ (SectionRead.Refused Refusal.CommandTooLong)
-    (pick b₈ (SectionRead.Refused Refusal.NoLoopLength)
-    (pick b₉ (SectionRead.Refused Refusal.LoopTooLong) r)))))))))
+    (through
+    (pick b₁ (FrameRead.Refused Refusal.TooShort)
+    (pick b₂ (FrameRead.Refused Refusal.TooLong)
+    (pick b₃ (FrameRead.Refused Refusal.OtherTable)
+    (pick b₄ (FrameRead.Refused Refusal.WrongCrc)
+    (pick b₅ (FrameRead.Refused Refusal.NoHeader)
+    (pick b₆ (FrameRead.Refused Refusal.Encrypted)
+    (pick b₇ (FrameRead.Refused Refusal.CommandTooLong)
+    (pick b₈ (FrameRead.Refused Refusal.NoLoopLength)
+    (pick b₉ (FrameRead.Refused Refusal.LoopTooLong) (FrameRead.Whole v)))))))))) h r)
     ≡ first 1 (b₁ ∷ b₂ ∷ b₃ ∷ b₄ ∷ b₅ ∷ b₆ ∷ b₇ ∷ b₈ ∷ b₉ ∷ bs)
 unfolding numberOf
-chain true b₂ b₃ b₄ b₅ b₆ b₇ b₈ b₉ r bs h = refl
-chain false true b₃ b₄ b₅ b₆ b₇ b₈ b₉ r bs h = refl
-chain false false true b₄ b₅ b₆ b₇ b₈ b₉ r bs h = refl
-chain false false false true b₅ b₆ b₇ b₈ b₉ r bs h = refl
-chain false false false false true b₆ b₇ b₈ b₉ r bs h = refl
-chain false false false false false true b₇ b₈ b₉ r bs h = refl
-chain false false false false false false true b₈ b₉ r bs h = refl
-chain false false false false false false false true b₉ r bs h = refl
-chain false false false false false false false false true r bs h = refl
-chain false false false false false false false false false r bs h = h refl
+chain true b₂ b₃ b₄ b₅ b₆ b₇ b₈ b₉ h r v bs k = refl
+chain false true b₃ b₄ b₅ b₆ b₇ b₈ b₉ h r v bs k = refl
+chain false false true b₄ b₅ b₆ b₇ b₈ b₉ h r v bs k = refl
+chain false false false true b₅ b₆ b₇ b₈ b₉ h r v bs k = refl
+chain false false false false true b₆ b₇ b₈ b₉ h r v bs k = refl
+chain false false false false false true b₇ b₈ b₉ h r v bs k = refl
+chain false false false false false false true b₈ b₉ h r v bs k = refl
+chain false false false false false false false true b₉ h r v bs k = refl
+chain false false false false false false false false true h r v bs k = refl
+chain false false false false false false false false false h r v bs k = k refl
 
 -- refusals 1 to 11 are given in order of number, each under its condition and no other
 pub refusals-in-order : (s : List ℕ) → numberOf (sectionOf s) ≡ first 1 (conditions s)
-unfolding sectionOf laidOut
+unfolding sectionOf frameOf layoutOf
 refusals-in-order s =
     chain (under3 s) (over4096 s) (otherTable s) (wrongCrc s) (under18 s) (encrypted s) (commandTooLong s) (noLoopLength s) (loopTooLong s)
-    (accepted (headerOf (drop 3 s)) (commandOf (commandType s) (commandBytes s)) (loopPlace s)) (unknownCommand s ∷ malformedCommand s ∷ [])
+    (headerOf (drop 3 s)) (commandOf (commandType s) (commandBytes s)) (loopPlace s) (unknownCommand s ∷ malformedCommand s ∷ [])
     (λ e. let h = header-there (drop 3 s) (omega (arith, length-drop 3 s, ltb-false (length s) 18 e)) in
     rw (h .1) (last (commandOf (commandType s) (commandBytes s)) (h .0) (loopPlace s)))
 
 -- ---- accepted exactly when none applies
-abbrev pub None : List Bool → Type 0
-None [] = Unit {0}
-None (b ∷ bs) = (b ≡ false) × None bs
-
 none-first : (n : ℕ) (bs : List Bool) → None bs → first n bs ≡ 0
 none-first n [] h = refl
 none-first n (true ∷ bs) h = zero-one cc

@@ -21,8 +21,8 @@ use Rattle.table.specs.Bits.{pick, bitsOf, field}
 use Rattle.table.specs.declared.View.{View}
 use Rattle.table.proofs.Fields.{byte-field, field-in, field-byte}
 use Rattle.table.proofs.Reading.{bits-are}
-use Rattle.section.specs.Section.{under3, over4096, otherTable, wrongCrc, under18, encrypted, commandTooLong, noLoopLength, loopTooLong, commandLength, commandType, commandBytes, roomAfter, loopLength, loopPlace, moved, movedRead, frameOf, accepted, laidOut, sectionOf}
-use Rattle.section.specs.Walk.{viewStart, layoutOf}
+use Rattle.section.specs.Section.{under3, over4096, otherTable, wrongCrc, under18, encrypted, commandTooLong, noLoopLength, loopTooLong, commandLength, commandType, commandBytes, roomAfter, loopLength, loopPlace, moved, movedRead, layoutOf, frameOf, accepted, through, sectionOf}
+use Rattle.section.specs.Walk.{viewStart}
 use Rattle.section.specs.declared.FrameRead.{FrameRead}
 use Rattle.section.specs.declared.Refusal.{Refusal}
 use Rattle.section.specs.declared.SectionRead.{SectionRead}
@@ -54,12 +54,8 @@ module _ (s : List ℕ) where
           is-headless h = rw (le-ltb (length s) 3 long, le-ltb 4096 (length s) fits, eq-eqb (getD s 0 0) 0xfc table, eq-eqb (crcOf s) 0 right, lt-ltb (length s) 18 h)
 
           pub is-framed : (r : FrameRead) → 18 ≤ length s → r ≡ layoutOf s → r ≡ frameOf s
-          unfolding frameOf layoutOf
+          unfolding frameOf
           is-framed r h e = rw (le-ltb (length s) 3 long, le-ltb 4096 (length s) fits, eq-eqb (getD s 0 0) 0xfc table, eq-eqb (crcOf s) 0 right, le-ltb (length s) 18 h) e
-
-          pub is-laid-out : (r : SectionRead) → 18 ≤ length s → r ≡ laidOut s → r ≡ sectionOf s
-          unfolding sectionOf
-          is-laid-out r h e = rw (le-ltb (length s) 3 long, le-ltb 4096 (length s) fits, eq-eqb (getD s 0 0) 0xfc table, eq-eqb (crcOf s) 0 right, le-ltb (length s) 18 h) e
 
 -- ---- 6 to 9; what the reader reads of the layout
 module _ (s : List ℕ) where
@@ -120,65 +116,26 @@ module _ (s : List ℕ) where
     not-set : eqb (field (bitsOf s) 32 1) 1 ≡ false
     not-set = ne-eqb (field (bitsOf s) 32 1) 1 (λ e. clear (bits-are s 32 1 v (omega arith) ev .0 ∙ e))
 
-    pub no-loop : length s - 18 - n < 2 → SectionRead.Refused Refusal.NoLoopLength ≡ laidOut s
-    unfolding laidOut roomAfter
+    pub no-loop : length s - 18 - n < 2 → FrameRead.Refused Refusal.NoLoopLength ≡ layoutOf s
+    unfolding layoutOf roomAfter
     no-loop h = rw (not-set, ← en, le-ltb (length s - 18) n fits, lt-ltb (length s - 18 - n) 2 h)
 
     module _ (room : 2 ≤ length s - 18 - n) (m : ℕ) (em : m ≡ loopLength s) where
-      pub has-parts : (r : SectionRead) → m + 2 ≤ length s - 18 - n → r ≡ accepted (headerOf (drop 3 s)) (commandOf (commandType s) (commandBytes s)) (loopPlace s) → r ≡ laidOut s
-      unfolding laidOut roomAfter
-      has-parts r h e = rw (not-set, ← em, ← en, le-ltb (length s - 18) n fits, le-ltb (length s - 18 - n) 2 room, le-ltb (length s - 18 - n) (m + 2) h) e
+      pub has-parts : m + 2 ≤ length s - 18 - n → FrameRead.Whole (loopPlace s) ≡ layoutOf s
+      unfolding layoutOf roomAfter
+      has-parts h = rw (not-set, ← em, ← en, le-ltb (length s - 18) n fits, le-ltb (length s - 18 - n) 2 room, le-ltb (length s - 18 - n) (m + 2) h)
 
 -- ---- from the frame to the section
-abbrev through : FrameRead → SectionRead → SectionRead
-through (FrameRead.Whole v) r = r
-through (FrameRead.Refused x) r = SectionRead.Refused x
-
-chain : (b₁ b₂ b₃ b₄ b₅ b₆ b₇ b₈ b₉ : Bool) (v : View) (r : SectionRead)
-    → pick b₁ (SectionRead.Refused Refusal.TooShort)
-    (pick b₂ (SectionRead.Refused Refusal.TooLong)
-    (pick b₃ (SectionRead.Refused Refusal.OtherTable)
-    (pick b₄ (SectionRead.Refused Refusal.WrongCrc)
-    (pick b₅ (SectionRead.Refused Refusal.NoHeader)
-    (pick b₆ (SectionRead.Refused Refusal.Encrypted)
-    (pick b₇ (SectionRead.Refused Refusal.CommandTooLong)
-    (pick b₈ (SectionRead.Refused Refusal.NoLoopLength)
-    (pick b₉ (SectionRead.Refused Refusal.LoopTooLong) r))))))))
-    ≡ through
-    (pick b₁ (FrameRead.Refused Refusal.TooShort)
-    (pick b₂ (FrameRead.Refused Refusal.TooLong)
-    (pick b₃ (FrameRead.Refused Refusal.OtherTable)
-    (pick b₄ (FrameRead.Refused Refusal.WrongCrc)
-    (pick b₅ (FrameRead.Refused Refusal.NoHeader)
-    (pick b₆ (FrameRead.Refused Refusal.Encrypted)
-    (pick b₇ (FrameRead.Refused Refusal.CommandTooLong)
-    (pick b₈ (FrameRead.Refused Refusal.NoLoopLength)
-    (pick b₉ (FrameRead.Refused Refusal.LoopTooLong) (FrameRead.Whole v)))))))))) r
-chain true b₂ b₃ b₄ b₅ b₆ b₇ b₈ b₉ v r = refl
-chain false true b₃ b₄ b₅ b₆ b₇ b₈ b₉ v r = refl
-chain false false true b₄ b₅ b₆ b₇ b₈ b₉ v r = refl
-chain false false false true b₅ b₆ b₇ b₈ b₉ v r = refl
-chain false false false false true b₆ b₇ b₈ b₉ v r = refl
-chain false false false false false true b₇ b₈ b₉ v r = refl
-chain false false false false false false true b₈ b₉ v r = refl
-chain false false false false false false false true b₉ v r = refl
-chain false false false false false false false false true v r = refl
-chain false false false false false false false false false v r = refl
-
 abbrev pub commandRead : List ℕ → CommandRead
 commandRead s = commandOf (commandType s) (commandBytes s)
 
-of-frame : (s : List ℕ) → sectionOf s ≡ through (frameOf s) (accepted (headerOf (drop 3 s)) (commandRead s) (loopPlace s))
-unfolding sectionOf laidOut frameOf
-of-frame s =
-    chain (under3 s) (over4096 s) (otherTable s) (wrongCrc s) (under18 s) (encrypted s) (commandTooLong s) (noLoopLength s) (loopTooLong s) (loopPlace s)
-    (accepted (headerOf (drop 3 s)) (commandRead s) (loopPlace s))
-
 pub is-refused : (s : List ℕ) (x : Refusal) → FrameRead.Refused x ≡ frameOf s → SectionRead.Refused x ≡ sectionOf s
-is-refused s x e = sym (of-frame s ∙ ap (λ (f : FrameRead). through f (accepted (headerOf (drop 3 s)) (commandRead s) (loopPlace s))) (sym e))
+unfolding sectionOf
+is-refused s x e = ap (λ (f : FrameRead). through f (headerOf (drop 3 s)) (commandRead s)) e
 
-pub is-accepted : (s : List ℕ) (v : View) (r : SectionRead) → FrameRead.Whole v ≡ frameOf s → r ≡ accepted (headerOf (drop 3 s)) (commandRead s) (loopPlace s) → r ≡ sectionOf s
-is-accepted s v r e f = f ∙ sym (of-frame s ∙ ap (λ (x : FrameRead). through x (accepted (headerOf (drop 3 s)) (commandRead s) (loopPlace s))) (sym e))
+pub is-accepted : (s : List ℕ) (v : View) (r : SectionRead) → FrameRead.Whole v ≡ frameOf s → r ≡ accepted (headerOf (drop 3 s)) (commandRead s) v → r ≡ sectionOf s
+unfolding sectionOf
+is-accepted s v r e f = f ∙ ap (λ (x : FrameRead). through x (headerOf (drop 3 s)) (commandRead s)) e
 
 -- what a whole frame says
 abbrev asNumber : FrameRead → ℕ
@@ -222,7 +179,7 @@ pub record Framed (s : List ℕ) (v : View) : Type 0 where
   pub fits : 20 + commandLength s + loopLength s ≤ length s
 
 pub framed : (s : List ℕ) (v : View) → FrameRead.Whole v ≡ frameOf s → Framed s v
-unfolding frameOf roomAfter loopPlace
+unfolding frameOf layoutOf roomAfter loopPlace
 framed s v e =
     let t = tests (under3 s) (over4096 s) (otherTable s) (wrongCrc s) (under18 s) (encrypted s) (commandTooLong s) (noLoopLength s) (loopTooLong s) (loopPlace s) v e in
     let h₅ = ltb-false (length s) 18 (t .2) in

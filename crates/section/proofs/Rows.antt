@@ -5,7 +5,7 @@ use mathlib.Core.List.{List, [], _∷_}
 use mathlib.Core.Path.{_≡_, refl, ap, sym}
 use native.Mathlib.Omega.{arith}
 use lib.ListN.{length, getD, drop, replicate, length-drop}
-use Rattle.crc.specs.Crc.{crcOf, messageBits, bits, crcBits, crcBit}
+use Rattle.crc.specs.Crc.{crcOf, crcBits, crcBit}
 use Rattle.command.specs.Command.{commandOf, array, componentsOf}
 use Rattle.command.specs.Insert.{blank, timeUnless, component, moded, breakDuration, ending, active, insert}
 use Rattle.command.specs.declared.CommandRead.{CommandRead}
@@ -18,11 +18,11 @@ use Rattle.header.specs.declared.time.SpliceTime.{SpliceTime}
 use Rattle.header.proofs.Headers.{header-there}
 use Rattle.table.specs.Bits.{bitsOf, field}
 use Rattle.table.specs.Table.{number, bit, reserved, list}
-use Rattle.section.specs.Section.{commandLength, commandType, commandBytes, roomAfter, loopLength, loopPlace, moved, accepted, laidOut, sectionOf, numberOf}
+use Rattle.section.specs.Section.{commandLength, commandType, commandBytes, roomAfter, loopLength, loopPlace, moved, accepted, layoutOf, frameOf, sectionOf, numberOf}
 use Rattle.section.specs.Whole.{wholeSectionOf}
-use Rattle.section.specs.declared.Refusal.{Refusal}
+use Rattle.section.specs.declared.FrameRead.{FrameRead}
 use Rattle.section.specs.declared.SectionRead.{SectionRead}
-use Rattle.section.proofs.Frame.{is-laid-out, no-loop, has-parts, is-section}
+use Rattle.section.proofs.Frame.{is-framed, no-loop, has-parts, is-refused, is-accepted, is-section}
 
 -- a section with right CRC and command length 0, not encrypted
 pub record Plain (s : List ℕ) : Type 0 where
@@ -38,14 +38,14 @@ module _ {s : List ℕ} (p : Plain s) where
   not-one : _≡_ {A = ℕ} 0 1 → ⊥
   not-one e = omega arith
 
-  laid-out : (r : SectionRead) → 18 ≤ length s → length s ≤ 20 → r ≡ laidOut s → r ≡ sectionOf s
-  laid-out r h k e = is-laid-out s (omega arith) (omega arith) (p .table) (p .right) r h e
+  laid-out : (r : FrameRead) → 18 ≤ length s → length s ≤ 20 → r ≡ layoutOf s → r ≡ frameOf s
+  laid-out r h k e = is-framed s (omega arith) (omega arith) (p .table) (p .right) r h e
 
   -- "18 and 19 bytes give 8"
   no-loop-length : 18 ≤ length s → length s ≤ 19 → numberOf (sectionOf s) ≡ 8
   unfolding numberOf
   no-loop-length h k =
-      sym (ap numberOf (laid-out (SectionRead.Refused Refusal.NoLoopLength) h (omega arith) (no-loop s 0 clear-bit not-one 0 (sym (p .none)) (omega arith) (omega arith))))
+      sym (ap numberOf (is-refused s _ (laid-out _ h (omega arith) (no-loop s 0 clear-bit not-one 0 (sym (p .none)) (omega arith) (omega arith)))))
 
   pub row-18 : length s ≡ 18 → numberOf (sectionOf s) ≡ 8
   row-18 e = no-loop-length (omega arith) (omega arith)
@@ -66,9 +66,9 @@ module _ {s : List ℕ} (p : Plain s) where
         h .0,
         h .1,
         sym
-            (laid-out _ (omega arith) (omega arith)
-            (has-parts s 0 clear-bit not-one 0 (sym (p .none)) (omega arith) (omega arith) 0 (sym l) _ (omega arith)
-            (is-section _ (h .0) (h .1) _ _ SpliceCommand.SpliceNull SpliceCommand.SpliceNull (record { at = 16; len = 0 }) (null t) refl (rw (p .none, l))))),
+            (is-accepted s (loopPlace s) _
+            (laid-out _ (omega arith) (omega arith) (has-parts s 0 clear-bit not-one 0 (sym (p .none)) (omega arith) (omega arith) 0 (sym l) (omega arith)))
+            (is-section _ (h .0) (h .1) _ _ SpliceCommand.SpliceNull SpliceCommand.SpliceNull (record { at = 16; len = 0 }) (null t) refl (rw (p .none, l)))),
       )
 
 -- ---- one of each length
@@ -82,15 +82,15 @@ abbrev of-20 : List ℕ
 of-20 = 0xfc ∷ 0x30 ∷ 0x11 ∷ 0x00 ∷ 0x00 ∷ 0x00 ∷ 0x00 ∷ 0x00 ∷ 0x00 ∷ 0xff ∷ 0xff ∷ 0xf0 ∷ 0x00 ∷ 0x00 ∷ 0x00 ∷ 0x00 ∷ 0x76 ∷ 0x1d ∷ 0xd3 ∷ 0xb6 ∷ []
 
 plain-18 : Plain of-18
-unfolding crcOf messageBits bits crcBits crcBit commandLength
+unfolding crcOf crcBits crcBit commandLength
 plain-18 = record { table = refl; right = refl; clear = refl; none = refl }
 
 plain-19 : Plain of-19
-unfolding crcOf messageBits bits crcBits crcBit commandLength
+unfolding crcOf crcBits crcBit commandLength
 plain-19 = record { table = refl; right = refl; clear = refl; none = refl }
 
 plain-20 : Plain of-20
-unfolding crcOf messageBits bits crcBits crcBit commandLength
+unfolding crcOf crcBits crcBit commandLength
 plain-20 = record { table = refl; right = refl; clear = refl; none = refl }
 
 pub example-18 : numberOf (sectionOf of-18) ≡ 8
@@ -112,5 +112,5 @@ of-39 =
 
 pub row-components : wholeSectionOf of-39 .components
     ≡ record { «component_tag» = 1; «splice_time» = SpliceTime.At 5 } ∷ record { «component_tag» = 2; «splice_time» = SpliceTime.Unspecified } ∷ replicate 253 blank
-unfolding wholeSectionOf sectionOf laidOut accepted moved commandLength commandType commandBytes roomAfter loopLength crcOf messageBits bits crcBits crcBit headerOf headerRead spliceHeader commandOf componentsOf array insert active ending moded breakDuration timeUnless component spliceTime number bit reserved list
+unfolding wholeSectionOf sectionOf frameOf layoutOf accepted moved commandLength commandType commandBytes roomAfter loopLength crcOf crcBits crcBit headerOf headerRead spliceHeader commandOf componentsOf array insert active ending moded breakDuration timeUnless component spliceTime number bit reserved list
 row-components = refl

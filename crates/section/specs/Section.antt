@@ -2,16 +2,18 @@
 use Prim.Native.Nat.{ℕ, suc, _+_, _*_, _-_}
 use mathlib.Core.Bool.{Bool, true, false, not}
 use mathlib.Core.List.{List, [], _∷_}
+use mathlib.Core.Path.{_≡_}
 use lib.Dec.{ltb, eqb}
 use lib.ListN.{length, getD, take, drop}
 use Rattle.command.specs.Command as command
-use Rattle.command.specs.Command.{commandOf}
+use Rattle.command.specs.Command.{commandOf, ofPrivate, withView}
 use Rattle.command.specs.declared.CommandRead.{CommandRead}
 use Rattle.command.specs.declared.SpliceCommand.{SpliceCommand}
 use Rattle.crc.specs.Crc.{crcOf}
 use Rattle.header.specs.Header.{headerOf}
 use Rattle.header.specs.declared.header.HeaderRead.{HeaderRead}
 use Rattle.table.specs.Bits.{pick, bitsOf, field}
+use Rattle.table.specs.Lent.{noView, shifted}
 use Rattle.table.specs.declared.View.{View}
 use Rattle.section.specs.declared.FrameRead.{FrameRead}
 use Rattle.section.specs.declared.Refusal.{Refusal}
@@ -95,7 +97,22 @@ first n [] = 0
 first n (true ∷ bs) = n
 first n (false ∷ bs) = first (suc n) bs
 
+-- none holds
+abbrev pub None : List Bool → Type 0
+None [] = Unit {0}
+None (b ∷ bs) = (b ≡ false) × None bs
+
 -- ---- the frame: refusals 1 to 9, those that come before the command, or where the loop lies
+-- 6 to 9
+unfoldable pub layoutOf : List ℕ → FrameRead
+layoutOf s =
+    pick (encrypted s) (FrameRead.Refused Refusal.Encrypted)
+    (pick (commandTooLong s) (FrameRead.Refused Refusal.CommandTooLong)
+    (pick (noLoopLength s) (FrameRead.Refused Refusal.NoLoopLength)
+    (pick (loopTooLong s) (FrameRead.Refused Refusal.LoopTooLong)
+    (FrameRead.Whole (loopPlace s)))))
+
+-- refusals "are checked in order of number"
 unfoldable pub frameOf : List ℕ → FrameRead
 frameOf s =
     pick (under3 s) (FrameRead.Refused Refusal.TooShort)
@@ -103,21 +120,12 @@ frameOf s =
     (pick (otherTable s) (FrameRead.Refused Refusal.OtherTable)
     (pick (wrongCrc s) (FrameRead.Refused Refusal.WrongCrc)
     (pick (under18 s) (FrameRead.Refused Refusal.NoHeader)
-    (pick (encrypted s) (FrameRead.Refused Refusal.Encrypted)
-    (pick (commandTooLong s) (FrameRead.Refused Refusal.CommandTooLong)
-    (pick (noLoopLength s) (FrameRead.Refused Refusal.NoLoopLength)
-    (pick (loopTooLong s) (FrameRead.Refused Refusal.LoopTooLong)
-    (FrameRead.Whole (loopPlace s))))))))))
+    (layoutOf s)))))
 
 -- ---- the reading
 -- a command whose views count from `base` bytes before its payload
 unfoldable pub moved : ℕ → SpliceCommand → SpliceCommand
-moved base (SpliceCommand.PrivateCommand p) =
-    SpliceCommand.PrivateCommand (record { identifier = p .identifier; «private_bytes» = record { at = base + p .«private_bytes» .at; len = p .«private_bytes» .len } })
-moved base SpliceCommand.SpliceNull = SpliceCommand.SpliceNull
-moved base (SpliceCommand.SpliceInsert i) = SpliceCommand.SpliceInsert i
-moved base (SpliceCommand.TimeSignal t) = SpliceCommand.TimeSignal t
-moved base SpliceCommand.BandwidthReservation = SpliceCommand.BandwidthReservation
+moved base c = withView (shifted base) c
 
 -- what is read of a command, as a section has it
 unfoldable pub movedRead : CommandRead → CommandRead
@@ -132,24 +140,14 @@ accepted (HeaderRead.Header h) CommandRead.UnknownType loop = SectionRead.Refuse
 accepted (HeaderRead.Header h) CommandRead.Malformed loop = SectionRead.Refused Refusal.MalformedCommand
 accepted HeaderRead.TooShort r loop = SectionRead.Refused Refusal.NoHeader
 
--- 6 to 11
-unfoldable pub laidOut : List ℕ → SectionRead
-laidOut s =
-    pick (encrypted s) (SectionRead.Refused Refusal.Encrypted)
-    (pick (commandTooLong s) (SectionRead.Refused Refusal.CommandTooLong)
-    (pick (noLoopLength s) (SectionRead.Refused Refusal.NoLoopLength)
-    (pick (loopTooLong s) (SectionRead.Refused Refusal.LoopTooLong)
-    (accepted (headerOf (drop 3 s)) (commandOf (commandType s) (commandBytes s)) (loopPlace s)))))
+-- a frame that is refused refuses the section
+abbrev pub through : FrameRead → HeaderRead → CommandRead → SectionRead
+through (FrameRead.Whole loop) h r = accepted h r loop
+through (FrameRead.Refused x) h r = SectionRead.Refused x
 
--- refusals 1 to 11 "are checked in order of number"
+-- 1 to 9, and then 10 and 11
 unfoldable pub sectionOf : List ℕ → SectionRead
-sectionOf s =
-    pick (under3 s) (SectionRead.Refused Refusal.TooShort)
-    (pick (over4096 s) (SectionRead.Refused Refusal.TooLong)
-    (pick (otherTable s) (SectionRead.Refused Refusal.OtherTable)
-    (pick (wrongCrc s) (SectionRead.Refused Refusal.WrongCrc)
-    (pick (under18 s) (SectionRead.Refused Refusal.NoHeader)
-    (laidOut s)))))
+sectionOf s = through (frameOf s) (headerOf (drop 3 s)) (commandOf (commandType s) (commandBytes s))
 
 -- 01's number of each refusal; none has values
 unfoldable pub numberOf : SectionRead → ℕ
@@ -168,8 +166,4 @@ numberOf (SectionRead.Refused Refusal.MalformedCommand) = 11
 
 -- where a private command's bytes lie; any other command has none
 abbrev pub privateView : SpliceCommand → View
-privateView (SpliceCommand.PrivateCommand p) = p .«private_bytes»
-privateView SpliceCommand.SpliceNull = record { at = 0; len = 0 }
-privateView (SpliceCommand.SpliceInsert i) = record { at = 0; len = 0 }
-privateView (SpliceCommand.TimeSignal t) = record { at = 0; len = 0 }
-privateView SpliceCommand.BandwidthReservation = record { at = 0; len = 0 }
+privateView c = ofPrivate (λ p. p .«private_bytes») noView c

@@ -18,15 +18,14 @@ use Rattle.command.specs.declared.insert.Insertion.{Insertion}
 use Rattle.command.proofs.InsertLeads.{Counted}
 use Rattle.command.proofs.InsertTrips.{insert-write-read, insert-one}
 use Rattle.command.proofs.PrivateTrips.{moved, private-write-read, private-one}
-use Rattle.descriptor_form.specs.Canonical.{takesAll, canonicalBy}
 use Rattle.header.specs.Time.{spliceTime, notImmediate}
 use Rattle.header.specs.declared.time.SpliceTime.{SpliceTime}
 use Rattle.header.proofs.Times.{time-write-read, time-one}
+use Rattle.section_writer.specs.Walk.{sameAnswers, SameBy, SameCommand}
 use Rattle.table.specs.Bits.{pick, bitsOf, AllBytes}
-use Rattle.table.specs.Table.{Table, Answer, got, short, parse, canonical}
+use Rattle.table.specs.Table.{Table, Answer, got, short, parse, canonical, takesAll, canonicalBy}
 use Rattle.table.specs.Writing.{Same, made, make}
 use Rattle.table.proofs.Lists.{and-true, append-nil, zero-one}
-use Rattle.section_writer.specs.Canonical.{sameAnswers, SameBy, SameCommand}
 
 -- ---- a table's canonical form, made and undone
 by-table : {X : Type 0} (t : Table X) (b : List ℕ) (x : X) → parse t (bitsOf (b ++ [])) 0 ≡ got x (length b * 8) → canonical t (bitsOf (b ++ [])) 0 ≡ true → canonicalBy t b ≡ true

@@ -94,7 +94,7 @@ module _ (s : List ℕ) (p : View) (whole : FrameRead.Whole p ≡ frameOf s) whe
 
   pub is-read : (c : SpliceCommand) → commandOf (getD s 13 0) (take (p .at - 2 - 14) (drop 14 s)) ≡ CommandRead.Is c → (x : SpliceInfoHeader) × (d : SpliceCommand) × (sectionOf s ≡ SectionRead.Is (readAs x d p))
   is-read c e =
-      (there .0, c, sym (frame.is-accepted s p _ whole (frame.is-section _ (there .0) (there .1) _ _ c (moved 14 c) p (here (CommandRead.Is c) e) refl (frame.framed s p whole .place))))
+      (there .0, c, sym (frame.is-accepted s p _ whole (frame.is-section _ (there .0) (there .1) _ p c (moved 14 c) p (here (CommandRead.Is c) e) refl refl)))
 
   pub is-unknown : commandOf (getD s 13 0) (take (p .at - 2 - 14) (drop 14 s)) ≡ CommandRead.UnknownType → false ≡ canonicalFrame s
   is-unknown e = not-accepted s Refusal.UnknownCommand (sym (frame.is-accepted s p _ whole (frame.is-unknown _ (there .0) (there .1) _ _ (here CommandRead.UnknownType e))))

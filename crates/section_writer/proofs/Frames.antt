@@ -26,7 +26,7 @@ use Rattle.names.specs.Command.{commandNumber, commandOf}
 use Rattle.names.proofs.Commands.{command-laws}
 use Rattle.section.specs.Section.{commandLength, commandType, commandBytes, loopLength, loopPlace, moved, sectionOf}
 use Rattle.section.specs.declared.SectionRead.{SectionRead}
-use Rattle.section.proofs.Frame.{is-laid-out, has-parts, is-section}
+use Rattle.section.proofs.Frame.{is-framed, has-parts, is-accepted, is-section}
 use Rattle.table.specs.Bits.{bitsOf, field, bytesOf, bigEndian, AllBytes}
 use Rattle.table.specs.Lent.{viewed}
 use Rattle.table.specs.Table.{got, parse}
@@ -188,6 +188,7 @@ module _ (h : SpliceInfoHeader) (kind : ℕ) (payload loop : List ℕ) where
         let k : command.commandOf (commandType s) (commandBytes s) ≡ CommandRead.Is c = rw (frame-command-type, frame-command-bytes) e in
         let r = SectionRead.Is (record { header = headed h (length payload) kind; command = moved 14 c; descriptors = record { at = 16 + length payload; len = length loop } }) in
         sym
-        (is-laid-out s (omega arith) (omega arith) frame-first frame-crc r (omega arith)
-        (has-parts s (field (bitsOf s) 32 1) (sym (field-exact s 32 1 (omega arith))) frame-clear (length payload) (sym frame-command-length) (omega arith) (omega arith) (length loop) (sym frame-loop-length) r (omega arith)
-        (is-section (headerOf (drop 3 s)) (headed h (length payload) kind) frame-header (command.commandOf (commandType s) (commandBytes s)) (loopPlace s) c (moved 14 c) _ k refl (sym frame-loop-place))))
+        (is-accepted s (loopPlace s) r
+        (is-framed s (omega arith) (omega arith) frame-first frame-crc _ (omega arith)
+        (has-parts s (field (bitsOf s) 32 1) (sym (field-exact s 32 1 (omega arith))) frame-clear (length payload) (sym frame-command-length) (omega arith) (omega arith) (length loop) (sym frame-loop-length) (omega arith)))
+        (is-section (headerOf (drop 3 s)) (headed h (length payload) kind) frame-header (command.commandOf (commandType s) (commandBytes s)) (loopPlace s) c (moved 14 c) _ k refl (sym frame-loop-place)))

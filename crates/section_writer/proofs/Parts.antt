@@ -16,7 +16,7 @@ use Rattle.section.specs.Section.{commandLength, commandType, commandBytes, roo
 use Rattle.section.specs.declared.Section.{Section}
 use Rattle.section.specs.declared.SectionRead.{SectionRead}
 use Rattle.section.proofs.Acceptance.{none-if-accepted}
-use Rattle.section.proofs.Frame.{is-laid-out, has-parts}
+use Rattle.section.proofs.Frame.{is-framed, has-parts, is-accepted}
 use Rattle.table.specs.Bits.{bitsOf, field}
 use Rattle.table.specs.declared.View.{View}
 use Rattle.table.proofs.Lists.{zero-one}
@@ -73,8 +73,9 @@ parts-of s x e =
     let extent : loopLength s + 2 ≤ length s - 18 - commandLength s = ltb-false (length s - 18 - commandLength s) (loopLength s + 2) (n .1 .1 .1 .1 .1 .1 .1 .1 .0) in
     let r = accepted (headerOf (drop 3 s)) (command.commandOf (commandType s) (commandBytes s)) (loopPlace s) in
     let f : r ≡ sectionOf s =
-    is-laid-out s long short first crc r longer
-    (has-parts s (field (bitsOf s) 32 1) (sym (field-exact s 32 1 (omega arith))) clear (commandLength s) refl size room (loopLength s) refl r extent refl) in
+    is-accepted s (loopPlace s) r
+    (is-framed s long short first crc _ longer
+    (has-parts s (field (bitsOf s) 32 1) (sym (field-exact s 32 1 (omega arith))) clear (commandLength s) refl size room (loopLength s) refl extent)) refl in
     let m = made (headerOf (drop 3 s)) (command.commandOf (commandType s) (commandBytes s)) (loopPlace s) x (f ∙ e) in
     record {
       long = longer;

@@ -3,7 +3,7 @@ use Prim.Native.Nat.{ℕ}
 use mathlib.Core.Bool.{Bool, true, false}
 use mathlib.Core.List.{List, [], _∷_}
 use mathlib.Core.Path.{_≡_, refl}
-use Rattle.crc.specs.Crc.{crcBit, crcBits, bits, messageBits, crcOf}
+use Rattle.crc.specs.Crc.{crcBit, crcBits, crcOf}
 use Rattle.descriptor_form.specs.Canonical.{canonicalFrom, canonicalLoop}
 use Rattle.header.specs.Header.{spliceHeader}
 use Rattle.header.specs.declared.header.SpliceInfoHeader.{SpliceInfoHeader}
@@ -33,18 +33,18 @@ plain encrypted tier = record {
 -- a null command without descriptors
 pub null-section : sectionMade (plain false 0xfff) (made []) 0x00 [] ≡ made (
     0xfc ∷ 0x30 ∷ 0x11 ∷ 0x00 ∷ 0x00 ∷ 0x00 ∷ 0x00 ∷ 0x00 ∷ 0x00 ∷ 0x00 ∷ 0xff ∷ 0xf0 ∷ 0x00 ∷ 0x00 ∷ 0x00 ∷ 0x00 ∷ 0x7a ∷ 0x4f ∷ 0xbf ∷ 0xff ∷ [])
-unfolding sectionMade madeIf refusalIn bytesIn canonicalLoop canonicalFrom frame body head measured opening headerBytes headed numbersFit fairHead spliceHeader number bit fairAlgorithm commandOf crcOf messageBits bits crcBits crcBit
+unfolding sectionMade madeIf bytesIn canonicalLoop canonicalFrom frame body head measured opening headerBytes headed numbersFit fairHead spliceHeader number bit fairAlgorithm commandOf crcOf crcBits crcBit
 null-section = refl
 
 -- an encrypted header is 33, but a tier of 13 bits comes first, and a command's view before both
 pub encrypted-header : sectionMade (plain true 0xfff) (made []) 0x00 [] ≡ refused 33
-unfolding sectionMade madeIf refusalIn bytesIn headed numbersFit fairHead spliceHeader number bit commandOf
+unfolding sectionMade madeIf bytesIn headed numbersFit fairHead spliceHeader number bit commandOf
 encrypted-header = refl
 
 pub wide-tier : sectionMade (plain true 0x1000) (refused 33) 0x00 [] ≡ refused 32
-unfolding sectionMade madeIf refusalIn bytesIn headed numbersFit fairHead spliceHeader number bit commandOf
+unfolding sectionMade madeIf bytesIn headed numbersFit fairHead spliceHeader number bit commandOf
 wide-tier = refl
 
 pub outside-first : sectionMade (plain true 0x1000) (refused 31) 0x00 [] ≡ refused 31
-unfolding sectionMade madeIf refusalIn
+unfolding sectionMade madeIf
 outside-first = refl

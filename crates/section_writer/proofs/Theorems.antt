@@ -21,10 +21,11 @@ use Rattle.pen.specs.Written.{bytesIn}
 use Rattle.section.specs.Section.{commandLength, commandType, commandBytes, moved, sectionOf}
 use Rattle.section.specs.declared.Section.{Section}
 use Rattle.section.specs.declared.SectionRead.{SectionRead}
+use Rattle.section_writer.specs.Walk.{sameHeaders, SameAround, loopBytes}
 use Rattle.table.specs.Bits.{AllBytes}
 use Rattle.table.specs.Writing.{Made, made}
 use Rattle.table.proofs.Lists.{and-true}
-use Rattle.section_writer.specs.Canonical.{loopBytes, canonicalFrame, canonicalSection, sameHeaders, SameAround}
+use Rattle.section_writer.specs.Canonical.{canonicalFrame, canonicalSection}
 use Rattle.section_writer.specs.Frame.{headed, frame}
 use Rattle.section_writer.specs.Writing.{madeIf, sectionMade}
 use Rattle.section_writer.proofs.Commands.{one-command}

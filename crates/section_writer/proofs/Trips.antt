@@ -23,6 +23,7 @@ use Rattle.pen.specs.Written.{refusalIn, bytesIn}
 use Rattle.section.specs.Section.{first, commandLength, commandType, commandBytes, loopLength, loopPlace, moved, sectionOf, numberOf}
 use Rattle.section.specs.declared.Section.{Section}
 use Rattle.section.specs.declared.SectionRead.{SectionRead}
+use Rattle.section_writer.specs.Walk.{loopBytes}
 use Rattle.table.specs.Bits.{bitsOf, field, bigEndian, AllBytes}
 use Rattle.table.specs.Lent.{viewed}
 use Rattle.table.specs.Writing.{Made, made, refused}
@@ -30,7 +31,7 @@ use Rattle.table.proofs.Bits.{length-bits}
 use Rattle.table.proofs.Fields.{field-add}
 use Rattle.table.proofs.Lists.{zero-one}
 use Rattle.table.proofs.Reading.{field-lt}
-use Rattle.section_writer.specs.Canonical.{loopBytes, canonicalFrame}
+use Rattle.section_writer.specs.Canonical.{canonicalFrame}
 use Rattle.section_writer.specs.Frame.{headed, headerBytes, opening, sectionLength, head, measured, body, frame, numbersFit, fairHead}
 use Rattle.section_writer.specs.Writing.{conditions, unless, madeIf}
 use Rattle.section_writer.proofs.Backs.{opening-is, frame-again, own, own-is, headed-own}
@@ -157,7 +158,7 @@ module _ (s : List ℕ) (x : Section) (a : AllBytes s) (p : Parts s x) where
 
 pub section-read-write : (s : List ℕ) (x : Section) → AllBytes s → sectionOf s ≡ SectionRead.Is x → canonicalFrame s ≡ true
     → madeIf true (x .header) (made (commandBytes s)) (commandType s) (loopBytes s) ≡ made s
-unfolding madeIf bytesIn refusalIn viewed loopPlace
+unfolding madeIf bytesIn viewed loopPlace
 section-read-write s x a e c =
     let p = parts-of s x e in
     let w = framed s c in

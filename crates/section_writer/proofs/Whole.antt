@@ -6,7 +6,6 @@ use mathlib.Core.Bool.{Bool, true, false}
 use mathlib.Core.List.{List, [], _∷_, _++_}
 use mathlib.Core.Path.{_≡_, refl, ap, sym, _∙_}
 use native.Mathlib.Omega.{arith}
-use lib.ListN.{length}
 use Rattle.canonical_command.specs.Canonical.{canonicalCommand}
 use Rattle.command.specs.Command.{private, read, empty, commandOf}
 use Rattle.command.specs.Fair.{fairInsert}
@@ -19,7 +18,6 @@ use Rattle.command.specs.declared.insert.Insertion.{Insertion}
 use Rattle.command.proofs.InsertLeads.{Counted}
 use Rattle.command.proofs.InsertTrips.{insert-write-read}
 use Rattle.command.proofs.PrivateTrips.{private-write-read}
-use Rattle.command.proofs.PrivateTrips as private-trips
 use Rattle.command_writer.proofs.Theorems.{insert-made}
 use Rattle.command_writer.specs.Made.{counted, timesFit, insertMade, commandMade}
 use Rattle.descriptor_form.specs.Canonical.{canonicalLoop}
@@ -27,26 +25,15 @@ use Rattle.header.specs.Time.{spliceTime, notImmediate}
 use Rattle.header.specs.declared.header.SpliceInfoHeader.{SpliceInfoHeader}
 use Rattle.header.proofs.Times.{time-write-read}
 use Rattle.pen.specs.Written.{refusalIn, bytesIn}
-use Rattle.section.specs.Section.{moved, sectionOf}
-use Rattle.section.specs.declared.SectionRead.{SectionRead}
+use Rattle.section_writer.specs.Trips.{ownOf, ReadsBack}
 use Rattle.table.specs.Bits.{pick, bitsOf, bytesOf}
 use Rattle.table.specs.Table.{got, parse}
 use Rattle.table.specs.Writing.{Field, seen, within, contents, print, walk, Made, made, refused, makeOf, make}
 use Rattle.table.proofs.Lists.{append-nil, zero-one}
-use Rattle.section_writer.specs.Canonical.{loopBytes, canonicalSection}
-use Rattle.section_writer.specs.Frame.{headed}
 use Rattle.section_writer.specs.Writing.{kindOf, sectionMade, madeIf}
 use Rattle.section_writer.proofs.Commands.{null-canonical, bandwidth-canonical, time-canonical, insert-canonical, private-canonical}
 use Rattle.section_writer.proofs.Theorems.{section-reads-back, section-is-canonical}
 use Rattle.section_writer.proofs.Trips.{Wrote, section-wrote}
-
--- the command as it reads from its payload: a private command's bytes stand behind its identifier
-abbrev pub ownOf : SpliceCommand → SpliceCommand
-ownOf SpliceCommand.SpliceNull = SpliceCommand.SpliceNull
-ownOf (SpliceCommand.SpliceInsert i) = SpliceCommand.SpliceInsert i
-ownOf (SpliceCommand.TimeSignal t) = SpliceCommand.TimeSignal t
-ownOf SpliceCommand.BandwidthReservation = SpliceCommand.BandwidthReservation
-ownOf (SpliceCommand.PrivateCommand p) = SpliceCommand.PrivateCommand (private-trips.moved p)
 
 -- an insert's places hold as many components as its mode says
 abbrev pub Held : SpliceCommand → List ComponentSplice → Type 0
@@ -107,7 +94,7 @@ command-refuses (SpliceCommand.PrivateCommand p) cs lent n e o = make-refuses tr
 
 -- and no section is made of one that is
 not-refused : (h : SpliceInfoHeader) (kind : ℕ) (loop b : List ℕ) (n : ℕ) → sectionMade h (refused n) kind loop ≡ made b → Other n
-unfolding sectionMade refusalIn
+unfolding sectionMade
 not-refused h kind loop b n e = let w = section-wrote (canonicalLoop loop) h (refused n) kind loop b e in (w .seen, w .within, w .kept)
 
 -- ---- the whole
@@ -118,13 +105,6 @@ kind-byte (SpliceCommand.SpliceInsert i) = omega arith
 kind-byte (SpliceCommand.TimeSignal t) = omega arith
 kind-byte SpliceCommand.BandwidthReservation = omega arith
 kind-byte (SpliceCommand.PrivateCommand p) = omega arith
-
-pub record ReadsBack (h : SpliceInfoHeader) (c : SpliceCommand) (cs : List ComponentSplice) (lent loop b : List ℕ) : Type 0 where
-  pub payload : List ℕ
-  pub command : commandMade c cs lent ≡ made payload
-  pub reads : sectionOf b ≡ SectionRead.Is (record { header = headed h (length payload) (kindOf c); command = moved 14 (ownOf c); descriptors = record { at = 16 + length payload; len = length loop } })
-  pub loops : loopBytes b ≡ loop
-  pub form : canonicalSection b ≡ true
 
 pub whole-reads-back : (h : SpliceInfoHeader) (c : SpliceCommand) (cs : List ComponentSplice) (lent loop b : List ℕ) → Held c cs
     → sectionMade h (commandMade c cs lent) (kindOf c) loop ≡ made b → ReadsBack h c cs lent loop b

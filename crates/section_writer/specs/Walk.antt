@@ -1,10 +1,23 @@
--- For the contracts of private functions. No public contract cites this.
+-- For the contracts of private functions, and for proofs. No public contract cites this.
 use Prim.Native.Nat.{ℕ, _+_, _*_, _^_}
 use mathlib.Core.List.{List, _++_}
+use mathlib.Core.Path.{_≡_}
+use lib.Dec.{eqb}
+use lib.ListN.{drop}
+use Rattle.command.specs.Command.{private}
+use Rattle.command.specs.Insert.{insert}
 use Rattle.crc.specs.Crc.{crcBytesOf}
+use Rattle.header.specs.Header.{headerOf}
+use Rattle.header.specs.Time.{spliceTime}
+use Rattle.header.specs.declared.header.HeaderRead.{HeaderRead}
 use Rattle.header.specs.declared.header.SpliceInfoHeader.{SpliceInfoHeader}
 use Rattle.names.specs.Algorithm.{algorithmNumber}
-use Rattle.section_writer.specs.Frame.{measured}
+use Rattle.section.specs.Section.{commandType, commandBytes, loopPlace}
+use Rattle.table.specs.Bits.{pick, bitsOf}
+use Rattle.table.specs.Lent.{viewed}
+use Rattle.table.specs.Table.{Table, Answer, got, short, parse}
+use Rattle.table.specs.Writing.{Same}
+use Rattle.section_writer.specs.Frame.{headed, measured}
 
 -- the numbers in the first six and in the last five bytes of a header that is not encrypted
 unfoldable pub frontNumber : SpliceInfoHeader → ℕ
@@ -16,3 +29,37 @@ backNumber h kind size = ((h .«cw_index» * 4096 + h .tier) * 4096 + size) * 25
 -- what follows the command, where `before` stands before it
 unfoldable pub tail : List ℕ → List ℕ → List ℕ
 tail before loop = measured loop ++ crcBytesOf (before ++ measured loop)
+
+-- the bytes of a section's loop
+abbrev pub loopBytes : List ℕ → List ℕ
+loopBytes s = viewed s (loopPlace s)
+
+-- ---- equal readings, by the tables. "Equal readings means equal values and equal bytes in the views; the header's command length and type, the views' places and array places past a count are
+-- left out."
+abbrev pub sameHeaders : HeaderRead → HeaderRead → Type 0
+sameHeaders (HeaderRead.Header x) (HeaderRead.Header y) = headed x 0 0 ≡ headed y 0 0
+sameHeaders (HeaderRead.Header x) HeaderRead.TooShort = ⊥
+sameHeaders HeaderRead.TooShort r = ⊥
+
+-- payloads p and q, each read by the table
+abbrev pub sameAnswers : {X : Type 0} → Table X → List ℕ → Answer X → List ℕ → Answer X → Type 0
+sameAnswers t p (got x a) q (got y b) = Same t p x q y
+sameAnswers t p (got x a) q (short e b) = ⊥
+sameAnswers t p (short e a) q r = ⊥
+
+unfoldable pub SameBy : {X : Type 0} → Table X → List ℕ → List ℕ → Type 0
+SameBy t p q = sameAnswers t p (parse t (bitsOf p) 0) q (parse t (bitsOf q) 0)
+
+-- of commands of one type; null and bandwidth reservation have nothing to compare
+unfoldable pub SameCommand : ℕ → List ℕ → List ℕ → Type 0
+SameCommand kind p q =
+    pick (eqb kind 0x05) (SameBy insert p q)
+    (pick (eqb kind 0x06) (SameBy spliceTime p q)
+    (pick (eqb kind 0xff) (SameBy private p q)
+    (Unit {0})))
+
+-- what two sections say around their loops
+pub record SameAround (s r : List ℕ) : Type 0 where
+  pub headers : sameHeaders (headerOf (drop 3 s)) (headerOf (drop 3 r))
+  pub types : commandType s ≡ commandType r
+  pub commands : SameCommand (commandType s) (commandBytes s) (commandBytes r)

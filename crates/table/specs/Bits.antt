@@ -1,13 +1,9 @@
 -- Bits, numbers and bytes. A bit is 0 or 1, a byte is a number below 256, and the high bit comes first.
 use Prim.Native.Nat.{ℕ, zero, suc, _+_, _*_, _/_, _%_, _^_, _<_}
-use mathlib.Core.Bool.{Bool, true, false}
 use mathlib.Core.List.{List, [], _∷_, _++_}
 use lib.ListN.{length, take, drop}
-
--- the first where the test holds, else the second
-abbrev pub pick {ℓ} : {A : Type ℓ} → Bool → A → A → A
-pick true a b = a
-pick false a b = b
+-- the library's choice: the first where the test holds, else the second
+pub use mathlib.Core.Bool.{cond as pick}
 
 -- the low w bits of a number
 abbrev pub bitsOfNum : ℕ → ℕ → List ℕ

@@ -5,7 +5,7 @@ use mathlib.Core.Bool.{Bool, true, false, _&&_}
 use mathlib.Core.List.{List, [], _∷_}
 use lib.Dec.{leb, eqb}
 use lib.ListN.{length, getD, drop}
-use Rattle.table.specs.Bits.{pick, field}
+use Rattle.table.specs.Bits.{pick, bitsOf, field}
 use Rattle.table.specs.declared.View.{View}
 
 pub data Table (X : Type 0) : Type 0 where
@@ -95,3 +95,12 @@ canonical (uint w p k) bs at = canonical (k (field bs at w)) bs (at + w)
 canonical (view n p k) bs at = canonical (k (at / 8)) bs (at + n * 8)
 canonical (left p k) bs at = canonical (k ((length bs - at) / 8)) bs at
 canonical (must b t) bs at = b && canonical t bs at
+
+-- the table's fields take all of the bytes: none is missing, and none is spare
+abbrev pub takesAll : {X : Type 0} → Answer X → List ℕ → Bool
+takesAll (got x at) s = eqb at (length s * 8)
+takesAll (short expected actual) s = false
+
+-- read, every reserved bit 1, and no spare byte
+unfoldable pub canonicalBy : {X : Type 0} → Table X → List ℕ → Bool
+canonicalBy t s = takesAll (parse t (bitsOf s) 0) s && canonical t (bitsOf s) 0

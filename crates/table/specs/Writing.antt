@@ -83,6 +83,15 @@ pub data Made : Type 0 where
   made : List ℕ → Made
   refused : ℕ → Made
 
+-- 0, or the number of the refusal; the bytes, or none
+abbrev pub refusalIn : Made → ℕ
+refusalIn (made b) = 0
+refusalIn (refused n) = n
+
+unfoldable pub bytesIn : Made → List ℕ
+bytesIn (made b) = b
+bytesIn (refused n) = []
+
 abbrev pub makeOf : Bool → List ℕ → List Field → Made
 makeOf fair lent fs =
     pick (seen lent fs)

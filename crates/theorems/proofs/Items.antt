@@ -10,14 +10,13 @@ use mathlib.Core.Path.{_≡_, refl, ap, sym, _∙_}
 use native.Mathlib.Omega.{arith}
 use lib.ListN.{length, take, drop, getD, length-take, length-drop}
 use Rattle.table.specs.Bits.{bitsOf}
-use Rattle.table.specs.Lent.{viewed}
+use Rattle.table.specs.Lent.{viewed, shifted}
 use Rattle.table.specs.Table.{parse}
 use Rattle.table.specs.declared.View.{View}
 use Rattle.upid.proofs.Theorems.{every-mid-is-covered, every-part-is-announced, every-part-has-its-mid, parts-are-in-order}
-use Rattle.upid.specs.Cover as cover
 use Rattle.upid.specs.Cover.{All, none, more}
 use Rattle.upid.specs.Upid as upid
-use Rattle.upid.specs.Upid.{upidOf, checkOf, reportedOf, Accepted, partView}
+use Rattle.upid.specs.Upid.{upidOf, checkOf, reportedOf, partView}
 use Rattle.upid.specs.declared.Part.{Part}
 use Rattle.upid.specs.declared.UpidRead.the-variants.{Fine}
 use Rattle.descriptor.specs.Descriptor.{reportedUpid}
@@ -31,9 +30,12 @@ use Rattle.descriptor_laws.proofs.Reported.{mid-is-written, eidr-is-written}
 use Rattle.items.proofs.Places.{all-into, all-map}
 use Rattle.items.proofs.Steps.{Clause, long, ended, last, small, entire}
 use Rattle.items.specs.Items.{itemAt, readAt, wholeAt}
-use Rattle.items.specs.Place.{moved, movedUpid, movedDetail, movedDescriptor}
+use Rattle.items.specs.Place.{movedUpid, movedDescriptor}
+use Rattle.items.specs.Walk.{movedDetail}
 use Rattle.items.specs.declared.Step.{Step}
 use Rattle.loop_laws.proofs.Places.{run-of-run, kind-stays}
+use Rattle.upid.specs.Walk as upid-laws
+use Rattle.upid.specs.Walk.{Accepted}
 use Rattle.theorems.specs.Identifiers.{Identifier, OneRun, inLent, detailUpids, descriptorUpids, upidsOf, upidStart, besidesOf, Announced, Unsplit}
 use Rattle.theorems.proofs.Runs.{viewed-is, viewed-inside, length-viewed, length-run, lent-run, getD-run}
 use Rattle.theorems.proofs.Upids.{upidsRead, Source, sources}
@@ -79,7 +81,7 @@ found {loop} {offset} (entire L s h) =
 -- ---- a MID that is one run of the section
 
 module _ (s : List ℕ) (i : Identifier) (r : OneRun s i) where
-  announced : (p : Part) → cover.Announced (i .bytes) p → Announced s p (inLent (i .start) (i .bytes) (partView p))
+  announced : (p : Part) → upid-laws.Announced (i .bytes) p → Announced s p (inLent (i .start) (i .bytes) (partView p))
   announced p a =
       let n : length (i .bytes) ≡ i .len = length-run s i r in
       let k : i .start + (p .start - 2) ≡ i .start + p .start - 2 = omega (arith, a .behind) in
@@ -116,7 +118,7 @@ mid-checked : (k : ℕ) (bytes : List ℕ) → checkOf k bytes ≡ Fine 13 → c
 mid-checked k bytes e = ap (λ (j : ℕ). checkOf j bytes) (sym (mid-is-written k bytes e)) ∙ e
 
 -- the view of a MID, moved
-mid-view : (base : ℕ) (u w : SegmentationUpid) → u .kind ≡ 13 → u ≡ reportedUpid (u .kind) (w .bytes) → movedUpid base u .bytes ≡ moved base (w .bytes)
+mid-view : (base : ℕ) (u w : SegmentationUpid) → u .kind ≡ 13 → u ≡ reportedUpid (u .kind) (w .bytes) → movedUpid base u .bytes ≡ shifted base (w .bytes)
 mid-view base u w k e =
     let z : u ≡ reportedUpid 13 (w .bytes) = e ∙ rw k in
     rw z
@@ -129,9 +131,9 @@ module _ (loop : List ℕ) (offset next : ℕ) (six : offset + 6 ≤ next) (ther
   size = omega (arith, length-take (next - offset - 6) (drop (offset + 6) loop), length-drop (offset + 6) loop)
 
   -- a view of the payload, moved to the loop, hands back the same
-  shown : (v : View) → v .at + v .len ≤ length payload → viewed loop (moved (offset + 6) v) ≡ viewed payload v
+  shown : (v : View) → v .at + v .len ≤ length payload → viewed loop (shifted (offset + 6) v) ≡ viewed payload v
   shown v h =
-      viewed-is loop (moved (offset + 6) v) (omega (arith, size))
+      viewed-is loop (shifted (offset + 6) v) (omega (arith, size))
       ∙ sym (viewed-is payload v h ∙ run-of-run loop (offset + 6) (next - offset - 6) (v .at) (v .len) (omega (arith, size)))
 
 module _ (s : List ℕ) (i : Identifier) (r : OneRun s i) (offset next : ℕ) (u : SegmentationUpid) (f : Found (i .bytes) offset next u) where
@@ -151,11 +153,11 @@ module _ (s : List ℕ) (i : Identifier) (r : OneRun s i) (offset next : ℕ) (u
       let n : length inner ≡ next - offset - 6 = size (i .bytes) offset next (f .six) (f .there) in
       let l : length (i .bytes) ≡ i .len = length-run s i r in
       let ks : f .source .kind ≡ 13 = sym (kind-stays (offset + 6) (f .source)) ∙ sym (ap (λ (u : SegmentationUpid). u .kind) (f .is)) ∙ k in
-      let v : u .bytes ≡ moved (offset + 6) (written .bytes) = ap (λ (u : SegmentationUpid). u .bytes) (f .is) ∙ mid-view (offset + 6) (f .source) written ks (f .from .is) in
-      let same : viewed (i .bytes) (moved (offset + 6) (written .bytes)) ≡ viewed inner (written .bytes) = shown (i .bytes) offset next (f .six) (f .there) (written .bytes) h in
-      let run : OneRun s (inLent (i .start) (i .bytes) (moved (offset + 6) (written .bytes))) =
-      lent-run s i r (moved (offset + 6) (written .bytes)) (omega (arith, h, n, l, f .six, f .there)) in
-      rw v (unsplit s (inLent (i .start) (i .bytes) (moved (offset + 6) (written .bytes))) run (rw same e))
+      let v : u .bytes ≡ shifted (offset + 6) (written .bytes) = ap (λ (u : SegmentationUpid). u .bytes) (f .is) ∙ mid-view (offset + 6) (f .source) written ks (f .from .is) in
+      let same : viewed (i .bytes) (shifted (offset + 6) (written .bytes)) ≡ viewed inner (written .bytes) = shown (i .bytes) offset next (f .six) (f .there) (written .bytes) h in
+      let run : OneRun s (inLent (i .start) (i .bytes) (shifted (offset + 6) (written .bytes))) =
+      lent-run s i r (shifted (offset + 6) (written .bytes)) (omega (arith, h, n, l, f .six, f .there)) in
+      rw v (unsplit s (inLent (i .start) (i .bytes) (shifted (offset + 6) (written .bytes))) run (rw same e))
 
   at-start : (bytes : List ℕ) (a b : ℕ) → a ≡ b → OneRun s (record { start = i .start + (offset + 6 + b); len = 12; bytes = bytes })
       → OneRun s (record { start = i .start + (offset + 6 + a); len = 12; bytes = bytes })
@@ -173,10 +175,10 @@ module _ (s : List ℕ) (i : Identifier) (r : OneRun s i) (offset next : ℕ) (u
       let n : length inner ≡ next - offset - 6 = size (i .bytes) offset next (f .six) (f .there) in
       let l : length (i .bytes) ≡ i .len = length-run s i r in
       let twelve : written .bytes .len ≡ 12 = sym (length-viewed inner (written .bytes) h) ∙ e .1 in
-      let same : viewed (i .bytes) (moved (offset + 6) (written .bytes)) ≡ viewed inner (written .bytes) = shown (i .bytes) offset next (f .six) (f .there) (written .bytes) h in
-      let run : OneRun s (inLent (i .start) (i .bytes) (moved (offset + 6) (written .bytes))) =
-      lent-run s i r (moved (offset + 6) (written .bytes)) (omega (arith, h, n, l, f .six, f .there)) in
-      let is : besideOf inner .eidr ≡ viewed (i .bytes) (moved (offset + 6) (written .bytes)) =
+      let same : viewed (i .bytes) (shifted (offset + 6) (written .bytes)) ≡ viewed inner (written .bytes) = shown (i .bytes) offset next (f .six) (f .there) (written .bytes) h in
+      let run : OneRun s (inLent (i .start) (i .bytes) (shifted (offset + 6) (written .bytes))) =
+      lent-run s i r (shifted (offset + 6) (written .bytes)) (omega (arith, h, n, l, f .six, f .there)) in
+      let is : besideOf inner .eidr ≡ viewed (i .bytes) (shifted (offset + 6) (written .bytes)) =
       f .from .beside ∙ held (written .kind) (viewed inner (written .bytes)) (e .0) (e .1) ∙ sym same in
       at-start (besideOf inner .eidr) _ (written .bytes .at) (f .from .start)
       (record { inside = omega (arith, run .inside, twelve); run = is ∙ run .run ∙ ap (λ (n : ℕ). take n (drop (i .start + (offset + 6 + written .bytes .at)) s)) twelve })

@@ -27,10 +27,11 @@ use Rattle.descriptor.specs.declared.segmentation.SegmentationMode.{Segmentatio
 use Rattle.descriptor.specs.declared.segmentation.SubSegments.{SubSegments}
 use Rattle.descriptor.specs.declared.whole.Beside.{Beside}
 use Rattle.descriptor_form.proofs.Refusals.{view-out, upid-long, numbers-over}
-use Rattle.descriptor_form.specs.Parts.{componentsFields, modeFields, durationFields, numbersFit, numberIn}
+use Rattle.descriptor_form.specs.Walk.{componentsFields, modeFields, durationFields, numbersFit}
 use Rattle.descriptor_form.specs.Writing.{framedMade, segmentationMade, payloadMade, descriptorMade, tagOf, identifierOf, upidIn, upidSource, fairSegment, writtenDetail}
-use Rattle.flat_item_writer.proofs.Back.{TypedMode, TypedSubs, TypedInsert, TypedDetail, Typed, descriptor-back}
+use Rattle.flat_item_writer.proofs.Back.{descriptor-back}
 use Rattle.flat_item_writer.specs.ItemWords.{itemWords, itemWidths, descriptorGiven, identifierFrom, placesIn, eidrIn, countIn, placeWidths, placeFrom, byteFrom, placesFrom, eidrFrom, besideFrom, placesWithin, besideWithin, ownItem, descriptorRefusal, descriptorWordsMade}
+use Rattle.flat_item_writer.specs.Typed.{TypedMode, TypedSubs, TypedInsert, TypedDetail, Typed}
 use Rattle.flat_items.specs.FlatItem.{flatRestrictions, flatSubSegments, wholeSegmentation, bareSegmentation, segmentationItem, flatDescriptor, flatItem, refusalIn, valuesIn, flatStep, flatComponent, flatBeside}
 use Rattle.flat_writer.proofs.Words.{and-unit, places-length}
 use Rattle.flat_writer.specs.Words.{within, same, placesOf, eachPlace, refusalOf, noLess}
@@ -46,7 +47,7 @@ use Rattle.table.specs.Bits.{pick, bitsOf, field, bigEndian, AllBytes}
 use Rattle.table.specs.Table as tables
 use Rattle.table.specs.Table.{reserved, part, remaining}
 use Rattle.table.specs.Writing as writing
-use Rattle.table.specs.Writing.{Made, made, refused, Field, make, makeOf, seen}
+use Rattle.table.specs.Writing.{Made, made, refused, Field, make, makeOf, seen, refusalIn as numberIn}
 use Rattle.table.specs.declared.View.{View}
 use Rattle.theorems.specs.OverC.{stepWords, pairsWords, besideWords, ModeTags, TypedBeside}
 use Rattle.theorems.proofs.OverC.{same-self, Wide, taken, flag-within}

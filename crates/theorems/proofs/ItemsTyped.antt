@@ -21,10 +21,10 @@ use Rattle.descriptor.specs.declared.whole.Beside.{Beside}
 use Rattle.descriptor_form.proofs.Fields.{fields-are}
 use Rattle.descriptor_form.proofs.Making.{counted, all-fair, by-table}
 use Rattle.descriptor_form.proofs.Refusals.{within-append}
-use Rattle.descriptor_form.specs.Parts.{deliveryFields, modeFields, durationFields, upidFields, subFields, backFields, segmentFields}
+use Rattle.descriptor_form.specs.Walk.{deliveryFields, modeFields, durationFields, upidFields, subFields, backFields, segmentFields}
 use Rattle.descriptor_form.specs.Writing.{framed, framedMade, alone, writtenKind, writtenUpid, writtenDetail, written, upidIn, upidSource, segmentationMade, payloadMade, tagOf, identifierOf, descriptorMade}
-use Rattle.flat_item_writer.proofs.Back.{TypedMode, TypedSubs, TypedInsert, TypedDetail, Typed}
 use Rattle.flat_item_writer.specs.ItemWords.{countIn}
+use Rattle.flat_item_writer.specs.Typed.{TypedMode, TypedSubs, TypedInsert, TypedDetail, Typed}
 use Rattle.names.specs.Segmentation.{segmentationNumber}
 use Rattle.table.proofs.Lists.{zero-one, and-true}
 use Rattle.table.proofs.Structure.{wrote}

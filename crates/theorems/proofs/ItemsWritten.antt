@@ -20,7 +20,8 @@ use Rattle.descriptor_form.specs.Canonical.{canonicalLoop}
 use Rattle.descriptor_laws.proofs.Alike.{SameView, viewIn, detailView}
 use Rattle.header.specs.declared.header.SpliceInfoHeader.{SpliceInfoHeader}
 use Rattle.items.specs.Items.{Listed, listed, itemsOf}
-use Rattle.items.specs.Place.{movedDetail, movedDescriptor}
+use Rattle.items.specs.Place.{movedDescriptor}
+use Rattle.items.specs.Walk.{movedDetail}
 use Rattle.items.specs.declared.Item.{Item}
 use Rattle.loop_laws.proofs.Loops.{all-pieces, back-at, beside-is, written-at, every-item}
 use Rattle.loop_laws.proofs.Pieces.{At, items-cut}
@@ -32,8 +33,9 @@ use Rattle.section.specs.declared.Section.{Section}
 use Rattle.section.specs.declared.SectionRead.{SectionRead}
 use Rattle.section_writer.proofs.Numbers.{bytes-take, bytes-drop}
 use Rattle.section_writer.proofs.Theorems.{no-other-section}
-use Rattle.section_writer.proofs.Whole.{ReadsBack}
-use Rattle.section_writer.specs.Canonical.{loopBytes, canonicalFrame, canonicalSection, SameAround}
+use Rattle.section_writer.specs.Canonical.{canonicalFrame, canonicalSection}
+use Rattle.section_writer.specs.Trips.{ReadsBack}
+use Rattle.section_writer.specs.Walk.{SameAround, loopBytes}
 use Rattle.table.proofs.Lists.{and-true}
 use Rattle.table.specs.Bits.{pick, AllBytes}
 use Rattle.table.specs.Lent.{viewed}

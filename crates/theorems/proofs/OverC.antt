@@ -26,14 +26,15 @@ use Rattle.command_writer.specs.Fields.{immediateIn}
 use Rattle.command_writer.specs.Made.{counted, timesFit, insertMade, commandMade, measuredOf}
 use Rattle.command_writer.specs.Survey.{Tags, surveyed, modeBytes, breakBytes, measured, activeMeasured, timeBytes}
 use Rattle.descriptor_form.specs.Canonical.{canonicalLoop}
-use Rattle.flat.specs.Flat.{flatFlag, flatTime, noTime, noView, flatHeader}
+use Rattle.flat.specs.Flat.{flatTime, noTime, noView, flatHeader}
 use Rattle.flat.specs.FlatCommand.{flatMode, flatBreak, wholeInsert, bareInsert, flatInsertion, commandWith, noCommand, flatCommand, flatComponent, flatSplices}
-use Rattle.flat_section_writer.proofs.Back as header
+use Rattle.flat_section_writer.specs.Typed as header
 use Rattle.flat_section_writer.proofs.Back.{header-back}
 use Rattle.flat_section_writer.specs.SectionWords.{headerFrom, headerWords, headerWidths, headerRefusal, either, sectionWordsMade}
-use Rattle.flat_writer.proofs.Back.{TypedMode, TypedDetail, Typed, command-back}
+use Rattle.flat_writer.proofs.Back.{command-back}
 use Rattle.flat_writer.proofs.Words.{and-unit, places-length}
 use Rattle.flat_writer.specs.CommandWords.{commandWords, commandWidths, timeFrom, countIn, componentWords, componentWidths, componentFrom, splicesIn, componentsFrom, ownComponent, splicesWithin, ownSplices, commandRefusal, commandGiven, commandWordsMade}
+use Rattle.flat_writer.specs.Typed.{TypedMode, TypedDetail, Typed}
 use Rattle.flat_writer.specs.Words.{within, same, placesOf, eachPlace, refusalOf, noLess}
 use Rattle.header.specs.Time.{ticks}
 use Rattle.header.specs.declared.header.SpliceInfoHeader.{SpliceInfoHeader}
@@ -51,6 +52,7 @@ use Rattle.section_writer.specs.Frame.{sectionLength, headed, head, body, frame
 use Rattle.section_writer.specs.Writing.{conditions, unless, madeIf, sectionMade, kindOf}
 use Rattle.table.proofs.Lists.{zero-one, and-true}
 use Rattle.table.specs.Bits.{pick}
+use Rattle.table.specs.Table.{flagNumber}
 use Rattle.table.specs.Writing.{Made, made, refused}
 use Rattle.theorems.specs.OverC.{placesWords, splicesWords}
 
@@ -66,7 +68,6 @@ Wide (made b) = ⊥
 Wide (refused n) = (31 ≤ n) × (n ≤ 32)
 
 wide-number : (m : Made) → 31 ≤ refusalIn m → refusalIn m ≤ 32 → Wide m
-unfolding refusalIn
 wide-number (made b) h g = absurd (omega arith)
 wide-number (refused n) h g = (h, g)
 
@@ -247,7 +248,7 @@ module _ (h : SpliceInfoHeader) (m : Made) (kind : ℕ) (loop : List ℕ) where
       unless-wide (first 31 (conditions h r n (length loop) (canonicalLoop loop))) (frame h kind (bytesIn m) loop) (f .0) (f .1)
 
   section-wide-command : Wide m → Wide (sectionMade h m kind loop)
-  unfolding sectionMade madeIf refusalIn
+  unfolding sectionMade madeIf
   section-wide-command w = go (ltb (refusalIn m) 32) refl
     where
       k : ℕ
@@ -270,7 +271,7 @@ module _ (h : SpliceInfoHeader) (m : Made) (kind : ℕ) (loop : List ℕ) where
   unfolding sectionMade madeIf frame body head headed numbersFit fairHead
   headless = refl
 
-pub flag-within : (b : Bool) → ltb (flatFlag b) 2 ≡ true
+pub flag-within : (b : Bool) → ltb (flagNumber b) 2 ≡ true
 flag-within true = refl
 flag-within false = refl
 

@@ -6,12 +6,11 @@ use Rattle.command.specs.Insert.{timeUnless, component, moded, breakDuration, e
 use Rattle.descriptor.specs.Descriptor.{descriptorOf, cueiOf, isCuei, availOf, dtmfOf, reservedOf, segmentationOf, insertOf, inserted}
 use Rattle.descriptor.specs.Plain.{avail, dtmf, privateBytes}
 use Rattle.descriptor.specs.Segmentation.{deliveryRestrictions, mode, duration, writtenUpid, parts, front, subSegments, back, head}
-use Rattle.descriptor_form.specs.Canonical.{canonicalBy}
 use Rattle.header.specs.Time.{spliceTime}
 use Rattle.items.specs.Items.{numberOf, valuesOf, readAt, wholeAt, stepOf, itemsFrom, itemsOf}
 use Rattle.names.specs.Segmentation as names
 use Rattle.table.specs.Lent.{viewed}
-use Rattle.table.specs.Table.{number, bit, reserved, part, remaining, list}
+use Rattle.table.specs.Table.{number, bit, reserved, part, remaining, list, canonicalBy}
 use Rattle.upid.specs.Cover.{All, none, more}
 use Rattle.upid.specs.Text.{textOf, done, step, within}
 use Rattle.upid.specs.Upid as upid

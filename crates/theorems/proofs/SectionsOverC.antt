@@ -30,12 +30,12 @@ use Rattle.descriptor_form.specs.Canonical.{canonicalLoop}
 use Rattle.flat.specs.Flat.{flatHeader}
 use Rattle.flat.specs.FlatCommand.{flatCommand, flatSplices}
 use Rattle.flat.specs.FlatSection.{flatSectionRead}
-use Rattle.flat_section_writer.proofs.Back as header
+use Rattle.flat_section_writer.specs.Typed as header
 use Rattle.flat_section_writer.specs.SectionWords.{headerWords, sectionWordsMade}
 use Rattle.flat.specs.declared.commands.FlatCommand.{FlatCommand}
 use Rattle.flat_writer.proofs.Back as flat
-use Rattle.flat_writer.proofs.Back.{TypedMode, TypedDetail, Typed}
 use Rattle.flat_writer.specs.CommandWords.{commandWords, countIn, componentsFrom, splicesWithin, ownSplices, commandRefusal, commandGiven}
+use Rattle.flat_writer.specs.Typed.{TypedMode, TypedDetail, Typed}
 use Rattle.flat_writer.specs.Words.{placesOf, eachPlace}
 use Rattle.header.specs.Time.{spliceTime}
 use Rattle.header.specs.declared.header.SpliceInfoHeader.{SpliceInfoHeader}

@@ -24,12 +24,12 @@ use Rattle.descriptor_form.specs.Writing.{descriptorMade}
 use Rattle.flat.specs.Flat.{flatHeader}
 use Rattle.flat.specs.FlatCommand.{flatCommand, flatSplices}
 use Rattle.flat.specs.FlatSection.{flatSectionRead}
-use Rattle.flat_item_writer.proofs.Back as item
+use Rattle.flat_item_writer.specs.Typed as item
 use Rattle.flat_item_writer.specs.ItemWords.{descriptorWordsMade}
 use Rattle.flat_items.specs.FlatItem.{flatStep, flatBeside}
-use Rattle.flat_section_writer.proofs.Back as header
+use Rattle.flat_section_writer.specs.Typed as header
 use Rattle.flat_section_writer.specs.SectionWords.{headerWords, sectionWordsMade}
-use Rattle.flat_writer.proofs.Back as command
+use Rattle.flat_writer.specs.Typed as command
 use Rattle.flat_writer.specs.CommandWords.{commandWords, countIn, commandGiven, commandWordsMade}
 use Rattle.header.specs.Time.{adjustedOf}
 use Rattle.header.specs.declared.header.SpliceInfoHeader.{SpliceInfoHeader}
@@ -37,22 +37,20 @@ use Rattle.header.specs.declared.time.AdjustedTime.{AdjustedTime}
 use Rattle.header.specs.declared.time.SpliceTime.{SpliceTime}
 use Rattle.items.specs.Cover.{Ends, TakesRest, Covered}
 use Rattle.items.specs.Items.{stepOf, itemsOf}
-use Rattle.loop_laws.specs.Loops.{joinedMade, loopMade, SameItems, Given, givenMade, GivenTypes, ItemsBack}
+use Rattle.loop_laws.specs.Loops.{joinedMade, loopMade, Given, givenMade, GivenTypes, ItemsBack}
 use Rattle.pen.specs.Written.{answerOf, laterOf}
 use Rattle.pen.specs.declared.Written.{Written}
 use Rattle.items.specs.declared.Item.{Item}
 use Rattle.items.specs.declared.Step.{Step}
 use Rattle.names.specs.Algorithm.{fairAlgorithm}
 use Rattle.section.proofs.Acceptance as acceptance
-use Rattle.section.proofs.Acceptance.{None}
-use Rattle.section.specs.Section.{commandType, commandBytes, loopLength, unknownCommand, conditions, first, sectionOf, numberOf}
+use Rattle.section.specs.Section.{commandType, commandBytes, loopLength, loopPlace, unknownCommand, conditions, first, sectionOf, numberOf, None}
 use Rattle.section.specs.Whole.{wholeSectionOf}
 use Rattle.section.specs.declared.Section.{Section}
 use Rattle.section.specs.declared.SectionRead.{SectionRead}
-use Rattle.section_writer.proofs.Theorems as writer
 use Rattle.section_writer.proofs.Views as views
-use Rattle.section_writer.proofs.Whole.{ReadsBack}
-use Rattle.section_writer.specs.Canonical.{loopBytes, canonicalSection, SameAround}
+use Rattle.section_writer.specs.Canonical.{canonicalSection}
+use Rattle.section_writer.specs.Trips.{ReadsBack}
 use Rattle.section_writer.specs.Writing.{kindOf, sectionMade}
 use Rattle.table.specs.Bits.{AllBytes}
 use Rattle.table.specs.Lent.{viewed}
@@ -268,7 +266,7 @@ what-is-written-reads-back = written-back.section-reads
 -- the types say of each: `GivenTypes`.)
 pub what-is-written-of-descriptors-reads-back : (gs : List Given) (h : SpliceInfoHeader) (c : SpliceCommand) (places : List ComponentSplice) (lent loop b : List ℕ) → length places ≡ 255 → Countable c
     → All GivenTypes gs → joinedMade (map givenMade gs) ≡ made loop → sectionMade h (commandMade c places lent) (kindOf c) loop ≡ made b
-    → ReadsBack h c places lent loop b × ItemsBack (loopBytes b) (itemsOf (loopBytes b)) gs
+    → ReadsBack h c places lent loop b × ItemsBack (viewed b (loopPlace b)) (itemsOf (viewed b (loopPlace b))) gs
 what-is-written-of-descriptors-reads-back gs h c places lent loop b n k types m e =
     let r = written-back.section-reads h c places lent loop b n k e in
     (r, items-written.items-read gs h c places lent loop b types m r)
@@ -288,17 +286,8 @@ pub private-bytes-read-back : (lent : List ℕ) (p : Private) (payload : List �
     → sectionMade h (made payload) 0xff loop ≡ made b → viewed b (record { at = 18; len = p .«private_bytes» .len }) ≡ viewed lent (p .«private_bytes»)
 private-bytes-read-back = views.private-bytes-back
 
--- Demand 3: "Two different canonical sections never have the same reading": equal values of header and command, equal bytes in the views, and equal loops
-pub canonical-sections-of-one-reading-are-one : (s r : List ℕ) (x y : Section) → AllBytes s → AllBytes r → sectionOf s ≡ SectionRead.Is x → sectionOf r ≡ SectionRead.Is y
-    → canonicalSection s ≡ true → canonicalSection r ≡ true → SameAround s r → loopBytes s ≡ loopBytes r → s ≡ r
-canonical-sections-of-one-reading-are-one = writer.no-other-section
-
--- the same by the items: equal header and command, and descriptors in order with equal values and equal bytes in their views
-pub canonical-sections-of-the-same-items-are-one : (s r : List ℕ) (x y : Section) → AllBytes s → AllBytes r → sectionOf s ≡ SectionRead.Is x → sectionOf r ≡ SectionRead.Is y
-    → canonicalSection s ≡ true → canonicalSection r ≡ true → SameAround s r → SameItems (loopIn s x) (loopIn r y) (itemsOf (loopIn s x)) (itemsOf (loopIn r y)) → s ≡ r
-canonical-sections-of-the-same-items-are-one = items-written.one-of-items
-
--- the same over what the readers answer: the readings x and y, the components beside them, the bytes in their views, and the items
+-- Demand 3: "Two different canonical sections never have the same reading", over what the readers answer: the readings x and y, the components beside them, the bytes in
+-- their views, and the items. (By the tables' readings: `no-other-section` in section_writer/proofs/Theorems.antt, `one-of-items` in ItemsWritten.antt.)
 pub canonical-sections-of-equal-answers-are-one : (s r : List ℕ) (x y : Section) → AllBytes s → AllBytes r → sectionOf s ≡ SectionRead.Is x → sectionOf r ≡ SectionRead.Is y
     → canonicalSection s ≡ true → canonicalSection r ≡ true → SameSections s x r y → s ≡ r
 canonical-sections-of-equal-answers-are-one = answers.one-answer

@@ -12,10 +12,10 @@ use Rattle.command.specs.Command as command
 use Rattle.command.specs.Command.{commandOf}
 use Rattle.command.specs.declared.CommandRead.{CommandRead}
 use Rattle.command.specs.declared.SpliceCommand.{SpliceCommand}
-use Rattle.crc.specs.Crc.{crcOf, messageBits, bits, crcBits, crcBit}
+use Rattle.crc.specs.Crc.{crcOf, crcBits, crcBit}
 use Rattle.descriptor.specs.Descriptor.{descriptorOf, cueiOf, isCuei, segmentationOf, insertOf, inserted}
 use Rattle.descriptor.specs.Segmentation.{deliveryRestrictions, mode, duration, writtenUpid, parts, front, subSegments, back, head, segmentation}
-use Rattle.descriptor_form.specs.Canonical.{canonicalBy, canonicalUpid, canonicalSegmentation, canonicalPayload, canonicalDescriptor, canonicalFrom, canonicalLoop}
+use Rattle.descriptor_form.specs.Canonical.{canonicalUpid, canonicalSegmentation, canonicalPayload, canonicalDescriptor, canonicalFrom, canonicalLoop}
 use Rattle.header.specs.Header.{headerOf, headerRead, spliceHeader}
 use Rattle.header.specs.Time.{spliceTime}
 use Rattle.header.specs.declared.time.SpliceTime.{SpliceTime}
@@ -23,14 +23,14 @@ use Rattle.items.specs.Items.{readAt, wholeAt, stepOf, itemsFrom, itemsOf}
 use Rattle.names.specs.Algorithm.{algorithmOf}
 use Rattle.names.specs.Command as names
 use Rattle.section.proofs.Acceptance.{refusals-in-order, accepted-if-none}
-use Rattle.section.specs.Section.{commandLength, commandType, commandBytes, roomAfter, loopLength, loopPlace, moved, accepted, laidOut, sectionOf, numberOf}
+use Rattle.section.specs.Section.{commandLength, commandType, commandBytes, roomAfter, loopLength, loopPlace, moved, accepted, layoutOf, frameOf, sectionOf, numberOf}
 use Rattle.section.specs.declared.Section.{Section}
 use Rattle.section.specs.declared.SectionRead.{SectionRead}
 use Rattle.section_writer.specs.Canonical.{canonicalFrame, canonicalSection}
 use Rattle.table.proofs.Lists.{and-true}
 use Rattle.table.specs.Bits.{bitsOf, field, AllBytes}
 use Rattle.table.specs.Lent.{viewed}
-use Rattle.table.specs.Table.{number, bit, reserved, part, remaining}
+use Rattle.table.specs.Table.{number, bit, reserved, part, remaining, canonicalBy}
 use Rattle.upid.specs.Text.{textOf, done, step, within}
 use Rattle.upid.specs.Upid.{upidOf, checkOf, readOf, walkOf, _then_, plainOf, lengthOf, isText, reportedOf, listOf, partsOf, listed, unlessRefused}
 use Rattle.theorems.specs.Identifiers.{identifiersOf}
@@ -100,14 +100,14 @@ module _ (s : List ℕ) (h : EmptyCommand s) where
 -- ---- by computation
 
 pub null-is-one : EmptyCommand spliceNull × (length spliceNull ≡ 20) × (loopLength spliceNull ≡ 0) × (commandType spliceNull ≡ 0)
-unfolding crcOf messageBits bits crcBits crcBit commandLength loopLength commandType
+unfolding crcOf crcBits crcBit commandLength loopLength commandType
 null-is-one = (record { table = refl; crc = refl; clear = refl; size = refl }, refl, refl, refl)
 
 pub both-whole : Identified eightAndTwelve (
     record { start = 35; len = 24; bytes = both }
     ∷ record { start = 37; len = 8; bytes = eight }
     ∷ record { start = 47; len = 12; bytes = twelve } ∷ [])
-unfolding eightAndTwelve identifiersOf sectionOf laidOut accepted moved commandLength commandType commandBytes roomAfter loopLength loopPlace crcOf messageBits bits crcBits crcBit headerOf headerRead spliceHeader spliceTime commandOf itemsOf itemsFrom stepOf wholeAt readAt descriptorOf cueiOf isCuei segmentationOf insertOf inserted head front parts deliveryRestrictions mode duration writtenUpid back subSegments number bit reserved part remaining viewed upidOf checkOf readOf walkOf _then_ plainOf lengthOf isText reportedOf listOf partsOf listed unlessRefused textOf done step within
+unfolding eightAndTwelve identifiersOf sectionOf frameOf layoutOf accepted moved commandLength commandType commandBytes roomAfter loopLength loopPlace crcOf crcBits crcBit headerOf headerRead spliceHeader spliceTime commandOf itemsOf itemsFrom stepOf wholeAt readAt descriptorOf cueiOf isCuei segmentationOf insertOf inserted head front parts deliveryRestrictions mode duration writtenUpid back subSegments number bit reserved part remaining viewed upidOf checkOf readOf walkOf _then_ plainOf lengthOf isText reportedOf listOf partsOf listed unlessRefused textOf done step within
 both-whole = record {
   section = record {
     header = record {
@@ -139,5 +139,5 @@ are-bytes [] e = tt
 are-bytes (b ∷ s) e = let i = and-true (ltb b 256) _ e in (ltb-true b 256 (i .0), are-bytes s (i .1))
 
 pub both-canonical : AllBytes eightAndTwelve × (canonicalSection eightAndTwelve ≡ true)
-unfolding eightAndTwelve allBelow256 canonicalSection canonicalFrame canonicalCommand canonicalLoop canonicalFrom canonicalDescriptor canonicalPayload canonicalSegmentation canonicalBy canonicalUpid numberOf sectionOf laidOut accepted moved commandLength commandType commandBytes roomAfter loopLength loopPlace crcOf messageBits bits crcBits crcBit headerOf headerRead spliceHeader spliceTime commandOf isCuei segmentation head front parts deliveryRestrictions mode duration writtenUpid back subSegments number bit reserved part remaining viewed checkOf readOf walkOf _then_ plainOf lengthOf isText reportedOf textOf done step within
+unfolding eightAndTwelve allBelow256 canonicalSection canonicalFrame canonicalCommand canonicalLoop canonicalFrom canonicalDescriptor canonicalPayload canonicalSegmentation canonicalBy canonicalUpid numberOf sectionOf frameOf layoutOf accepted moved commandLength commandType commandBytes roomAfter loopLength loopPlace crcOf crcBits crcBit headerOf headerRead spliceHeader spliceTime commandOf isCuei segmentation head front parts deliveryRestrictions mode duration writtenUpid back subSegments number bit reserved part remaining viewed checkOf readOf walkOf _then_ plainOf lengthOf isText reportedOf textOf done step within
 both-canonical = (are-bytes eightAndTwelve refl, refl)

@@ -19,7 +19,7 @@ use Rattle.command.specs.declared.insert.Insertion.{Insertion}
 use Rattle.command_writer.proofs.Theorems.{insert-trip, time-back, private-back, insert-back}
 use Rattle.command_writer.specs.Made.{counted, insertMade, commandMade}
 use Rattle.command_writer.specs.Survey.{Countable}
-use Rattle.descriptor_form.specs.Canonical.{canonicalBy, canonicalLoop}
+use Rattle.descriptor_form.specs.Canonical.{canonicalLoop}
 use Rattle.header.specs.Time.{spliceTime}
 use Rattle.header.specs.declared.header.SpliceInfoHeader.{SpliceInfoHeader}
 use Rattle.loop_laws.proofs.Places.{run-of-run}
@@ -34,14 +34,15 @@ use Rattle.section_writer.proofs.Numbers.{bytes-take, bytes-drop}
 use Rattle.section_writer.proofs.Parts.{parts-of}
 use Rattle.section_writer.proofs.Theorems.{section-is-written-back}
 use Rattle.section_writer.proofs.Trips.{section-wrote}
-use Rattle.section_writer.proofs.Whole.{Held, ReadsBack, whole-reads-back}
+use Rattle.section_writer.proofs.Whole.{Held, whole-reads-back}
 use Rattle.section_writer.specs.Canonical.{canonicalFrame, canonicalSection}
+use Rattle.section_writer.specs.Trips.{ReadsBack}
 use Rattle.section_writer.specs.Writing.{kindOf, sectionMade}
 use Rattle.table.proofs.Lists.{zero-one, and-true}
 use Rattle.table.proofs.Structure.{wrote}
 use Rattle.table.specs.Bits.{pick, bitsOf, AllBytes}
 use Rattle.table.specs.Lent.{viewed}
-use Rattle.table.specs.Table.{number, part, remaining, Answer, got, short, parse}
+use Rattle.table.specs.Table.{number, part, remaining, Answer, got, short, parse, canonicalBy}
 use Rattle.table.specs.Writing.{walk, Made, made, make}
 use Rattle.theorems.proofs.InsertsRead.{insert-has}
 

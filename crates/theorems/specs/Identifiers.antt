@@ -5,10 +5,11 @@ use mathlib.Core.List.{List, [], _∷_, _++_, map}
 use mathlib.Core.Path.{_≡_}
 use lib.Dec.{eqb}
 use lib.ListN.{length, take, drop, getD}
+use Rattle.command.specs.Command.{ofPrivate}
 use Rattle.command.specs.declared.SpliceCommand.{SpliceCommand}
 use Rattle.descriptor.specs.Segmentation as table
 use Rattle.descriptor.specs.Segmentation.{frontOf}
-use Rattle.descriptor.specs.Whole.{besideOf}
+use Rattle.descriptor.specs.Whole.{ofSegmentation, ofReserved, besideOf}
 use Rattle.descriptor.specs.declared.Descriptor.{Descriptor}
 use Rattle.descriptor.specs.declared.segmentation.SegmentationDetail.{SegmentationDetail}
 use Rattle.descriptor.specs.declared.segmentation.SegmentationUpid.{SegmentationUpid}
@@ -54,11 +55,7 @@ detailUpids SegmentationDetail.Cancel = []
 detailUpids (SegmentationDetail.Insert i) = i .«segmentation_upid» ∷ []
 
 abbrev pub descriptorUpids : Descriptor → List SegmentationUpid
-descriptorUpids (Descriptor.Avail x) = []
-descriptorUpids (Descriptor.Dtmf x) = []
-descriptorUpids (Descriptor.Segmentation x) = detailUpids (x .«descriptor_detail»)
-descriptorUpids (Descriptor.Time x) = []
-descriptorUpids (Descriptor.Reserved tag bytes) = []
+descriptorUpids d = ofSegmentation (λ x. detailUpids (x .«descriptor_detail»)) [] d
 
 abbrev pub upidsOf : Item → List SegmentationUpid
 upidsOf Item.End = []
@@ -93,11 +90,7 @@ eidrsOf base loop x u = cond (eqb (u .kind) 10) (eidrOf base loop x ∷ []) []
 abbrev pub besidesOf : ℕ → ℕ → List ℕ → Item → List Identifier
 besidesOf base offset id Item.End = []
 besidesOf base offset id (Item.Refused r) = []
-besidesOf base offset id (Item.Is (Descriptor.Avail x)) = []
-besidesOf base offset id (Item.Is (Descriptor.Dtmf x)) = []
-besidesOf base offset id (Item.Is (Descriptor.Segmentation x)) = []
-besidesOf base offset id (Item.Is (Descriptor.Time x)) = []
-besidesOf base offset id (Item.Is (Descriptor.Reserved tag bytes)) = record { start = base + (offset + 2); len = 4; bytes = id } ∷ []
+besidesOf base offset id (Item.Is d) = ofReserved (record { start = base + (offset + 2); len = 4; bytes = id } ∷ []) [] d
 
 abbrev pub each : {A B : Type 0} → (A → List B) → List A → List B
 each f [] = []
@@ -116,11 +109,7 @@ abbrev pub loopIn : List ℕ → Section → List ℕ
 loopIn s x = viewed s (x .descriptors)
 
 abbrev pub identifiersOfCommand : List ℕ → SpliceCommand → List Identifier
-identifiersOfCommand s (SpliceCommand.PrivateCommand p) = inSection s (p .«private_bytes») ∷ []
-identifiersOfCommand s SpliceCommand.SpliceNull = []
-identifiersOfCommand s (SpliceCommand.SpliceInsert i) = []
-identifiersOfCommand s (SpliceCommand.TimeSignal t) = []
-identifiersOfCommand s SpliceCommand.BandwidthReservation = []
+identifiersOfCommand s c = ofPrivate (λ p. inSection s (p .«private_bytes») ∷ []) [] c
 
 unfoldable pub identifiersOf : List ℕ → Section → List Identifier
 identifiersOf s x = identifiersOfCommand s (x .command) ++ each (identifiersOfItem (x .descriptors .at) (loopIn s x)) (itemsOf (loopIn s x))

@@ -20,11 +20,11 @@ use Rattle.items.specs.Items.{readingOf, Listed}
 use Rattle.section.specs.Section.{commandLength}
 use Rattle.table.specs.Bits.{AllBytes}
 use Rattle.table.specs.Writing.{Made}
+use Rattle.theorems.specs.Identifiers.{each}
 
 -- struct scte35_insert_components: refusal, count, and three words of each component
 abbrev pub placesWords : List FlatComponentSplice → List ℕ
-placesWords [] = []
-placesWords (c ∷ cs) = componentWords c ++ placesWords cs
+placesWords cs = each componentWords cs
 
 abbrev pub splicesWords : FlatSplices → List ℕ
 splicesWords s = s .refusal ∷ s .count ∷ placesWords (s .components)
@@ -41,8 +41,7 @@ stepWords s = s .refusal ∷ s .values ++ (s .next ∷ s .identifier ∷ itemWor
 
 -- struct scte35_item_components: refusal, values, count, two words of each component, and the EIDR
 abbrev pub pairsWords : List FlatComponent → List ℕ
-pairsWords [] = []
-pairsWords (c ∷ cs) = c .«component_tag» ∷ c .«pts_offset» ∷ pairsWords cs
+pairsWords cs = each (λ c. c .«component_tag» ∷ c .«pts_offset» ∷ []) cs
 
 abbrev pub besideWords : FlatBeside → List ℕ
 besideWords b = b .refusal ∷ b .values ++ (b .count ∷ pairsWords (b .components) ++ b .eidr)

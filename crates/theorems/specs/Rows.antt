@@ -1,7 +1,7 @@
 -- Rows a to n of document 01, "Worked rows", in one table. These are definitions; that every row holds is `rows-a-to-n-hold` in proofs/Theorems.antt.
 use Prim.Native.Nat.{ℕ, zero, suc, _+_}
 use mathlib.Core.Bool.{true, false}
-use mathlib.Core.List.{List, [], _∷_, map}
+use mathlib.Core.List.{List, [], _∷_, _++_, map}
 use mathlib.Core.Path.{_≡_}
 use Rattle.canonical_command.specs.Canonical.{canonicalCommand}
 use Rattle.command.specs.Command.{commandOf, componentsOf, array}
@@ -12,7 +12,8 @@ use Rattle.command.specs.declared.insert.Break.{Break}
 use Rattle.command.specs.declared.insert.Insertion.{Insertion}
 use Rattle.command.specs.declared.insert.SpliceInsert.{SpliceInsert}
 use Rattle.command.specs.declared.insert.SpliceMode.{SpliceMode}
-use Rattle.descriptor.specs.Descriptor.{segmentationOf}
+use Rattle.descriptor.specs.Descriptor.{cuei, segmentationOf}
+use Rattle.descriptor.specs.Segmentation.{blankUpid}
 use Rattle.descriptor.specs.declared.Descriptor.{Descriptor}
 use Rattle.descriptor.specs.declared.DescriptorRead.{DescriptorRead}
 use Rattle.descriptor.specs.declared.plain.TimeDescriptor.{TimeDescriptor}
@@ -115,7 +116,7 @@ Holds (segmentationIs payload says) = payloadSays payload (segmentationOf payloa
 
 -- "C is 43 55 45 49"
 abbrev pub C : List ℕ → List ℕ
-C rest = 0x43 ∷ 0x55 ∷ 0x45 ∷ 0x49 ∷ rest
+C rest = cuei ++ rest
 
 -- n bytes, each one more than the byte before it: no two are equal
 abbrev pub counting : ℕ → ℕ → List ℕ
@@ -151,7 +152,7 @@ programStart sub = record {
     «delivery_restrictions» = DeliveryRestrictionFlags.None;
     «segmentation_mode» = SegmentationMode.Program;
     «segmentation_duration» = SegmentationDuration.Absent;
-    «segmentation_upid» = record { kind = 0; bytes = record { at = 0; len = 0 } };
+    «segmentation_upid» = blankUpid;
     «segmentation_type_id» = SegmentationTypeId.ProgramStart;
     «segment_num» = 1;
     «segments_expected» = 1;

@@ -4,8 +4,8 @@ use Prim.Native.Nat.{ℕ}
 use mathlib.Core.List.{List}
 use mathlib.Core.Path.{_≡_}
 use lib.ListN.{take}
+use Rattle.command.specs.Command.{withView}
 use Rattle.command.specs.declared.SpliceCommand.{SpliceCommand}
-use Rattle.descriptor_form.specs.Same.{noView}
 use Rattle.flat_writer.specs.CommandWords.{countIn}
 use Rattle.items.specs.Items.{itemsOf}
 use Rattle.loop_laws.specs.Loops.{SameItems}
@@ -13,16 +13,12 @@ use Rattle.section.specs.Section.{privateView}
 use Rattle.section.specs.Whole.{wholeSectionOf}
 use Rattle.section.specs.declared.Section.{Section}
 use Rattle.section_writer.specs.Frame.{headed}
-use Rattle.table.specs.Lent.{viewed}
+use Rattle.table.specs.Lent.{viewed, noView}
 use Rattle.theorems.specs.Identifiers.{loopIn}
 
 -- a command without its view
 abbrev pub viewless : SpliceCommand → SpliceCommand
-viewless SpliceCommand.SpliceNull = SpliceCommand.SpliceNull
-viewless (SpliceCommand.SpliceInsert i) = SpliceCommand.SpliceInsert i
-viewless (SpliceCommand.TimeSignal t) = SpliceCommand.TimeSignal t
-viewless SpliceCommand.BandwidthReservation = SpliceCommand.BandwidthReservation
-viewless (SpliceCommand.PrivateCommand p) = SpliceCommand.PrivateCommand (record { identifier = p .identifier; «private_bytes» = noView })
+viewless c = withView (λ v. noView) c
 
 -- x that is read of the bytes s, and y that is read of the bytes r
 pub record SameSections (s : List ℕ) (x : Section) (r : List ℕ) (y : Section) : Type 0 where

@@ -5,13 +5,14 @@ use mathlib.Core.Bool.{Bool, true, false, cond, not, _&&_}
 use mathlib.Core.List.{List, [], _∷_, _++_, map, append-nil}
 use native.Mathlib.Omega.{arith}
 use lib.Dec.{ltb, eqb}
-use lib.ListN.{length, take, drop, length-append, length-take, length-drop, length-replicate, take-append-drop}
+use lib.ListN.{length, take, drop, replicate, length-append, length-take, length-drop, length-replicate, take-append-drop}
 use lib.Seq.{take-append-seam, drop-append-seam, take-length}
 use borrow.Author.Tests.{le-ltb, ltb-false, eqb-true, eqb-false}
-use Rattle.upid.specs.Upid.{upidOf, checkOf, readOf, walkOf, plainOf, _then_, listOf, reportedOf, lengthOf, isText, listed, blanks, unlessRefused, eidrOf, Accepted, partsIn}
+use Rattle.upid.specs.Upid.{upidOf, checkOf, readOf, walkOf, plainOf, _then_, listOf, reportedOf, lengthOf, isText, listed, blankPart, unlessRefused, eidrOf, partsIn}
 use Rattle.upid.specs.Text.{textOf}
-use Rattle.upid.specs.Cover.{All, none, more, Cut, joined, placed, whole, bytesOf, directOf, Covered, Announced, Ascending, Owned}
+use Rattle.upid.specs.Cover.{All, none, more, Cut, joined, placed, whole, bytesOf, directOf, Covered, Ascending, Owned}
 use Rattle.table.specs.declared.View.{View}
+use Rattle.upid.specs.Walk.{Accepted, Announced}
 use Rattle.upid.specs.declared.Part.{Part}
 use Rattle.upid.specs.declared.Refusal.{Refusal}
 use Rattle.upid.specs.declared.Refusal.the-variants.{Short, NotText}
@@ -124,14 +125,14 @@ levels k bytes = go (eqb k 13) refl
     go true e = of-read (checkOf k bytes) refl (eqb-true k 13 e)
     go false e = rw (no-mid-no-parts k bytes (eqb-false k 13 e)) none
 
-pub blank-past-count : (k : ℕ) (bytes : List ℕ) → upidOf k bytes .list .parts ≡ partsIn (upidOf k bytes) ++ blanks (127 - upidOf k bytes .list .count)
+pub blank-past-count : (k : ℕ) (bytes : List ℕ) → upidOf k bytes .list .parts ≡ partsIn (upidOf k bytes) ++ replicate (127 - upidOf k bytes .list .count) blankPart
 unfolding upidOf listed
 blank-past-count k bytes =
     let ps : List Part = unlessRefused (checkOf k bytes) (listOf k 1 0 bytes) in
-    ap (λ (l : List Part). l ++ blanks (127 - length ps)) (sym (parts-in k bytes))
+    ap (λ (l : List Part). l ++ replicate (127 - length ps) blankPart) (sym (parts-in k bytes))
 
 pub all-127 : (k : ℕ) (bytes : List ℕ) → length (upidOf k bytes .list .parts) ≡ 127
-unfolding upidOf listed blanks
+unfolding upidOf listed
 all-127 k bytes =
     let n : length (unlessRefused (checkOf k bytes) (listOf k 1 0 bytes)) ≤ 127 = at-most-127 k bytes in
     rw (length-append, length-replicate) (omega arith)

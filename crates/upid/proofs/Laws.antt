@@ -11,7 +11,8 @@ use native.Mathlib.Omega.{arith}
 use lib.Dec.{ltb, eqb}
 use lib.ListN.{length, take, drop, length-append, length-take, length-drop}
 use borrow.Author.Tests.{ltb-true, ltb-false, ne-eqb}
-use Rattle.upid.specs.Upid.{_then_, walkOf, readOf, partsOf, listOf, plainOf, reportedOf, Accepted}
+use Rattle.upid.specs.Walk.{Accepted}
+use Rattle.upid.specs.Upid.{_then_, walkOf, readOf, partsOf, listOf, plainOf, reportedOf}
 use Rattle.upid.specs.declared.Part.{Part}
 use Rattle.upid.specs.declared.Refusal.{Refusal}
 use Rattle.upid.specs.declared.Refusal.the-variants.{Short}

@@ -4,11 +4,12 @@ use Prim.Native.Nat.{ℕ, zero, suc, _+_, _-_, _≤_, _<_}
 use mathlib.Core.Path.{_≡_, refl}
 use mathlib.Core.Bool.{true}
 use mathlib.Core.List.{List, [], _∷_, _++_}
-use lib.ListN.{length, getD}
+use lib.ListN.{length, getD, replicate}
 use Rattle.table.specs.declared.View.{View}
-use Rattle.upid.specs.Upid.{upidOf, checkOf, readOf, reportedOf, blanks, walkOf, plainOf, _then_, listOf, partsOf, listed, unlessRefused, Accepted, partsIn}
+use Rattle.upid.specs.Walk.{Accepted, Announced}
+use Rattle.upid.specs.Upid.{upidOf, checkOf, readOf, reportedOf, blankPart, walkOf, plainOf, _then_, listOf, partsOf, listed, unlessRefused, partsIn}
 use Rattle.upid.specs.Text.{characters, begun, Octets, textOf}
-use Rattle.upid.specs.Cover.{All, Cut, joined, placed, whole, bytesOf, directOf, Covered, Announced, Ascending, Owned}
+use Rattle.upid.specs.Cover.{All, Cut, joined, placed, whole, bytesOf, directOf, Covered, Ascending, Owned}
 use Rattle.upid.specs.declared.Part.{Part}
 use Rattle.upid.specs.declared.Refusal.{Refusal}
 use Rattle.upid.specs.declared.Refusal.the-variants.{NotText}
@@ -70,7 +71,7 @@ pub levels-from-1-to-127 : (k : ℕ) (bytes : List ℕ) → All (λ (p : Part). 
 levels-from-1-to-127 = answers.levels
 
 pub all-zero-past-the-count : (k : ℕ) (bytes : List ℕ)
-    → (upidOf k bytes .list .parts ≡ partsIn (upidOf k bytes) ++ blanks (127 - upidOf k bytes .list .count)) × (length (upidOf k bytes .list .parts) ≡ 127)
+    → (upidOf k bytes .list .parts ≡ partsIn (upidOf k bytes) ++ replicate (127 - upidOf k bytes .list .count) blankPart) × (length (upidOf k bytes .list .parts) ≡ 127)
 all-zero-past-the-count k bytes = (answers.blank-past-count k bytes, answers.all-127 k bytes)
 
 pub only-a-mid-has-parts : (k : ℕ) (bytes : List ℕ) → (k ≡ 13 → ⊥) → partsIn (upidOf k bytes) ≡ []

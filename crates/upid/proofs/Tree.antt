@@ -11,8 +11,9 @@ use lib.Dec.{eqb}
 use lib.ListN.{length, take, drop, getD, length-append, length-take, length-drop, take-append-drop}
 use lib.Seq.{take-length, take-append-seam, getD-drop}
 use borrow.Author.Tests.{lt-ltb, le-ltb, le-leb, lt-leb, eq-eqb, ne-eqb, eqb-true, eqb-false}
-use Rattle.upid.specs.Upid.{readOf, listOf, reportedOf, Accepted}
-use Rattle.upid.specs.Cover.{All, none, more, Ascending, nothing, before, Owned, Cut, joined, placed, whole, bytesOf, directly, directOf, Announced}
+use Rattle.upid.specs.Walk.{Accepted, Announced}
+use Rattle.upid.specs.Upid.{readOf, listOf, reportedOf}
+use Rattle.upid.specs.Cover.{All, none, more, Ascending, nothing, before, Owned, Cut, joined, placed, whole, bytesOf, directly, directOf}
 use Rattle.upid.specs.declared.Part.{Part}
 use Rattle.upid.proofs.Laws.{read-one, read-more, list-nil, list-more, list-plain, list-mid, accepted-mid, then-both, by-cases}
 use Rattle.upid.proofs.Cutting.{length-joined, after-head, after-part}

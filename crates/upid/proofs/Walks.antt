@@ -12,8 +12,8 @@ use native.Mathlib.Numerals.{add-one}
 use lib.ListN.{length, take, drop, getD, set, replicate, length-replicate, length-append, length-take, length-drop, drop-of-length-le}
 use lib.Seq.{sets, sets-eq, drop-cons, drop-drop}
 use borrow.Author.Tests.{lt-ltb, le-ltb, ne-eqb}
-use Rattle.upid.specs.Upid.{_then_, readOf, listOf, reportedOf, blanks, listed, checkOf, eidrOf, unlessRefused, upidOf, Accepted}
-use Rattle.upid.specs.Walk.{grown}
+use Rattle.upid.specs.Upid.{_then_, readOf, listOf, reportedOf, listed, checkOf, eidrOf, unlessRefused, upidOf}
+use Rattle.upid.specs.Walk.{grown, Accepted}
 use Rattle.upid.specs.declared.Part.{Part}
 use Rattle.upid.specs.declared.PartList.{PartList}
 use Rattle.upid.specs.declared.Refusal.{Refusal}
@@ -113,7 +113,7 @@ sets-front n a xs h =
     sets-eq xs (replicate n a) 0 f ∙ rw (e, drop-replicate)
 
 pub grown-blank : (ps : List Part) → length ps ≤ 127 → grown (listed []) ps ≡ listed ps
-unfolding grown listed blanks
+unfolding grown listed
 grown-blank ps h =
     let e : 0 + length ps ≡ length ps = zero-add (length ps) in
     rw (e, sets-front 127 _ ps h)

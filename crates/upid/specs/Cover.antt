@@ -1,10 +1,10 @@
 -- What it means that the parts of a MID cover it, and that it can be cut in no other way. These are definitions.
-use Prim.Native.Nat.{ℕ, _+_, _-_, _≤_, _<_}
+use Prim.Native.Nat.{ℕ, _+_, _≤_, _<_}
 use mathlib.Core.Bool.{Bool, true, cond, _&&_}
 use mathlib.Core.List.{List, [], _∷_, _++_, map, List·Memᴰ}
 use mathlib.Core.Path.{_≡_}
 use lib.Dec.{leb, ltb, eqb}
-use lib.ListN.{length, take, drop, getD}
+use lib.ListN.{length, take, drop}
 use Rattle.upid.specs.Upid.{reportedOf}
 use Rattle.upid.specs.declared.Part.{Part}
 
@@ -70,13 +70,6 @@ pub record Covered (top : List ℕ) (ps : List Part) (m : Part) : Type 0 where
   pub pieces : directOf m ps ≡ placed (m .level + 1) (m .start) cutting
   pub runs : map (bytesOf top) (directOf m ps) ≡ map (λ (c : Cut). c .payload) cutting
   pub once : (i : ℕ) → m .start ≤ i → i < m .start + m .len → times i (directOf m ps) ≡ 1
-
--- The part p is the payload that its own head announces, two bytes before it in the top UPID, and lies in that UPID whole.
-pub record Announced (top : List ℕ) (p : Part) : Type 0 where
-  pub kind : p .kind ≡ reportedOf (getD top (p .start - 2) 0)
-  pub len : p .len ≡ getD top (p .start - 1) 0
-  pub behind : 2 ≤ p .start
-  pub inside : p .start + p .len ≤ length top
 
 -- each part starts after the one before it: the list is in byte order, and each part stands before those inside it
 pub data Ascending : List Part → Type 0 where

@@ -1,9 +1,10 @@
 -- What a UPID says (document 01, "Identifiers"). These are definitions.
-use Prim.Native.Nat.{ℕ, zero, suc, _+_, _-_}
+use Prim.Native.Nat.{ℕ, zero, suc, _+_}
 use mathlib.Core.Bool.{Bool, cond, not, _&&_, _||_}
 use mathlib.Core.List.{List, [], _∷_, _++_}
 use lib.Dec.{ltb, eqb}
 use lib.ListN.{length, take, drop, replicate}
+use Rattle.table.specs.Lent.{filledTo}
 use Rattle.table.specs.declared.View.{View}
 use Rattle.upid.specs.Text.{textOf}
 use Rattle.upid.specs.declared.Part.{Part}
@@ -107,12 +108,12 @@ checkOf k bytes =
 unfoldable pub eidrOf : ℕ → List ℕ → List ℕ
 eidrOf k bytes = cond (eqb k 10 && eqb (length bytes) 12) bytes (replicate 12 0)
 
-unfoldable pub blanks : ℕ → List Part
-blanks n = replicate n (record { kind = 0; level = 0; start = 0; len = 0 })
+abbrev pub blankPart : Part
+blankPart = record { kind = 0; level = 0; start = 0; len = 0 }
 
 -- "a list of 127 part records with a count .. places past the count are all zero"
 unfoldable pub listed : List Part → PartList
-listed ps = record { parts = ps ++ blanks (127 - length ps); count = length ps }
+listed ps = record { parts = filledTo 127 blankPart ps; count = length ps }
 
 -- the parts of what is accepted, and none of what is refused
 unfoldable pub unlessRefused : UpidRead → List Part → List Part
@@ -128,10 +129,6 @@ upidOf k bytes =
     }
 
 -- ---- what an answer says
-
-abbrev pub Accepted : UpidRead → Type 0
-Accepted (Fine k) = Unit {0}
-Accepted (Refused r) = ⊥
 
 -- where a part's payload lies in the top UPID
 abbrev pub partView : Part → View

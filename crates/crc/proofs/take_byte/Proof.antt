@@ -4,13 +4,14 @@ use Prim.Native.Nat.{ℕ, _-_, _≤_}
 use native.Mathlib.Omega.{arith}
 use borrow.Author.Needs.{needs}
 use lib.Arith.{le-zero}
-use Rattle.crc.specs.Crc.{crcBits, bits}
+use Rattle.crc.specs.Crc.{crcBits}
+use Rattle.table.specs.Bits.{bitsOfNum}
 use Rattle.crc.proofs.Bytes.{bits-next}
 use Rattle.crc.proofs.take_byte.Statement.{statement}
 use Rattle.crc.proofs.take_byte.Tie as tie
 
 abbrev Inv-loop : tie.InvT-loop
-Inv-loop z byte r₀ left₀ r left = (left ≤ 8) × (crcBits r (bits left byte) ≡ crcBits z (bits 8 byte))
+Inv-loop z byte r₀ left₀ r left = (left ≤ 8) × (crcBits r (bitsOfNum left byte) ≡ crcBits z (bitsOfNum 8 byte))
 
 abbrev μ-loop : tie.MeasureT-loop
 μ-loop z byte r₀ left₀ r left = left
@@ -35,14 +36,14 @@ loop-again c =
     let b = c .before .before in
     let byte : ℕ = b .before .args .byte in (
       omega arith,
-      ap (λ (z : ℕ). crcBits z (bits (b .loop .left - 1) byte)) (c .take-bit .ensures) ∙ sym (bits-next (b .loop .left) byte (b .loop .r) (omega arith)) ∙ b .loop .inv .1,
+      ap (λ (z : ℕ). crcBits z (bitsOfNum (b .loop .left - 1) byte)) (c .take-bit .ensures) ∙ sym (bits-next (b .loop .left) byte (b .loop .r) (omega arith)) ∙ b .loop .inv .1,
     )
 
 returns : tie.Need-returns Inv-loop μ-loop
-unfolding crcBits bits
+unfolding crcBits
 returns c =
     let b = c .before in
-    sym (ap (λ (n : ℕ). crcBits (b .loop .r) (bits n (b .before .args .byte))) (le-zero (c .loop-test .left))) ∙ b .loop .inv .1
+    sym (ap (λ (n : ℕ). crcBits (b .loop .r) (bitsOfNum n (b .before .args .byte))) (le-zero (c .loop-test .left))) ∙ b .loop .inv .1
 
 pub take-byte-spec : {M : Type 1} → statement M
 take-byte-spec =

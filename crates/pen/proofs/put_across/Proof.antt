@@ -6,9 +6,10 @@ use native.Mathlib.Nat.{sub-zero, div-one, mod-lt}
 use native.Mathlib.Omega.{arith}
 use lib.ListN.{length, getD, set}
 use lib.Pow.{pow-pos}
+use Rattle.pen.specs.Walk.{withBits}
 use Rattle.table.specs.Bits.{bitsOfNum}
 use Rattle.table.proofs.Bits.{length-num, bytes-all}
-use Rattle.pen.specs.Pen.{penned, withBits}
+use Rattle.pen.specs.Pen.{penned}
 use Rattle.pen.proofs.Penned.{length-penned, penned-nil}
 use Rattle.pen.proofs.Turns.{room-is, inside-is, next-fits, ends-at, turned, turn, pens-none, pens-all}
 use Rattle.pen.proofs.put_across.Statement.{statement}

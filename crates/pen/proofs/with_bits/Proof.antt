@@ -3,8 +3,8 @@ use Prim.Native.Nat.{ℕ, _+_, _-_, _*_, _/_, _%_, _^_, _<_}
 use mathlib.Core.Path.{_≡_, ap, _∙_}
 use native.Mathlib.Omega.{arith}
 use lib.Pow.{pow-pos}
+use Rattle.pen.specs.Walk.{withBits}
 use Rattle.table.proofs.Reading.{mask}
-use Rattle.pen.specs.Pen.{withBits}
 use Rattle.pen.proofs.Turns.{mixed, mixed-byte}
 use borrow.Author.Needs.{needs}
 use Rattle.pen.proofs.with_bits.Statement.{statement}

@@ -1,6 +1,7 @@
 -- `section::read_section`: a frame that is refused refuses the section.
-use mathlib.Core.Path.{_≡_, sym, _∙_}
+use mathlib.Core.Path.{_≡_, ap, sym, _∙_}
 use native.Mathlib.Omega.{arith}
+use Rattle.section.specs.Section.{accepted}
 use Rattle.section.proofs.Frame.{Framed, framed, is-accepted, is-refused}
 use borrow.Author.Needs.{needs}
 use Rattle.section.proofs.read_section.Statement.{statement}
@@ -25,7 +26,8 @@ returns c =
     let p = c .before .before in
     let r = p .before .before in
     let s = r .before .before .args .s .now in
-    is-accepted s _ _ (sym (p .place .given .1) ∙ r .read-frame .ensures) (c .read-parts .ensures)
+    let whole = sym (p .place .given .1) ∙ r .read-frame .ensures in
+    is-accepted s _ _ whole (c .read-parts .ensures ∙ ap (accepted _ _) (sym (framed s _ whole .place)))
 
 enum-known-r : tie.Need-enum-known-r
 enum-known-r c = search needs

@@ -4,7 +4,8 @@ use mathlib.Core.Path.{ap}
 use native.Mathlib.Omega.{arith}
 use Prim.Native.Nat.{_≤_}
 use lib.ListN.{length}
-use Rattle.upid.specs.Upid.{listed, checkOf, Accepted}
+use Rattle.upid.specs.Walk.{Accepted}
+use Rattle.upid.specs.Upid.{listed, checkOf}
 use Rattle.upid.specs.declared.PartList.{PartList}
 use Rattle.upid.proofs.Walks.{check-short, check-mid, answer-refused, answer-fine}
 use borrow.Author.Needs.{needs}

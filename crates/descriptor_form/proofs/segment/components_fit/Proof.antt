@@ -8,7 +8,7 @@ use native.Mathlib.Omega.{arith}
 use borrow.Author.Needs.{needs}
 use lib.ListN.{length, take, drop}
 use Rattle.table.specs.Writing.{within}
-use Rattle.descriptor_form.specs.Parts.{componentsFields}
+use Rattle.descriptor_form.specs.Walk.{componentsFields}
 use Rattle.descriptor_form.proofs.Tests.{parts-turn, parts-stop, parts-end}
 use Rattle.descriptor_form.proofs.segment.components_fit.Statement.{statement}
 use Rattle.descriptor_form.proofs.segment.components_fit.Tie as tie

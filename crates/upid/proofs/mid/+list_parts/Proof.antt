@@ -10,8 +10,8 @@ use lib.ListN.{length, drop}
 use borrow.Author.Needs.{needs}
 use borrow.Fn.Kinds.{In}
 use borrow.Fn.PlainCycle.{Measures, is, falls, and}
-use Rattle.upid.specs.Upid.{readOf, listOf, Accepted}
-use Rattle.upid.specs.Walk.{grown}
+use Rattle.upid.specs.Upid.{readOf, listOf}
+use Rattle.upid.specs.Walk.{grown, Accepted}
 use Rattle.upid.proofs.Laws.{accepted-mid}
 use Rattle.upid.proofs.Walks.{sound, sound-turn, part-length, grown-plain, grown-mid, grown-end, grown-turn, grown-room}
 use Rattle.upid.proofs.mid.list_parts.Reads.{Pre, Post}

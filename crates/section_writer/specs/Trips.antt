@@ -1,0 +1,30 @@
+-- What is read of a section that is written. These are definitions.
+use Prim.Native.Nat.{ℕ, _+_}
+use mathlib.Core.Bool.{true}
+use mathlib.Core.List.{List}
+use mathlib.Core.Path.{_≡_}
+use lib.ListN.{length}
+use Rattle.command.specs.Command.{withView}
+use Rattle.command.specs.declared.SpliceCommand.{SpliceCommand}
+use Rattle.command.specs.declared.components.ComponentSplice.{ComponentSplice}
+use Rattle.command_writer.specs.Made.{commandMade}
+use Rattle.header.specs.declared.header.SpliceInfoHeader.{SpliceInfoHeader}
+use Rattle.section.specs.Section.{loopPlace, moved, sectionOf}
+use Rattle.section.specs.declared.SectionRead.{SectionRead}
+use Rattle.table.specs.Lent.{viewed}
+use Rattle.table.specs.Writing.{made}
+use Rattle.section_writer.specs.Canonical.{canonicalSection}
+use Rattle.section_writer.specs.Frame.{headed}
+use Rattle.section_writer.specs.Writing.{kindOf}
+
+-- the command as it reads from its payload: a private command's bytes stand behind its identifier
+abbrev pub ownOf : SpliceCommand → SpliceCommand
+ownOf c = withView (λ v. record { at = 4; len = v .len }) c
+
+-- of a header, a command with its components, and a loop
+pub record ReadsBack (h : SpliceInfoHeader) (c : SpliceCommand) (cs : List ComponentSplice) (lent loop b : List ℕ) : Type 0 where
+  pub payload : List ℕ
+  pub command : commandMade c cs lent ≡ made payload
+  pub reads : sectionOf b ≡ SectionRead.Is (record { header = headed h (length payload) (kindOf c); command = moved 14 (ownOf c); descriptors = record { at = 16 + length payload; len = length loop } })
+  pub loops : viewed b (loopPlace b) ≡ loop
+  pub form : canonicalSection b ≡ true
