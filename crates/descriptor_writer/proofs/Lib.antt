@@ -1,4 +1,5 @@
 pub mod Storing
+pub mod Joining
 pub mod Framing
 pub mod Plainly
 pub mod Listing

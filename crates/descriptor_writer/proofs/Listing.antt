@@ -22,6 +22,7 @@ use Rattle.descriptor_form.specs.Walk.{componentsFields}
 use Rattle.pen.specs.Pen.{penned}
 use Rattle.pen.proofs.Penned.{penned-whole}
 use Rattle.descriptor_writer.specs.Stores.{Stores, start, componentBytes}
+use Rattle.descriptor_writer.proofs.Storing.{same-print}
 use Rattle.descriptor_writer.proofs.Framing.{place-start}
 
 abbrev listedBits : List ModeComponent → List ℕ
@@ -40,9 +41,6 @@ listed-length (x ∷ cs) =
 no-view : (l m : List ℕ) (cs : List ModeComponent) → contents l (componentsFields cs) ≡ contents m (componentsFields cs)
 no-view l m [] = refl
 no-view l m (x ∷ cs) = ap (λ (k : List Content). number 8 (x .«component_tag») ∷ (number 7 127 ∷ (number 33 (x .«pts_offset») ∷ k))) (no-view l m cs)
-
-same-print : (t : List ℕ) (c : Cursor) (cs ds : List Content) (u : List ℕ) (d : Cursor) → print cs ≡ print ds → Stores t c cs u d → Stores t c ds u d
-same-print t c cs ds u d z s = record { stores = λ h. rw (← z) (s .stores (rw z h)) }
 
 pub listed-stores : (from : List ℕ) (cs : List ModeComponent) (b t : List ℕ) (c : Cursor) (u : List ℕ) (d : Cursor) → b ≡ componentBytes cs → Stores t c (bytes b ∷ []) u d
     → Stores t c (contents from (componentsFields cs)) u d

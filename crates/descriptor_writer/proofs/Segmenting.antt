@@ -1,5 +1,5 @@
 -- A segmentation descriptor: its parts stored one behind the other, and what is made of it written.
-use Prim.Native.Nat.{ℕ, _+_, _*_, _<_, _≤_}
+use Prim.Native.Nat.{ℕ, _+_, _*_, _%_, _<_, _≤_}
 use mathlib.Core.Bool.{Bool, true, false}
 use mathlib.Core.List.{List, [], _∷_, _++_}
 use mathlib.Core.Path.{_≡_, refl, ap, sym, subst, _∙_}
@@ -8,7 +8,7 @@ use lib.Dec.{leb, eqb}
 use lib.ListN.{length, take, drop}
 use lib.Seq.{take-all}
 use borrow.Author.Tests.{eq-eqb, ne-eqb, leb-true, le-leb}
-use Rattle.table.specs.Bits.{pick, bytesOf, AllBytes}
+use Rattle.table.specs.Bits.{pick, bitsOfNum, bitsOf, bytesOf, AllBytes}
 use Rattle.table.specs.Lent.{viewed}
 use Rattle.table.specs.Writing.{Field, Content, number, bytes, contents, print, Made, made, refused, refusalIn}
 use Rattle.table.specs.declared.View.{View}
@@ -26,9 +26,11 @@ use Rattle.descriptor.specs.declared.whole.Beside.{Beside}
 use Rattle.descriptor_form.specs.Walk.{headFields, flagFields, deliveryFields, modeFields, durationFields, upidFields, backFields, insertFields, segmentFields, payloadSize}
 use Rattle.descriptor_form.specs.Writing.{cuei, framedMade, segmentationMade, upidIn, upidSource, writtenKind, writtenUpid, modeSize, durationSize}
 use Rattle.descriptor_form.proofs.Making.{zero-view, made-zero, made-size, made-bits}
+use Rattle.pen.specs.Pen.{Pens}
 use Rattle.pen.specs.declared.Written.{Written}
+use Rattle.pen.proofs.Tables.{print-beside}
 use Rattle.descriptor_writer.specs.Stores.{Stores, Writes, start, frameContents}
-use Rattle.descriptor_writer.proofs.Storing.{then, then-fields}
+use Rattle.descriptor_writer.proofs.Storing.{then, then-fields, same-print, put-bytes, number-then}
 use Rattle.descriptor_writer.proofs.Framing.{writes-refused, writes-long, writes-short, writes-stored}
 use Rattle.descriptor_writer.proofs.Plainly.{Framed, refuses}
 
@@ -66,40 +68,51 @@ pub insert-seen : (d : SegmentationDetail) (i : SegmentationInsert) (n : ℕ) �
     → i .«segmentation_upid» .bytes .at + i .«segmentation_upid» .bytes .len ≤ n
 insert-seen d i n e h = rw e at h
 
--- ---- a UPID
-module _ (u : SegmentationUpid) (eidr lent t : List ℕ) (c : Cursor) (v : List ℕ) (d : Cursor) where
-  pub upid-of-eidr : u .kind ≡ 10 → length eidr ≡ 12 → Stores t c (number 8 10 ∷ (number 8 (length eidr) ∷ (bytes eidr ∷ []))) v d
-      → Stores t c (contents (upidSource u eidr lent) (upidFields (writtenUpid u))) v d
-  unfolding upidSource writtenUpid
-  upid-of-eidr k n s =
-      let z : take 12 eidr ≡ eidr = take-all 12 eidr (omega arith) in
-      rw (eq-eqb (u .kind) 10 k, z) (rw n at s)
+-- ---- a UPID: kind and length as one number, and its bytes
+module _ (t : List ℕ) (c : Cursor) (s : List ℕ) (e : Cursor) (v : List ℕ) (d : Cursor) where
+  upid-stores : (w : SegmentationUpid) (src b : List ℕ) (y : ℕ) → y ≡ w .kind * 256 + w .bytes .len % 256 → b ≡ take (w .bytes .len) (drop (w .bytes .at) src)
+      → Pens t c (bitsOfNum 16 y) s e → Pens s e (bitsOf b) v d → Stores t c (contents src (upidFields w)) v d
+  upid-stores w src b y ey eb p q =
+      let n = w .kind * 256 + w .bytes .len % 256 in
+      same-print t c (number 16 n ∷ (bytes b ∷ [])) (contents src (upidFields w)) v d
+      (ap (λ (l : List ℕ). print (number 16 n ∷ (bytes l ∷ []))) eb ∙ sym (print-beside 8 8 (w .kind) (w .bytes .len) (bytes (take (w .bytes .len) (drop (w .bytes .at) src)) ∷ [])))
+      (number-then t c s e v d (bytes b ∷ []) 16 n y ey p (put-bytes s e v d b q))
 
-  pub upid-of-view : (u .kind ≡ 10 → ⊥) → u .bytes .at + u .bytes .len ≤ length lent → (part : List ℕ) (w : ℕ) → part ≡ viewed lent (u .bytes) → w ≡ writtenKind u
-      → length (take (u .bytes .len) (drop (u .bytes .at) lent)) ≡ u .bytes .len
-      → Stores t c (number 8 w ∷ (number 8 (length part) ∷ (bytes part ∷ []))) v d → Stores t c (contents (upidSource u eidr lent) (upidFields (writtenUpid u))) v d
-  unfolding upidSource writtenUpid viewed
-  upid-of-view k h part w ep ew n s =
-      let z : part ≡ take (u .bytes .len) (drop (u .bytes .at) lent) = ep ∙ rw (le-leb (u .bytes .at + u .bytes .len) (length lent) h) in
-      rw (ne-eqb (u .kind) 10 k) (rw (ew, z, n) at s)
+  module _ (u : SegmentationUpid) (eidr lent : List ℕ) (k m y : ℕ) (ek : k ≡ writtenKind u) (em : m ≡ writtenUpid u .bytes .len) (ey : y ≡ k * 256 + m % 256) where
+    pub upid-of-eidr : u .kind ≡ 10 → length eidr ≡ 12 → Pens t c (bitsOfNum 16 y) s e → Pens s e (bitsOf eidr) v d
+        → Stores t c (contents (upidSource u eidr lent) (upidFields (writtenUpid u))) v d
+    unfolding upidSource writtenUpid writtenKind
+    upid-of-eidr is n p q =
+        let z : eidr ≡ take 12 eidr = sym (take-all 12 eidr (omega arith)) in
+        let h : k ≡ 10 = rw is at ek in
+        let j : m ≡ 12 = rw is at em in
+        rw (eq-eqb (u .kind) 10 is) (upid-stores (record { kind = 10; bytes = record { at = 0; len = 12 } }) eidr eidr y (omega (arith, h, j, ey)) z p q)
+
+    pub upid-of-view : (u .kind ≡ 10 → ⊥) → u .bytes .at + u .bytes .len ≤ length lent → (part : List ℕ) → part ≡ viewed lent (u .bytes)
+        → Pens t c (bitsOfNum 16 y) s e → Pens s e (bitsOf part) v d → Stores t c (contents (upidSource u eidr lent) (upidFields (writtenUpid u))) v d
+    unfolding upidSource writtenUpid viewed
+    upid-of-view other h part ep p q =
+        let z : part ≡ take (u .bytes .len) (drop (u .bytes .at) lent) = ep ∙ rw (le-leb (u .bytes .at + u .bytes .len) (length lent) h) in
+        let f = ne-eqb (u .kind) 10 other in
+        let j : m ≡ u .bytes .len = rw f at em in
+        rw f (upid-stores (record { kind = writtenKind u; bytes = u .bytes }) lent part y (omega (arith, ek, j, ey)) z p q)
 
 -- ---- an insert
 pub insert-stores : (i : SegmentationInsert) (cs : List ModeComponent) (src : List ℕ) (p l f : Bool) → p ≡ byProgram (i .«segmentation_mode») → l ≡ lasting (i .«segmentation_duration»)
-    → f ≡ unrestricted (i .«delivery_restrictions») → (t₀ t₁ t₂ t₃ t₄ t₅ t₆ : List ℕ) (c₀ c₁ c₂ c₃ c₄ c₅ c₆ : Cursor) → Stores t₀ c₀ (contents src (flagFields p l f)) t₁ c₁
-    → Stores t₁ c₁ (contents src (deliveryFields (i .«delivery_restrictions»))) t₂ c₂ → Stores t₂ c₂ (contents src (modeFields (i .«segmentation_mode») cs)) t₃ c₃
-    → Stores t₃ c₃ (contents src (durationFields (i .«segmentation_duration»))) t₄ c₄ → Stores t₄ c₄ (contents src (upidFields (writtenUpid (i .«segmentation_upid»)))) t₅ c₅
-    → Stores t₅ c₅ (contents src (backFields i)) t₆ c₆ → Stores t₀ c₀ (contents src (insertFields i cs)) t₆ c₆
-insert-stores i cs src p l f ep el ef t₀ t₁ t₂ t₃ t₄ t₅ t₆ c₀ c₁ c₂ c₃ c₄ c₅ c₆ s₁ s₂ s₃ s₄ s₅ s₆ =
+    → f ≡ unrestricted (i .«delivery_restrictions») → (t₀ t₁ t₂ t₃ t₄ t₅ : List ℕ) (c₀ c₁ c₂ c₃ c₄ c₅ : Cursor) → Stores t₀ c₀ (contents src (flagFields p l f ++ deliveryFields (i .«delivery_restrictions»))) t₁ c₁
+    → Stores t₁ c₁ (contents src (modeFields (i .«segmentation_mode») cs)) t₂ c₂ → Stores t₂ c₂ (contents src (durationFields (i .«segmentation_duration»))) t₃ c₃
+    → Stores t₃ c₃ (contents src (upidFields (writtenUpid (i .«segmentation_upid»)))) t₄ c₄ → Stores t₄ c₄ (contents src (backFields i)) t₅ c₅
+    → Stores t₀ c₀ (contents src (insertFields i cs)) t₅ c₅
+insert-stores i cs src p l f ep el ef t₀ t₁ t₂ t₃ t₄ t₅ c₀ c₁ c₂ c₃ c₄ c₅ s₁ s₂ s₃ s₄ s₅ =
+    let flags = flagFields (byProgram (i .«segmentation_mode»)) (lasting (i .«segmentation_duration»)) (unrestricted (i .«delivery_restrictions»)) in
     let ups = upidFields (writtenUpid (i .«segmentation_upid»)) in
-    let r₅ = ups ++ backFields i in
-    let r₄ = durationFields (i .«segmentation_duration») ++ r₅ in
-    let r₃ = modeFields (i .«segmentation_mode») cs ++ r₄ in
-    let r₂ = deliveryFields (i .«delivery_restrictions») ++ r₃ in
-    then-fields src t₀ c₀ (flagFields (byProgram (i .«segmentation_mode»)) (lasting (i .«segmentation_duration»)) (unrestricted (i .«delivery_restrictions»))) r₂ t₁ c₁ t₆ c₆ (rw (ep, el, ef) at s₁)
-    (then-fields src t₁ c₁ (deliveryFields (i .«delivery_restrictions»)) r₃ t₂ c₂ t₆ c₆ s₂
-    (then-fields src t₂ c₂ (modeFields (i .«segmentation_mode») cs) r₄ t₃ c₃ t₆ c₆ s₃
-    (then-fields src t₃ c₃ (durationFields (i .«segmentation_duration»)) r₅ t₄ c₄ t₆ c₆ s₄
-    (then-fields src t₄ c₄ ups (backFields i) t₅ c₅ t₆ c₆ s₅ s₆))))
+    let r₄ = ups ++ backFields i in
+    let r₃ = durationFields (i .«segmentation_duration») ++ r₄ in
+    let r₂ = modeFields (i .«segmentation_mode») cs ++ r₃ in
+    then-fields src t₀ c₀ (flags ++ deliveryFields (i .«delivery_restrictions»)) r₂ t₁ c₁ t₅ c₅ (rw (ep, el, ef) at s₁)
+    (then-fields src t₁ c₁ (modeFields (i .«segmentation_mode») cs) r₃ t₂ c₂ t₅ c₅ s₂
+    (then-fields src t₂ c₂ (durationFields (i .«segmentation_duration»)) r₄ t₃ c₃ t₅ c₅ s₃
+    (then-fields src t₃ c₃ ups (backFields i) t₄ c₄ t₅ c₅ s₄ s₅)))
 
 -- ---- a payload
 module _ (x : SegmentationDescriptor) (cs : List ModeComponent) (eidr lent t : List ℕ) (c : Cursor) where

@@ -1,6 +1,7 @@
 -- Contents stored one behind the other.
 --     then                              storing cs and then ds is storing both
 --     put-number, put-bytes, put-none   one field; none
+--     put-joined                        several fields as one number
 use Prim.Native.Nat.{ℕ, _+_, _*_, _<_, _≤_}
 use mathlib.Core.List.{List, [], _∷_, _++_, append-assoc}
 use mathlib.Core.Path.{_≡_, refl, ap, ap₂, sym, _∙_}
@@ -42,6 +43,10 @@ pub then-fields : (l t : List ℕ) (c : Cursor) (fs gs : List Field) (u : List �
     → Stores t c (contents l fs) u d → Stores u d (contents l gs) v e → Stores t c (contents l (fs ++ gs)) v e
 then-fields l t c fs gs u d v e p q = rw (contents-append l fs gs) (then t c (contents l fs) (contents l gs) u d v e p q)
 
+-- the same bits, said by other fields
+pub same-print : (t : List ℕ) (c : Cursor) (cs ds : List Content) (u : List ℕ) (d : Cursor) → print cs ≡ print ds → Stores t c cs u d → Stores t c ds u d
+same-print t c cs ds u d z s = record { stores = λ h. rw (← z) (s .stores (rw z h)) }
+
 module _ (t : List ℕ) (c : Cursor) (u : List ℕ) (d : Cursor) where
   pub put-number : (w v : ℕ) → Pens t c (bitsOfNum w v) u d → Stores t c (number w v ∷ []) u d
   put-number w v p = record { stores = λ h. pens-last t c (bitsOfNum w v) u d p }
@@ -51,6 +56,9 @@ module _ (t : List ℕ) (c : Cursor) (u : List ℕ) (d : Cursor) where
 
   pub put-bytes : (b : List ℕ) → Pens t c (bitsOf b) u d → Stores t c (bytes b ∷ []) u d
   put-bytes b p = record { stores = λ h. pens-last t c (bitsOf b) u d p }
+
+  pub put-joined : (cs : List Content) (w v : ℕ) → print cs ≡ print (number w v ∷ []) → Pens t c (bitsOfNum w v) u d → Stores t c cs u d
+  put-joined cs w v e p = same-print t c (number w v ∷ []) cs u d (sym e) (put-number w v p)
 
   -- no bits
   pub put-none : Pens t c [] u d → Stores t c [] u d

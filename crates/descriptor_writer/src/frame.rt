@@ -1,7 +1,7 @@
 // A descriptor's tag, length and identifier.
 ghost use mathlib.Core.Path.{_≡_};
 ghost use mathlib.Core.List.{_∷_};
-ghost use Prim.Native.Nat.{_<_};
+ghost use Prim.Native.Nat.{_<_, _≤_};
 ghost use Rattle.descriptor_form.specs.Writing.{cuei};
 ghost use Rattle.table.specs.Bits.{AllBytes};
 ghost use Rattle.table.specs.Table.{flagNumber};
@@ -18,7 +18,7 @@ pub(crate) fn cuei() -> [u8; 4]
 }
 
 pub(crate) fn number_of(flag: bool) -> u64
-    ensures { λ r. ⌜ r ≡ flagNumber flag ⌝ }
+    ensures { λ r. ⌜ (r ≡ flagNumber flag) × (r ≤ 1) ⌝ }
 {
     if flag { 1 } else { 0 }
 }

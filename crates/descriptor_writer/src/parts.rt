@@ -1,12 +1,12 @@
 // The parts of a segmentation descriptor's payload, each stored from a cursor on as its table has it. A part that has no field is a store of no bits, which
 // leaves the cursor as any other does.
 ghost use mathlib.Core.Path.{_≡_};
-ghost use mathlib.Core.List.{List, [], _∷_};
+ghost use mathlib.Core.List.{List, [], _∷_, _++_};
 ghost use Prim.Native.Nat.{ℕ, _<_};
-ghost use lib.ListN.{length, take};
+ghost use lib.ListN.{take};
 ghost use Rattle.descriptor.specs.declared.segmentation.ModeComponent.{ModeComponent};
 ghost use Rattle.descriptor_form.specs.Walk.{headFields, flagFields, deliveryFields, componentsFields, modeFields, durationFields, subFields, backFields};
-ghost use Rattle.table.specs.Writing.{number, bytes, contents};
+ghost use Rattle.table.specs.Writing.{number, contents, print};
 ghost use Rattle.descriptor_writer.specs.Stores.{Stores, componentBytes};
 use crate::frame::number_of;
 use descriptor::segmentation::DeliveryRestrictionFlags;
@@ -23,50 +23,58 @@ use table::numbers::wide;
 pub(crate) fn store_head(out: &mut [u8], c: Cursor, event: u32, cancel: bool) -> Cursor
     ensures { λ r. ⌜ ((from : List ℕ) → Stores (now (out .entry)) c (contents from (headFields event cancel)) (now (out .exit)) r) ⌝ }
 {
-    let second = put_bits(out, c, 32, event as u64);
-    let third = put_bits(out, second, 1, number_of(cancel));
-    put_bits(out, third, 7, 127)
+    put_bits(
+        out,
+        c,
+        40,
+        event as u64 * 256 + number_of(cancel) * 128 + 127,
+    )
 }
 
+// The five bits behind the flags: what is restricted, or reserved bits.
+fn delivery_number(delivery: DeliveryRestrictionFlags) -> u64
+    ensures { λ r. ⌜ (r < 32) × ((from : List ℕ) → print (contents from (deliveryFields delivery)) ≡ print (number 5 r ∷ [])) ⌝ }
+{
+    match delivery {
+        DeliveryRestrictionFlags::None => 31,
+        DeliveryRestrictionFlags::DeliveryRestrictions(r) => {
+            let device = r.device_restrictions;
+            let web = number_of(r.web_delivery_allowed_flag);
+            let blackout = number_of(r.no_regional_blackout_flag);
+            let archive = number_of(r.archive_allowed_flag);
+            web * 16 + blackout * 8 + archive * 4 + wide(device.bits())
+        }
+    }
+}
+
+// The byte of the flags.
 pub(crate) fn store_flags(
     out: &mut [u8],
     c: Cursor,
     program: bool,
     lasts: bool,
     free: bool,
-) -> Cursor
-    ensures { λ r. ⌜ ((from : List ℕ) → Stores (now (out .entry)) c (contents from (flagFields program lasts free)) (now (out .exit)) r) ⌝ }
-{
-    let second = put_bits(out, c, 1, number_of(program));
-    let third = put_bits(out, second, 1, number_of(lasts));
-    put_bits(out, third, 1, number_of(free))
-}
-
-pub(crate) fn store_delivery(
-    out: &mut [u8],
-    c: Cursor,
     delivery: DeliveryRestrictionFlags,
 ) -> Cursor
-    ensures { λ r. ⌜ ((from : List ℕ) → Stores (now (out .entry)) c (contents from (deliveryFields delivery)) (now (out .exit)) r) ⌝ }
+    ensures { λ r. ⌜ ((from : List ℕ) → Stores (now (out .entry)) c (contents from (flagFields program lasts free ++ deliveryFields delivery)) (now (out .exit)) r) ⌝ }
 {
-    match delivery {
-        DeliveryRestrictionFlags::None => put_bits(out, c, 5, 31),
-        DeliveryRestrictionFlags::DeliveryRestrictions(r) => {
-            let device = r.device_restrictions;
-            let second = put_bits(out, c, 1, number_of(r.web_delivery_allowed_flag));
-            let third = put_bits(out, second, 1, number_of(r.no_regional_blackout_flag));
-            let fourth = put_bits(out, third, 1, number_of(r.archive_allowed_flag));
-            put_bits(out, fourth, 2, wide(device.bits()))
-        }
-    }
+    let first = number_of(program);
+    let second = number_of(lasts);
+    let third = number_of(free);
+    let rest = delivery_number(delivery);
+    put_bits(out, c, 8, first * 128 + second * 64 + third * 32 + rest)
 }
 
 fn store_component(out: &mut [u8], c: Cursor, component: ModeComponent) -> Cursor
     ensures { λ r. ⌜ ((from : List ℕ) → Stores (now (out .entry)) c (contents from (componentsFields (component ∷ []))) (now (out .exit)) r) ⌝ }
 {
-    let second = put_bits(out, c, 8, wide(component.component_tag));
-    let third = put_bits(out, second, 7, 127);
-    put_bits(out, third, 33, component.pts_offset)
+    let tag = wide(component.component_tag);
+    put_bits(
+        out,
+        c,
+        48,
+        tag * 0x100_0000_0000 + 0xFE_0000_0000 + component.pts_offset % 0x2_0000_0000,
+    )
 }
 
 // The first n components.
@@ -109,14 +117,6 @@ pub(crate) fn store_duration(out: &mut [u8], c: Cursor, duration: SegmentationDu
         SegmentationDuration::Absent => put_bits(out, c, 0, 0),
         SegmentationDuration::Ticks(t) => put_bits(out, c, 40, t),
     }
-}
-
-pub(crate) fn store_upid(out: &mut [u8], c: Cursor, kind: u8, part: &[u8]) -> Cursor
-    ensures { λ r. ⌜ Stores (now (out .entry)) c (number 8 kind ∷ (number 8 (length (now (part .entry))) ∷ (bytes (now (part .entry)) ∷ []))) (now (out .exit)) r ⌝ }
-{
-    let second = put_bits(out, c, 8, wide(kind));
-    let third = put_bits(out, second, 8, part.len() as u64);
-    put_run(out, third, part)
 }
 
 fn store_sub_segments(out: &mut [u8], c: Cursor, sub_segments: SubSegments) -> Cursor

@@ -15,12 +15,10 @@ use crate::frame::cuei;
 use crate::frame::store_frame;
 use crate::parts::store_back;
 use crate::parts::store_components;
-use crate::parts::store_delivery;
 use crate::parts::store_duration;
 use crate::parts::store_flags;
 use crate::parts::store_head;
 use crate::parts::store_mode;
-use crate::parts::store_upid;
 use descriptor::segmentation::ModeComponent;
 use descriptor::segmentation::SegmentationDescriptor;
 use descriptor::segmentation::SegmentationDetail;
@@ -39,8 +37,11 @@ use descriptor_form::segment::sub_size;
 use descriptor_form::upids::upid_size;
 use descriptor_form::upids::written_kind;
 use pen::Written;
+use pen::put_bits;
+use pen::put_run;
 use table::cursor::Cursor;
 use table::lent::view;
+use table::numbers::wide;
 
 // ---- the bytes of a payload
 
@@ -79,12 +80,14 @@ fn store_written_upid(
     requires { ⌜ u .bytes .at + u .bytes .len ≤ length (now lent) ⌝ }
     ensures { λ r. ⌜ Stores (now (out .entry)) c (contents (upidSource u eidr (now (lent .entry))) (upidFields (writtenUpid u))) (now (out .exit)) r ⌝ }
 {
+    let kind = wide(written_kind(u));
+    let second = put_bits(out, c, 16, kind * 256 + upid_size(u) as u64 % 256);
     if u.kind == 10 {
-        return store_upid(out, c, 10, &eidr[..]);
+        return put_run(out, second, &eidr[..]);
     }
     let bytes = u.bytes;
     let part = view(lent, bytes);
-    store_upid(out, c, written_kind(u), part)
+    put_run(out, second, part)
 }
 
 fn store_insert(
@@ -102,12 +105,12 @@ fn store_insert(
     let duration = i.segmentation_duration;
     let delivery = i.delivery_restrictions;
     let upid = i.segmentation_upid;
-    let second = store_flags(out, c, by_program(mode), lasts(duration), is_free(delivery));
-    let third = store_delivery(out, second, delivery);
-    let fourth = store_mode(out, third, mode, listed);
-    let fifth = store_duration(out, fourth, duration);
-    let sixth = store_written_upid(out, fifth, upid, eidr, lent);
-    store_back(out, sixth, i)
+    let free = is_free(delivery);
+    let second = store_flags(out, c, by_program(mode), lasts(duration), free, delivery);
+    let third = store_mode(out, second, mode, listed);
+    let fourth = store_duration(out, third, duration);
+    let fifth = store_written_upid(out, fourth, upid, eidr, lent);
+    store_back(out, fifth, i)
 }
 
 fn store_segmentation(

@@ -1,6 +1,7 @@
--- `descriptor_writer::parts::store_flags`, flag by flag.
-use Rattle.descriptor_writer.proofs.Storing.{number-then, put-same}
-use mathlib.Core.Path.{refl, _∙_}
+-- `descriptor_writer::parts::store_flags`: three flags and the five bits behind them are one byte.
+use mathlib.Core.Path.{refl}
+use Rattle.descriptor_writer.proofs.Storing.{put-joined}
+use Rattle.descriptor_writer.proofs.Joining.{flags-bits}
 use borrow.Author.Needs.{needs}
 use Rattle.descriptor_writer.proofs.parts.store_flags.Statement.{statement}
 use Rattle.descriptor_writer.proofs.parts.store_flags.Tie as tie
@@ -8,39 +9,63 @@ use Rattle.descriptor_writer.proofs.parts.store_flags.Tie as tie
 number-of-requires : tie.Need-number-of-requires
 number-of-requires c κs = search needs
 
-put-bits-requires : tie.Need-put-bits-requires
-put-bits-requires c κs = search needs
-
 number-of-requires-2 : tie.Need-number-of-requires-2
 number-of-requires-2 c κs = search needs
-
-put-bits-requires-2 : tie.Need-put-bits-requires-2
-put-bits-requires-2 c κs = search needs
 
 number-of-requires-3 : tie.Need-number-of-requires-3
 number-of-requires-3 c κs = search needs
 
-put-bits-requires-3 : tie.Need-put-bits-requires-3
-put-bits-requires-3 c κs = search needs
+delivery-number-requires : tie.Need-delivery-number-requires
+delivery-number-requires c κs = search needs
+
+mul-put-bits : tie.Need-mul-put-bits
+mul-put-bits c = search needs
+
+mul-put-bits-2 : tie.Need-mul-put-bits-2
+mul-put-bits-2 c = search needs
+
+add-put-bits : tie.Need-add-put-bits
+add-put-bits c = search needs
+
+mul-put-bits-3 : tie.Need-mul-put-bits-3
+mul-put-bits-3 c = search needs
+
+add-put-bits-2 : tie.Need-add-put-bits-2
+add-put-bits-2 c = search needs
+
+add-put-bits-3 : tie.Need-add-put-bits-3
+add-put-bits-3 c = search needs
+
+put-bits-requires : tie.Need-put-bits-requires
+put-bits-requires c κs = search needs
 
 same-length : tie.Need-same-length
 same-length c = search needs
 
 returns : tie.Need-returns
 returns c =
-    λ from. number-then _ _ _ _ _ _ _ 1 _ _ (c .before .before .before .before .before .before .before .before .before .before .before .before .before .number-of .ensures) (c .before .before .before .before .before .before .before .before .before .before .before .before .put-bits .ensures)
-    (number-then _ _ _ _ _ _ _ 1 _ _ (c .before .before .before .before .before .before .before .before .number-of2 .ensures) (c .before .before .before .before .before .before .before .put-bits2 .ensures)
-    (put-same _ _ _ _ 1 _ _ (c .before .before .before .number-of3 .ensures) (c .before .before .put-bits3 .ensures)))
+    let p = c .before .before in
+    let d = p .before .before in
+    let n₃ = d .before in
+    let n₂ = n₃ .before in
+    let n₁ = n₂ .before in
+    let a = n₁ .before .before .args in
+    λ from. put-joined _ _ _ _ _ 8 _ (flags-bits from (a .program) (a .lasts) (a .free) (a .delivery) _ _ _ _ _ (n₁ .number-of .ensures) (n₂ .number-of2 .ensures) (n₃ .number-of3 .ensures) (d .delivery-number .ensures .0) (d .delivery-number .ensures .1 from) refl) (p .put-bits .ensures)
 
 pub store-flags-spec : {M : Type 1} → statement M
 store-flags-spec =
     tie.close
     (tie.spec
     number-of-requires
-    put-bits-requires
     number-of-requires-2
-    put-bits-requires-2
     number-of-requires-3
-    put-bits-requires-3
+    delivery-number-requires
+    mul-put-bits
+    mul-put-bits-2
+    add-put-bits
+    mul-put-bits-3
+    add-put-bits-2
+    add-put-bits-3
+    put-bits-requires
     same-length
     returns)

@@ -1,38 +1,48 @@
--- `descriptor_writer::parts::store_head`, field by field.
-use Rattle.descriptor_writer.proofs.Storing.{number-then, put-same}
-use mathlib.Core.Path.{refl, _∙_}
+-- `descriptor_writer::parts::store_head`: event, cancel bit and reserved bits as one number.
+use mathlib.Core.Path.{refl}
+use Rattle.descriptor_writer.proofs.Storing.{put-joined}
+use Rattle.descriptor_writer.proofs.Joining.{head-bits}
 use borrow.Author.Needs.{needs}
 use Rattle.descriptor_writer.proofs.parts.store_head.Statement.{statement}
 use Rattle.descriptor_writer.proofs.parts.store_head.Tie as tie
 
-put-bits-requires : tie.Need-put-bits-requires
-put-bits-requires c κs = search needs
+mul-put-bits : tie.Need-mul-put-bits
+mul-put-bits c = search needs
 
 number-of-requires : tie.Need-number-of-requires
 number-of-requires c κs = search needs
 
-put-bits-requires-2 : tie.Need-put-bits-requires-2
-put-bits-requires-2 c κs = search needs
+mul-put-bits-2 : tie.Need-mul-put-bits-2
+mul-put-bits-2 c = search needs
 
-put-bits-requires-3 : tie.Need-put-bits-requires-3
-put-bits-requires-3 c κs = search needs
+add-put-bits : tie.Need-add-put-bits
+add-put-bits c = search needs
+
+add-put-bits-2 : tie.Need-add-put-bits-2
+add-put-bits-2 c = search needs
+
+put-bits-requires : tie.Need-put-bits-requires
+put-bits-requires c κs = search needs
 
 same-length : tie.Need-same-length
 same-length c = search needs
 
 returns : tie.Need-returns
 returns c =
-    λ from. number-then _ _ _ _ _ _ _ 32 _ _ refl (c .before .before .before .before .before .before .before .before .before .before .before .put-bits .ensures)
-    (number-then _ _ _ _ _ _ _ 1 _ _ (c .before .before .before .before .before .before .before .number-of .ensures) (c .before .before .before .before .before .before .put-bits2 .ensures)
-    (put-same _ _ _ _ 7 _ _ refl (c .before .before .put-bits3 .ensures)))
+    let p = c .before .before in
+    let n = p .before in
+    let a = n .before .before .before .args in
+    λ from. put-joined _ _ _ _ _ 40 _ (head-bits from (a .event) (a .cancel) _ _ (n .number-of .ensures) refl) (p .put-bits .ensures)
 
 pub store-head-spec : {M : Type 1} → statement M
 store-head-spec =
     tie.close
     (tie.spec
-    put-bits-requires
+    mul-put-bits
     number-of-requires
-    put-bits-requires-2
-    put-bits-requires-3
+    mul-put-bits-2
+    add-put-bits
+    add-put-bits-2
+    put-bits-requires
     same-length
     returns)

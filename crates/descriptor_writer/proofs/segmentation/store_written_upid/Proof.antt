@@ -1,53 +1,87 @@
--- `descriptor_writer::segmentation::store_written_upid`, by its kind.
+-- `descriptor_writer::segmentation::store_written_upid`: kind and length as one number, and the bytes by kind.
+use mathlib.Core.Path.{refl, _∙_}
 use native.Mathlib.Omega.{arith}
-use lib.ListN.{length, take, drop, length-drop}
-use lib.Seq.{length-take-le}
 use Rattle.descriptor_writer.proofs.Segmenting.{upid-of-eidr, upid-of-view}
 use borrow.Author.Needs.{needs}
 use Rattle.descriptor_writer.proofs.segmentation.store_written_upid.Statement.{statement}
 use Rattle.descriptor_writer.proofs.segmentation.store_written_upid.Tie as tie
 
-slice-aggregate-store-upid : tie.Need-slice-aggregate-store-upid
-slice-aggregate-store-upid c = search needs
+written-kind-requires : tie.Need-written-kind-requires
+written-kind-requires c κs = search needs
 
-store-upid-requires : tie.Need-store-upid-requires
-store-upid-requires c κs = search needs
+wide-requires : tie.Need-wide-requires
+wide-requires c κs = search needs
+
+mul-put-bits : tie.Need-mul-put-bits
+mul-put-bits c = search needs
+
+upid-size-requires : tie.Need-upid-size-requires
+upid-size-requires c κs = search needs
+
+add-put-bits : tie.Need-add-put-bits
+add-put-bits c = search needs
+
+put-bits-requires : tie.Need-put-bits-requires
+put-bits-requires c κs = search needs
+
+slice-aggregate-put-run : tie.Need-slice-aggregate-put-run
+slice-aggregate-put-run c = search needs
+
+put-run-requires : tie.Need-put-run-requires
+put-run-requires c κs = search needs
 
 same-length : tie.Need-same-length
 same-length c = search needs
 
 returns : tie.Need-returns
 returns c =
-    let a = c .before .before .before .before .before .before .before .before .before .args in
-    upid-of-eidr (a .u) _ _ _ _ _ _ (c .before .before .before .before .before .if1 .taken) (omega (arith, c .before .before .before .before .before .before .before .before .before)) (c .before .before .store-upid .ensures)
+    let r = c .before .before in
+    let i = r .before .before .before in
+    let p = i .before .before .before .before in
+    let s = p .before in
+    let w = s .before .before in
+    let k = w .before in
+    let o = k .before .before .before in
+    let a = o .args in
+    upid-of-eidr _ _ _ _ _ _ (a .u) _ (a .lent .now) _ _ _ (w .wide .ensures .0 ∙ k .written-kind .ensures) (s .upid-size .ensures) refl (i .if1 .taken) (omega (arith, o)) (p .put-bits .ensures) (r .put-run .ensures)
 
 view-requires : tie.Need-view-requires
 view-requires c κs = search needs
 
-written-kind-requires : tie.Need-written-kind-requires
-written-kind-requires c κs = search needs
-
-store-upid-requires-2 : tie.Need-store-upid-requires-2
-store-upid-requires-2 c κs = search needs
+put-run-requires-2 : tie.Need-put-run-requires-2
+put-run-requires-2 c κs = search needs
 
 same-length-2 : tie.Need-same-length-2
 same-length-2 c = search needs
 
 returns-2 : tie.Need-returns-2
 returns-2 c =
-    let a = c .before .before .before .before .before .before .before .before .before .before .before .args in
-    upid-of-view (a .u) _ (a .lent .now) _ _ _ _ (c .before .before .before .before .before .before .before .if1 .left) (c .before .before .before .before .before .before .before .before .before .before .before .pre) _ _ (c .before .before .before .before .before .view .ensures) (c .before .before .before .written-kind .ensures) (length-take-le (a .u .bytes .len) (drop (a .u .bytes .at) (a .lent .now)) (omega (arith, length-drop (a .u .bytes .at) (a .lent .now), c .before .before .before .before .before .before .before .before .before .before .before .pre))) (c .before .before .store-upid2 .ensures)
+    let r = c .before .before in
+    let v = r .before .before in
+    let i = v .before .before in
+    let p = i .before .before .before .before in
+    let s = p .before in
+    let w = s .before .before in
+    let k = w .before in
+    let o = k .before .before .before in
+    let a = o .args in
+    upid-of-view _ _ _ _ _ _ (a .u) _ (a .lent .now) _ _ _ (w .wide .ensures .0 ∙ k .written-kind .ensures) (s .upid-size .ensures) refl (i .if1 .left) (o .pre) _ (v .view .ensures) (p .put-bits .ensures) (r .put-run2 .ensures)
 
 pub store-written-upid-spec : {M : Type 1} → statement M
 store-written-upid-spec =
     tie.close
     (tie.spec
-    slice-aggregate-store-upid
-    store-upid-requires
+    written-kind-requires
+    wide-requires
+    mul-put-bits
+    upid-size-requires
+    add-put-bits
+    put-bits-requires
+    slice-aggregate-put-run
+    put-run-requires
     same-length
     returns
     view-requires
-    written-kind-requires
-    store-upid-requires-2
+    put-run-requires-2
     same-length-2
     returns-2)
