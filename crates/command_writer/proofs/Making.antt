@@ -2,14 +2,17 @@
 use Prim.Native.Nat.{ℕ, zero, suc, _+_, _*_, _/_, _^_, _<_, _≤_}
 use mathlib.Core.Bool.{Bool, true, false, not, _&&_}
 use mathlib.Core.List.{List, [], _∷_, _++_}
+use mathlib.Core.Logic.{_⊎_, ⊎-elim}
 use mathlib.Core.Path.{_≡_, refl, ap, ap₂, sym, _∙_}
 use native.Mathlib.Nat.{zero-add}
 use native.Mathlib.Omega.{arith}
 use lib.Dec.{ltb, leb, eqb}
-use lib.ListN.{length, take, getD}
+use lib.ListN.{length, take, getD, replicate}
 use lib.Seq.{length-take-le, getD-take}
+use denote.Enum.Declared.{tagOf}
+use types.Run.{OneOf}
 use borrow.Author.Tests.{lt-ltb, le-leb, lt-leb}
-use Rattle.command.specs.Command.{private}
+use Rattle.command.specs.Command.{array, private}
 use Rattle.command.specs.Fair.{alike, unmixed, fairInsert}
 use Rattle.command.specs.Insert as insert
 use Rattle.command.specs.Insert.{WithComponents, immediate, blank, byProgram, programTime, count, lasting, outOfNetwork, insertOf}
@@ -21,6 +24,8 @@ use Rattle.command.specs.declared.insert.Insert.{Insert}
 use Rattle.command.specs.declared.insert.Insertion.{Insertion}
 use Rattle.command.specs.declared.insert.SpliceInsert.{SpliceInsert}
 use Rattle.command.specs.declared.insert.SpliceMode.{SpliceMode}
+use Rattle.command.proofs.Filling.{blank-length}
+use Rattle.command.proofs.SpliceCommand.{the-type}
 use Rattle.header.specs.Time.{spliceTime, ticks, notImmediate}
 use Rattle.header.specs.declared.time.SpliceTime.{SpliceTime}
 use Rattle.header.specs.declared.time.SpliceTime.the-variants.{Immediate, Unspecified, At}
@@ -34,10 +39,10 @@ use Rattle.table.proofs.Lists.{and-assoc, and-true}
 use Rattle.table.proofs.Walks.{past, past-append, print-length}
 use Rattle.command_writer.specs.Fields.{ink, timeFields, unlessFields, componentFields, listFields, modeFields, breakFields, automatic, tailFields, endFields, immediateIn, flagFields, insertFlags, activeFields, insertFields}
 use Rattle.command_writer.specs.Made.{counted, timesFit, insertMade, commandMade, measuredOf}
-use Rattle.command_writer.specs.Survey.{Countable, timeBytes, adding, surveyed, Tags, shapeOf, modeBytes, breakBytes, measured, activeMeasured}
+use Rattle.command_writer.specs.Survey.{Countable, timeBytes, adding, surveyed, Tags, blanksOf, modeBytes, breakBytes, measured, activeMeasured}
 use Rattle.command_writer.specs.declared.Measured.{Measured}
 use Rattle.command_writer.specs.declared.measure.Survey.{Survey}
-use Rattle.command_writer.proofs.Surveys.{survey-fits, survey-alike, survey-none}
+use Rattle.command_writer.proofs.Surveys.{survey-fits, survey-alike, survey-blanks}
 use Rattle.command_writer.proofs.Ties.{time-fields, insert-fields}
 
 and-one : (b : Bool) → b && true ≡ b
@@ -264,22 +269,32 @@ getD-any [] i d e h = absurd (omega arith)
 getD-any (a ∷ l) zero d e h = refl
 getD-any (a ∷ l) (suc i) d e h = getD-any l i d e (omega arith)
 
-pub shape-says : (k : SpliceMode) (places : List ComponentSplice) → 0 < length places
-    → (shapeOf k (getD places 0 blank .«splice_time») .count ≡ count k) × (shapeOf k (getD places 0 blank .«splice_time») .now ≡ insert.allImmediate (record { value = k; components = take (count k) places }))
-unfolding shapeOf
-shape-says (SpliceMode.Program t) places h = (refl, refl)
-shape-says (SpliceMode.Components zero) places h = (refl, refl)
-shape-says (SpliceMode.Components (suc n)) places h =
-    let z : getD (take (suc n) places) 0 blank ≡ getD places 0 blank = getD-take (suc n) places 0 blank (omega arith) in
-    (refl, ap (λ (c : ComponentSplice). ltb 0 (suc n) && immediate (c .«splice_time»)) (sym z))
+pub listed-now : (k : SpliceMode) (n : ℕ) (places : List ComponentSplice) → k ≡ SpliceMode.Components n
+    → ltb 0 n && immediate (getD places 0 blank .«splice_time») ≡ insert.allImmediate (record { value = k; components = take (count k) places })
+listed-now k n places e = rw e (go n)
+  where
+    go : (n : ℕ) → ltb 0 n && immediate (getD places 0 blank .«splice_time») ≡ insert.allImmediate (record { value = SpliceMode.Components n; components = take n places })
+    go zero = refl
+    go (suc n) = ap (λ (c : ComponentSplice). ltb 0 (suc n) && immediate (c .«splice_time»)) (sym (getD-take (suc n) places 0 blank (omega arith)))
 
-pub shape-none : (k : SpliceMode) (n : ℕ) (t : SpliceTime) → k ≡ SpliceMode.Components n → n ≡ 0 → record { count = 0; now = false } ≡ shapeOf k t
-unfolding shapeOf
-shape-none k n t e h = rw (e, h)
+-- no blank component is immediate
+blanks-timed : (n m : ℕ) → ltb 0 n && immediate (getD (take n (replicate m blank)) 0 blank .«splice_time») ≡ false
+blanks-timed zero m = refl
+blanks-timed (suc n) zero = rw (lt-ltb 0 (suc n) (omega arith))
+blanks-timed (suc n) (suc m) = rw (lt-ltb 0 (suc n) (omega arith))
 
-pub shape-first : (k : SpliceMode) (n : ℕ) (t : SpliceTime) (b : Bool) → k ≡ SpliceMode.Components n → 0 < n → b ≡ immediate t → record { count = n; now = b } ≡ shapeOf k t
-unfolding shapeOf
-shape-first k n t b e h i = rw (e, lt-ltb 0 n h, i)
+blanks-are : (k : SpliceMode) → count k ≤ 255
+    → (let cs = take (count k) (array []) in
+    (blanksOf k ≡ surveyed (insert.allImmediate (record { value = k; components = cs })) cs) × Tags cs)
+unfolding array surveyed blanksOf
+blanks-are (SpliceMode.Program t) h = (refl, tt)
+blanks-are (SpliceMode.Components n) h =
+    let r = survey-blanks n 255 h in
+    (r .0 ∙ ap (λ (b : Bool). surveyed b (take n (replicate 255 blank))) (sym (blanks-timed n 255)), r .1)
+
+pub blanks-bytes : (k : SpliceMode) → count k ≤ 255 → blanksOf k .bytes ≤ 1530
+unfolding blanksOf
+blanks-bytes k h = omega arith
 
 -- ---- a private command
 module _ (p : Private) (lent : List ℕ) where
@@ -334,18 +349,43 @@ module _ (i : Insertion) (x : Insert) (places : List ComponentSplice) (is : i .�
           activeMeasured kept (x .«splice_mode») (x .duration) (surveyed (immediateIn x cs) cs) ≡ measuredOf (insertMade (counted (record { «splice_event_id» = event; reserved = kept; «splice_detail» = d }) places)))
       go event kept d is ev = rw is (measured-active event kept x (take (count (x .«splice_mode»)) places) (length-take-le (count (x .«splice_mode»)) places there) ev n p a e h)
 
--- by program there is no component
-pub program-active : (i : Insertion) (x : Insert) (t : SpliceTime) (places : List ComponentSplice) → i .«splice_detail» ≡ SpliceInsert.Insert x → x .«splice_mode» ≡ SpliceMode.Program t
+-- whose components are all blank
+pub blanks-active : (i : Insertion) (x : Insert) → i .«splice_detail» ≡ SpliceInsert.Insert x → count (x .«splice_mode») ≤ 255
     → i .«splice_event_id» < 2 ^ 32 → x .«unique_program_id» < 2 ^ 16 → x .«avail_num» < 256 → x .«avails_expected» < 256
-    → activeMeasured (i .reserved) (x .«splice_mode») (x .duration) (record { fits = true; alike = true; bytes = 0 }) ≡ measuredOf (insertMade (counted i places))
-program-active i x t places is k ev p a e =
-    let n = count (x .«splice_mode») in
-    let z : n ≡ 0 = ap count k in
-    let s = survey-none (immediateIn x (take n places)) places n z in
+    → activeMeasured (i .reserved) (x .«splice_mode») (x .duration) (blanksOf (x .«splice_mode»)) ≡ measuredOf (insertMade (counted i (array [])))
+blanks-active i x is n ev p a e =
+    let s = blanks-are (x .«splice_mode») n in
     ap (λ (y : Survey). activeMeasured (i .reserved) (x .«splice_mode») (x .duration) y) (s .0)
-    ∙ insert-active i x places is (omega (arith, z)) ev (omega (arith, z)) p a e (s .1)
+    ∙ insert-active i x (array []) is (omega (arith, blank-length)) ev (omega arith) p a e (s .1)
+
+-- ---- an insert that counts no component is the same with any array, and so is a command that is no insert
+pub none-counted : (i : Insertion) (p q : List ComponentSplice) → count (insertOf (i .«splice_detail») .«splice_mode») ≡ 0 → counted i p ≡ counted i q
+none-counted i p q e =
+    let c : List ComponentSplice → ℕ → WithComponents Insertion = λ l n. record { value = i; components = take n l } in
+    ap (c p) e ∙ sym (ap (c q) e)
+
+pub cancel-none : (d : SpliceInsert) → d ≡ SpliceInsert.Cancel → count (insertOf d .«splice_mode») ≡ 0
+cancel-none d e = rw e
+
+pub program-none : (d : SpliceInsert) (x : Insert) (t : SpliceTime) → d ≡ SpliceInsert.Insert x → x .«splice_mode» ≡ SpliceMode.Program t → count (insertOf d .«splice_mode») ≡ 0
+program-none d x t e k = rw e (ap count k)
+
+no-insert : OneOf (0 ∷ 2 ∷ 3 ∷ 4 ∷ []) 1 → ⊥
+no-insert o = ⊎-elim (λ e. omega (arith, e)) (λ p. ⊎-elim (λ e. omega (arith, e)) (λ q. ⊎-elim (λ e. omega (arith, e)) (λ e. omega (arith, e)) q) p) o
+
+pub bare-made : (c : SpliceCommand) (p q : List ComponentSplice) (lent : List ℕ) → OneOf (0 ∷ 2 ∷ 3 ∷ 4 ∷ []) (tagOf the-type c) → commandMade c p lent ≡ commandMade c q lent
+unfolding commandMade
+bare-made SpliceCommand.SpliceNull p q lent o = refl
+bare-made (SpliceCommand.SpliceInsert i) p q lent o = absurd (no-insert o)
+bare-made (SpliceCommand.TimeSignal t) p q lent o = refl
+bare-made SpliceCommand.BandwidthReservation p q lent o = refl
+bare-made (SpliceCommand.PrivateCommand x) p q lent o = refl
 
 module _ (c : SpliceCommand) (places : List ComponentSplice) (lent : List ℕ) where
+  pub insert-is : (i : Insertion) → c ≡ SpliceCommand.SpliceInsert i → insertMade (counted i places) ≡ commandMade c places lent
+  unfolding commandMade
+  insert-is i e = rw e
+
   pub command-null : c ≡ SpliceCommand.SpliceNull → record { refusal = 0; size = 0 } ≡ measuredOf (commandMade c places lent)
   unfolding commandMade measuredOf bytesIn
   command-null e = rw e
@@ -355,8 +395,7 @@ module _ (c : SpliceCommand) (places : List ComponentSplice) (lent : List ℕ) w
   command-bandwidth e = rw e
 
   pub command-insert : (i : Insertion) → c ≡ SpliceCommand.SpliceInsert i → measuredOf (insertMade (counted i places)) ≡ measuredOf (commandMade c places lent)
-  unfolding commandMade
-  command-insert i e = rw e
+  command-insert i e = ap measuredOf (insert-is i e)
 
   pub command-time : (t : SpliceTime) → c ≡ SpliceCommand.TimeSignal t → measuredOf (make spliceTime (notImmediate t) [] t) ≡ measuredOf (commandMade c places lent)
   unfolding commandMade

@@ -1,14 +1,14 @@
 -- The bits of a payload that is not refused, and its bytes in a target.
-use Prim.Native.Nat.{ℕ, _+_, _*_, _/_, _<_, _≤_}
-use mathlib.Core.Bool.{Bool, true, false}
+use Prim.Native.Nat.{ℕ, zero, suc, _+_, _*_, _/_, _<_, _≤_}
+use mathlib.Core.Bool.{Bool, true, false, _&&_}
 use mathlib.Core.List.{List, [], _∷_, _++_}
 use mathlib.Core.Path.{_≡_, refl, ap, ap₂, sym, _∙_}
 use native.Mathlib.Nat.{zero-add}
 use native.Mathlib.Omega.{arith}
-use lib.Dec.{leb}
+use lib.Dec.{leb, eqb}
 use lib.ListN.{length, take, drop, length-append}
 use lib.Seq.{length-take-le}
-use borrow.Author.Tests.{leb-true, le-leb}
+use borrow.Author.Tests.{leb-true, leb-false, eqb-true, ne-eqb, le-leb}
 use Rattle.command.specs.Command.{private}
 use Rattle.command.specs.Fair.{fairInsert}
 use Rattle.command.specs.Insert.{WithComponents, count, insertOf, insert}
@@ -20,9 +20,11 @@ use Rattle.command.specs.declared.insert.SpliceInsert.{SpliceInsert}
 use Rattle.header.specs.Time.{spliceTime, notImmediate}
 use Rattle.header.specs.declared.time.SpliceTime.{SpliceTime}
 use Rattle.pen.specs.Pen.{Pens, Fits, penned}
-use Rattle.pen.specs.Written.{refusalIn, bytesIn}
+use Rattle.pen.specs.Written.{answerOf, laterOf, refusalIn, bytesIn}
+use Rattle.pen.specs.declared.Written.{Written}
 use Rattle.pen.proofs.Penned.{penned-stored}
 use Rattle.pen.proofs.Turns.{place-is}
+use Rattle.pen.proofs.Writes.{refusal-made, refused-answer, short-answer, wrote-answer}
 use Rattle.table.specs.Bits.{pick, bitsOfNum, bitsOf, bytesOf, AllBytes}
 use Rattle.table.specs.Cursor.{place}
 use Rattle.table.specs.Lent.{stored, viewed}
@@ -32,13 +34,14 @@ use Rattle.table.specs.declared.View.{View}
 use Rattle.table.specs.declared.cursor.Cursor.{Cursor}
 use Rattle.table.proofs.Bits.{AllBits, all-append, all-num, all-bits, all-bytesN, length-num, length-bits, length-bytesN}
 use Rattle.table.proofs.Fields.{bits-bytes}
-use Rattle.table.proofs.Lists.{append-nil}
+use Rattle.table.proofs.Lists.{append-nil, and-true, zero-one}
 use Rattle.table.proofs.Stores.{stored-nil, stored-none}
 use Rattle.table.proofs.Walks.{print-bits, print-length}
 use Rattle.command_writer.specs.Fields.{ink, timeFields, insertFields, privateInk}
-use Rattle.command_writer.specs.Made.{counted, timesFit, insertMade, commandMade}
-use Rattle.command_writer.specs.Survey.{Countable}
-use Rattle.command_writer.proofs.Making.{time-whole, insert-whole, private-fields}
+use Rattle.command_writer.specs.Made.{counted, timesFit, insertMade, commandMade, measuredOf}
+use Rattle.command_writer.specs.Survey.{Countable, hasRoom, answerTo}
+use Rattle.command_writer.specs.declared.Measured.{Measured}
+use Rattle.command_writer.proofs.Making.{measured-parts, time-whole, insert-whole, private-fields}
 use Rattle.command_writer.proofs.Ties.{time-fields, insert-fields}
 
 pub record Payload (m : Made) (p : List ℕ) : Type 0 where
@@ -78,6 +81,12 @@ insert-payload event kept d cs e z =
     let w = insert-whole event kept d cs in
     late-payload (timesFit cs) (makeOf (fairInsert x) [] (walk insert x 0 .fields)) (ink (insertFields x)) (rw f (make-payload (fairInsert x) [] (insertFields x) (w .0) (w .1))) z
 
+pub counted-payload : (i : Insertion) (places : List ComponentSplice) → length places ≡ 255 → count (insertOf (i .«splice_detail») .«splice_mode») ≤ 255 → refusalIn (insertMade (counted i places)) ≡ 0
+    → Payload (insertMade (counted i places)) (ink (insertFields (counted i places)))
+counted-payload i places n l z =
+    let k = count (insertOf (i .«splice_detail») .«splice_mode») in
+    insert-payload (i .«splice_event_id») (i .reserved) (i .«splice_detail») (take k places) (length-take-le k places (omega arith)) z
+
 seen-bytes : (lent : List ℕ) (v : View) → leb (v .at + v .len) (length lent) ≡ true → take (v .len) (drop (v .at) lent) ≡ viewed lent v
 unfolding viewed
 seen-bytes lent v e = rw e
@@ -108,10 +117,7 @@ module _ (c : SpliceCommand) (places : List ComponentSplice) (lent : List ℕ) w
   pub command-insert-payload : (i : Insertion) → c ≡ SpliceCommand.SpliceInsert i → length places ≡ 255 → count (insertOf (i .«splice_detail») .«splice_mode») ≤ 255 → refusalIn (commandMade c places lent) ≡ 0
       → Payload (commandMade c places lent) (ink (insertFields (counted i places)))
   unfolding commandMade
-  command-insert-payload i e n l z =
-      rw e
-      (insert-payload (i .«splice_event_id») (i .reserved) (i .«splice_detail») (take (count (insertOf (i .«splice_detail») .«splice_mode»)) places)
-      (length-take-le (count (insertOf (i .«splice_detail») .«splice_mode»)) places (omega arith)) (rw e at z))
+  command-insert-payload i e n l z = rw e (counted-payload i places n l (rw e at z))
 
   pub command-time-payload : (t : SpliceTime) → c ≡ SpliceCommand.TimeSignal t → refusalIn (commandMade c places lent) ≡ 0 → Payload (commandMade c places lent) (ink (timeFields t))
   unfolding commandMade
@@ -144,10 +150,63 @@ module _ (out : List ℕ) (at : ℕ) (m : Made) (p : List ℕ) (made-of : Payloa
 pub private-bits : (p : Private) (lent : List ℕ) → AllBits (privateInk p lent)
 private-bits p lent = all-append (bitsOfNum 32 (p .identifier)) (bitsOf (viewed lent (p .«private_bytes»))) (all-num 32 (p .identifier)) (all-bits (viewed lent (p .«private_bytes»)))
 
-pub refused-bytes : (m : Made) → 0 < refusalIn m → bytesIn m ≡ []
-unfolding bytesIn
-refused-bytes (made b) h = absurd (omega arith)
-refused-bytes (refused n) h = refl
+-- ---- what is done with what was made, by its measure
+module _ (m : Made) (r : Measured) (is : r ≡ measuredOf m) where
+  pub room-there : (at n : ℕ) → hasRoom r at n ≡ true → (refusalIn m ≡ 0) × (at + length (bytesIn m) ≤ n)
+  unfolding measuredOf
+  room-there at n e =
+      let a = and-true (eqb (r .refusal) 0) (leb (at + r .size) n) e in
+      let p = measured-parts r m is in
+      (sym (p .0) ∙ eqb-true (r .refusal) 0 (a .0), rw (p .1) at (leb-true (at + r .size) n (a .1)))
+
+  pub room-none : (t : List ℕ) (at : ℕ) → hasRoom r at (length t) ≡ false → t ≡ stored t at (bytesIn m)
+  unfolding refusalIn bytesIn
+  room-none t at e = go m (rw (measured-parts r m is .0, measured-parts r m is .1) at e)
+    where
+      go : (m : Made) → eqb (refusalIn m) 0 && leb (at + length (bytesIn m)) (length t) ≡ false → t ≡ stored t at (bytesIn m)
+      go (made b) e = sym (stored-none t at b (leb-false _ _ e))
+      go (refused n) e = sym (stored-nil t at)
+
+module _ (m : Made) (t : List ℕ) where
+  pub answered : (r : Measured) → r ≡ measuredOf m → (refusalIn m ≡ 0 → m ≡ made (bytesIn m)) → answerTo r (length t) ≡ answerOf m t
+  unfolding measuredOf refusalIn bytesIn answerOf
+  answered r is h = ap (λ (x : Measured). answerTo x (length t)) is ∙ go m h
+    where
+      go : (m : Made) → (refusalIn m ≡ 0 → m ≡ made (bytesIn m)) → answerTo (measuredOf m) (length t) ≡ answerOf m t
+      go (made b) h = refl
+      go (refused zero) h = let e = h refl in zero-one cc
+      go (refused (suc n)) h = rw (ne-eqb (suc n) 0 (λ e. omega (arith, e)))
+
+  pub wrote-there : (k : ℕ) → answerOf m t ≡ Written.Wrote k → (refusalIn m ≡ 0) × (length (bytesIn m) ≤ length t) × (stored t 0 (bytesIn m) ≡ laterOf m t)
+  unfolding answerOf
+  wrote-there k e = go m refl e
+    where
+      fits : (b : List ℕ) (f : Bool) → leb (length b) (length t) ≡ f → pick f (Written.Wrote (length b)) (Written.Refused 36) ≡ Written.Wrote k → length b ≤ length t
+      fits b true h e = leb-true _ _ h
+      fits b false h e = zero-one cc
+
+      go : (x : Made) → m ≡ x → answerOf x t ≡ Written.Wrote k → (refusalIn m ≡ 0) × (length (bytesIn m) ≤ length t) × (stored t 0 (bytesIn m) ≡ laterOf m t)
+      go (made b) is e =
+          let p = refusal-made m b is in
+          let l = fits b (leb (length b) (length t)) refl e in
+          (p .0, rw (p .1) l, rw (p .1) (wrote-answer m t b is l .1))
+      go (refused n) is e = zero-one cc
+
+  pub refused-later : (k : ℕ) → answerOf m t ≡ Written.Refused k → t ≡ laterOf m t
+  unfolding answerOf
+  refused-later k e = go m refl e
+    where
+      short : (b : List ℕ) (f : Bool) → leb (length b) (length t) ≡ f → pick f (Written.Wrote (length b)) (Written.Refused 36) ≡ Written.Refused k → length t < length b
+      short b true h e = zero-one cc
+      short b false h e = leb-false _ _ h
+
+      go : (x : Made) → m ≡ x → answerOf x t ≡ Written.Refused k → t ≡ laterOf m t
+      go (made b) is e = short-answer m t b is (short b (leb (length b) (length t)) refl e) .1
+      go (refused n) is e = refused-answer m t n is .1
+
+-- what is said of one is said of the other
+pub other-made : (m n : Made) (t u : List ℕ) (r : Written) → m ≡ n → (r ≡ answerOf m t) × (u ≡ laterOf m t) → (r ≡ answerOf n t) × (u ≡ laterOf n t)
+other-made m n t u r e h = rw (← e) h
 
 -- a command that is not refused is made
 pub command-made : (c : SpliceCommand) (places : List ComponentSplice) (lent : List ℕ) → length places ≡ 255 → Countable c → refusalIn (commandMade c places lent) ≡ 0

@@ -203,11 +203,12 @@ active-insert i x places e = go (i .«splice_event_id») (i .reserved) (i .«spl
         → insertFields (counted (record { «splice_event_id» = event; reserved = kept; «splice_detail» = d }) places) ≡ bits 32 event ∷ bits 1 0 ∷ bits 7 kept ∷ activeFields x (placesOf x places)
     go event kept d e = rw e
 
-pub program-insert : (i : Insertion) (x : Insert) (t : SpliceTime) (places : List ComponentSplice) → i .«splice_detail» ≡ SpliceInsert.Insert x → x .«splice_mode» ≡ SpliceMode.Program t
-    → insertFields (counted i places) ≡ bits 32 (i .«splice_event_id») ∷ bits 1 0 ∷ bits 7 (i .reserved) ∷ activeFields x []
-program-insert i x t places e k =
-    active-insert i x places e
-    ∙ ap (λ (m : SpliceMode). bits 32 (i .«splice_event_id») ∷ bits 1 0 ∷ bits 7 (i .reserved) ∷ activeFields x (take (count m) places)) k
+-- that counts no component
+pub none-active : (x : Insert) (places : List ComponentSplice) → count (x .«splice_mode») ≡ 0 → activeFields x (placesOf x places) ≡ activeFields x []
+none-active x places e = ap (λ (n : ℕ). activeFields x (take n places)) e
+
+pub none-now : (x : Insert) → x .«splice_mode» ≡ SpliceMode.Components 0 → immediateIn x [] ≡ false
+none-now x e = rw e
 
 pub program-now : (i : Insert) (t : SpliceTime) → i .«splice_mode» ≡ SpliceMode.Program t → immediate t ≡ immediateIn i []
 program-now i t e = rw e
@@ -218,3 +219,15 @@ fits-bits t c b r e h = rw (← e) h
 
 pub goes-bits : (t : List ℕ) (c : Cursor) (b r u : List ℕ) (d : Cursor) (m : List ℕ) → b ≡ r → Goes t c b u d m → Goes t c r u d m
 goes-bits t c b r u d m e g = rw (← e) g
+
+-- the event of an insert that is not cancelled, and what stands behind it
+pub after-event : (t : List ℕ) (c : Cursor) (u : List ℕ) (d : Cursor) (i : Insertion) (x : Insert) (places : List ComponentSplice) (y : ℕ) → i .«splice_detail» ≡ SpliceInsert.Insert x
+    → y ≡ i .«splice_event_id» * 256 + i .reserved % 128 → Fits t c (ink (insertFields (counted i places))) → Pens t c (bitsOfNum 40 y) u d
+    → (let more = activeFields x (placesOf x places) in
+    Goes t c (ink (bits 32 (i .«splice_event_id») ∷ bits 1 0 ∷ bits 7 (i .reserved) ∷ more)) u d (ink more))
+after-event t c u d i x places y is e room p =
+    let more = activeFields x (placesOf x places) in
+    let h = fits-same t c _ _ (active-insert i x places is) room in
+    let k = head-bits (i .«splice_event_id») 0 (i .reserved) y more (omega arith) (omega (arith, e)) in
+    let g = pens-next t c u d 40 y y more refl (fits-bits t c _ _ k h) p in
+    goes-bits t c _ _ u d _ (sym k) g

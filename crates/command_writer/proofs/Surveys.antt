@@ -1,14 +1,14 @@
 -- The survey of an insert's components.
-use Prim.Native.Nat.{ℕ, suc, _+_, _*_, _^_, _<_, _≤_}
+use Prim.Native.Nat.{ℕ, zero, suc, _+_, _*_, _^_, _<_, _≤_}
 use mathlib.Core.Bool.{Bool, true, false, not, _&&_}
 use mathlib.Core.List.{List, [], _∷_}
 use mathlib.Core.Path.{_≡_, refl, ap, ap₂, sym, _∙_}
 use native.Mathlib.Omega.{arith}
 use lib.Dec.{ltb}
-use lib.ListN.{length, take, drop, getD}
+use lib.ListN.{length, take, drop, getD, replicate}
 use lib.Seq.{drop-cons}
 use Rattle.command.specs.Fair.{alike}
-use Rattle.command.specs.Insert.{immediate}
+use Rattle.command.specs.Insert.{immediate, blank}
 use Rattle.command.specs.declared.components.ComponentSplice.{ComponentSplice}
 use Rattle.header.specs.Time.{ticks}
 use Rattle.header.specs.declared.time.SpliceTime.{SpliceTime}
@@ -28,9 +28,17 @@ pub surveyed-nil : (b : Bool) → record { fits = true; alike = true; bytes = 0 
 unfolding surveyed
 surveyed-nil b = refl
 
-pub survey-none : (b : Bool) (cs : List ComponentSplice) (n : ℕ) → n ≡ 0 → (record { fits = true; alike = true; bytes = 0 } ≡ surveyed b (take n cs)) × Tags (take n cs)
-unfolding surveyed
-survey-none b cs n e = rw e (refl, tt)
+-- blank components: two bytes each
+pub survey-blanks : (n m : ℕ) → n ≤ m → (record { fits = true; alike = true; bytes = n * 2 } ≡ surveyed false (take n (replicate m blank))) × Tags (take n (replicate m blank))
+unfolding surveyed adding
+survey-blanks zero m h = (refl, tt)
+survey-blanks (suc n) zero h = absurd (omega arith)
+survey-blanks (suc n) (suc m) h =
+    let r = survey-blanks n m (omega arith) in
+    let z : suc n * 2 ≡ 1 + 1 + n * 2 = omega arith in
+    let y : record { fits = true; alike = true; bytes = suc n * 2 } ≡ adding false (blank .«splice_time») (record { fits = true; alike = true; bytes = n * 2 }) =
+    ap (λ (k : ℕ). record { fits = true; alike = true; bytes = k }) z in
+    (y ∙ ap (adding false (blank .«splice_time»)) (r .0), (omega arith, r .1))
 
 pub surveyed-at : (b : Bool) (cs : List ComponentSplice) (i : ℕ) (d : ComponentSplice) → i < length cs → adding b (getD cs i d .«splice_time») (surveyed b (drop (suc i) cs)) ≡ surveyed b (drop i cs)
 unfolding surveyed

@@ -1,8 +1,8 @@
 -- What a writer asks of an insert's components in one pass. Of this a public contract cites `Countable` only, beside its equation.
-use Prim.Native.Nat.{ℕ, _+_, _^_, _<_, _≤_}
+use Prim.Native.Nat.{ℕ, _+_, _*_, _^_, _<_, _≤_}
 use mathlib.Core.Bool.{Bool, true, false, not, _&&_}
 use mathlib.Core.List.{List, [], _∷_}
-use lib.Dec.{ltb, eqb}
+use lib.Dec.{ltb, leb, eqb}
 use Rattle.command.specs.Insert as insert
 use Rattle.command.specs.Insert.{immediate, programTime}
 use Rattle.command.specs.declared.SpliceCommand.{SpliceCommand}
@@ -11,9 +11,9 @@ use Rattle.command.specs.declared.insert.Break.{Break}
 use Rattle.command.specs.declared.insert.SpliceMode.{SpliceMode}
 use Rattle.header.specs.Time.{specified, ticks}
 use Rattle.header.specs.declared.time.SpliceTime.{SpliceTime}
+use Rattle.pen.specs.declared.Written.{Written}
 use Rattle.table.specs.Bits.{pick}
 use Rattle.command_writer.specs.declared.measure.Survey.{Survey}
-use Rattle.command_writer.specs.declared.measure.Shape.{Shape}
 use Rattle.command_writer.specs.declared.Measured.{Measured}
 
 -- the bytes of a time, none where the insert is immediate
@@ -37,10 +37,9 @@ abbrev pub Tags : List ComponentSplice → Type 0
 Tags [] = Unit {0}
 Tags (c ∷ cs) = (c .«component_tag» < 256) × Tags cs
 
--- by how many components, and whether all is immediate, as the first component says
-unfoldable pub shapeOf : SpliceMode → SpliceTime → Shape
-shapeOf (SpliceMode.Program t) first = record { count = 0; now = immediate t }
-shapeOf (SpliceMode.Components n) first = record { count = n; now = ltb 0 n && immediate first }
+-- of components that are all blank, as many as the mode says: their times are unspecified
+unfoldable pub blanksOf : SpliceMode → Survey
+blanksOf k = record { fits = true; alike = true; bytes = insert.count k * 2 }
 
 -- ---- of a whole insert, what its components' survey says being s
 abbrev pub modeBytes : SpliceMode → ℕ → ℕ
@@ -66,6 +65,15 @@ unfoldable pub activeMeasured : ℕ → SpliceMode → Break → Survey → Meas
 activeMeasured reserved mode duration s =
     measured (s .fits && (ltb reserved 128 && (ltb (ticks (programTime mode)) (2 ^ 33) && ltb (insert.ticks duration) (2 ^ 33)))) (eqb reserved 127 && s .alike)
     (10 + modeBytes mode (s .bytes) + breakBytes duration)
+
+-- ---- what is done with a payload that is measured
+-- there is room for it from byte `at` on
+abbrev pub hasRoom : Measured → ℕ → ℕ → Bool
+hasRoom m at room = eqb (m .refusal) 0 && leb (at + m .size) room
+
+-- what is answered where the target has `room` bytes
+abbrev pub answerTo : Measured → ℕ → Written
+answerTo m room = pick (eqb (m .refusal) 0) (pick (leb (m .size) room) (Written.Wrote (m .size)) (Written.Refused 36)) (Written.Refused (m .refusal))
 
 -- a count is a byte
 abbrev pub Countable : SpliceCommand → Type 0

@@ -1,5 +1,5 @@
 // Writing a splice_insert(), field by field as its table stands.
-ghost use Prim.Native.Nat.{_≤_};
+ghost use Prim.Native.Nat.{_+_, _*_, _%_, _^_, _<_, _≤_};
 ghost use lib.ListN.{take};
 ghost use mathlib.Core.List.{[]};
 ghost use mathlib.Core.Path.{_≡_};
@@ -13,8 +13,8 @@ ghost use Rattle.pen.specs.Pen.{Fits, Pens};
 ghost use Rattle.table.specs.Bits.{AllBytes};
 ghost use Rattle.table.specs.Table.{flagNumber};
 ghost use Rattle.table.proofs.Steppings.{Settled};
+use crate::measure::are_immediate;
 use crate::measure::is_immediate;
-use crate::measure::shape_of;
 use crate::time::store_time;
 use command::components::ComponentSplice;
 use command::components::blanks;
@@ -185,56 +185,25 @@ fn store_end(out: &mut [u8], c: Cursor, insert: Insert) -> Cursor
     }
 }
 
-// What is not cancelled.
-fn store_active(
+// What is not cancelled, by n components.
+fn store_listed(
     out: &mut [u8],
     c: Cursor,
     insert: Insert,
+    n: u8,
     components: [ComponentSplice; 255],
 ) -> Cursor
-    requires { ⌜ Fits (now out) c (ink (activeFields insert (placesOf insert components))) ⌝ }
+    requires { ⌜ (insert .«splice_mode» ≡ SpliceMode.Components n) × Fits (now out) c (ink (activeFields insert (placesOf insert components))) ⌝ }
     ensures { λ r. ⌜ Pens (now (out .entry)) c (ink (activeFields insert (placesOf insert components))) (now (out .exit)) r ⌝ }
 {
-    let mode = insert.splice_mode;
-    let shape = shape_of(mode, components);
-    let c = store_flags(out, c, insert, shape.now);
-    match mode {
-        SpliceMode::Program(time) => {
-            if shape.now {
-                return store_end(out, c, insert);
-            }
-            let c = store_time(out, c, time);
-            store_end(out, c, insert)
-        }
-        SpliceMode::Components(n) => {
-            let c = put_bits(out, c, 8, wide(n));
-            let c = store_components(out, c, components, n as usize, shape.now);
-            store_end(out, c, insert)
-        }
-    }
+    let at_once = are_immediate(n, components);
+    let c = store_flags(out, c, insert, at_once);
+    let c = put_bits(out, c, 8, wide(n));
+    let c = store_components(out, c, components, n as usize, at_once);
+    store_end(out, c, insert)
 }
 
-pub(crate) fn store_insert(
-    out: &mut [u8],
-    c: Cursor,
-    i: Insertion,
-    components: [ComponentSplice; 255],
-) -> Cursor
-    requires { ⌜ Fits (now out) c (ink (insertFields (counted i components))) ⌝ }
-    ensures { λ r. ⌜ Pens (now (out .entry)) c (ink (insertFields (counted i components))) (now (out .exit)) r ⌝ }
-{
-    let detail = i.splice_detail;
-    let head = i.splice_event_id as u64 * 256 + wide(i.reserved) % 128;
-    match detail {
-        SpliceInsert::Cancel => put_bits(out, c, 40, head + 128),
-        SpliceInsert::Insert(insert) => {
-            let c = put_bits(out, c, 40, head);
-            store_active(out, c, insert, components)
-        }
-    }
-}
-
-// What is not cancelled, by program.
+// By program.
 fn store_by_program(out: &mut [u8], c: Cursor, insert: Insert, time: SpliceTime) -> Cursor
     requires { ⌜ (insert .«splice_mode» ≡ SpliceMode.Program time) × Fits (now out) c (ink (activeFields insert [])) ⌝ }
     ensures { λ r. ⌜ Pens (now (out .entry)) c (ink (activeFields insert [])) (now (out .exit)) r ⌝ }
@@ -248,22 +217,77 @@ fn store_by_program(out: &mut [u8], c: Cursor, insert: Insert, time: SpliceTime)
     store_end(out, c, insert)
 }
 
-// An insert whose components are all blank: one by program has none, and needs no array.
+// By no component: their count alone.
+fn store_by_none(out: &mut [u8], c: Cursor, insert: Insert) -> Cursor
+    requires { ⌜ (insert .«splice_mode» ≡ SpliceMode.Components 0) × Fits (now out) c (ink (activeFields insert [])) ⌝ }
+    ensures { λ r. ⌜ Pens (now (out .entry)) c (ink (activeFields insert [])) (now (out .exit)) r ⌝ }
+{
+    let c = store_flags(out, c, insert, false);
+    let c = put_bits(out, c, 8, 0);
+    store_end(out, c, insert)
+}
+
+// With blank components, if it has any: only then is there an array.
+fn store_active(out: &mut [u8], c: Cursor, insert: Insert) -> Cursor
+    requires { ⌜ Fits (now out) c (ink (activeFields insert (placesOf insert (array [])))) ⌝ }
+    ensures { λ r. ⌜ Pens (now (out .entry)) c (ink (activeFields insert (placesOf insert (array [])))) (now (out .exit)) r ⌝ }
+{
+    let mode = insert.splice_mode;
+    match mode {
+        SpliceMode::Program(time) => store_by_program(out, c, insert, time),
+        SpliceMode::Components(n) => {
+            if n == 0 {
+                return store_by_none(out, c, insert);
+            }
+            store_listed(out, c, insert, n, blanks())
+        }
+    }
+}
+
+// The event, a cancel bit that is clear and the reserved bits, as one number.
+fn event_number(i: Insertion) -> u64
+    ensures { λ r. ⌜ (r ≡ i .«splice_event_id» * 256 + i .reserved % 128) × (r < 2 ^ 40) ⌝ }
+{
+    i.splice_event_id as u64 * 256 + wide(i.reserved) % 128
+}
+
+// An insert whose components are all blank, if it has any.
 pub(crate) fn store_bare_insert(out: &mut [u8], c: Cursor, i: Insertion) -> Cursor
     requires { ⌜ Fits (now out) c (ink (insertFields (counted i (array [])))) ⌝ }
     ensures { λ r. ⌜ Pens (now (out .entry)) c (ink (insertFields (counted i (array [])))) (now (out .exit)) r ⌝ }
 {
     let detail = i.splice_detail;
+    let event = event_number(i);
+    match detail {
+        SpliceInsert::Cancel => put_bits(out, c, 40, event + 128),
+        SpliceInsert::Insert(insert) => {
+            let c = put_bits(out, c, 40, event);
+            store_active(out, c, insert)
+        }
+    }
+}
+
+// An insert with its components: only one by components looks at them.
+pub(crate) fn store_insert(
+    out: &mut [u8],
+    c: Cursor,
+    i: Insertion,
+    components: [ComponentSplice; 255],
+) -> Cursor
+    requires { ⌜ Fits (now out) c (ink (insertFields (counted i components))) ⌝ }
+    ensures { λ r. ⌜ Pens (now (out .entry)) c (ink (insertFields (counted i components))) (now (out .exit)) r ⌝ }
+{
+    let detail = i.splice_detail;
     let insert = match detail {
         SpliceInsert::Insert(x) => x,
-        SpliceInsert::Cancel => return store_insert(out, c, i, blanks()),
+        SpliceInsert::Cancel => return store_bare_insert(out, c, i),
     };
     let mode = insert.splice_mode;
-    let time = match mode {
-        SpliceMode::Program(t) => t,
-        SpliceMode::Components(_) => return store_insert(out, c, i, blanks()),
+    let n = match mode {
+        SpliceMode::Components(k) => k,
+        SpliceMode::Program(_) => return store_bare_insert(out, c, i),
     };
-    let event = i.splice_event_id as u64 * 256 + wide(i.reserved) % 128;
+    let event = event_number(i);
     let c = put_bits(out, c, 40, event);
-    store_by_program(out, c, insert, time)
+    store_listed(out, c, insert, n, components)
 }

@@ -1,13 +1,13 @@
-// Writing the payload of a command.
+// Writing the payload of a command. One without components, or with blank ones, needs no array; the forms below that take it say what components add.
 ghost use mathlib.Core.Path.{_≡_};
 ghost use mathlib.Core.Bool.{true};
 ghost use mathlib.Core.List.{[]};
 ghost use Prim.Native.Nat.{_+_, _≤_};
 ghost use lib.ListN.{length};
-ghost use Rattle.command_writer.specs.Made.{commandMade, measuredOf};
+ghost use Rattle.command_writer.specs.Made.{counted, insertMade, commandMade, measuredOf};
 ghost use Rattle.command.specs.Command.{array, private};
 ghost use Rattle.command_writer.specs.Fields.{privateInk};
-ghost use Rattle.command_writer.specs.Survey.{Countable};
+ghost use Rattle.command_writer.specs.Survey.{Countable, hasRoom, answerTo};
 ghost use Rattle.pen.specs.Pen.{Fits, Pens};
 ghost use Rattle.pen.specs.Written.{answerOf, laterOf, refusalIn, bytesIn};
 ghost use Rattle.table.specs.Bits.{AllBytes};
@@ -22,6 +22,7 @@ use crate::time::store_time;
 use command::Private;
 use command::SpliceCommand;
 use command::components::ComponentSplice;
+use command::insert::Insertion;
 use pen::Written;
 use pen::put_bits;
 use pen::put_run;
@@ -66,113 +67,7 @@ fn measure_private(p: Private, lent: &[u8]) -> Measured
     }
 }
 
-// Which refusal a command has, 31 to 33, and how many bytes its payload has.
-pub fn measure_command(
-    command: SpliceCommand,
-    components: [ComponentSplice; 255],
-    lent: &[u8],
-) -> Measured
-    ensures { λ r. ⌜ (r ≡ measuredOf (commandMade command components (now (lent .entry)))) × Countable command ⌝ }
-{
-    match command {
-        SpliceCommand::SpliceNull => Measured {
-            refusal: 0,
-            size: 0,
-        },
-        SpliceCommand::SpliceInsert(i) => measure_insert(i, components),
-        SpliceCommand::TimeSignal(t) => measure_time(t),
-        SpliceCommand::BandwidthReservation => Measured {
-            refusal: 0,
-            size: 0,
-        },
-        SpliceCommand::PrivateCommand(p) => measure_private(p, lent),
-    }
-}
-
-fn store_private(out: &mut [u8], c: Cursor, p: Private, lent: &[u8]) -> Cursor
-    requires { ⌜ Fits (now out) c (privateInk p (now lent)) ⌝ }
-    ensures { λ r. ⌜ Pens (now (out .entry)) c (privateInk p (now (lent .entry))) (now (out .exit)) r ⌝ }
-{
-    let bytes = p.private_bytes;
-    let c = put_bits(out, c, 32, p.identifier as u64);
-    put_run(out, c, view(lent, bytes))
-}
-
-// A payload for which there is room, and no refusal.
-fn store_command(
-    out: &mut [u8],
-    at: usize,
-    command: SpliceCommand,
-    components: [ComponentSplice; 255],
-    lent: &[u8],
-)
-    requires { ⌜ AllBytes (now out) × (refusalIn (commandMade command components (now lent)) ≡ 0) × (at + length (bytesIn (commandMade command components (now lent))) ≤ length (now out)) × Countable command ⌝ }
-    ensures { λ _. ⌜ now (out .exit) ≡ stored (now (out .entry)) at (bytesIn (commandMade command components (now (lent .entry)))) ⌝ }
-{
-    let c = Cursor { byte: at, bit: 0 };
-    match command {
-        SpliceCommand::SpliceNull => {}
-        SpliceCommand::SpliceInsert(i) => {
-            let _ = store_insert(out, c, i, components);
-        }
-        SpliceCommand::TimeSignal(t) => {
-            let _ = store_time(out, c, t);
-        }
-        SpliceCommand::BandwidthReservation => {}
-        SpliceCommand::PrivateCommand(p) => {
-            let _ = store_private(out, c, p, lent);
-        }
-    }
-}
-
-// The payload from a byte of the target on; nothing where it is refused or does not fit.
-pub fn put_command(
-    out: &mut [u8],
-    at: usize,
-    command: SpliceCommand,
-    components: [ComponentSplice; 255],
-    lent: &[u8],
-)
-    ensures { λ _. ⌜ now (out .exit) ≡ stored (now (out .entry)) at (bytesIn (commandMade command components (now (lent .entry)))) ⌝ }
-{
-    let measured = measure_command(command, components, lent);
-    if 0 < measured.refusal {
-        return;
-    }
-    if out.len() < at {
-        return;
-    }
-    if out.len() - at < measured.size {
-        return;
-    }
-    store_command(out, at, command, components, lent);
-}
-
-// The payload from the target's first byte on, or a refusal: 31, 32, 33 or 36.
-pub fn write_command(
-    command: SpliceCommand,
-    components: [ComponentSplice; 255],
-    lent: &[u8],
-    target: &mut [u8],
-) -> Written
-    ensures answer { λ r. ⌜ r ≡ answerOf (commandMade command components (now (lent .entry))) (now (target .entry)) ⌝ }
-    ensures bytes { λ _. ⌜ now (target .exit) ≡ laterOf (commandMade command components (now (lent .entry))) (now (target .entry)) ⌝ }
-{
-    let measured = measure_command(command, components, lent);
-    let size = measured.size;
-    if 0 < measured.refusal {
-        return Written::Refused(measured.refusal);
-    }
-    if target.len() < size {
-        return Written::Refused(36);
-    }
-    store_command(target, 0, command, components, lent);
-    Written::Wrote(size)
-}
-
-// ---- of a command whose components are all blank: one that has none needs no array
-
-// Which refusal it has, 31 to 33, and how many bytes its payload has.
+// Of a command whose components are all blank, if it has any: which refusal it has, 31 to 33, and how many bytes its payload has.
 pub fn measure_bare(command: SpliceCommand, lent: &[u8]) -> Measured
     ensures { λ r. ⌜ (r ≡ measuredOf (commandMade command (array []) (now (lent .entry)))) × Countable command ⌝ }
 {
@@ -189,6 +84,15 @@ pub fn measure_bare(command: SpliceCommand, lent: &[u8]) -> Measured
         },
         SpliceCommand::PrivateCommand(p) => measure_private(p, lent),
     }
+}
+
+fn store_private(out: &mut [u8], c: Cursor, p: Private, lent: &[u8]) -> Cursor
+    requires { ⌜ Fits (now out) c (privateInk p (now lent)) ⌝ }
+    ensures { λ r. ⌜ Pens (now (out .entry)) c (privateInk p (now (lent .entry))) (now (out .exit)) r ⌝ }
+{
+    let bytes = p.private_bytes;
+    let c = put_bits(out, c, 32, p.identifier as u64);
+    put_run(out, c, view(lent, bytes))
 }
 
 // A payload for which there is room, and no refusal.
@@ -212,21 +116,44 @@ fn store_bare(out: &mut [u8], at: usize, command: SpliceCommand, lent: &[u8])
     }
 }
 
+// Is it not refused, and is there room for it from a byte on?
+fn has_room(measured: Measured, at: usize, room: usize) -> bool
+    ensures { λ r. ⌜ r ≡ hasRoom measured at room ⌝ }
+{
+    if 0 < measured.refusal {
+        return false;
+    }
+    if room < at {
+        return false;
+    }
+    if room - at < measured.size {
+        return false;
+    }
+    true
+}
+
 // The payload from a byte of the target on; nothing where it is refused or does not fit.
 pub fn put_bare(out: &mut [u8], at: usize, command: SpliceCommand, lent: &[u8])
     ensures { λ _. ⌜ now (out .exit) ≡ stored (now (out .entry)) at (bytesIn (commandMade command (array []) (now (lent .entry)))) ⌝ }
 {
-    let measured = measure_bare(command, lent);
-    if 0 < measured.refusal {
-        return;
+    if has_room(measure_bare(command, lent), at, out.len()) {
+        store_bare(out, at, command, lent);
     }
-    if out.len() < at {
-        return;
+}
+
+// What is answered where the target has `room` bytes.
+fn answer_to(measured: Measured, room: usize) -> Written
+    ensures { λ r. ⌜ r ≡ answerTo measured room ⌝ }
+{
+    let refusal = measured.refusal;
+    let size = measured.size;
+    if 0 < refusal {
+        return Written::Refused(refusal);
     }
-    if out.len() - at < measured.size {
-        return;
+    if room < size {
+        return Written::Refused(36);
     }
-    store_bare(out, at, command, lent);
+    Written::Wrote(size)
 }
 
 // The payload from the target's first byte on, or a refusal: 31, 32, 33 or 36.
@@ -234,14 +161,82 @@ pub fn write_bare_command(command: SpliceCommand, lent: &[u8], target: &mut [u8]
     ensures answer { λ r. ⌜ r ≡ answerOf (commandMade command (array []) (now (lent .entry))) (now (target .entry)) ⌝ }
     ensures bytes { λ _. ⌜ now (target .exit) ≡ laterOf (commandMade command (array []) (now (lent .entry))) (now (target .entry)) ⌝ }
 {
-    let measured = measure_bare(command, lent);
-    let size = measured.size;
-    if 0 < measured.refusal {
-        return Written::Refused(measured.refusal);
+    let answer = answer_to(measure_bare(command, lent), target.len());
+    match answer {
+        Written::Wrote(_) => store_bare(target, 0, command, lent),
+        Written::Refused(_) => {}
     }
-    if target.len() < size {
-        return Written::Refused(36);
+    answer
+}
+
+// ---- with an array of components, which only an insert has
+
+// Which refusal a command has, 31 to 33, and how many bytes its payload has.
+pub fn measure_command(
+    command: SpliceCommand,
+    components: [ComponentSplice; 255],
+    lent: &[u8],
+) -> Measured
+    ensures { λ r. ⌜ (r ≡ measuredOf (commandMade command components (now (lent .entry)))) × Countable command ⌝ }
+{
+    match command {
+        SpliceCommand::SpliceInsert(i) => measure_insert(i, components),
+        _ => measure_bare(command, lent),
     }
-    store_bare(target, 0, command, lent);
-    Written::Wrote(size)
+}
+
+// Of an insert, the payload from a byte on.
+fn put_insert(out: &mut [u8], at: usize, i: Insertion, components: [ComponentSplice; 255])
+    ensures { λ _. ⌜ now (out .exit) ≡ stored (now (out .entry)) at (bytesIn (insertMade (counted i components))) ⌝ }
+{
+    if has_room(measure_insert(i, components), at, out.len()) {
+        let _ = store_insert(out, Cursor { byte: at, bit: 0 }, i, components);
+    }
+}
+
+// The payload from a byte of the target on; nothing where it is refused or does not fit.
+pub fn put_command(
+    out: &mut [u8],
+    at: usize,
+    command: SpliceCommand,
+    components: [ComponentSplice; 255],
+    lent: &[u8],
+)
+    ensures { λ _. ⌜ now (out .exit) ≡ stored (now (out .entry)) at (bytesIn (commandMade command components (now (lent .entry)))) ⌝ }
+{
+    match command {
+        SpliceCommand::SpliceInsert(i) => put_insert(out, at, i, components),
+        _ => put_bare(out, at, command, lent),
+    }
+}
+
+// Of an insert, the payload from the first byte on.
+fn write_insert(i: Insertion, components: [ComponentSplice; 255], target: &mut [u8]) -> Written
+    ensures answer { λ r. ⌜ r ≡ answerOf (insertMade (counted i components)) (now (target .entry)) ⌝ }
+    ensures bytes { λ _. ⌜ now (target .exit) ≡ laterOf (insertMade (counted i components)) (now (target .entry)) ⌝ }
+{
+    let answer = answer_to(measure_insert(i, components), target.len());
+    match answer {
+        Written::Wrote(_) => {
+            let _ = store_insert(target, Cursor { byte: 0, bit: 0 }, i, components);
+        }
+        Written::Refused(_) => {}
+    }
+    answer
+}
+
+// The payload from the target's first byte on, or a refusal: 31, 32, 33 or 36.
+pub fn write_command(
+    command: SpliceCommand,
+    components: [ComponentSplice; 255],
+    lent: &[u8],
+    target: &mut [u8],
+) -> Written
+    ensures answer { λ r. ⌜ r ≡ answerOf (commandMade command components (now (lent .entry))) (now (target .entry)) ⌝ }
+    ensures bytes { λ _. ⌜ now (target .exit) ≡ laterOf (commandMade command components (now (lent .entry))) (now (target .entry)) ⌝ }
+{
+    match command {
+        SpliceCommand::SpliceInsert(i) => write_insert(i, components, target),
+        _ => write_bare_command(command, lent, target),
+    }
 }

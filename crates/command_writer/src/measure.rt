@@ -9,13 +9,12 @@ ghost use Rattle.command.specs.Command.{array};
 ghost use Rattle.command.specs.Insert as insert;
 ghost use Rattle.command.specs.Insert.{immediate, programTime, blank};
 ghost use Rattle.command_writer.specs.Made.{counted, insertMade, measuredOf};
-ghost use Rattle.command_writer.specs.Survey.{timeBytes, adding, surveyed, Tags, shapeOf, modeBytes, breakBytes, measured, cancelMeasured, activeMeasured};
+ghost use Rattle.command_writer.specs.Survey.{timeBytes, adding, surveyed, Tags, blanksOf, modeBytes, breakBytes, measured, cancelMeasured, activeMeasured};
 ghost use Rattle.header.specs.Time.{spliceTime, ticks, notImmediate};
 ghost use Rattle.table.specs.Bits.{pick};
 ghost use Rattle.table.specs.Writing.{make};
 use crate::Measured;
 use command::components::ComponentSplice;
-use command::components::blanks;
 use command::insert::Break;
 use command::insert::Insert;
 use command::insert::Insertion;
@@ -150,56 +149,33 @@ fn look(components: [ComponentSplice; 255], count: usize, at_once: bool) -> Surv
     s
 }
 
-// Where there are none, none is looked at.
-fn look_at(components: [ComponentSplice; 255], count: usize, at_once: bool) -> Survey
-    requires { ⌜ count ≤ 255 ⌝ }
-    ensures { λ r. ⌜ (r ≡ surveyed «at_once» (take count components)) × Tags (take count components) ⌝ }
+// Is an insert by n components immediate as a whole? Its first component says so.
+pub(crate) fn are_immediate(n: u8, components: [ComponentSplice; 255]) -> bool
+    ensures { λ r. ⌜ r ≡ ltb 0 n && immediate (getD components 0 blank .«splice_time») ⌝ }
 {
-    if count == 0 {
-        return Survey {
-            fits: true,
-            alike: true,
-            bytes: 0,
-        };
+    if n == 0 {
+        return false;
     }
-    look(components, count, at_once)
-}
-
-fn first_is_immediate(components: [ComponentSplice; 255]) -> bool
-    ensures { λ r. ⌜ r ≡ immediate (getD components 0 blank .«splice_time») ⌝ }
-{
     let place = components[0];
     let time = place.splice_time;
     is_immediate(time)
 }
 
-// By how many components, and whether the insert is immediate as a whole, which its first component says.
-pub struct Shape {
-    pub count: usize,
-    pub now: bool,
-}
-
-pub(crate) fn shape_of(mode: SpliceMode, components: [ComponentSplice; 255]) -> Shape
-    ensures { λ r. ⌜ (r ≡ shapeOf mode (getD components 0 blank .«splice_time»)) × (r .count ≤ 255) ⌝ }
+// Of components that are all blank: two bytes for each, and no array.
+fn blanks_of(mode: SpliceMode) -> Survey
+    ensures { λ r. ⌜ (r ≡ blanksOf mode) × (insert.count mode ≤ 255) ⌝ }
 {
     match mode {
-        SpliceMode::Program(t) => {
-            let now = is_immediate(t);
-            Shape { count: 0, now }
-        }
-        SpliceMode::Components(n) => {
-            if n == 0 {
-                return Shape {
-                    count: 0,
-                    now: false,
-                };
-            }
-            let now = first_is_immediate(components);
-            Shape {
-                count: n as usize,
-                now,
-            }
-        }
+        SpliceMode::Program(_) => Survey {
+            fits: true,
+            alike: true,
+            bytes: 0,
+        },
+        SpliceMode::Components(n) => Survey {
+            fits: true,
+            alike: true,
+            bytes: n as usize * 2,
+        },
     }
 }
 
@@ -261,8 +237,9 @@ fn measure_active(reserved: u8, insert: Insert, s: Survey) -> Measured
     verdict(fits, fair, 10 + first + second)
 }
 
-pub(crate) fn measure_insert(i: Insertion, components: [ComponentSplice; 255]) -> Measured
-    ensures { λ r. ⌜ (r ≡ measuredOf (insertMade (counted i components))) × (insert.count (insert.insertOf (i .«splice_detail») .«splice_mode») ≤ 255) ⌝ }
+// An insert whose components are all blank, if it has any.
+pub(crate) fn measure_bare_insert(i: Insertion) -> Measured
+    ensures { λ r. ⌜ (r ≡ measuredOf (insertMade (counted i (array [])))) × (insert.count (insert.insertOf (i .«splice_detail») .«splice_mode») ≤ 255) ⌝ }
 {
     let reserved = i.reserved;
     let detail = i.splice_detail;
@@ -271,31 +248,26 @@ pub(crate) fn measure_insert(i: Insertion, components: [ComponentSplice; 255]) -
         SpliceInsert::Cancel => return verdict(reserved < 128, reserved == 127, 5),
     };
     let mode = insert.splice_mode;
-    let shape = shape_of(mode, components);
-    let s = look_at(components, shape.count, shape.now);
+    let s = blanks_of(mode);
     measure_active(reserved, insert, s)
 }
 
-// An insert whose components are all blank: one by program has none, and needs no array.
-pub(crate) fn measure_bare_insert(i: Insertion) -> Measured
-    ensures { λ r. ⌜ (r ≡ measuredOf (insertMade (counted i (array [])))) × (insert.count (insert.insertOf (i .«splice_detail») .«splice_mode») ≤ 255) ⌝ }
+// An insert with its components: only one by components looks at them.
+pub(crate) fn measure_insert(i: Insertion, components: [ComponentSplice; 255]) -> Measured
+    ensures { λ r. ⌜ (r ≡ measuredOf (insertMade (counted i components))) × (insert.count (insert.insertOf (i .«splice_detail») .«splice_mode») ≤ 255) ⌝ }
 {
     let reserved = i.reserved;
     let detail = i.splice_detail;
     let insert = match detail {
         SpliceInsert::Insert(x) => x,
-        SpliceInsert::Cancel => return measure_insert(i, blanks()),
+        SpliceInsert::Cancel => return measure_bare_insert(i),
     };
     let mode = insert.splice_mode;
-    match mode {
-        SpliceMode::Program(_) => {
-            let none = Survey {
-                fits: true,
-                alike: true,
-                bytes: 0,
-            };
-            measure_active(reserved, insert, none)
-        }
-        SpliceMode::Components(_) => measure_insert(i, blanks()),
-    }
+    let n = match mode {
+        SpliceMode::Components(k) => k,
+        SpliceMode::Program(_) => return measure_bare_insert(i),
+    };
+    let at_once = are_immediate(n, components);
+    let s = look(components, n as usize, at_once);
+    measure_active(reserved, insert, s)
 }

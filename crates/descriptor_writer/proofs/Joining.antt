@@ -12,7 +12,7 @@ use Rattle.names.specs.declared.flags.DeviceRestrictions.{DeviceRestrictions}
 use Rattle.descriptor.specs.declared.segmentation.DeliveryRestrictionFlags.{DeliveryRestrictionFlags}
 use Rattle.descriptor.specs.declared.segmentation.DeliveryRestrictions.{DeliveryRestrictions}
 use Rattle.descriptor.specs.declared.segmentation.ModeComponent.{ModeComponent}
-use Rattle.descriptor_form.specs.Parts.{headFields, flagFields, deliveryFields, componentsFields}
+use Rattle.descriptor_form.specs.Walk.{headFields, flagFields, deliveryFields, componentsFields}
 use Rattle.pen.proofs.Tables.{print-beside}
 
 -- ---- the head

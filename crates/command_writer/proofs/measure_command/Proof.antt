@@ -1,13 +1,12 @@
--- `command_writer::measure_command`, by the command.
-use mathlib.Core.Path.{_≡_, refl, ap, ap₂, sym, _∙_}
-use native.Mathlib.Omega.{arith}
-use Rattle.command_writer.proofs.Making.{countable, command-null, command-bandwidth, command-insert, command-time, command-private}
+-- `command_writer::measure_command`: an insert, or what has no components.
+use mathlib.Core.List.{[]}
+use mathlib.Core.Path.{ap, _∙_}
+use Rattle.command.specs.Command.{array}
+use Rattle.command_writer.specs.Made.{measuredOf}
+use Rattle.command_writer.proofs.Making.{countable, command-insert, bare-made}
 use borrow.Author.Needs.{needs}
 use Rattle.command_writer.proofs.measure_command.Statement.{statement}
 use Rattle.command_writer.proofs.measure_command.Tie as tie
-
-enum-told : tie.Need-enum-told
-enum-told c = search needs
 
 enum-known-command : tie.Need-enum-known-command
 enum-known-command c = search needs
@@ -15,50 +14,22 @@ enum-known-command c = search needs
 measure-insert-requires : tie.Need-measure-insert-requires
 measure-insert-requires c κs = search needs
 
-enum-known-command-2 : tie.Need-enum-known-command-2
-enum-known-command-2 c = search needs
-
-measure-time-requires : tie.Need-measure-time-requires
-measure-time-requires c κs = search needs
-
-enum-told-2 : tie.Need-enum-told-2
-enum-told-2 c = search needs
-
-enum-known-command-3 : tie.Need-enum-known-command-3
-enum-known-command-3 c = search needs
-
-measure-private-requires : tie.Need-measure-private-requires
-measure-private-requires c κs = search needs
+measure-bare-requires : tie.Need-measure-bare-requires
+measure-bare-requires c κs = search needs
 
 returns : tie.Need-returns
-returns c = let a = c .before .before .before .args in (command-null (a .command) (a .components) (a .lent .now) (c .enum-told .given .1), countable (a .command) _ (c .enum-told .given .1) tt)
+returns c =
+    let a = c .before .before .before .before .before .args in
+    let e = c .before .before .command .given .1 in
+    (c .measure-insert .ensures .0 ∙ command-insert (a .command) (a .components) (a .lent .now) _ e, countable (a .command) _ e (c .measure-insert .ensures .1))
 
 returns-2 : tie.Need-returns-2
-returns-2 c = let a = c .before .before .before .before .before .args in (c .measure-insert .ensures .0 ∙ command-insert (a .command) (a .components) (a .lent .now) _ (c .before .before .command .given .1), countable (a .command) _ (c .before .before .command .given .1) (c .measure-insert .ensures .1))
-
-returns-3 : tie.Need-returns-3
-returns-3 c = let a = c .before .before .before .before .before .args in (c .measure-time .ensures ∙ command-time (a .command) (a .components) (a .lent .now) _ (c .before .before .command2 .given .1), countable (a .command) _ (c .before .before .command2 .given .1) tt)
-
-returns-4 : tie.Need-returns-4
-returns-4 c = let a = c .before .before .before .args in (command-bandwidth (a .command) (a .components) (a .lent .now) (c .enum-told2 .given .1), countable (a .command) _ (c .enum-told2 .given .1) tt)
-
-returns-5 : tie.Need-returns-5
-returns-5 c = let a = c .before .before .before .before .before .args in (c .measure-private .ensures ∙ command-private (a .command) (a .components) (a .lent .now) _ (c .before .before .command3 .given .1), countable (a .command) _ (c .before .before .command3 .given .1) tt)
+returns-2 c =
+    let k = c .before in
+    let a = k .before .before .args in
+    (c .measure-bare .ensures .0 ∙ ap measuredOf (bare-made (a .command) (array []) (a .components) (a .lent .now) (k .match .keys2)), c .measure-bare .ensures .1)
 
 pub measure-command-spec : {M : Type 1} → statement M
 measure-command-spec =
     tie.close
-    (tie.spec
-    enum-told
-    enum-known-command
-    measure-insert-requires
-    enum-known-command-2
-    measure-time-requires
-    enum-told-2
-    enum-known-command-3
-    measure-private-requires
-    returns
-    returns-2
-    returns-3
-    returns-4
-    returns-5)
+    (tie.spec enum-known-command measure-insert-requires measure-bare-requires returns returns-2)

@@ -1,84 +1,49 @@
--- `command_writer::write_command`: the tests in order, then the store.
-use mathlib.Core.Path.{_≡_, refl, ap, ap₂, sym, _∙_}
-use native.Mathlib.Omega.{arith}
-use Prim.Native.Nat.{ℕ, _+_, _<_, _≤_}
-use lib.ListN.{length}
-use Rattle.pen.specs.Written.{refusalIn, bytesIn}
-use Rattle.pen.specs.declared.Written.{Written}
-use Rattle.pen.proofs.Writes.{refusal-refused, refused-answer, short-answer, wrote-answer}
-use Rattle.table.proofs.Bits.{bytes-all}
-use Rattle.table.specs.Writing.{made}
-use Rattle.command_writer.specs.Made.{commandMade}
-use Rattle.command_writer.proofs.Making.{measured-parts}
-use Rattle.command_writer.proofs.Payloads.{command-made}
+-- `command_writer::write_command`: an insert, or what has no components.
+use mathlib.Core.List.{[]}
+use Rattle.command.specs.Command.{array}
+use Rattle.command_writer.proofs.Making.{insert-is, bare-made}
+use Rattle.command_writer.proofs.Payloads.{other-made}
 use borrow.Author.Needs.{needs}
 use Rattle.command_writer.proofs.write_command.Statement.{statement}
 use Rattle.command_writer.proofs.write_command.Tie as tie
 
-full : (c : tie.Start) → length (c .args .components) ≡ 255
-full c = search needs
+enum-known-command : tie.Need-enum-known-command
+enum-known-command c = search needs
 
-parts : (k : tie.After-measure-command) →
-    let a = k .before .before .before .args in
-    let m = commandMade (a .command) (a .components) (a .lent .now) in
-    (k .measure-command .result .refusal ≡ refusalIn m) × (k .measure-command .result .size ≡ length (bytesIn m))
-parts k = measured-parts (k .measure-command .result) _ (k .measure-command .ensures .0)
+write-insert-requires : tie.Need-write-insert-requires
+write-insert-requires c κs = search needs
 
-accepted : (k : tie.After-measure-command) →
-    let a = k .before .before .before .args in
-    let m = commandMade (a .command) (a .components) (a .lent .now) in
-    refusalIn m ≡ 0 → m ≡ made (bytesIn m)
-accepted k z =
-    let s = k .before .before .before in
-    let a = s .args in
-    command-made (a .command) (a .components) (a .lent .now) (full s) (k .measure-command .ensures .1) z
-
-measure-command-requires : tie.Need-measure-command-requires
-measure-command-requires c κs = search needs
-
-returns : tie.Need-returns
-returns c =
-    let k = c .before .before in
-    let a = k .before .before .before .args in
-    let m = commandMade (a .command) (a .components) (a .lent .now) in
-    refused-answer m (a .target .now) (k .measure-command .result .refusal) (refusal-refused m _ (sym (parts k .0)) (c .if1 .taken))
-
-returns-2 : tie.Need-returns-2
-returns-2 c =
-    let k = c .before .before .before in
-    let a = k .before .before .before .args in
-    let m = commandMade (a .command) (a .components) (a .lent .now) in
-    let z : refusalIn m ≡ 0 = omega (arith, parts k .0) in
-    short-answer m (a .target .now) (bytesIn m) (accepted k z) (omega (arith, parts k .1))
-
-store-command-requires : tie.Need-store-command-requires
-store-command-requires c κs =
-    let k = c .before .before .before .before in
-    let a = k .before .before .before .args in
-    let z : refusalIn (commandMade (a .command) (a .components) (a .lent .now)) ≡ 0 = omega (arith, parts k .0) in
-    let r : 0 + length (bytesIn (commandMade (a .command) (a .components) (a .lent .now))) ≤ length (a .target .now) = omega (arith, parts k .1) in
-    (bytes-all (a .target .now) (λ j. k .before .slice-known .given j .fits), z, r, k .measure-command .ensures .1)
+write-bare-command-requires : tie.Need-write-bare-command-requires
+write-bare-command-requires c κs = search needs
 
 same-length : tie.Need-same-length
 same-length c = search needs
 
-returns-3 : tie.Need-returns-3
-returns-3 c =
+returns : tie.Need-returns
+returns c =
     let q = c .before .before in
-    let k = q .before .before .before .before .before in
+    let m = q .before .before .before in
+    let a = m .before .before .before .before .args in
+    other-made _ _ (a .target .now) _ _ (insert-is (a .command) (a .components) (a .lent .now) _ (m .command .given .1)) (q .write-insert .ensures)
+
+same-length-2 : tie.Need-same-length-2
+same-length-2 c = search needs
+
+returns-2 : tie.Need-returns-2
+returns-2 c =
+    let q = c .before .before in
+    let k = q .before .before in
     let a = k .before .before .before .args in
-    let m = commandMade (a .command) (a .components) (a .lent .now) in
-    let z : refusalIn m ≡ 0 = omega (arith, parts k .0) in
-    let w = wrote-answer m (a .target .now) (bytesIn m) (accepted k z) (omega (arith, parts k .1)) in
-    (ap Written.Wrote (parts k .1) ∙ w .0, q .store-command .ensures ∙ w .1)
+    other-made _ _ (a .target .now) _ _ (bare-made (a .command) (array []) (a .components) (a .lent .now) (k .match .keys2)) (q .write-bare-command .ensures)
 
 pub write-command-spec : {M : Type 1} → statement M
 write-command-spec =
     tie.close
     (tie.spec
-    measure-command-requires
-    returns
-    returns-2
-    store-command-requires
+    enum-known-command
+    write-insert-requires
+    write-bare-command-requires
     same-length
-    returns-3)
+    returns
+    same-length-2
+    returns-2)

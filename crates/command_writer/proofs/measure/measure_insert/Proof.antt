@@ -1,16 +1,19 @@
--- `command_writer::measure::measure_insert`: cancelled, or as the survey of its components says.
+-- `command_writer::measure::measure_insert`: cancelled or by program as without components, or as the survey of its components says.
+use mathlib.Core.List.{List, []}
 use mathlib.Core.Path.{_≡_, refl, ap, ap₂, sym, _∙_}
 use native.Mathlib.Omega.{arith}
 use Prim.Native.Nat.{ℕ, _*_, _^_, _<_, _≤_}
 use mathlib.Core.Bool.{Bool}
 use lib.ListN.{length, take}
 use lib.Seq.{length-take-le}
-use Rattle.command.specs.Insert.{count}
+use Rattle.command.specs.Command.{array}
+use Rattle.command.specs.Insert.{WithComponents, count}
+use Rattle.command.specs.declared.insert.Insertion.{Insertion}
 use Rattle.command_writer.specs.Fields.{immediateIn}
+use Rattle.command_writer.specs.Made.{insertMade, measuredOf}
 use Rattle.command_writer.specs.Survey.{surveyed, activeMeasured}
-use Rattle.command_writer.specs.declared.measure.Shape.{Shape}
 use Rattle.command_writer.specs.declared.measure.Survey.{Survey}
-use Rattle.command_writer.proofs.Making.{cancel-count, active-count, insert-cancelled, insert-active, shape-says}
+use Rattle.command_writer.proofs.Making.{active-count, insert-active, listed-now, none-counted, cancel-none, program-none}
 use Rattle.command_writer.proofs.Surveys.{survey-bytes}
 use borrow.Author.Needs.{needs}
 use Rattle.command_writer.proofs.measure.measure_insert.Statement.{statement}
@@ -25,47 +28,73 @@ enum-known-detail c = search needs
 enum-told : tie.Need-enum-told
 enum-told c = search needs
 
-verdict-requires : tie.Need-verdict-requires
-verdict-requires c κs = search needs
+measure-bare-insert-requires : tie.Need-measure-bare-insert-requires
+measure-bare-insert-requires c κs = search needs
 
 returns : tie.Need-returns
 returns c =
-    let s = c .before .before .before in
-    let e : s .args .i .«splice_event_id» < 2 ^ 32 = omega arith in
-    (c .verdict .ensures ∙ insert-cancelled (s .args .i) (s .args .components) (c .before .enum-told .given .1) e, cancel-count (s .args .i .«splice_detail») (c .before .enum-told .given .1))
+    let t = c .before in
+    let a = t .before .before .args in
+    let e = none-counted (a .i) (array []) (a .components) (cancel-none (a .i .«splice_detail») (t .enum-told .given .1)) in
+    (c .measure-bare-insert .ensures .0 ∙ ap (λ (x : WithComponents Insertion). measuredOf (insertMade x)) e, c .measure-bare-insert .ensures .1)
 
-shape-of-requires : tie.Need-shape-of-requires
-shape-of-requires c κs = search needs
+enum-known-mode : tie.Need-enum-known-mode
+enum-known-mode c = search needs
 
-look-at-requires : tie.Need-look-at-requires
-look-at-requires c κs = search needs
+enum-told-2 : tie.Need-enum-told-2
+enum-told-2 c = search needs
+
+measure-bare-insert-requires-2 : tie.Need-measure-bare-insert-requires-2
+measure-bare-insert-requires-2 c κs = search needs
+
+returns-2 : tie.Need-returns-2
+returns-2 c =
+    let t = c .before in
+    let x = t .before .before .before in
+    let a = x .before .before .args in
+    let e = none-counted (a .i) (array []) (a .components) (program-none (a .i .«splice_detail») _ _ (x .detail .given .1) (t .enum-told2 .given .1)) in
+    (c .measure-bare-insert2 .ensures .0 ∙ ap (λ (x : WithComponents Insertion). measuredOf (insertMade x)) e, c .measure-bare-insert2 .ensures .1)
+
+are-immediate-requires : tie.Need-are-immediate-requires
+are-immediate-requires c κs = search needs
+
+cast-look : tie.Need-cast-look
+cast-look c = search needs
+
+look-requires : tie.Need-look-requires
+look-requires c κs = search needs
 
 measure-active-requires : tie.Need-measure-active-requires
 measure-active-requires c κs =
     let k = c .before in
-    let s = k .before .before .before .before in
-    let z = k .shape-of .result in
-    let l : length (take (z .count) (s .args .components)) ≡ z .count = length-take-le (z .count) (s .args .components) (omega (arith, full s, k .shape-of .ensures .1)) in
-    rw (c .look-at .ensures .0) (omega (arith, l, k .shape-of .ensures .1, survey-bytes (z .now) (take (z .count) (s .args .components))))
+    let m = k .before .before in
+    let s = m .before .before .before .before .before in
+    let n = m .mode .given .0 .0 in
+    let most : n ≤ 255 = omega arith in
+    let l : length (take n (s .args .components)) ≡ n = length-take-le n (s .args .components) (omega (arith, full s, most)) in
+    rw (c .look .ensures .0) (omega (arith, l, most, survey-bytes (k .are-immediate .result) (take n (s .args .components))))
 
-returns-2 : tie.Need-returns-2
-returns-2 c =
-    let k = c .before .before in
-    let x = k .before .before in
+returns-3 : tie.Need-returns-3
+returns-3 c =
+    let l = c .before in
+    let k = l .before in
+    let m = k .before .before in
+    let x = m .before .before .before in
     let s = x .before .before in
     let a = s .args in
     let insert = x .detail .given .0 .0 in
     let mode = insert .«splice_mode» in
-    let says = shape-says mode (a .components) (omega (arith, full s)) in
-    let n : k .shape-of .result .count ≡ count mode = ap (λ (z : Shape). z .count) (k .shape-of .ensures .0) ∙ says .0 in
-    let b : k .shape-of .result .now ≡ immediateIn insert (take (count mode) (a .components)) = ap (λ (z : Shape). z .now) (k .shape-of .ensures .0) ∙ says .1 in
-    let most : count mode ≤ 255 = omega (arith, k .shape-of .ensures .1, n) in
-    let y = c .before .look-at .ensures .0 ∙ ap₂ (λ (b : Bool) (n : ℕ). surveyed b (take n (a .components))) b n in
+    let n = m .mode .given .0 .0 in
+    let most : n ≤ 255 = omega arith in
+    let z : n ≡ count mode = sym (ap count (m .mode .given .1)) in
+    let b : k .are-immediate .result ≡ immediateIn insert (take (count mode) (a .components)) = k .are-immediate .ensures ∙ listed-now mode n (a .components) (m .mode .given .1) in
+    let y : l .look .result ≡ surveyed (immediateIn insert (take (count mode) (a .components))) (take (count mode) (a .components)) =
+    l .look .ensures .0 ∙ ap₂ (λ (b : Bool) (n : ℕ). surveyed b (take n (a .components))) b z in
     let event : a .i .«splice_event_id» < 2 ^ 32 = omega arith in
     let bounds = c .measure-active .ensures in (
       bounds .0 ∙ ap (λ (y : Survey). activeMeasured (a .i .reserved) mode (insert .duration) y) y
-          ∙ insert-active (a .i) insert (a .components) (x .detail .given .1) (omega (arith, full s)) event (omega arith) (bounds .1) (bounds .2) (bounds .3) (rw n at (c .before .look-at .ensures .1)),
-      active-count (a .i .«splice_detail») insert (x .detail .given .1) most,
+          ∙ insert-active (a .i) insert (a .components) (x .detail .given .1) (omega (arith, full s, z, most)) event (omega (arith, z, most)) (bounds .1) (bounds .2) (bounds .3) (rw z at (l .look .ensures .1)),
+      active-count (a .i .«splice_detail») insert (x .detail .given .1) (omega (arith, z, most)),
     )
 
 pub measure-insert-spec : {M : Type 1} → statement M
@@ -74,9 +103,14 @@ measure-insert-spec =
     (tie.spec
     enum-known-detail
     enum-told
-    verdict-requires
+    measure-bare-insert-requires
     returns
-    shape-of-requires
-    look-at-requires
+    enum-known-mode
+    enum-told-2
+    measure-bare-insert-requires-2
+    returns-2
+    are-immediate-requires
+    cast-look
+    look-requires
     measure-active-requires
-    returns-2)
+    returns-3)
