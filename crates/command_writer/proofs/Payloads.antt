@@ -160,7 +160,7 @@ module _ (m : Made) (r : Measured) (is : r ≡ measuredOf m) where
       (sym (p .0) ∙ eqb-true (r .refusal) 0 (a .0), rw (p .1) at (leb-true (at + r .size) n (a .1)))
 
   pub room-none : (t : List ℕ) (at : ℕ) → hasRoom r at (length t) ≡ false → t ≡ stored t at (bytesIn m)
-  unfolding refusalIn bytesIn
+  unfolding bytesIn
   room-none t at e = go m (rw (measured-parts r m is .0, measured-parts r m is .1) at e)
     where
       go : (m : Made) → eqb (refusalIn m) 0 && leb (at + length (bytesIn m)) (length t) ≡ false → t ≡ stored t at (bytesIn m)
@@ -169,7 +169,7 @@ module _ (m : Made) (r : Measured) (is : r ≡ measuredOf m) where
 
 module _ (m : Made) (t : List ℕ) where
   pub answered : (r : Measured) → r ≡ measuredOf m → (refusalIn m ≡ 0 → m ≡ made (bytesIn m)) → answerTo r (length t) ≡ answerOf m t
-  unfolding measuredOf refusalIn bytesIn answerOf
+  unfolding measuredOf bytesIn answerOf
   answered r is h = ap (λ (x : Measured). answerTo x (length t)) is ∙ go m h
     where
       go : (m : Made) → (refusalIn m ≡ 0 → m ≡ made (bytesIn m)) → answerTo (measuredOf m) (length t) ≡ answerOf m t
