@@ -5,7 +5,6 @@ use mathlib.Core.Bool.{Bool, _&&_}
 use mathlib.Core.List.{List, [], _∷_}
 use lib.Dec.{eqb}
 use lib.ListN.{drop, replicate}
-use Rattle.descriptor.specs.Segmentation.{countOf, frontOf}
 use Rattle.descriptor.specs.Whole.{filled}
 use Rattle.descriptor.specs.declared.Descriptor.{Descriptor}
 use Rattle.descriptor.specs.declared.Descriptor.the-variants.{Avail, Dtmf, Segmentation, Time, Reserved}
@@ -24,6 +23,7 @@ use Rattle.descriptor.specs.declared.segmentation.SegmentationUpid.{Segmentatio
 use Rattle.descriptor.specs.declared.segmentation.SubSegment.{SubSegment}
 use Rattle.descriptor.specs.declared.segmentation.SubSegments.{SubSegments}
 use Rattle.descriptor.specs.declared.whole.Beside.{Beside}
+use Rattle.descriptor_form.specs.Same.{componentsOf}
 use Rattle.descriptor_form.specs.Writing.{descriptorMade}
 use Rattle.flat_items.specs.FlatItem.{flatDescriptor}
 use Rattle.flat_items.specs.declared.descriptors.FlatItem.{FlatItem}
@@ -39,7 +39,14 @@ use Rattle.table.specs.Bits.{pick, bigEndian}
 use Rattle.table.specs.Writing.{Made}
 use Rattle.table.specs.declared.View.{View}
 
--- ---- struct scte35_step: after refusal, values and next, which are not looked at, the identifier is word 5, and the item begins with word 6
+-- ---- struct scte35_step: of 33 words, with 0 for those past the end of the slice
+abbrev pub firstWord : List ℕ → ℕ
+firstWord words = word words 0
+
+unfoldable pub stepWords : List ℕ → List ℕ
+stepWords words = placesOf firstWord 1 33 words
+
+-- after refusal, values and next, which are not looked at, the identifier is word 5, and the item begins with word 6
 unfoldable pub restrictionsIn : List ℕ → FlatRestrictions
 restrictionsIn words =
     record {
@@ -202,13 +209,6 @@ placesIn words = drop 5 words
 abbrev pub eidrIn : List ℕ → List ℕ
 eidrIn words = drop 515 words
 
-abbrev pub countIn : Descriptor → ℕ
-countIn (Avail x) = 0
-countIn (Dtmf x) = 0
-countIn (Segmentation x) = countOf (frontOf (x .«descriptor_detail») .«segmentation_mode»)
-countIn (Time x) = 0
-countIn (Reserved tag bytes) = 0
-
 -- component_tag, pts_offset
 unfoldable pub placeWidths : List ℕ
 placeWidths = 8 ∷ 33 ∷ []
@@ -241,9 +241,9 @@ ownItem d words = same (itemWords (flatDescriptor d)) (drop 6 words)
 
 -- the number of the words' own refusal, of a descriptor that they make
 unfoldable pub descriptorRefusal : Descriptor → List ℕ → List ℕ → ℕ
-descriptorRefusal d words beside = refusalOf (within itemWidths (drop 5 words) && besideWithin (countIn d) beside) (ownItem d words)
+descriptorRefusal d words beside = refusalOf (within itemWidths (drop 5 words) && besideWithin (componentsOf d) beside) (ownItem d words)
 
 -- ---- the descriptor, or the number of a refusal: 31 to 34
 unfoldable pub descriptorWordsMade : List ℕ → List ℕ → List ℕ → Made
 descriptorWordsMade words beside lent =
-    noLess (descriptorRefusal (descriptorGiven words) words beside) (descriptorMade (descriptorGiven words) (identifierFrom words) (besideFrom (countIn (descriptorGiven words)) beside) lent)
+    noLess (descriptorRefusal (descriptorGiven words) words beside) (descriptorMade (descriptorGiven words) (identifierFrom words) (besideFrom (componentsOf (descriptorGiven words)) beside) lent)

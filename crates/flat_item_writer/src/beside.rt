@@ -5,6 +5,7 @@ ghost use Rattle.flat_item_writer.specs.ItemWords.{identifierFrom, place
 use descriptor::segmentation::ModeComponent;
 use descriptor::whole::Beside;
 use descriptor::whole::blank_beside;
+use flat_writer::are_four_within;
 use flat_writer::are_within;
 use flat_writer::word_at;
 use flat_writer::words_from;
@@ -92,6 +93,11 @@ pub(crate) fn beside_within(count: usize, words: &[u64]) -> bool
     if !places_within(count, words) {
         return false;
     }
-    let widths = [8u64; 12];
-    are_within(&widths, words_from(words, 515))
+    if !are_four_within(8, 8, 8, 8, words_from(words, 515)) {
+        return false;
+    }
+    if !are_four_within(8, 8, 8, 8, words_from(words, 519)) {
+        return false;
+    }
+    are_four_within(8, 8, 8, 8, words_from(words, 523))
 }

@@ -1,9 +1,10 @@
 // The descriptor writer over the C boundary: an item from the words of its step, and of what stands beside it.
 ghost use mathlib.Core.Path.{_≡_};
 ghost use Prim.Native.Nat.{_≤_};
+ghost use Rattle.descriptor_form.specs.Same.{componentsOf};
 ghost use Rattle.descriptor_form.specs.Writing.{descriptorMade};
 ghost use Rattle.descriptor_writer.specs.Stores.{Writes};
-ghost use Rattle.flat_item_writer.specs.ItemWords.{countIn, besideFrom, ownItem, descriptorRefusal, descriptorWordsMade};
+ghost use Rattle.flat_item_writer.specs.ItemWords.{stepWords, besideFrom, ownItem, descriptorRefusal, descriptorWordsMade};
 ghost use Rattle.flat_writer.specs.Words.{flatWritten};
 ghost use Rattle.pen.specs.Written.{answerOf, laterOf};
 use crate::beside::beside_from;
@@ -11,8 +12,8 @@ use crate::beside::beside_within;
 use crate::beside::eidr_from;
 use crate::beside::identifier_from;
 use crate::values::descriptor_given;
-use crate::values::item_widths;
-use crate::values::item_words;
+use crate::values::is_flat_item;
+use crate::values::is_item_within;
 use descriptor::Descriptor;
 use descriptor::segmentation::SegmentationDetail;
 use descriptor::segmentation::SegmentationMode;
@@ -20,11 +21,9 @@ use descriptor_writer::write_bare_descriptor;
 use descriptor_writer::write_descriptor;
 use flat_items::steps::flat_step;
 use flat_writer::FlatWritten;
-use flat_writer::are_same;
-use flat_writer::are_within;
 use flat_writer::flat_written;
 use flat_writer::lower_refusal;
-use flat_writer::words_from;
+use flat_writer::word_at;
 use items::Item;
 use items::Step;
 use pen::Written;
@@ -34,7 +33,7 @@ pub mod values;
 
 // How many components it has.
 fn count_in(d: Descriptor) -> u8
-    ensures { λ r. ⌜ r ≡ countIn d ⌝ }
+    ensures { λ r. ⌜ r ≡ componentsOf d ⌝ }
 {
     let segmentation = match d {
         Descriptor::Avail(_) => return 0,
@@ -68,16 +67,14 @@ fn is_own_item(d: Descriptor, words: &[u64]) -> bool
         next: 0,
     });
     let item = step.item;
-    let own = item_words(item);
-    are_same(&own, words_from(words, 6))
+    is_flat_item(item, words)
 }
 
 // Refusals 32 and 33 of the words themselves; 0 for none.
 pub fn descriptor_refusal(d: Descriptor, words: &[u64], beside: &[u64]) -> u64
     ensures { λ r. ⌜ r ≡ descriptorRefusal d (now (words .entry)) (now (beside .entry)) ⌝ }
 {
-    let widths = item_widths();
-    if !are_within(&widths, words_from(words, 5)) {
+    if !is_item_within(words) {
         return 32;
     }
     if !beside_within(count_in(d) as usize, beside) {
@@ -109,13 +106,21 @@ fn write_given(
     write_descriptor(d, identifier, aside, lent, target)
 }
 
+// The words of a step, 0 past the end of the slice.
+fn padded(words: &[u64]) -> [u64; 33]
+    ensures { λ r. ⌜ r ≡ stepWords (now (words .entry)) ⌝ }
+{
+    let mut out = [0u64; 33];
+    let mut i: usize = 0;
+    while i < 33 {
+        out[i] = word_at(words, i);
+        i += 1;
+    }
+    out
+}
+
 // A descriptor from the target's first byte on, or a refusal: 31 to 34 or 36.
-pub fn write_descriptor_words(
-    words: &[u64],
-    beside: &[u64],
-    lent: &[u8],
-    target: &mut [u8],
-) -> FlatWritten
+fn write_from_words(words: &[u64], beside: &[u64], lent: &[u8], target: &mut [u8]) -> FlatWritten
     ensures answer { λ r. ⌜ r ≡ flatWritten (answerOf (descriptorWordsMade (now (words .entry)) (now (beside .entry)) (now (lent .entry))) (now (target .entry))) ⌝ }
     ensures bytes { λ _. ⌜ now (target .exit) ≡ laterOf (descriptorWordsMade (now (words .entry)) (now (beside .entry)) (now (lent .entry))) (now (target .entry)) ⌝ }
 {
@@ -130,4 +135,21 @@ pub fn write_descriptor_words(
         );
     }
     flat_written(write_given(d, identifier, count, beside, lent, target))
+}
+
+// The same. Where there are fewer words than the struct has, they are filled up: the slice's length is tested once and not for each word.
+pub fn write_descriptor_words(
+    words: &[u64],
+    beside: &[u64],
+    lent: &[u8],
+    target: &mut [u8],
+) -> FlatWritten
+    ensures answer { λ r. ⌜ r ≡ flatWritten (answerOf (descriptorWordsMade (now (words .entry)) (now (beside .entry)) (now (lent .entry))) (now (target .entry))) ⌝ }
+    ensures bytes { λ _. ⌜ now (target .exit) ≡ laterOf (descriptorWordsMade (now (words .entry)) (now (beside .entry)) (now (lent .entry))) (now (target .entry)) ⌝ }
+{
+    if words.len() < 33 {
+        let whole = padded(words);
+        return write_from_words(&whole, beside, lent, target);
+    }
+    write_from_words(words, beside, lent, target)
 }

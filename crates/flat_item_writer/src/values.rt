@@ -1,5 +1,7 @@
 // Items.
 ghost use mathlib.Core.Path.{_≡_};
+ghost use lib.ListN.{drop};
+ghost use Rattle.flat_writer.specs.Words.{within, same};
 ghost use Rattle.flat_item_writer.specs.ItemWords.{restrictionsIn, subSegmentsIn, segmentationIn, itemIn, itemWords, itemWidths, deviceFrom, restrictionsFrom};
 ghost use Rattle.flat_item_writer.specs.ItemWords.{deliveryFrom, modeFrom, durationFrom, subSegmentsFrom, insertFrom, descriptorFrom, descriptorGiven};
 use descriptor::Descriptor;
@@ -22,7 +24,11 @@ use flat_items::descriptors::FlatTimeDescriptor;
 use flat_items::segmentations::FlatRestrictions;
 use flat_items::segmentations::FlatSegmentation;
 use flat_items::segmentations::FlatSubSegments;
+use flat_writer::are_four_same;
+use flat_writer::are_four_within;
+use flat_writer::are_same;
 use flat_writer::word_at;
+use flat_writer::words_from;
 use names::flags::DeviceRestrictions;
 use names::segmentation::SegmentationTypeId;
 use table::View;
@@ -91,80 +97,120 @@ fn item_in(words: &[u64]) -> FlatItem
     }
 }
 
-// And its words.
-pub(crate) fn item_words(i: FlatItem) -> [u64; 27]
-    ensures { λ r. ⌜ r ≡ itemWords i ⌝ }
+// Refusal 32 of the identifier and of the words of an item, in their order: is each within its width?
+pub(crate) fn is_item_within(words: &[u64]) -> bool
+    ensures { λ r. ⌜ r ≡ within itemWidths (drop 5 (now (words .entry))) ⌝ }
+{
+    // identifier; kind, provider_avail_id, preroll
+    if !are_four_within(32, 64, 32, 8, words_from(words, 5)) {
+        return false;
+    }
+    // segmentation_event_id, segmentation_event_cancel_indicator, program_segmentation_flag, segmentation_duration_flag
+    if !are_four_within(32, 1, 1, 1, words_from(words, 9)) {
+        return false;
+    }
+    // delivery_not_restricted_flag, web_delivery_allowed_flag, no_regional_blackout_flag, archive_allowed_flag
+    if !are_four_within(1, 1, 1, 1, words_from(words, 13)) {
+        return false;
+    }
+    // device_restrictions, component_count, segmentation_duration, segmentation_upid_type
+    if !are_four_within(2, 8, 40, 8, words_from(words, 17)) {
+        return false;
+    }
+    // segmentation_type_id, segment_num, segments_expected; present
+    if !are_four_within(8, 8, 8, 1, words_from(words, 21)) {
+        return false;
+    }
+    // sub_segment_num, sub_segments_expected; tai_seconds, tai_nanoseconds
+    if !are_four_within(8, 8, 48, 32, words_from(words, 25)) {
+        return false;
+    }
+    // utc_offset; splice_descriptor_tag; bytes
+    are_four_within(16, 8, 64, 64, words_from(words, 29))
+}
+
+// Refusal 33 of the words of an item from its last segment number on: are they those of a flat form?
+fn is_flat_end(i: FlatItem, words: &[u64]) -> bool
+    ensures { λ r. ⌜ r ≡ same (drop 20 (itemWords i)) (drop 26 (now (words .entry))) ⌝ }
 {
     let s = i.segmentation;
-    let restrictions = s.delivery_restrictions;
     let subs = s.sub_segments;
     let time = i.time;
     let bytes = i.bytes;
-    [
-        i.kind,
-        i.provider_avail_id,
-        i.preroll,
-        s.segmentation_event_id,
-        s.segmentation_event_cancel_indicator,
-        s.program_segmentation_flag,
-        s.segmentation_duration_flag,
-        s.delivery_not_restricted_flag,
-        restrictions.web_delivery_allowed_flag,
-        restrictions.no_regional_blackout_flag,
-        restrictions.archive_allowed_flag,
-        restrictions.device_restrictions,
-        s.component_count,
-        s.segmentation_duration,
-        s.segmentation_upid_type,
-        s.segmentation_type_id,
-        s.segment_num,
-        s.segments_expected,
-        subs.present,
-        subs.sub_segment_num,
+    if !are_four_same(
         subs.sub_segments_expected,
         time.tai_seconds,
         time.tai_nanoseconds,
         time.utc_offset,
-        i.splice_descriptor_tag,
-        bytes.at,
-        bytes.len,
-    ]
+        words_from(words, 26),
+    ) {
+        return false;
+    }
+    let last = [i.splice_descriptor_tag, bytes.at, bytes.len];
+    are_same(&last, words_from(words, 30))
 }
 
-// How many bits the identifier and each of those words may have.
-pub(crate) fn item_widths() -> [u64; 28]
-    ensures { λ r. ⌜ r ≡ itemWidths ⌝ }
+// From its count of components on.
+fn is_flat_behind(i: FlatItem, words: &[u64]) -> bool
+    ensures { λ r. ⌜ r ≡ same (drop 12 (itemWords i)) (drop 18 (now (words .entry))) ⌝ }
 {
-    [
-        32, // identifier
-        64, // kind
-        32, // provider_avail_id
-        8, // preroll
-        32, // segmentation_event_id
-        1, // segmentation_event_cancel_indicator
-        1, // program_segmentation_flag
-        1, // segmentation_duration_flag
-        1, // delivery_not_restricted_flag
-        1, // web_delivery_allowed_flag
-        1, // no_regional_blackout_flag
-        1, // archive_allowed_flag
-        2, // device_restrictions
-        8, // component_count
-        40, // segmentation_duration
-        8, // segmentation_upid_type
-        8, // segmentation_type_id
-        8, // segment_num
-        8, // segments_expected
-        1, // present
-        8, // sub_segment_num
-        8, // sub_segments_expected
-        48, // tai_seconds
-        32, // tai_nanoseconds
-        16, // utc_offset
-        8, // splice_descriptor_tag
-        64, // bytes.at
-        64, // bytes.len
-    ]
+    let s = i.segmentation;
+    let subs = s.sub_segments;
+    if !are_four_same(
+        s.component_count,
+        s.segmentation_duration,
+        s.segmentation_upid_type,
+        s.segmentation_type_id,
+        words_from(words, 18),
+    ) {
+        return false;
+    }
+    if !are_four_same(
+        s.segment_num,
+        s.segments_expected,
+        subs.present,
+        subs.sub_segment_num,
+        words_from(words, 22),
+    ) {
+        return false;
+    }
+    is_flat_end(i, words)
+}
+
+// And all of them.
+pub(crate) fn is_flat_item(i: FlatItem, words: &[u64]) -> bool
+    ensures { λ r. ⌜ r ≡ same (itemWords i) (drop 6 (now (words .entry))) ⌝ }
+{
+    let s = i.segmentation;
+    let restrictions = s.delivery_restrictions;
+    if !are_four_same(
+        i.kind,
+        i.provider_avail_id,
+        i.preroll,
+        s.segmentation_event_id,
+        words_from(words, 6),
+    ) {
+        return false;
+    }
+    if !are_four_same(
+        s.segmentation_event_cancel_indicator,
+        s.program_segmentation_flag,
+        s.segmentation_duration_flag,
+        s.delivery_not_restricted_flag,
+        words_from(words, 10),
+    ) {
+        return false;
+    }
+    if !are_four_same(
+        restrictions.web_delivery_allowed_flag,
+        restrictions.no_regional_blackout_flag,
+        restrictions.archive_allowed_flag,
+        restrictions.device_restrictions,
+        words_from(words, 14),
+    ) {
+        return false;
+    }
+    is_flat_behind(i, words)
 }
 
 // ---- the value that it makes

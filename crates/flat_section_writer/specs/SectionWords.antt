@@ -1,12 +1,12 @@
 -- The header that words make, and the section of header, command and loop. 01, "Refusal numbers", 32 and 33. These are definitions.
 use Prim.Native.Nat.{ℕ, _%_}
 use mathlib.Core.List.{List, [], _∷_}
-use lib.Dec.{eqb, ltb}
+use lib.Dec.{eqb}
 use Rattle.command_writer.specs.Made.{commandMade}
 use Rattle.flat.specs.Flat.{flatHeader}
 use Rattle.flat.specs.declared.headers.FlatHeader.{FlatHeader}
 use Rattle.flat_writer.specs.CommandWords.{commandGiven, countIn, componentsFrom, commandRefusal}
-use Rattle.flat_writer.specs.Words.{word, within, same, refusalOf, noLess}
+use Rattle.flat_writer.specs.Words.{word, within, same, refusalOf, lowerOf, noLess}
 use Rattle.header.specs.declared.header.SpliceInfoHeader.{SpliceInfoHeader}
 use Rattle.names.specs.Algorithm.{algorithmOf}
 use Rattle.names.specs.declared.command.SpliceCommandType.{SpliceCommandType}
@@ -43,7 +43,7 @@ headerRefusal words = refusalOf (within headerWidths words) (same (headerWords (
 -- ---- the section
 -- the lower of two refusals, of which 0 is none
 abbrev pub either : ℕ → ℕ → ℕ
-either m n = pick (eqb m 0) n (pick (eqb n 0) m (pick (ltb n m) n m))
+either m n = pick (eqb m 0) n (pick (eqb n 0) m (lowerOf m n))
 
 -- the bytes, or the number of a refusal: 31 to 35
 unfoldable pub sectionWordsMade : List ℕ → List ℕ → List ℕ → List ℕ → List ℕ → Made

@@ -120,6 +120,51 @@ pub same-end : (own words : List ℕ) (i : ℕ) → length own ≤ i → same (d
 unfolding same
 same-end own words i h = rw (drop-of-length-le own h)
 
+-- ---- four words at a time
+and-four : (p q r s rest : Bool) → p && (q && (r && (s && rest))) ≡ (p && (q && (r && (s && true)))) && rest
+and-four false q r s rest = refl
+and-four true false r s rest = refl
+and-four true true false s rest = refl
+and-four true true true false rest = refl
+and-four true true true true rest = refl
+
+drop-three : (words : List ℕ) → drop 1 (drop 1 (drop 1 words)) ≡ drop 3 words
+drop-three words = ap (drop 1) (drop-drop 1 1 words) ∙ drop-drop 1 2 words
+
+drop-four : (words : List ℕ) (at : ℕ) → drop 1 (drop 1 (drop 1 (drop 1 (drop at words)))) ≡ drop (at + 4) words
+drop-four words at = ap (drop 1) (drop-three (drop at words)) ∙ drop-drop 1 3 (drop at words) ∙ drop-drop 4 at words
+
+word-drop-three : (words : List ℕ) → getD (drop 1 (drop 1 (drop 1 words))) 0 0 ≡ getD words 3 0
+word-drop-three words = ap (λ (l : List ℕ). getD l 0 0) (drop-three words) ∙ word-drop words 3
+
+pub within-four : (a b c d : ℕ) (words : List ℕ) → within (a ∷ b ∷ c ∷ d ∷ []) words ≡ ltb (getD words 0 0) (2 ^ a) && (ltb (getD words 1 0) (2 ^ b) && (ltb (getD words 2 0) (2 ^ c) && (ltb (getD words 3 0) (2 ^ d) && true)))
+unfolding within
+within-four a b c d words = rw (word-drop words 1, word-drop-two words, word-drop-three words)
+
+pub within-next : (a b c d : ℕ) (rest words : List ℕ) (at : ℕ) → within (a ∷ b ∷ c ∷ d ∷ rest) (drop at words) ≡ within (a ∷ b ∷ c ∷ d ∷ []) (drop at words) && within rest (drop (at + 4) words)
+unfolding within
+within-next a b c d rest words at =
+    let l = drop at words in
+    rw (← drop-four words at) (and-four (ltb (getD l 0 0) (2 ^ a)) (ltb (getD (drop 1 l) 0 0) (2 ^ b)) (ltb (getD (drop 1 (drop 1 l)) 0 0) (2 ^ c)) (ltb (getD (drop 1 (drop 1 (drop 1 l))) 0 0) (2 ^ d)) (within rest (drop 1 (drop 1 (drop 1 (drop 1 l))))))
+
+pub within-last : (a : ℕ) (words : List ℕ) (at : ℕ) → ltb (getD words at 0) (2 ^ a) ≡ within (a ∷ []) (drop at words)
+unfolding within
+within-last a words at = rw (word-drop words at) (and-unit (ltb (getD words at 0) (2 ^ a)))
+
+pub same-four : (a b c d : ℕ) (words : List ℕ) → same (a ∷ b ∷ c ∷ d ∷ []) words ≡ eqb (getD words 0 0) a && (eqb (getD words 1 0) b && (eqb (getD words 2 0) c && (eqb (getD words 3 0) d && true)))
+unfolding same
+same-four a b c d words = rw (word-drop words 1, word-drop-two words, word-drop-three words)
+
+pub same-next : (a b c d : ℕ) (rest words : List ℕ) (at : ℕ) → same (a ∷ b ∷ c ∷ d ∷ rest) (drop at words) ≡ same (a ∷ b ∷ c ∷ d ∷ []) (drop at words) && same rest (drop (at + 4) words)
+unfolding same
+same-next a b c d rest words at =
+    let l = drop at words in
+    rw (← drop-four words at) (and-four (eqb (getD l 0 0) a) (eqb (getD (drop 1 l) 0 0) b) (eqb (getD (drop 1 (drop 1 l)) 0 0) c) (eqb (getD (drop 1 (drop 1 (drop 1 l))) 0 0) d) (same rest (drop 1 (drop 1 (drop 1 (drop 1 l))))))
+
+pub same-last : (a : ℕ) (words : List ℕ) (at : ℕ) → eqb (getD words at 0) a ≡ same (a ∷ []) (drop at words)
+unfolding same
+same-last a words at = rw (word-drop words at) (and-unit (eqb (getD words at 0) a))
+
 -- ---- places
 place-next : (k i : ℕ) (words : List ℕ) → drop k (drop (i * k) words) ≡ drop ((i + 1) * k) words
 place-next k i words =

@@ -1,10 +1,9 @@
 -- For the contracts of functions on the way to a writer.
 use Prim.Native.Nat.{ℕ}
-use lib.Dec.{ltb}
 use Rattle.pen.specs.declared.Written.{Written}
-use Rattle.table.specs.Bits.{pick}
+use Rattle.flat_writer.specs.Words.{lowerOf}
 
--- the lower of two refusals, where there is a second
+-- the lower of the words' refusal and of what a writer answered, where it refused
 abbrev pub lower : ℕ → Written → ℕ
 lower n (Written.Wrote k) = n
-lower n (Written.Refused k) = pick (ltb k n) k n
+lower n (Written.Refused k) = lowerOf n k

@@ -36,10 +36,14 @@ eachPlace test k (suc n) words = test words && eachPlace test k n (drop k words)
 abbrev pub refusalOf : Bool → Bool → ℕ
 refusalOf fits own = pick fits (pick own 0 33) 32
 
+-- the lower of two refusals
+abbrev pub lowerOf : ℕ → ℕ → ℕ
+lowerOf m n = pick (ltb n m) n m
+
 -- "31 to 36 are checked in order of number": the words' own refusal, unless that of the value is lower
 abbrev pub lowest : ℕ → Made → ℕ
 lowest n (made b) = n
-lowest n (refused k) = pick (ltb k n) k n
+lowest n (refused k) = lowerOf n k
 
 unfoldable pub noLess : ℕ → Made → Made
 noLess n m = pick (eqb n 0) m (refused (lowest n m))

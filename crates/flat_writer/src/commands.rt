@@ -2,22 +2,25 @@
 ghost use mathlib.Core.List.{[]};
 ghost use mathlib.Core.Path.{_≡_};
 ghost use Prim.Native.Nat.{_≤_};
+ghost use lib.ListN.{drop};
 ghost use Rattle.command.specs.Command.{array};
 ghost use Rattle.command_writer.specs.Made.{commandMade};
 ghost use Rattle.flat_writer.specs.CommandWords.{modeIn, breakIn, insertIn, commandIn, modeFrom, breakFrom, insertFrom, insertionFrom, commandFrom, commandWords, commandWidths, countIn};
 ghost use Rattle.flat_writer.specs.CommandWords.{componentsFrom, commandGiven, commandRefusal, commandWordsMade};
-ghost use Rattle.flat_writer.specs.Words.{flatWritten, noLess};
+ghost use Rattle.flat_writer.specs.Words.{within, same, flatWritten, noLess};
 ghost use Rattle.pen.specs.Written.{answerOf, laterOf};
 use crate::FlatWritten;
-use crate::are_same;
-use crate::are_within;
+use crate::are_four_same;
+use crate::are_four_within;
 use crate::flat_written;
+use crate::is_within;
 use crate::lower_refusal;
 use crate::splices::components_from;
 use crate::splices::own_splices;
 use crate::splices::splices_within;
 use crate::splices::time_from;
 use crate::word_at;
+use crate::words_from;
 use command::CommandRead;
 use command::Private;
 use command::SpliceCommand;
@@ -99,70 +102,6 @@ fn command_in(words: &[u64]) -> FlatCommand
             len: word_at(words, 20),
         },
     }
-}
-
-// And its words.
-fn command_words(c: FlatCommand) -> [u64; 21]
-    ensures { λ r. ⌜ r ≡ commandWords c ⌝ }
-{
-    let i = c.insert;
-    let mode = i.mode;
-    let program_time = mode.splice_time;
-    let lasts = i.break_duration;
-    let time = c.splice_time;
-    let bytes = c.private_bytes;
-    [
-        c.refusal,
-        c.splice_command_type,
-        i.splice_event_id,
-        i.splice_event_cancel_indicator,
-        i.reserved,
-        i.out_of_network_indicator,
-        mode.program_splice_flag,
-        program_time.kind,
-        program_time.ticks,
-        mode.component_count,
-        lasts.duration_flag,
-        lasts.auto_return,
-        lasts.duration,
-        i.unique_program_id,
-        i.avail_num,
-        i.avails_expected,
-        time.kind,
-        time.ticks,
-        c.identifier,
-        bytes.at,
-        bytes.len,
-    ]
-}
-
-// And how many bits each of them may have.
-fn command_widths() -> [u64; 21]
-    ensures { λ r. ⌜ r ≡ commandWidths ⌝ }
-{
-    [
-        64, // refusal
-        8, // splice_command_type
-        32, // splice_event_id
-        1, // splice_event_cancel_indicator
-        7, // reserved
-        1, // out_of_network_indicator
-        1, // program_splice_flag
-        2, // splice_time.kind
-        33, // splice_time.ticks
-        8, // component_count
-        1, // duration_flag
-        1, // auto_return
-        33, // duration
-        16, // unique_program_id
-        8, // avail_num
-        8, // avails_expected
-        2, // splice_time.kind
-        33, // splice_time.ticks
-        32, // identifier
-        64, // private_bytes.at
-        64, // private_bytes.len
-    ]
 }
 
 // ---- the value that it makes
@@ -296,20 +235,114 @@ pub fn components_given(c: SpliceCommand, words: &[u64]) -> [ComponentSplice; 25
     components_from(count_in(c) as usize, words)
 }
 
+// Refusal 32 of the words of a command, in their order: is each within its width?
+fn is_command_within(words: &[u64]) -> bool
+    ensures { λ r. ⌜ r ≡ within commandWidths (now (words .entry)) ⌝ }
+{
+    // refusal, splice_command_type; splice_event_id, splice_event_cancel_indicator
+    if !are_four_within(64, 8, 32, 1, words) {
+        return false;
+    }
+    // reserved, out_of_network_indicator; program_splice_flag, splice_time.kind
+    if !are_four_within(7, 1, 1, 2, words_from(words, 4)) {
+        return false;
+    }
+    // splice_time.ticks, component_count; duration_flag, auto_return
+    if !are_four_within(33, 8, 1, 1, words_from(words, 8)) {
+        return false;
+    }
+    // duration; unique_program_id, avail_num, avails_expected
+    if !are_four_within(33, 16, 8, 8, words_from(words, 12)) {
+        return false;
+    }
+    // splice_time; identifier, private_bytes.at
+    if !are_four_within(2, 33, 32, 64, words_from(words, 16)) {
+        return false;
+    }
+    // private_bytes.len
+    is_within(64, word_at(words, 20))
+}
+
+// Refusal 33 of the words of a command from its ninth on: are they those of a flat form?
+fn is_flat_behind(c: FlatCommand, words: &[u64]) -> bool
+    ensures { λ r. ⌜ r ≡ same (drop 8 (commandWords c)) (drop 8 (now (words .entry))) ⌝ }
+{
+    let i = c.insert;
+    let mode = i.mode;
+    let program_time = mode.splice_time;
+    let lasts = i.break_duration;
+    let time = c.splice_time;
+    let bytes = c.private_bytes;
+    if !are_four_same(
+        program_time.ticks,
+        mode.component_count,
+        lasts.duration_flag,
+        lasts.auto_return,
+        words_from(words, 8),
+    ) {
+        return false;
+    }
+    if !are_four_same(
+        lasts.duration,
+        i.unique_program_id,
+        i.avail_num,
+        i.avails_expected,
+        words_from(words, 12),
+    ) {
+        return false;
+    }
+    if !are_four_same(
+        time.kind,
+        time.ticks,
+        c.identifier,
+        bytes.at,
+        words_from(words, 16),
+    ) {
+        return false;
+    }
+    word_at(words, 20) == bytes.len
+}
+
+// And all of them.
+fn is_flat_command(c: FlatCommand, words: &[u64]) -> bool
+    ensures { λ r. ⌜ r ≡ same (commandWords c) (now (words .entry)) ⌝ }
+{
+    let i = c.insert;
+    let mode = i.mode;
+    let program_time = mode.splice_time;
+    if !are_four_same(
+        c.refusal,
+        c.splice_command_type,
+        i.splice_event_id,
+        i.splice_event_cancel_indicator,
+        words,
+    ) {
+        return false;
+    }
+    if !are_four_same(
+        i.reserved,
+        i.out_of_network_indicator,
+        mode.program_splice_flag,
+        program_time.kind,
+        words_from(words, 4),
+    ) {
+        return false;
+    }
+    is_flat_behind(c, words)
+}
+
 // Refusals 32 and 33 of the words themselves; 0 for none.
 pub fn command_refusal(c: SpliceCommand, words: &[u64], components: &[u64]) -> u64
     ensures { λ r. ⌜ r ≡ commandRefusal c (now (words .entry)) (now (components .entry)) ⌝ }
 {
-    let widths = command_widths();
     let count = count_in(c) as usize;
-    if !are_within(&widths, words) {
+    if !is_command_within(words) {
         return 32;
     }
     if !splices_within(count, components) {
         return 32;
     }
-    let own = command_words(flat_command_read(CommandRead::Is(c)));
-    if !are_same(&own, words) {
+    if !is_flat_command(flat_command_read(CommandRead::Is(c)), words) {
         return 33;
     }
     if !own_splices(count, components) {

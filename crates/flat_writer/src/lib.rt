@@ -1,5 +1,6 @@
 // The writers over the C boundary. They take words, those of the C structs in their order: a word past the end of the slice counts as 0, and words past the
 // struct's end are not looked at. Words of which one exceeds its field (32), or that are not those of a value's flat form (33), are not written.
+ghost use mathlib.Core.List.{[], _∷_};
 ghost use mathlib.Core.Path.{_≡_};
 ghost use Prim.Native.Nat.{_^_};
 ghost use lib.Dec.{ltb};
@@ -69,7 +70,7 @@ pub fn words_from(words: &[u64], at: usize) -> &[u64]
     &words[at..]
 }
 
-fn is_within(width: u64, word: u64) -> bool
+pub(crate) fn is_within(width: u64, word: u64) -> bool
     ensures { λ r. ⌜ r ≡ ltb word (2 ^ width) ⌝ }
 {
     if 64 <= width {
@@ -92,6 +93,26 @@ pub fn are_within(widths: &[u64], words: &[u64]) -> bool
     true
 }
 
+// The same of four words, without a loop: their places are tested once.
+pub fn are_four_within(a: u64, b: u64, c: u64, d: u64, words: &[u64]) -> bool
+    ensures { λ r. ⌜ r ≡ within (a ∷ b ∷ c ∷ d ∷ []) (now (words .entry)) ⌝ }
+{
+    if words.len() < 4 {
+        let widths = [a, b, c, d];
+        return are_within(&widths, words);
+    }
+    if !is_within(a, words[0]) {
+        return false;
+    }
+    if !is_within(b, words[1]) {
+        return false;
+    }
+    if !is_within(c, words[2]) {
+        return false;
+    }
+    is_within(d, words[3])
+}
+
 // Refusal 33: are a value's own words those that were handed in?
 pub fn are_same(own: &[u64], words: &[u64]) -> bool
     ensures { λ r. ⌜ r ≡ same (now (own .entry)) (now (words .entry)) ⌝ }
@@ -104,4 +125,24 @@ pub fn are_same(own: &[u64], words: &[u64]) -> bool
         i += 1;
     }
     true
+}
+
+// The same of four words.
+pub fn are_four_same(a: u64, b: u64, c: u64, d: u64, words: &[u64]) -> bool
+    ensures { λ r. ⌜ r ≡ same (a ∷ b ∷ c ∷ d ∷ []) (now (words .entry)) ⌝ }
+{
+    if words.len() < 4 {
+        let own = [a, b, c, d];
+        return are_same(&own, words);
+    }
+    if words[0] != a {
+        return false;
+    }
+    if words[1] != b {
+        return false;
+    }
+    if words[2] != c {
+        return false;
+    }
+    words[3] == d
 }

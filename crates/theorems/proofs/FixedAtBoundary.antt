@@ -18,7 +18,9 @@ use Rattle.flat_writer.proofs.lower_refusal.Reads as lower-refusal
 use Rattle.flat_writer.proofs.word_at.Reads as word-at
 use Rattle.flat_writer.proofs.words_from.Reads as words-from
 use Rattle.flat_writer.proofs.are_within.Reads as are-within
+use Rattle.flat_writer.proofs.are_four_within.Reads as are-four-within
 use Rattle.flat_writer.proofs.are_same.Reads as are-same
+use Rattle.flat_writer.proofs.are_four_same.Reads as are-four-same
 use Rattle.flat_writer.proofs.commands.command_given.Reads as command-given
 use Rattle.flat_writer.proofs.commands.count_in.Reads as count-in
 use Rattle.flat_writer.proofs.commands.components_given.Reads as components-given
@@ -108,8 +110,14 @@ words-from-is-fixed = record { takes-any = λ κ a. tt; seen = λ κ a x y e f p
 pub are-within-is-fixed : Fixed are-within.Asked are-within.Learnt
 are-within-is-fixed = record { takes-any = λ κ a. tt; one-answer = λ κ a x y e f p q. p ∙ sym q }
 
+pub are-four-within-is-fixed : Fixed are-four-within.Asked are-four-within.Learnt
+are-four-within-is-fixed = record { takes-any = λ κ a. tt; one-answer = λ κ a x y e f p q. p ∙ sym q }
+
 pub are-same-is-fixed : Fixed are-same.Asked are-same.Learnt
 are-same-is-fixed = record { takes-any = λ κ a. tt; one-answer = λ κ a x y e f p q. p ∙ sym q }
+
+pub are-four-same-is-fixed : Fixed are-four-same.Asked are-four-same.Learnt
+are-four-same-is-fixed = record { takes-any = λ κ a. tt; one-answer = λ κ a x y e f p q. p ∙ sym q }
 
 pub command-given-is-fixed : Fixed command-given.Asked command-given.Learnt
 command-given-is-fixed = record { takes-any = λ κ a. tt; one-answer = λ κ a x y e f p q. p ∙ sym q }

@@ -1,32 +1,32 @@
 -- `flat_writer::commands::command_refusal`, test by test. Assumes nothing.
 use borrow.Author.Needs.{needs}
 use Prim.Native.Nat.{ℕ}
-use mathlib.Core.Bool.{_&&_}
-use mathlib.Core.List.{List}
+use mathlib.Core.Bool.{true, _&&_}
 use mathlib.Core.Path.{_≡_, ap, sym, _∙_}
 use borrow.Author.Tests.{not-true, not-false}
 use Rattle.flat.specs.FlatCommand.{flatCommand, flatCommandRead}
+use Rattle.flat.specs.declared.commands.FlatCommand.{FlatCommand}
 use Rattle.flat_writer.specs.Words.{within, same}
 use Rattle.flat_writer.specs.CommandWords.{countIn, commandWords, commandWidths, splicesWithin, ownSplices, commandRefusal}
 use Rattle.flat_writer.proofs.Words.{first-wide, second-wide, first-other, second-other, no-refusal}
 use Rattle.flat_writer.proofs.commands.command_refusal.Statement.{statement}
 use Rattle.flat_writer.proofs.commands.command_refusal.Tie as tie
 
-fits : (k : tie.After-are-within) → let a = k .before .before .before .before .before .before .args in k .are-within .result ≡ within commandWidths (a .words .now)
-fits k = k .are-within .ensures ∙ ap (λ (l : List ℕ). within l (k .before .before .before .before .before .before .args .words .now)) (k .before .before .before .command-widths .ensures)
+fits : (k : tie.Else1) → let a = k .before .before .before .before .before .args in within commandWidths (a .words .now) ≡ true
+fits k = sym (k .before .is-command-within .ensures) ∙ not-false _ (k .if1 .left)
 
-all-fit : (k : tie.After-splices-within) → let a = k .before .before .before .before .before .before .before .before .args in k .splices-within .result ≡ splicesWithin (countIn (a .c)) (a .components .now)
-all-fit k = k .splices-within .ensures ∙ ap (λ (n : ℕ). splicesWithin n (k .before .before .before .before .before .before .before .before .args .components .now)) (k .before .before .before .before .count-in .ensures)
+count : (k : tie.After-count-in) → k .count-in .result ≡ countIn (k .before .before .before .args .c)
+count k = k .count-in .ensures
 
-own : (k : tie.After-are-same) → let a = k .before .before .before .before .before .before .before .before .before .before .before .before .before .args in k .are-same .result ≡ same (commandWords (flatCommand (a .c))) (a .words .now)
+all-fit : (k : tie.After-splices-within) → let a = k .before .before .before .before .before .before .args in k .splices-within .result ≡ splicesWithin (countIn (a .c)) (a .components .now)
+all-fit k = k .splices-within .ensures ∙ ap (λ (n : ℕ). splicesWithin n (k .before .before .before .before .before .before .args .components .now)) (count (k .before .before .before))
+
+own : (k : tie.After-is-flat-command) → let a = k .before .before .before .before .before .before .before .before .before .args in k .is-flat-command .result ≡ same (commandWords (flatCommand (a .c))) (a .words .now)
 unfolding flatCommandRead
-own k = k .are-same .ensures ∙ ap (λ (l : List ℕ). same l (k .before .before .before .before .before .before .before .before .before .before .before .before .before .args .words .now)) (k .before .before .command-words .ensures ∙ ap commandWords (k .before .before .before .flat-command-read .ensures))
+own k = k .is-flat-command .ensures ∙ ap (λ (f : FlatCommand). same (commandWords f) (k .before .before .before .before .before .before .before .before .before .args .words .now)) (k .before .flat-command-read .ensures)
 
-all-own : (k : tie.After-own-splices) → let a = k .before .before .before .before .before .before .before .before .before .before .before .before .before .before .before .args in k .own-splices .result ≡ ownSplices (countIn (a .c)) (a .components .now)
-all-own k = k .own-splices .ensures ∙ ap (λ (n : ℕ). ownSplices n (k .before .before .before .before .before .before .before .before .before .before .before .before .before .before .before .args .components .now)) (k .before .before .before .before .before .before .before .before .before .before .before .count-in .ensures)
-
-command-widths-requires : tie.Need-command-widths-requires
-command-widths-requires c κs = search needs
+all-own : (k : tie.After-own-splices) → let a = k .before .before .before .before .before .before .before .before .before .before .before .args in k .own-splices .result ≡ ownSplices (countIn (a .c)) (a .components .now)
+all-own k = k .own-splices .ensures ∙ ap (λ (n : ℕ). ownSplices n (k .before .before .before .before .before .before .before .before .before .before .before .args .components .now)) (count (k .before .before .before .before .before .before .before .before))
 
 count-in-requires : tie.Need-count-in-requires
 count-in-requires c κs = search needs
@@ -34,17 +34,14 @@ count-in-requires c κs = search needs
 cast-count : tie.Need-cast-count
 cast-count c = search needs
 
-slice-aggregate-are-within : tie.Need-slice-aggregate-are-within
-slice-aggregate-are-within c = search needs
-
-are-within-requires : tie.Need-are-within-requires
-are-within-requires c κs = search needs
+is-command-within-requires : tie.Need-is-command-within-requires
+is-command-within-requires c κs = search needs
 
 returns : tie.Need-returns
 unfolding commandRefusal
 returns c =
-    let a = c .before .before .before .before .before .before .before .args in
-    first-wide (within commandWidths (a .words .now)) (splicesWithin (countIn (a .c)) (a .components .now)) (same (commandWords (flatCommand (a .c))) (a .words .now) && ownSplices (countIn (a .c)) (a .components .now)) (sym (fits (c .before)) ∙ not-true _ (c .if1 .taken))
+    let a = c .before .before .before .before .before .args in
+    first-wide (within commandWidths (a .words .now)) (splicesWithin (countIn (a .c)) (a .components .now)) (same (commandWords (flatCommand (a .c))) (a .words .now) && ownSplices (countIn (a .c)) (a .components .now)) (sym (c .before .is-command-within .ensures) ∙ not-true _ (c .if1 .taken))
 
 splices-within-requires : tie.Need-splices-within-requires
 splices-within-requires c κs = search needs
@@ -52,26 +49,20 @@ splices-within-requires c κs = search needs
 returns-2 : tie.Need-returns-2
 unfolding commandRefusal
 returns-2 c =
-    let a = c .before .before .before .before .before .before .before .before .before .args in
-    second-wide (within commandWidths (a .words .now)) (splicesWithin (countIn (a .c)) (a .components .now)) (same (commandWords (flatCommand (a .c))) (a .words .now) && ownSplices (countIn (a .c)) (a .components .now)) (sym (fits (c .before .before .before)) ∙ not-false _ (c .before .before .if1 .left)) (sym (all-fit (c .before)) ∙ not-true _ (c .if2 .taken))
+    let a = c .before .before .before .before .before .before .before .args in
+    second-wide (within commandWidths (a .words .now)) (splicesWithin (countIn (a .c)) (a .components .now)) (same (commandWords (flatCommand (a .c))) (a .words .now) && ownSplices (countIn (a .c)) (a .components .now)) (fits (c .before .before)) (sym (all-fit (c .before)) ∙ not-true _ (c .if2 .taken))
 
 flat-command-read-requires : tie.Need-flat-command-read-requires
 flat-command-read-requires c κs = search needs
 
-command-words-requires : tie.Need-command-words-requires
-command-words-requires c κs = search needs
-
-slice-aggregate-are-same : tie.Need-slice-aggregate-are-same
-slice-aggregate-are-same c = search needs
-
-are-same-requires : tie.Need-are-same-requires
-are-same-requires c κs = search needs
+is-flat-command-requires : tie.Need-is-flat-command-requires
+is-flat-command-requires c κs = search needs
 
 returns-3 : tie.Need-returns-3
 unfolding commandRefusal
 returns-3 c =
-    let a = c .before .before .before .before .before .before .before .before .before .before .before .before .before .before .args in
-    first-other (within commandWidths (a .words .now)) (splicesWithin (countIn (a .c)) (a .components .now)) (same (commandWords (flatCommand (a .c))) (a .words .now)) (ownSplices (countIn (a .c)) (a .components .now)) (sym (fits (c .before .before .before .before .before .before .before .before)) ∙ not-false _ (c .before .before .before .before .before .before .before .if1 .left)) (sym (all-fit (c .before .before .before .before .before .before)) ∙ not-false _ (c .before .before .before .before .before .if2 .left)) (sym (own (c .before)) ∙ not-true _ (c .if3 .taken))
+    let a = c .before .before .before .before .before .before .before .before .before .before .args in
+    first-other (within commandWidths (a .words .now)) (splicesWithin (countIn (a .c)) (a .components .now)) (same (commandWords (flatCommand (a .c))) (a .words .now)) (ownSplices (countIn (a .c)) (a .components .now)) (fits (c .before .before .before .before .before)) (sym (all-fit (c .before .before .before .before)) ∙ not-false _ (c .before .before .before .if2 .left)) (sym (own (c .before)) ∙ not-true _ (c .if3 .taken))
 
 own-splices-requires : tie.Need-own-splices-requires
 own-splices-requires c κs = search needs
@@ -79,31 +70,27 @@ own-splices-requires c κs = search needs
 returns-4 : tie.Need-returns-4
 unfolding commandRefusal
 returns-4 c =
-    let a = c .before .before .before .before .before .before .before .before .before .before .before .before .before .before .before .before .args in
-    second-other (within commandWidths (a .words .now)) (splicesWithin (countIn (a .c)) (a .components .now)) (same (commandWords (flatCommand (a .c))) (a .words .now)) (ownSplices (countIn (a .c)) (a .components .now)) (sym (fits (c .before .before .before .before .before .before .before .before .before .before)) ∙ not-false _ (c .before .before .before .before .before .before .before .before .before .if1 .left)) (sym (all-fit (c .before .before .before .before .before .before .before .before)) ∙ not-false _ (c .before .before .before .before .before .before .before .if2 .left)) (sym (own (c .before .before .before)) ∙ not-false _ (c .before .before .if3 .left)) (sym (all-own (c .before)) ∙ not-true _ (c .if4 .taken))
+    let a = c .before .before .before .before .before .before .before .before .before .before .before .before .args in
+    second-other (within commandWidths (a .words .now)) (splicesWithin (countIn (a .c)) (a .components .now)) (same (commandWords (flatCommand (a .c))) (a .words .now)) (ownSplices (countIn (a .c)) (a .components .now)) (fits (c .before .before .before .before .before .before .before)) (sym (all-fit (c .before .before .before .before .before .before)) ∙ not-false _ (c .before .before .before .before .before .if2 .left)) (sym (own (c .before .before .before)) ∙ not-false _ (c .before .before .if3 .left)) (sym (all-own (c .before)) ∙ not-true _ (c .if4 .taken))
 
 returns-5 : tie.Need-returns-5
 unfolding commandRefusal
 returns-5 c =
-    let a = c .before .before .before .before .before .before .before .before .before .before .before .before .before .before .before .before .args in
-    no-refusal (within commandWidths (a .words .now)) (splicesWithin (countIn (a .c)) (a .components .now)) (same (commandWords (flatCommand (a .c))) (a .words .now)) (ownSplices (countIn (a .c)) (a .components .now)) (sym (fits (c .before .before .before .before .before .before .before .before .before .before)) ∙ not-false _ (c .before .before .before .before .before .before .before .before .before .if1 .left)) (sym (all-fit (c .before .before .before .before .before .before .before .before)) ∙ not-false _ (c .before .before .before .before .before .before .before .if2 .left)) (sym (own (c .before .before .before)) ∙ not-false _ (c .before .before .if3 .left)) (sym (all-own (c .before)) ∙ not-false _ (c .if4 .left))
+    let a = c .before .before .before .before .before .before .before .before .before .before .before .before .args in
+    no-refusal (within commandWidths (a .words .now)) (splicesWithin (countIn (a .c)) (a .components .now)) (same (commandWords (flatCommand (a .c))) (a .words .now)) (ownSplices (countIn (a .c)) (a .components .now)) (fits (c .before .before .before .before .before .before .before)) (sym (all-fit (c .before .before .before .before .before .before)) ∙ not-false _ (c .before .before .before .before .before .if2 .left)) (sym (own (c .before .before .before)) ∙ not-false _ (c .before .before .if3 .left)) (sym (all-own (c .before)) ∙ not-false _ (c .if4 .left))
 
 pub command-refusal-spec : {M : Type 1} → statement M
 command-refusal-spec =
     tie.close
     (tie.spec
-    command-widths-requires
     count-in-requires
     cast-count
-    slice-aggregate-are-within
-    are-within-requires
+    is-command-within-requires
     returns
     splices-within-requires
     returns-2
     flat-command-read-requires
-    command-words-requires
-    slice-aggregate-are-same
-    are-same-requires
+    is-flat-command-requires
     returns-3
     own-splices-requires
     returns-4
