@@ -17,9 +17,8 @@ use Rattle.descriptor.specs.declared.DescriptorRead.{DescriptorRead}
 use Rattle.descriptor.specs.declared.segmentation.ModeComponent.{ModeComponent}
 use Rattle.descriptor.specs.declared.segmentation.SegmentationDetail.{SegmentationDetail}
 use Rattle.descriptor.specs.declared.whole.Beside.{Beside}
-use Rattle.descriptor_form.specs.Same.{componentsOf}
 use Rattle.descriptor_laws.specs.Trips.{wholeIn}
-use Rattle.flat_item_writer.specs.ItemWords.{descriptorWordsMade, countIn}
+use Rattle.flat_item_writer.specs.ItemWords.{descriptorWordsMade}
 use Rattle.flat_items.specs.FlatItem.{flatStep, flatBeside}
 use Rattle.items.specs.Items.{stepOf, readingOf, Listed, listed, itemsOf}
 use Rattle.items.specs.declared.Item.{Item}
@@ -209,13 +208,6 @@ reading-is : (loop : List ℕ) (o : ℕ) (d : Descriptor) → stepOf loop o .ite
 unfolding readingOf
 reading-is loop o d e = ap (λ (s : Step). record { step = s; beside = readingOf loop o .beside }) (step-is (stepOf loop o) d e)
 
-same-count : (d : Descriptor) → countIn d ≡ componentsOf d
-same-count (Descriptor.Avail x) = refl
-same-count (Descriptor.Dtmf x) = refl
-same-count (Descriptor.Segmentation x) = refl
-same-count (Descriptor.Time x) = refl
-same-count (Descriptor.Reserved tag v) = refl
-
 module _ (loop : List ℕ) (fits : length loop ≤ 4076) where
   words-at : (o : ℕ) (t : List ℕ) → At loop o t → AllBytes t → wordsMadeAt loop (listed loop o) ≡ writtenAt loop (listed loop o)
   words-at o t a all =
@@ -224,7 +216,7 @@ module _ (loop : List ℕ) (fits : length loop ≤ 4076) where
       let id = stepOf loop o .identifier in
       let side = readingOf loop o .beside in
       let types : TypedBeside id side = subst (λ (i : List ℕ). TypedBeside i side) (sym (identifier-is loop o t a)) (subst (TypedBeside (wholeIn t .identifier)) (sym (beside-is loop o t a)) (whole-typed t all (said t (a .canon) .0))) in
-      let typed = written-typed id side loop d t all (omega (arith, same-count d, b .places)) (b .writes) in
+      let typed = written-typed id side loop d t all (b .places) (b .writes) in
       ap₂ (λ (s : Step) (r : Reading). descriptorWordsMade (stepWords (flatStep s)) (besideWords (flatBeside r)) loop) (step-is (stepOf loop o) d (b .is)) (reading-is loop o d (b .is))
       ∙ descriptor-taken d (stepOf loop o .next) id side loop typed types (omega (arith, fits)) ∙ b .writes ∙ sym (written-at loop o t a b)
 
