@@ -6,6 +6,7 @@ use mathlib.Core.List.{_∷_}
 use mathlib.Core.Path.{_≡_, refl, ap, _∙_}
 use native.Mathlib.Nat.{mod-eq-of-lt}
 use lib.Dec.{eqb}
+use Rattle.descriptor.specs.Segmentation.{deviceOf}
 use Rattle.descriptor.specs.declared.Descriptor.{Descriptor}
 use Rattle.descriptor.specs.declared.segmentation.DeliveryRestrictionFlags.{DeliveryRestrictionFlags}
 use Rattle.descriptor.specs.declared.segmentation.SegmentationDetail.{SegmentationDetail}
@@ -15,12 +16,12 @@ use Rattle.descriptor.specs.declared.segmentation.SegmentationMode.{Segmentatio
 use Rattle.descriptor.specs.declared.segmentation.SubSegments.{SubSegments}
 use Rattle.flat_items.specs.FlatItem.{flatRestrictions, flatSubSegments, wholeSegmentation, bareSegmentation, segmentationItem, flatDescriptor}
 use Rattle.flat_items.specs.declared.descriptors.FlatItem.{FlatItem}
-use Rattle.names.specs.Flags.{restrictionsBits}
+use Rattle.names.specs.Flags.{restrictionsBits, restrictionsOf}
 use Rattle.names.specs.declared.flags.DeviceRestrictions.{DeviceRestrictions}
 use Rattle.names.proofs.Segmentations.{segmentation-laws}
 use Rattle.table.specs.Table.{flagNumber}
 use Rattle.table.specs.declared.View.{View}
-use Rattle.flat_item_writer.specs.ItemWords.{restrictionsIn, subSegmentsIn, segmentationIn, itemIn, itemWords, deviceFrom, restrictionsFrom, deliveryFrom, modeFrom, durationFrom, subSegmentsFrom, insertFrom, descriptorFrom, descriptorGiven}
+use Rattle.flat_item_writer.specs.ItemWords.{restrictionsIn, subSegmentsIn, segmentationIn, itemIn, itemWords, restrictionsFrom, deliveryFrom, modeFrom, durationFrom, subSegmentsFrom, insertFrom, descriptorFrom, descriptorGiven}
 use Rattle.flat_item_writer.specs.Typed.{TypedMode, TypedSubs, TypedInsert, TypedDetail, Typed}
 
 -- ---- the struct that the words of a step are, whatever stands before its item
@@ -33,7 +34,8 @@ flag-back : (b : Bool) → eqb (flagNumber b) 1 ≡ b
 flag-back true = refl
 flag-back false = refl
 
-device-back : (d : DeviceRestrictions) → deviceFrom (restrictionsBits d) ≡ d
+device-back : (d : DeviceRestrictions) → deviceOf (restrictionsBits d) ≡ d
+unfolding deviceOf restrictionsOf
 device-back DeviceRestrictions.RestrictGroup0 = refl
 device-back DeviceRestrictions.RestrictGroup1 = refl
 device-back DeviceRestrictions.RestrictGroup2 = refl

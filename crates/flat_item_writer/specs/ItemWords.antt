@@ -5,6 +5,7 @@ use mathlib.Core.Bool.{Bool, _&&_}
 use mathlib.Core.List.{List, [], _∷_}
 use lib.Dec.{eqb}
 use lib.ListN.{drop, replicate}
+use Rattle.descriptor.specs.Segmentation.{deviceOf}
 use Rattle.descriptor.specs.Whole.{filled}
 use Rattle.descriptor.specs.declared.Descriptor.{Descriptor}
 use Rattle.descriptor.specs.declared.Descriptor.the-variants.{Avail, Dtmf, Segmentation, Time, Reserved}
@@ -34,7 +35,6 @@ use Rattle.flat_items.specs.declared.segmentations.FlatSubSegments.{FlatSubSegm
 use Rattle.flat_writer.specs.CommandWords.{viewFrom}
 use Rattle.flat_writer.specs.Words.{word, within, same, placesOf, eachPlace, refusalOf, noLess}
 use Rattle.names.specs.Segmentation.{segmentationOf}
-use Rattle.names.specs.declared.flags.DeviceRestrictions.{DeviceRestrictions}
 use Rattle.table.specs.Bits.{pick, bigEndian}
 use Rattle.table.specs.Writing.{Made}
 use Rattle.table.specs.declared.View.{View}
@@ -128,20 +128,13 @@ itemWidths =
     32 ∷ 64 ∷ 32 ∷ 8 ∷ 32 ∷ 1 ∷ 1 ∷ 1 ∷ 1 ∷ 1 ∷ 1 ∷ 1 ∷ 2 ∷ 8 ∷ 40 ∷ 8 ∷ 8 ∷ 8 ∷ 8 ∷ 1 ∷ 8 ∷ 8 ∷ 48 ∷ 32 ∷ 16 ∷ 8 ∷ 64 ∷ 64 ∷ []
 
 -- ---- the value: each number is reduced to its type's width, and a kind that has no value makes some other kind's, so that 33 applies
-abbrev pub deviceFrom : ℕ → DeviceRestrictions
-deviceFrom n =
-    pick (eqb n 0) DeviceRestrictions.RestrictGroup0
-    (pick (eqb n 1) DeviceRestrictions.RestrictGroup1
-    (pick (eqb n 2) DeviceRestrictions.RestrictGroup2
-    DeviceRestrictions.None))
-
 unfoldable pub restrictionsFrom : FlatRestrictions → DeliveryRestrictions
 restrictionsFrom r =
     record {
       «web_delivery_allowed_flag» = eqb (r .«web_delivery_allowed_flag») 1;
       «no_regional_blackout_flag» = eqb (r .«no_regional_blackout_flag») 1;
       «archive_allowed_flag» = eqb (r .«archive_allowed_flag») 1;
-      «device_restrictions» = deviceFrom (r .«device_restrictions»);
+      «device_restrictions» = deviceOf (r .«device_restrictions»);
     }
 
 abbrev pub deliveryFrom : FlatSegmentation → DeliveryRestrictionFlags

@@ -1,8 +1,9 @@
 // Items.
 ghost use mathlib.Core.Path.{_≡_};
+ghost use Rattle.descriptor.specs.Segmentation.{deviceOf};
 ghost use lib.ListN.{drop};
 ghost use Rattle.flat_writer.specs.Words.{within, same};
-ghost use Rattle.flat_item_writer.specs.ItemWords.{restrictionsIn, subSegmentsIn, segmentationIn, itemIn, itemWords, itemWidths, deviceFrom, restrictionsFrom};
+ghost use Rattle.flat_item_writer.specs.ItemWords.{restrictionsIn, subSegmentsIn, segmentationIn, itemIn, itemWords, itemWidths, restrictionsFrom};
 ghost use Rattle.flat_item_writer.specs.ItemWords.{deliveryFrom, modeFrom, durationFrom, subSegmentsFrom, insertFrom, descriptorFrom, descriptorGiven};
 use descriptor::Descriptor;
 use descriptor::plain::AvailDescriptor;
@@ -216,7 +217,7 @@ pub(crate) fn is_flat_item(i: FlatItem, words: &[u64]) -> bool
 // ---- the value that it makes
 
 fn device_from(bits: u64) -> DeviceRestrictions
-    ensures { λ r. ⌜ r ≡ deviceFrom bits ⌝ }
+    ensures { λ r. ⌜ r ≡ deviceOf bits ⌝ }
 {
     match bits {
         0 => DeviceRestrictions::RestrictGroup0,

@@ -4,7 +4,7 @@ use mathlib.Core.Bool.{Bool, _&&_}
 use mathlib.Core.List.{List, [], _∷_}
 use lib.Dec.{eqb}
 use lib.ListN.{drop}
-use Rattle.command.specs.Command.{array}
+use Rattle.command.specs.Command.{array, ofInsert}
 use Rattle.command.specs.Insert.{count, insertOf}
 use Rattle.command.specs.declared.Private.{Private}
 use Rattle.command.specs.declared.SpliceCommand.{SpliceCommand}
@@ -153,11 +153,7 @@ abbrev pub splicesIn : List ℕ → List ℕ
 splicesIn words = drop 2 words
 
 abbrev pub countIn : SpliceCommand → ℕ
-countIn command.SpliceNull = 0
-countIn (command.SpliceInsert i) = count (insertOf (i .«splice_detail») .«splice_mode»)
-countIn (command.TimeSignal t) = 0
-countIn command.BandwidthReservation = 0
-countIn (command.PrivateCommand p) = 0
+countIn c = ofInsert (λ i. count (insertOf (i .«splice_detail») .«splice_mode»)) 0 c
 
 -- component_tag; splice_time
 unfoldable pub componentWords : FlatComponentSplice → List ℕ
