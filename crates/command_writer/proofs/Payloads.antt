@@ -37,12 +37,13 @@ use Rattle.table.proofs.Fields.{bits-bytes}
 use Rattle.table.proofs.Lists.{append-nil, and-true, zero-one}
 use Rattle.table.proofs.Stores.{stored-nil, stored-none}
 use Rattle.table.proofs.Walks.{print-bits, print-length}
-use Rattle.command_writer.specs.Fields.{ink, timeFields, insertFields, privateInk}
-use Rattle.command_writer.specs.Made.{counted, timesFit, insertMade, commandMade, measuredOf}
-use Rattle.command_writer.specs.Survey.{Countable, hasRoom, answerTo}
-use Rattle.command_writer.specs.declared.Measured.{Measured}
-use Rattle.command_writer.proofs.Making.{measured-parts, time-whole, insert-whole, private-fields}
-use Rattle.command_writer.proofs.Ties.{time-fields, insert-fields}
+use Rattle.command_measure.specs.Fields.{ink, timeFields, insertFields, privateInk}
+use Rattle.command_measure.specs.Made.{counted, timesFit, insertMade, commandMade, measuredOf}
+use Rattle.command_measure.specs.Survey.{Countable}
+use Rattle.command_measure.specs.declared.Measured.{Measured}
+use Rattle.command_writer.specs.Walk.{hasRoom, answerTo}
+use Rattle.command_measure.proofs.Making.{measured-parts, time-whole, insert-whole, private-fields}
+use Rattle.command_measure.proofs.Ties.{time-fields, insert-fields}
 
 pub record Payload (m : Made) (p : List ℕ) : Type 0 where
   pub bytes : bytesIn m ≡ bytesOf p

@@ -29,8 +29,8 @@ use Rattle.table.proofs.Bits.{all-num}
 use Rattle.table.proofs.Lists.{append-nil}
 use Rattle.table.proofs.Steppings.{Settled, settled-at}
 use Rattle.table.proofs.Walks.{print-bits}
-use Rattle.command_writer.specs.Fields.{ink, timeFields, componentFields, listFields, modeFields, automatic, breakFields, tailFields, flagFields, immediateIn, placesOf, activeFields, insertFields}
-use Rattle.command_writer.specs.Made.{counted}
+use Rattle.command_measure.specs.Fields.{ink, timeFields, componentFields, listFields, modeFields, automatic, breakFields, tailFields, flagFields, immediateIn, placesOf, activeFields, insertFields}
+use Rattle.command_measure.specs.Made.{counted}
 
 module _ (t : List ℕ) (c : Cursor) (u : List ℕ) (d : Cursor) where
   -- one number, and what stands behind it

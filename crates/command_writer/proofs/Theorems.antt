@@ -23,8 +23,8 @@ use Rattle.table.specs.Bits.{pick, bitsOf, AllBytes}
 use Rattle.table.specs.Table.{Answer, got, short, parse, canonical}
 use Rattle.table.specs.Writing.{Made, made, refused, Same, make}
 use Rattle.table.proofs.Lists.{zero-one, append-nil}
-use Rattle.command_writer.specs.Made.{counted, timesFit, insertMade, commandMade}
-use Rattle.command_writer.proofs.Making.{time-made, insert-made-of}
+use Rattle.command_measure.specs.Made.{counted, timesFit, insertMade, commandMade}
+use Rattle.command_measure.proofs.Making.{time-made, insert-made-of}
 
 -- ---- written, then read
 -- null and bandwidth reservation are written as nothing, which reads as them

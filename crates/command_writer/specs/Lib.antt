@@ -1,3 +1,1 @@
-pub mod Made
-pub mod Fields
-pub mod Survey
+pub mod Walk

@@ -1,28 +1,27 @@
 // Writing the payload of a command. One without components, or with blank ones, needs no array; the forms below that take it say what components add.
 ghost use mathlib.Core.Path.{_≡_};
-ghost use mathlib.Core.Bool.{true};
 ghost use mathlib.Core.List.{[]};
 ghost use Prim.Native.Nat.{_+_, _≤_};
 ghost use lib.ListN.{length};
-ghost use Rattle.command_writer.specs.Made.{counted, insertMade, commandMade, measuredOf};
-ghost use Rattle.command.specs.Command.{array, private};
-ghost use Rattle.command_writer.specs.Fields.{privateInk};
-ghost use Rattle.command_writer.specs.Survey.{Countable, hasRoom, answerTo};
+ghost use Rattle.command_measure.specs.Made.{counted, insertMade, commandMade};
+ghost use Rattle.command.specs.Command.{array};
+ghost use Rattle.command_measure.specs.Fields.{privateInk};
+ghost use Rattle.command_measure.specs.Survey.{Countable};
+ghost use Rattle.command_writer.specs.Walk.{hasRoom, answerTo};
 ghost use Rattle.pen.specs.Pen.{Fits, Pens};
 ghost use Rattle.pen.specs.Written.{answerOf, laterOf, refusalIn, bytesIn};
 ghost use Rattle.table.specs.Bits.{AllBytes};
 ghost use Rattle.table.specs.Lent.{stored};
-ghost use Rattle.table.specs.Writing.{make};
 use crate::insert::store_bare_insert;
 use crate::insert::store_insert;
-use crate::measure::measure_bare_insert;
-use crate::measure::measure_insert;
-use crate::measure::measure_time;
 use crate::time::store_time;
 use command::Private;
 use command::SpliceCommand;
 use command::components::ComponentSplice;
 use command::insert::Insertion;
+use command_measure::Measured;
+use command_measure::measure::measure_insert;
+use command_measure::measure_bare;
 use pen::Written;
 use pen::put_bits;
 use pen::put_run;
@@ -30,61 +29,7 @@ use table::cursor::Cursor;
 use table::lent::view;
 
 pub mod insert;
-pub mod measure;
 pub mod time;
-
-// The number of a refusal, 0 for none, and how many bytes the payload has.
-pub struct Measured {
-    pub refusal: u8,
-    pub size: usize,
-}
-
-fn refuse(n: u8) -> Measured
-    ensures { λ r. ⌜ r ≡ record { refusal = n; size = 0 } ⌝ }
-{
-    Measured {
-        refusal: n,
-        size: 0,
-    }
-}
-
-// A private command; the rest of its payload is a view of the lent bytes.
-fn measure_private(p: Private, lent: &[u8]) -> Measured
-    ensures { λ r. ⌜ r ≡ measuredOf (make private true (now (lent .entry)) p) ⌝ }
-{
-    let bytes = p.private_bytes;
-    let at = bytes.at;
-    let len = bytes.len;
-    if lent.len() < at {
-        return refuse(31);
-    }
-    if lent.len() - at < len {
-        return refuse(31);
-    }
-    Measured {
-        refusal: 0,
-        size: 4 + len,
-    }
-}
-
-// Of a command whose components are all blank, if it has any: which refusal it has, 31 to 33, and how many bytes its payload has.
-pub fn measure_bare(command: SpliceCommand, lent: &[u8]) -> Measured
-    ensures { λ r. ⌜ (r ≡ measuredOf (commandMade command (array []) (now (lent .entry)))) × Countable command ⌝ }
-{
-    match command {
-        SpliceCommand::SpliceNull => Measured {
-            refusal: 0,
-            size: 0,
-        },
-        SpliceCommand::SpliceInsert(i) => measure_bare_insert(i),
-        SpliceCommand::TimeSignal(t) => measure_time(t),
-        SpliceCommand::BandwidthReservation => Measured {
-            refusal: 0,
-            size: 0,
-        },
-        SpliceCommand::PrivateCommand(p) => measure_private(p, lent),
-    }
-}
 
 fn store_private(out: &mut [u8], c: Cursor, p: Private, lent: &[u8]) -> Cursor
     requires { ⌜ Fits (now out) c (privateInk p (now lent)) ⌝ }
@@ -170,20 +115,6 @@ pub fn write_bare_command(command: SpliceCommand, lent: &[u8], target: &mut [u8]
 }
 
 // ---- with an array of components, which only an insert has
-
-// Which refusal a command has, 31 to 33, and how many bytes its payload has.
-pub fn measure_command(
-    command: SpliceCommand,
-    components: [ComponentSplice; 255],
-    lent: &[u8],
-) -> Measured
-    ensures { λ r. ⌜ (r ≡ measuredOf (commandMade command components (now (lent .entry)))) × Countable command ⌝ }
-{
-    match command {
-        SpliceCommand::SpliceInsert(i) => measure_insert(i, components),
-        _ => measure_bare(command, lent),
-    }
-}
 
 // Of an insert, the payload from a byte on.
 fn put_insert(out: &mut [u8], at: usize, i: Insertion, components: [ComponentSplice; 255])

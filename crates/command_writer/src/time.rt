@@ -1,5 +1,5 @@
 // Writing a splice_time().
-ghost use Rattle.command_writer.specs.Fields.{ink, timeFields};
+ghost use Rattle.command_measure.specs.Fields.{ink, timeFields};
 ghost use Rattle.pen.specs.Pen.{Fits, Pens};
 use header::time::SpliceTime;
 use pen::put_bits;

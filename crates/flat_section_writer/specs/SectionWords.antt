@@ -2,7 +2,7 @@
 use Prim.Native.Nat.{ℕ, _%_}
 use mathlib.Core.List.{List, [], _∷_}
 use lib.Dec.{eqb}
-use Rattle.command_writer.specs.Made.{commandMade}
+use Rattle.command_measure.specs.Made.{commandMade}
 use Rattle.flat.specs.Flat.{flatHeader}
 use Rattle.flat.specs.declared.headers.FlatHeader.{FlatHeader}
 use Rattle.flat_writer.specs.CommandWords.{commandGiven, countIn, componentsFrom, commandRefusal}

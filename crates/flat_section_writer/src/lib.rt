@@ -3,7 +3,7 @@ ghost use mathlib.Core.List.{[]};
 ghost use mathlib.Core.Path.{_≡_};
 ghost use Prim.Native.Nat.{_≤_};
 ghost use Rattle.command.specs.Command.{array};
-ghost use Rattle.command_writer.specs.Made.{commandMade};
+ghost use Rattle.command_measure.specs.Made.{commandMade};
 ghost use Rattle.flat_section_writer.specs.SectionWords.{headerFrom, headerWords, headerRefusal, either, sectionWordsMade};
 ghost use Rattle.flat_writer.specs.CommandWords.{countIn, componentsFrom};
 ghost use Rattle.flat_writer.specs.Words.{flatWritten, noLess};

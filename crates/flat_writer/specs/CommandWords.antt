@@ -18,7 +18,7 @@ use Rattle.command.specs.declared.insert.SpliceInsert.{SpliceInsert}
 use Rattle.command.specs.declared.insert.SpliceInsert.the-variants as insert
 use Rattle.command.specs.declared.insert.SpliceMode.{SpliceMode}
 use Rattle.command.specs.declared.insert.SpliceMode.the-variants.{Program, Components}
-use Rattle.command_writer.specs.Made.{commandMade}
+use Rattle.command_measure.specs.Made.{commandMade}
 use Rattle.flat.specs.FlatCommand.{flatCommand, flatComponent}
 use Rattle.flat.specs.declared.FlatTime.{FlatTime}
 use Rattle.flat.specs.declared.FlatView.{FlatView}

@@ -4,7 +4,7 @@ ghost use mathlib.Core.Path.{_≡_};
 ghost use Prim.Native.Nat.{_≤_};
 ghost use lib.ListN.{drop};
 ghost use Rattle.command.specs.Command.{array};
-ghost use Rattle.command_writer.specs.Made.{commandMade};
+ghost use Rattle.command_measure.specs.Made.{commandMade};
 ghost use Rattle.flat_writer.specs.CommandWords.{modeIn, breakIn, insertIn, commandIn, modeFrom, breakFrom, insertFrom, insertionFrom, commandFrom, commandWords, commandWidths, countIn};
 ghost use Rattle.flat_writer.specs.CommandWords.{componentsFrom, commandGiven, commandRefusal, commandWordsMade};
 ghost use Rattle.flat_writer.specs.Words.{within, same, flatWritten, noLess};

@@ -7,8 +7,8 @@ use native.Mathlib.Omega.{arith}
 use lib.ListN.{length, take}
 use Rattle.command.specs.declared.SpliceCommand.{SpliceCommand}
 use Rattle.command.specs.declared.components.ComponentSplice.{ComponentSplice}
-use Rattle.command_writer.specs.Made.{commandMade, measuredOf}
-use Rattle.command_writer.specs.declared.Measured.{Measured}
+use Rattle.command_measure.specs.Made.{commandMade, measuredOf}
+use Rattle.command_measure.specs.declared.Measured.{Measured}
 use Rattle.header.specs.declared.header.SpliceInfoHeader.{SpliceInfoHeader}
 use Rattle.pen.specs.Written.{answerOf, laterOf, refusalIn, bytesIn}
 use Rattle.pen.specs.declared.Written.{Written}

@@ -18,8 +18,8 @@ use Rattle.command.specs.declared.insert.Insertion.{Insertion}
 use Rattle.command.proofs.InsertLeads.{Counted}
 use Rattle.command.proofs.InsertTrips.{insert-write-read}
 use Rattle.command.proofs.PrivateTrips.{private-write-read}
+use Rattle.command_measure.specs.Made.{counted, timesFit, insertMade, commandMade}
 use Rattle.command_writer.proofs.Theorems.{insert-made}
-use Rattle.command_writer.specs.Made.{counted, timesFit, insertMade, commandMade}
 use Rattle.descriptor_form.specs.Canonical.{canonicalLoop}
 use Rattle.header.specs.Time.{spliceTime, notImmediate}
 use Rattle.header.specs.declared.header.SpliceInfoHeader.{SpliceInfoHeader}

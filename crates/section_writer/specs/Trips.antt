@@ -7,7 +7,7 @@ use lib.ListN.{length}
 use Rattle.command.specs.Command.{withView}
 use Rattle.command.specs.declared.SpliceCommand.{SpliceCommand}
 use Rattle.command.specs.declared.components.ComponentSplice.{ComponentSplice}
-use Rattle.command_writer.specs.Made.{commandMade}
+use Rattle.command_measure.specs.Made.{commandMade}
 use Rattle.header.specs.declared.header.SpliceInfoHeader.{SpliceInfoHeader}
 use Rattle.section.specs.Section.{loopPlace, moved, sectionOf}
 use Rattle.section.specs.declared.SectionRead.{SectionRead}

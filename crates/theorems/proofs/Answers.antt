@@ -12,7 +12,7 @@ use Rattle.command.specs.Command.{private, componentsOf}
 use Rattle.command.specs.declared.Private.{Private}
 use Rattle.command.specs.declared.SpliceCommand.{SpliceCommand}
 use Rattle.command.specs.declared.components.ComponentSplice.{ComponentSplice}
-use Rattle.command_writer.specs.Made.{insertMade, commandMade}
+use Rattle.command_measure.specs.Made.{insertMade, commandMade}
 use Rattle.flat_writer.specs.CommandWords.{countIn}
 use Rattle.header.specs.Time.{spliceTime, notImmediate}
 use Rattle.items.specs.Items.{Listed, listed}

@@ -22,10 +22,13 @@ use Rattle.canonical_loop.proofs.is_canonical_descriptor.Reads as is-canonical-
 use Rattle.canonical_loop.proofs.is_canonical_loop.Reads as is-canonical-loop
 use Rattle.descriptor_writer.proofs.write_bare_descriptor.Reads as write-bare-descriptor
 use Rattle.descriptor_writer.proofs.write_descriptor.Reads as write-descriptor
-use Rattle.command_writer.proofs.measure_bare.Reads as measure-bare
+use Rattle.command_measure.proofs.measure.is_immediate.Reads as is-immediate
+use Rattle.command_measure.proofs.measure.are_immediate.Reads as are-immediate
+use Rattle.command_measure.proofs.measure.measure_insert.Reads as measure-insert
+use Rattle.command_measure.proofs.measure_bare.Reads as measure-bare
+use Rattle.command_measure.proofs.measure_command.Reads as measure-command
 use Rattle.command_writer.proofs.put_bare.Reads as put-bare
 use Rattle.command_writer.proofs.write_bare_command.Reads as write-bare-command
-use Rattle.command_writer.proofs.measure_command.Reads as measure-command
 use Rattle.command_writer.proofs.put_command.Reads as put-command
 use Rattle.command_writer.proofs.write_command.Reads as write-command
 use Rattle.canonical_command.proofs.is_canonical_command.Reads as is-canonical-command
@@ -118,10 +121,24 @@ write-descriptor-is-fixed = record { takes-any = λ κ a. tt; one-answer = λ κ
 pub write-descriptor-fixes-the-target : FixedIn write-descriptor.Asked write-descriptor.Learnt (λ κ answer after. now (after .1 .1 .1 .1 .0))
 write-descriptor-fixes-the-target = record { takes-any = λ κ a. tt; seen = λ κ a x y e f p q. p .target-later ∙ sym (q .target-later) }
 
--- ---- command_writer
+-- ---- command_measure: the tests of the command writer
+
+pub is-immediate-is-fixed : Fixed is-immediate.Asked is-immediate.Learnt
+is-immediate-is-fixed = record { takes-any = λ κ a. tt; one-answer = λ κ a x y e f p q. p ∙ sym q }
+
+pub are-immediate-is-fixed : Fixed are-immediate.Asked are-immediate.Learnt
+are-immediate-is-fixed = record { takes-any = λ κ a. tt; one-answer = λ κ a x y e f p q. p ∙ sym q }
+
+pub measure-insert-is-fixed : Fixed measure-insert.Asked measure-insert.Learnt
+measure-insert-is-fixed = record { takes-any = λ κ a. tt; one-answer = λ κ a x y e f p q. p .0 ∙ sym (q .0) }
+
+pub measure-bare-is-fixed : Fixed measure-bare.Asked measure-bare.Learnt
+measure-bare-is-fixed = record { takes-any = λ κ a. tt; one-answer = λ κ a x y e f p q. p .0 ∙ sym (q .0) }
 
 pub measure-command-is-fixed : Fixed measure-command.Asked measure-command.Learnt
 measure-command-is-fixed = record { takes-any = λ κ a. tt; one-answer = λ κ a x y e f p q. p .0 ∙ sym (q .0) }
+
+-- ---- command_writer
 
 pub put-command-fixes-the-target : FixedIn put-command.Asked put-command.Learnt (λ κ answer after. now (after .0))
 put-command-fixes-the-target = record { takes-any = λ κ a. tt; seen = λ κ a x y e f p q. p ∙ sym q }
@@ -131,9 +148,6 @@ write-command-is-fixed = record { takes-any = λ κ a. tt; one-answer = λ κ a 
 
 pub write-command-fixes-the-target : FixedIn write-command.Asked write-command.Learnt (λ κ answer after. now (after .1 .1 .1 .0))
 write-command-fixes-the-target = record { takes-any = λ κ a. tt; seen = λ κ a x y e f p q. p .1 ∙ sym (q .1) }
-
-pub measure-bare-is-fixed : Fixed measure-bare.Asked measure-bare.Learnt
-measure-bare-is-fixed = record { takes-any = λ κ a. tt; one-answer = λ κ a x y e f p q. p .0 ∙ sym (q .0) }
 
 pub put-bare-fixes-the-target : FixedIn put-bare.Asked put-bare.Learnt (λ κ answer after. now (after .0))
 put-bare-fixes-the-target = record { takes-any = λ κ a. tt; seen = λ κ a x y e f p q. p ∙ sym q }

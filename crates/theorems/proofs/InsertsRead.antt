@@ -14,7 +14,7 @@ use Rattle.command.specs.declared.insert.Insert.{Insert}
 use Rattle.command.specs.declared.insert.Insertion.{Insertion}
 use Rattle.command.specs.declared.insert.SpliceInsert.{SpliceInsert}
 use Rattle.command.specs.declared.insert.SpliceMode.{SpliceMode}
-use Rattle.command_writer.specs.Made.{timesFit}
+use Rattle.command_measure.specs.Made.{timesFit}
 use Rattle.header.specs.Time.{spliceTime, ticks}
 use Rattle.header.specs.declared.time.SpliceTime.{SpliceTime}
 use Rattle.header.specs.declared.time.SpliceTime.the-variants.{Immediate, Unspecified, At}

@@ -21,10 +21,10 @@ use Rattle.command.specs.declared.insert.Insert.{Insert}
 use Rattle.command.specs.declared.insert.Insertion.{Insertion}
 use Rattle.command.specs.declared.insert.SpliceInsert.{SpliceInsert}
 use Rattle.command.specs.declared.insert.SpliceMode.{SpliceMode}
-use Rattle.command_writer.proofs.Making.{measured-time, measured-parts, private-outside, insert-cancelled, insert-active, command-insert, command-time, command-private}
-use Rattle.command_writer.specs.Fields.{immediateIn}
-use Rattle.command_writer.specs.Made.{counted, timesFit, insertMade, commandMade, measuredOf}
-use Rattle.command_writer.specs.Survey.{Tags, surveyed, modeBytes, breakBytes, measured, activeMeasured, timeBytes}
+use Rattle.command_measure.proofs.Making.{measured-time, measured-parts, private-outside, insert-cancelled, insert-active, command-insert, command-time, command-private}
+use Rattle.command_measure.specs.Fields.{immediateIn}
+use Rattle.command_measure.specs.Made.{counted, timesFit, insertMade, commandMade, measuredOf}
+use Rattle.command_measure.specs.Survey.{Tags, surveyed, modeBytes, breakBytes, measured, activeMeasured, timeBytes}
 use Rattle.descriptor_form.specs.Canonical.{canonicalLoop}
 use Rattle.flat.specs.Flat.{flatTime, noTime, noView, flatHeader}
 use Rattle.flat.specs.FlatCommand.{flatMode, flatBreak, wholeInsert, bareInsert, flatInsertion, commandWith, noCommand, flatCommand, flatComponent, flatSplices}

@@ -19,12 +19,12 @@ use Rattle.command.specs.declared.insert.Insert.{Insert}
 use Rattle.command.specs.declared.insert.Insertion.{Insertion}
 use Rattle.command.specs.declared.insert.SpliceInsert.{SpliceInsert}
 use Rattle.command.specs.declared.insert.SpliceMode.{SpliceMode}
-use Rattle.command_writer.proofs.Making.{private-fields}
+use Rattle.command_measure.proofs.Making.{private-fields}
+use Rattle.command_measure.proofs.Ties.{insert-fields}
+use Rattle.command_measure.specs.Fields.{unlessFields, listFields, modeFields, breakFields, tailFields, endFields, immediateIn, insertFields}
+use Rattle.command_measure.specs.Made.{counted, commandMade}
+use Rattle.command_measure.specs.Survey.{Tags}
 use Rattle.command_writer.proofs.Theorems.{insert-made}
-use Rattle.command_writer.proofs.Ties.{insert-fields}
-use Rattle.command_writer.specs.Fields.{unlessFields, listFields, modeFields, breakFields, tailFields, endFields, immediateIn, insertFields}
-use Rattle.command_writer.specs.Made.{counted, commandMade}
-use Rattle.command_writer.specs.Survey.{Tags}
 use Rattle.descriptor_form.proofs.Refusals.{within-append}
 use Rattle.descriptor_form.specs.Canonical.{canonicalLoop}
 use Rattle.flat.specs.Flat.{flatHeader}

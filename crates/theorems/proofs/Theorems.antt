@@ -1,5 +1,5 @@
 -- The product's demands, over the definitions. A reader needs specs/{Rows,Identifiers,Sections,Written,Same}.antt beside this file; for the part on writing the
--- definitions of `section_writer` and `command_writer`, and those of `loop_laws` (specs/Loops.antt) for the loop by its items; for the part on the C boundary
+-- definitions of `section_writer` and `command_measure`, and those of `loop_laws` (specs/Loops.antt) for the loop by its items; for the part on the C boundary
 -- specs/OverC.antt and the definitions of `flat_writer`, `flat_section_writer` and `flat_item_writer`. The proofs stand in the other files of this folder. That each
 -- public contract fixes its answer is stated for each function in FixedAnswers.antt, FixedAtBoundary.antt and FixedAtWriter.antt. Assumes nothing.
 use Prim.Native.Nat.{ℕ, _≤_, _^_, _<_}
@@ -13,8 +13,8 @@ use Rattle.command.specs.declared.Private.{Private}
 use Rattle.command.specs.declared.SpliceCommand.{SpliceCommand}
 use Rattle.command.specs.declared.components.ComponentSplice.{ComponentSplice}
 use Rattle.command.specs.declared.insert.Insertion.{Insertion}
-use Rattle.command_writer.specs.Made.{counted, commandMade}
-use Rattle.command_writer.specs.Survey.{Countable, Tags}
+use Rattle.command_measure.specs.Made.{counted, commandMade}
+use Rattle.command_measure.specs.Survey.{Countable, Tags}
 use Rattle.crc.specs.Crc.{crcOf}
 use Rattle.descriptor.specs.Descriptor.{availOf, dtmfOf, timeOf}
 use Rattle.descriptor.specs.declared.Descriptor.{Descriptor}

@@ -16,9 +16,9 @@ use Rattle.command.specs.declared.CommandRead.{CommandRead}
 use Rattle.command.specs.declared.SpliceCommand.{SpliceCommand}
 use Rattle.command.specs.declared.components.ComponentSplice.{ComponentSplice}
 use Rattle.command.specs.declared.insert.Insertion.{Insertion}
+use Rattle.command_measure.specs.Made.{counted, insertMade, commandMade}
+use Rattle.command_measure.specs.Survey.{Countable}
 use Rattle.command_writer.proofs.Theorems.{insert-trip, time-back, private-back, insert-back}
-use Rattle.command_writer.specs.Made.{counted, insertMade, commandMade}
-use Rattle.command_writer.specs.Survey.{Countable}
 use Rattle.descriptor_form.specs.Canonical.{canonicalLoop}
 use Rattle.header.specs.Time.{spliceTime}
 use Rattle.header.specs.declared.header.SpliceInfoHeader.{SpliceInfoHeader}

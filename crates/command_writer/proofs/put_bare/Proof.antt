@@ -6,7 +6,7 @@ use lib.ListN.{length}
 use Rattle.command.specs.Command.{array}
 use Rattle.pen.specs.Written.{refusalIn, bytesIn}
 use Rattle.table.proofs.Bits.{bytes-all}
-use Rattle.command_writer.specs.Made.{commandMade}
+use Rattle.command_measure.specs.Made.{commandMade}
 use Rattle.command_writer.proofs.Payloads.{room-there, room-none}
 use borrow.Author.Needs.{needs}
 use Rattle.command_writer.proofs.put_bare.Statement.{statement}

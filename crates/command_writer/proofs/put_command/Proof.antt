@@ -5,7 +5,7 @@ use Rattle.command.specs.Command.{array}
 use Rattle.pen.specs.Written.{bytesIn}
 use Rattle.table.specs.Lent.{stored}
 use Rattle.table.specs.Writing.{Made}
-use Rattle.command_writer.proofs.Making.{insert-is, bare-made}
+use Rattle.command_measure.proofs.Making.{insert-is, bare-made}
 use borrow.Author.Needs.{needs}
 use Rattle.command_writer.proofs.put_command.Statement.{statement}
 use Rattle.command_writer.proofs.put_command.Tie as tie

@@ -8,8 +8,8 @@ use Rattle.pen.specs.Written.{refusalIn, bytesIn}
 use Rattle.table.specs.Writing.{contents}
 use Rattle.table.proofs.Bits.{bytes-all}
 use Rattle.table.proofs.Walks.{print-bits}
-use Rattle.command_writer.specs.Fields.{ink, insertFields}
-use Rattle.command_writer.specs.Made.{counted, insertMade}
+use Rattle.command_measure.specs.Fields.{ink, insertFields}
+use Rattle.command_measure.specs.Made.{counted, insertMade}
 use Rattle.command_writer.proofs.Payloads.{Payload, counted-payload, store-room, store-whole, room-there, room-none}
 use borrow.Author.Needs.{needs}
 use Rattle.command_writer.proofs.put_insert.Statement.{statement}

@@ -10,10 +10,10 @@ use Rattle.table.proofs.Stores.{stored-nil}
 use Rattle.table.proofs.Walks.{print-bits}
 use Rattle.command.specs.Command.{array}
 use Rattle.command.proofs.Filling.{blank-length}
-use Rattle.command_writer.specs.Fields.{ink, timeFields, insertFields, privateInk}
-use Rattle.command_writer.specs.Made.{counted, commandMade}
+use Rattle.command_measure.specs.Fields.{ink, timeFields, insertFields, privateInk}
+use Rattle.command_measure.specs.Made.{counted, commandMade}
 use Rattle.command.specs.declared.SpliceCommand.{SpliceCommand}
-use Rattle.command_writer.proofs.Making.{countable}
+use Rattle.command_measure.proofs.Making.{countable}
 use Rattle.command_writer.proofs.Payloads.{Payload, command-insert-payload, command-time-payload, command-private-payload, null-bytes, bandwidth-bytes, store-room, store-whole, private-bits}
 use borrow.Author.Needs.{needs}
 use Rattle.command_writer.proofs.store_bare.Statement.{statement}

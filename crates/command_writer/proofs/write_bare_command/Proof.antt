@@ -8,7 +8,7 @@ use Rattle.command.specs.Command.{array}
 use Rattle.command.proofs.Filling.{blank-length}
 use Rattle.pen.specs.Written.{answerOf, refusalIn, bytesIn}
 use Rattle.table.proofs.Bits.{bytes-all}
-use Rattle.command_writer.specs.Made.{commandMade}
+use Rattle.command_measure.specs.Made.{commandMade}
 use Rattle.command_writer.proofs.Payloads.{command-made, answered, wrote-there, refused-later}
 use borrow.Author.Needs.{needs}
 use Rattle.command_writer.proofs.write_bare_command.Statement.{statement}

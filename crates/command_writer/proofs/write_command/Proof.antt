@@ -1,7 +1,7 @@
 -- `command_writer::write_command`: an insert, or what has no components.
 use mathlib.Core.List.{[]}
 use Rattle.command.specs.Command.{array}
-use Rattle.command_writer.proofs.Making.{insert-is, bare-made}
+use Rattle.command_measure.proofs.Making.{insert-is, bare-made}
 use Rattle.command_writer.proofs.Payloads.{other-made}
 use borrow.Author.Needs.{needs}
 use Rattle.command_writer.proofs.write_command.Statement.{statement}

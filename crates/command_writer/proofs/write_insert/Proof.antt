@@ -9,8 +9,8 @@ use Rattle.table.specs.Lent.{stored}
 use Rattle.table.specs.Writing.{contents}
 use Rattle.table.proofs.Bits.{bytes-all}
 use Rattle.table.proofs.Walks.{print-bits}
-use Rattle.command_writer.specs.Fields.{ink, insertFields}
-use Rattle.command_writer.specs.Made.{counted, insertMade}
+use Rattle.command_measure.specs.Fields.{ink, insertFields}
+use Rattle.command_measure.specs.Made.{counted, insertMade}
 use Rattle.command_writer.proofs.Payloads.{Payload, counted-payload, store-room, store-whole, answered, wrote-there, refused-later}
 use borrow.Author.Needs.{needs}
 use Rattle.command_writer.proofs.write_insert.Statement.{statement}

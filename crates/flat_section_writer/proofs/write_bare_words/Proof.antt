@@ -5,7 +5,7 @@ use mathlib.Core.List.{List, [], _++_}
 use mathlib.Core.Path.{_≡_, refl, ap, _∙_}
 use native.Mathlib.Omega.{arith}
 use Rattle.command.specs.Command.{array}
-use Rattle.command_writer.specs.Made.{commandMade}
+use Rattle.command_measure.specs.Made.{commandMade}
 use Rattle.section_writer.specs.Writing.{sectionMade, kindOf}
 use Rattle.flat_writer.proofs.Words.{words-refused, words-taken, later-nil}
 use Rattle.flat_section_writer.proofs.write_bare_words.Statement.{statement}

@@ -7,7 +7,7 @@ use native.Mathlib.Omega.{arith}
 use Rattle.command.specs.Command.{array}
 use Rattle.command.specs.declared.SpliceCommand.{SpliceCommand}
 use Rattle.command.specs.declared.components.ComponentSplice.{ComponentSplice}
-use Rattle.command_writer.specs.Made.{commandMade}
+use Rattle.command_measure.specs.Made.{commandMade}
 use Rattle.header.specs.declared.header.SpliceInfoHeader.{SpliceInfoHeader}
 use Rattle.pen.specs.Written.{answerOf, laterOf}
 use Rattle.section_writer.specs.Writing.{sectionMade, kindOf}

@@ -6,7 +6,7 @@ use mathlib.Core.List.{List, [], _∷_}
 use Rattle.command.specs.Command.{array}
 use Rattle.pen.proofs.Tables.{Goes, pens-same}
 use Rattle.table.specs.Writing.{Field, bits}
-use Rattle.command_writer.specs.Fields.{ink, placesOf, activeFields}
+use Rattle.command_measure.specs.Fields.{ink, placesOf, activeFields}
 use Rattle.command_writer.proofs.Storing.{pens-all, fits-same, cancel-fields, active-insert, head-bits, after-event}
 use borrow.Author.Needs.{needs}
 use Rattle.command_writer.proofs.insert.store_bare_insert.Statement.{statement}

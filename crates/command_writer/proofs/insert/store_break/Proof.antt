@@ -4,7 +4,7 @@ use mathlib.Core.Path.{_≡_, ap, _∙_}
 use native.Mathlib.Omega.{arith}
 use Rattle.command.specs.declared.insert.Break.{Break}
 use Rattle.table.specs.Table.{flagNumber}
-use Rattle.command_writer.specs.Fields.{breakFields}
+use Rattle.command_measure.specs.Fields.{breakFields}
 use Rattle.command_writer.proofs.Storing.{pens-all, break-bits}
 use borrow.Author.Needs.{needs}
 use Rattle.command_writer.proofs.insert.store_break.Statement.{statement}

@@ -2,7 +2,7 @@
 use mathlib.Core.Path.{_≡_, refl, ap, sym, _∙_}
 use native.Mathlib.Omega.{arith}
 use Rattle.pen.proofs.Tables.{Goes}
-use Rattle.command_writer.specs.Fields.{ink, timeFields, componentFields}
+use Rattle.command_measure.specs.Fields.{ink, timeFields, componentFields}
 use Rattle.command_writer.proofs.Storing.{component-now, component-timed}
 use borrow.Author.Needs.{needs}
 use Rattle.command_writer.proofs.insert.store_component.Statement.{statement}

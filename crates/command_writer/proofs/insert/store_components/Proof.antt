@@ -10,7 +10,7 @@ use Rattle.command.specs.declared.components.ComponentSplice.{ComponentSplice}
 use Rattle.header.specs.declared.time.SpliceTime.the-variants.{Immediate}
 use Rattle.pen.specs.Pen.{Pens, Fits}
 use Rattle.pen.proofs.Tables.{pens-nil, pens-same}
-use Rattle.command_writer.specs.Fields.{ink, componentFields, listFields}
+use Rattle.command_measure.specs.Fields.{ink, componentFields, listFields}
 use Rattle.command_writer.proofs.Storing.{component-more, pens-length, fits-fewer}
 use borrow.Author.Needs.{needs}
 use Rattle.command_writer.proofs.insert.store_components.Statement.{statement}

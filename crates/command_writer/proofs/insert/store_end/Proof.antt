@@ -1,7 +1,7 @@
 -- `command_writer::insert::store_end`: the duration, if there is one, and three numbers.
 use mathlib.Core.Path.{_≡_, refl, ap, ap₂, sym, _∙_}
 use native.Mathlib.Omega.{arith}
-use Rattle.command_writer.specs.Fields.{ink, tailFields}
+use Rattle.command_measure.specs.Fields.{ink, tailFields}
 use Rattle.command_writer.proofs.Storing.{break-none, break-goes, break-fits, tail-fits}
 use borrow.Author.Needs.{needs}
 use Rattle.command_writer.proofs.insert.store_end.Statement.{statement}

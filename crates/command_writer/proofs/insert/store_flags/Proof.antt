@@ -4,7 +4,7 @@ use mathlib.Core.Path.{_≡_, ap, _∙_}
 use native.Mathlib.Omega.{arith}
 use Rattle.command.specs.Insert.{outOfNetwork, byProgram, lasting}
 use Rattle.table.specs.Table.{flagNumber}
-use Rattle.command_writer.specs.Fields.{insertFlags}
+use Rattle.command_measure.specs.Fields.{insertFlags}
 use Rattle.command_writer.proofs.Storing.{pens-all, flags-bits}
 use borrow.Author.Needs.{needs}
 use Rattle.command_writer.proofs.insert.store_flags.Statement.{statement}

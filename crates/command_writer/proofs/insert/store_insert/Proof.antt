@@ -6,9 +6,9 @@ use Rattle.command.specs.Insert.{WithComponents}
 use Rattle.command.specs.declared.insert.Insertion.{Insertion}
 use Rattle.pen.proofs.Tables.{Goes, pens-same}
 use Rattle.table.specs.Writing.{Field, bits}
-use Rattle.command_writer.specs.Fields.{ink, placesOf, activeFields, insertFields}
-use Rattle.command_writer.specs.Made.{counted}
-use Rattle.command_writer.proofs.Making.{none-counted, cancel-none, program-none}
+use Rattle.command_measure.specs.Fields.{ink, placesOf, activeFields, insertFields}
+use Rattle.command_measure.specs.Made.{counted}
+use Rattle.command_measure.proofs.Making.{none-counted, cancel-none, program-none}
 use Rattle.command_writer.proofs.Storing.{fits-same, active-insert, after-event}
 use borrow.Author.Needs.{needs}
 use Rattle.command_writer.proofs.insert.store_insert.Statement.{statement}

@@ -11,8 +11,8 @@ use Rattle.pen.proofs.Tables.{Goes, pens-same}
 use Rattle.table.specs.Bits.{bitsOfNum}
 use Rattle.table.specs.Writing.{Field, bits}
 use Rattle.table.proofs.Bits.{bytes-all}
-use Rattle.command_writer.specs.Fields.{ink, listFields, modeFields, endFields, immediateIn, insertFlags, placesOf, activeFields}
-use Rattle.command_writer.proofs.Making.{listed-now}
+use Rattle.command_measure.specs.Fields.{ink, listFields, modeFields, endFields, immediateIn, insertFlags, placesOf, activeFields}
+use Rattle.command_measure.proofs.Making.{listed-now}
 use Rattle.command_writer.proofs.Storing.{pens-next, pens-fields, pens-settled, goes-same, fits-front, fits-same, mode-list}
 use borrow.Author.Needs.{needs}
 use Rattle.command_writer.proofs.insert.store_listed.Statement.{statement}

@@ -2,7 +2,7 @@
 use Prim.Native.Nat.{_+_, _*_}
 use mathlib.Core.Path.{_≡_}
 use native.Mathlib.Omega.{arith}
-use Rattle.command_writer.specs.Fields.{tailFields}
+use Rattle.command_measure.specs.Fields.{tailFields}
 use Rattle.command_writer.proofs.Storing.{pens-all, tail-bits}
 use borrow.Author.Needs.{needs}
 use Rattle.command_writer.proofs.insert.store_tail.Statement.{statement}

@@ -7,7 +7,7 @@ use native.Mathlib.Omega.{arith}
 use Rattle.command.specs.Command.{array}
 use Rattle.command.specs.declared.SpliceCommand.{SpliceCommand}
 use Rattle.command.specs.declared.components.ComponentSplice.{ComponentSplice}
-use Rattle.command_writer.specs.Made.{commandMade}
+use Rattle.command_measure.specs.Made.{commandMade}
 use Rattle.pen.specs.Written.{answerOf, laterOf}
 use Rattle.table.specs.Writing.{Made}
 use Rattle.flat_writer.specs.Words.{noLess, flatWritten}

@@ -5,7 +5,7 @@ use mathlib.Core.List.{List, _++_}
 use mathlib.Core.Path.{_≡_, ap, _∙_}
 use native.Mathlib.Omega.{arith}
 use Rattle.command.specs.declared.components.ComponentSplice.{ComponentSplice}
-use Rattle.command_writer.specs.Made.{commandMade}
+use Rattle.command_measure.specs.Made.{commandMade}
 use Rattle.flat_writer.specs.Words.{noLess}
 use Rattle.flat_writer.specs.CommandWords.{countIn, componentsFrom}
 use Rattle.flat_writer.proofs.Words.{words-refused, words-taken, later-nil}

@@ -1,0 +1,3 @@
+pub mod Surveys
+pub mod Ties
+pub mod Making

@@ -1,0 +1,83 @@
+// Measuring a command before it is written: which refusal it has, and how many bytes its payload has. One without components, or with blank ones, needs no array.
+ghost use mathlib.Core.Path.{_≡_};
+ghost use mathlib.Core.Bool.{true};
+ghost use mathlib.Core.List.{[]};
+ghost use Rattle.command.specs.Command.{array, private};
+ghost use Rattle.command_measure.specs.Made.{commandMade, measuredOf};
+ghost use Rattle.command_measure.specs.Survey.{Countable};
+ghost use Rattle.table.specs.Writing.{make};
+use crate::measure::measure_bare_insert;
+use crate::measure::measure_insert;
+use crate::measure::measure_time;
+use command::Private;
+use command::SpliceCommand;
+use command::components::ComponentSplice;
+
+pub mod measure;
+
+// The number of a refusal, 0 for none, and how many bytes the payload has.
+pub struct Measured {
+    pub refusal: u8,
+    pub size: usize,
+}
+
+fn refuse(n: u8) -> Measured
+    ensures { λ r. ⌜ r ≡ record { refusal = n; size = 0 } ⌝ }
+{
+    Measured {
+        refusal: n,
+        size: 0,
+    }
+}
+
+// A private command; the rest of its payload is a view of the lent bytes.
+fn measure_private(p: Private, lent: &[u8]) -> Measured
+    ensures { λ r. ⌜ r ≡ measuredOf (make private true (now (lent .entry)) p) ⌝ }
+{
+    let bytes = p.private_bytes;
+    let at = bytes.at;
+    let len = bytes.len;
+    if lent.len() < at {
+        return refuse(31);
+    }
+    if lent.len() - at < len {
+        return refuse(31);
+    }
+    Measured {
+        refusal: 0,
+        size: 4 + len,
+    }
+}
+
+// Of a command whose components are all blank, if it has any: which refusal it has, 31 to 33, and how many bytes its payload has.
+pub fn measure_bare(command: SpliceCommand, lent: &[u8]) -> Measured
+    ensures { λ r. ⌜ (r ≡ measuredOf (commandMade command (array []) (now (lent .entry)))) × Countable command ⌝ }
+{
+    match command {
+        SpliceCommand::SpliceNull => Measured {
+            refusal: 0,
+            size: 0,
+        },
+        SpliceCommand::SpliceInsert(i) => measure_bare_insert(i),
+        SpliceCommand::TimeSignal(t) => measure_time(t),
+        SpliceCommand::BandwidthReservation => Measured {
+            refusal: 0,
+            size: 0,
+        },
+        SpliceCommand::PrivateCommand(p) => measure_private(p, lent),
+    }
+}
+
+// Which refusal a command has, 31 to 33, and how many bytes its payload has.
+pub fn measure_command(
+    command: SpliceCommand,
+    components: [ComponentSplice; 255],
+    lent: &[u8],
+) -> Measured
+    ensures { λ r. ⌜ (r ≡ measuredOf (commandMade command components (now (lent .entry)))) × Countable command ⌝ }
+{
+    match command {
+        SpliceCommand::SpliceInsert(i) => measure_insert(i, components),
+        _ => measure_bare(command, lent),
+    }
+}
