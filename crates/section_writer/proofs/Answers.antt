@@ -1,78 +1,121 @@
--- What `write_section_if` answers, return by return.
+-- What the writer answers and leaves, return by return.
+--     refused-for, short-for, wrote-for    what `answer_for` answers
+--     section-answer                       that it is what the section's definition says
+--     allowed, wrote-section               what stands where the answer is that it is written
 use Prim.Native.Nat.{ℕ, zero, suc, _+_, _<_, _≤_}
-use mathlib.Core.Bool.{Bool}
+use mathlib.Core.Bool.{Bool, true, false}
 use mathlib.Core.List.{List}
 use mathlib.Core.Path.{_≡_, refl, ap, sym, _∙_}
 use native.Mathlib.Omega.{arith}
+use lib.Dec.{eqb, leb}
 use lib.ListN.{length, take}
+use borrow.Author.Tests.{le-leb, lt-leb, leb-true, leb-false, eq-eqb, ne-eqb, eqb-true, eqb-false}
 use Rattle.command.specs.declared.SpliceCommand.{SpliceCommand}
 use Rattle.command.specs.declared.components.ComponentSplice.{ComponentSplice}
 use Rattle.command_measure.specs.Made.{commandMade, measuredOf}
 use Rattle.command_measure.specs.declared.Measured.{Measured}
+use Rattle.descriptor_form.specs.Canonical.{canonicalLoop}
 use Rattle.header.specs.declared.header.SpliceInfoHeader.{SpliceInfoHeader}
 use Rattle.pen.specs.Written.{answerOf, laterOf, refusalIn, bytesIn}
 use Rattle.pen.specs.declared.Written.{Written}
 use Rattle.pen.proofs.Writes.{refused-answer, short-answer, wrote-answer}
 use Rattle.section.specs.Section.{first}
+use Rattle.table.specs.Bits.{pick}
 use Rattle.table.specs.Lent.{stored}
 use Rattle.table.specs.Writing.{Made, made, refused}
+use Rattle.table.proofs.Lists.{zero-one}
 use Rattle.table.proofs.Stores.{length-stored}
 use Rattle.section_writer.specs.Frame.{sectionLength, head, frame, numbersFit, fairHead}
-use Rattle.section_writer.specs.Walk.{tail}
-use Rattle.section_writer.specs.Writing.{conditions, unless, madeIf, kindOf}
+use Rattle.section_writer.specs.Walk.{tail, answerFor}
+use Rattle.section_writer.specs.Writing.{conditions, unless, madeIf, sectionMade, kindOf}
 use Rattle.section_writer.proofs.Frames.{length-frame}
 use Rattle.section_writer.proofs.Stored.{section-stored}
-use Rattle.section_writer.proofs.Trips.{Wrote, section-wrote}
+use Rattle.section_writer.proofs.Trips.{tests-passed}
 
 unless-refused : (n : ℕ) (b : List ℕ) → 0 < n → unless n b ≡ refused n
 unless-refused zero b h = absurd (omega arith)
 unless-refused (suc n) b h = refl
 
--- ---- the writer: what the command measures, whether the loop is canonical, and the first refusal that applies
-module _ (h : SpliceInfoHeader) (c : SpliceCommand) (cs : List ComponentSplice) (lent loop : List ℕ) (m : Measured) (k : Bool) (n : ℕ)
-    (em : m ≡ measuredOf (commandMade c cs lent)) (en : n ≡ first 31 (conditions h (m .refusal) (m .size) (length loop) k)) where
+-- ---- the answer, by the first refusal that applies
+module _ (h : SpliceInfoHeader) (m : Measured) (loop : List ℕ) (room : ℕ) (k : Bool) (n : ℕ)
+    (ek : k ≡ canonicalLoop loop) (en : n ≡ first 31 (conditions h (m .refusal) (m .size) (length loop) k)) where
+  pub refused-for : 0 < n → Written.Refused n ≡ answerFor h m loop room
+  unfolding answerFor
+  refused-for z = rw (← ek, ← en, ne-eqb n 0 (λ e. omega (arith, e, z)))
+
+  pub short-for : n ≤ 0 → room < sectionLength (m .size) (length loop) → Written.Refused 36 ≡ answerFor h m loop room
+  unfolding answerFor
+  short-for z l = rw (← ek, ← en, eq-eqb n 0 (omega arith), lt-leb (sectionLength (m .size) (length loop)) room l)
+
+  pub wrote-for : n ≤ 0 → sectionLength (m .size) (length loop) ≤ room → Written.Wrote (sectionLength (m .size) (length loop)) ≡ answerFor h m loop room
+  unfolding answerFor
+  wrote-for z l = rw (← ek, ← en, eq-eqb n 0 (omega arith), le-leb (sectionLength (m .size) (length loop)) room l)
+
+  pub short-enough : n ≤ 0 → sectionLength (m .size) (length loop) ≤ 4096
+  short-enough z = tests-passed h (m .refusal) (m .size) (length loop) k (sym en ∙ omega arith) .2
+
+-- ---- the section, of what its command measures
+module _ (h : SpliceInfoHeader) (c : SpliceCommand) (cs : List ComponentSplice) (lent loop : List ℕ) (m : Measured) (em : m ≡ measuredOf (commandMade c cs lent)) where
   abbrev payload : List ℕ
   payload = bytesIn (commandMade c cs lent)
 
-  pub size-is : m .size ≡ length payload
+  abbrev n : ℕ
+  n = first 31 (conditions h (m .refusal) (m .size) (length loop) (canonicalLoop loop))
+
+  abbrev section : Made
+  section = sectionMade h (commandMade c cs lent) (kindOf c) loop
+
+  size-is : m .size ≡ length payload
   unfolding measuredOf
   size-is = ap (λ (x : Measured). x .size) em
 
-  tests : n ≡ first 31 (conditions h (refusalIn (commandMade c cs lent)) (length payload) (length loop) k)
+  tests : n ≡ first 31 (conditions h (refusalIn (commandMade c cs lent)) (length payload) (length loop) (canonicalLoop loop))
   unfolding measuredOf
-  tests = en ∙ rw em
+  tests = rw em
 
-  is-refused : 0 < n → madeIf k h (commandMade c cs lent) (kindOf c) loop ≡ refused n
-  unfolding madeIf
+  is-refused : 0 < n → section ≡ refused n
+  unfolding sectionMade madeIf
   is-refused z = rw (← tests) (unless-refused n (frame h (kindOf c) payload loop) z)
 
-  is-made : n ≤ 0 → madeIf k h (commandMade c cs lent) (kindOf c) loop ≡ made (frame h (kindOf c) payload loop)
-  unfolding madeIf
-  is-made z =
-      let e : n ≡ 0 = omega arith in
-      rw (← tests, e)
+  is-made : n ≡ 0 → section ≡ made (frame h (kindOf c) payload loop)
+  unfolding sectionMade madeIf
+  is-made e = rw (← tests, e)
 
-  pub passed : n ≤ 0 → Wrote k h (commandMade c cs lent) (kindOf c) loop (frame h (kindOf c) payload loop)
-  passed z = section-wrote k h (commandMade c cs lent) (kindOf c) loop (frame h (kindOf c) payload loop) (is-made z)
+  long : length (frame h (kindOf c) payload loop) ≡ sectionLength (m .size) (length loop)
+  long = length-frame h (kindOf c) payload loop ∙ omega (arith, size-is)
 
-  pub short-enough : n ≤ 0 → sectionLength (m .size) (length loop) ≤ 4096
-  short-enough z = omega (arith, passed z .short, size-is)
+  pub section-answer : (t : List ℕ) → answerFor h m loop (length t) ≡ answerOf section t
+  unfolding answerFor
+  section-answer t = go (eqb n 0) refl (leb (sectionLength (m .size) (length loop)) (length t)) refl
+    where
+      go : (z : Bool) → eqb n 0 ≡ z → (f : Bool) → leb (sectionLength (m .size) (length loop)) (length t) ≡ f
+          → pick z (pick f (Written.Wrote (sectionLength (m .size) (length loop))) (Written.Refused 36)) (Written.Refused n) ≡ answerOf section t
+      go false e f l = refused-answer section t n (is-refused (let o = eqb-false n 0 e in omega (arith, o))) .0
+      go true e false l = short-answer section t (frame h (kindOf c) payload loop) (is-made (eqb-true n 0 e)) (let o = leb-false (sectionLength (m .size) (length loop)) (length t) l in omega (arith, o, long)) .0
+      go true e true l = rw long at (wrote-answer section t (frame h (kindOf c) payload loop) (is-made (eqb-true n 0 e)) (let o = leb-true (sectionLength (m .size) (length loop)) (length t) l in omega (arith, o, long)) .0)
 
-  pub refused-section : (t : List ℕ) → 0 < n → (Written.Refused n ≡ answerOf (madeIf k h (commandMade c cs lent) (kindOf c) loop) t) × (t ≡ laterOf (madeIf k h (commandMade c cs lent) (kindOf c) loop) t)
-  refused-section t z = refused-answer (madeIf k h (commandMade c cs lent) (kindOf c) loop) t n (is-refused z)
+  -- where the answer is that it is written
+  module _ (t : List ℕ) (k : ℕ) (e : answerFor h m loop (length t) ≡ Written.Wrote k) where
+    no-refusal : (n ≡ 0) × (sectionLength (m .size) (length loop) ≤ length t)
+    unfolding answerFor
+    no-refusal = go (eqb n 0) refl (leb (sectionLength (m .size) (length loop)) (length t)) refl e
+      where
+        go : (z : Bool) → eqb n 0 ≡ z → (f : Bool) → leb (sectionLength (m .size) (length loop)) (length t) ≡ f
+            → pick z (pick f (Written.Wrote (sectionLength (m .size) (length loop))) (Written.Refused 36)) (Written.Refused n) ≡ Written.Wrote k
+            → (n ≡ 0) × (sectionLength (m .size) (length loop) ≤ length t)
+        go false a f l w = zero-one cc
+        go true a false l w = zero-one cc
+        go true a true l w = (eqb-true n 0 a, leb-true (sectionLength (m .size) (length loop)) (length t) l)
 
-  pub no-room : (t : List ℕ) → n ≤ 0 → length t < 20 + m .size + length loop → (Written.Refused 36 ≡ answerOf (madeIf k h (commandMade c cs lent) (kindOf c) loop) t) × (t ≡ laterOf (madeIf k h (commandMade c cs lent) (kindOf c) loop) t)
-  no-room t z l = short-answer (madeIf k h (commandMade c cs lent) (kindOf c) loop) t (frame h (kindOf c) payload loop) (is-made z) (omega (arith, length-frame h (kindOf c) payload loop, size-is))
+    pub allowed : (numbersFit h ≡ true) × (fairHead h ≡ true) × (sectionLength (m .size) (length loop) ≤ 4096) × (sectionLength (m .size) (length loop) ≤ length t)
+    allowed = let p = tests-passed h (m .refusal) (m .size) (length loop) (canonicalLoop loop) (no-refusal .0) in (p .0, p .1, p .2, no-refusal .1)
 
-  pub wrote-section : (t u v w : List ℕ) (q : ℕ) → n ≤ 0 → 20 + m .size + length loop ≤ length t → q ≡ kindOf c → u ≡ stored t 0 (head h q (m .size) (length loop)) → v ≡ stored u 14 payload
-      → w ≡ stored v (14 + m .size) (tail (take (14 + m .size) v) loop)
-      → (Written.Wrote (20 + m .size + length loop) ≡ answerOf (madeIf k h (commandMade c cs lent) (kindOf c) loop) t) × (w ≡ laterOf (madeIf k h (commandMade c cs lent) (kindOf c) loop) t)
-  wrote-section t u v w q z room eq eu ev ew =
-      let f = frame h (kindOf c) payload loop in
-      let l : length f ≡ 20 + m .size + length loop = length-frame h (kindOf c) payload loop ∙ omega (arith, size-is) in
-      let a = wrote-answer (madeIf k h (commandMade c cs lent) (kindOf c) loop) t f (is-made z) (omega (arith, l)) in
-      let s : w ≡ stored t 0 f = section-stored t u v w h (kindOf c) payload loop (rw (eq, size-is) at eu) ev (rw size-is at ew) (omega (arith, size-is)) in
-      (rw l at (a .0), s ∙ a .1)
+    pub wrote-section : (u v w : List ℕ) (q : ℕ) → q ≡ kindOf c → u ≡ stored t 0 (head h q (m .size) (length loop)) → v ≡ stored u 14 payload
+        → w ≡ stored v (14 + m .size) (tail (take (14 + m .size) v) loop) → w ≡ laterOf section t
+    wrote-section u v w q eq eu ev ew =
+        let room = no-refusal .1 in
+        section-stored t u v w h (kindOf c) payload loop (rw (eq, size-is) at eu) ev (rw size-is at ew) (omega (arith, size-is, room))
+        ∙ wrote-answer section t (frame h (kindOf c) payload loop) (is-made (no-refusal .0)) (omega (arith, long, room)) .1
 
 -- stores keep the target's length
 pub kept-length : (t u v : List ℕ) (i j : ℕ) (a b : List ℕ) → u ≡ stored t i a → v ≡ stored u j b → length v ≡ length t

@@ -1,4 +1,4 @@
--- What `is_canonical_section` and `write_section` answer, return by return.
+-- What `is_canonical_section` answers, return by return.
 use Prim.Native.Nat.{ℕ, _+_, _-_, _^_, _%_, _≤_}
 use mathlib.Core.Bool.{Bool, true, false, not}
 use mathlib.Core.List.{List}
@@ -8,16 +8,11 @@ use lib.ListN.{length, getD, take, drop}
 use borrow.Author.Tests.{le-leb, not-true, not-false}
 use Rattle.canonical_command.specs.Canonical.{canonicalCommand}
 use Rattle.descriptor_form.specs.Canonical.{canonicalLoop}
-use Rattle.header.specs.declared.header.SpliceInfoHeader.{SpliceInfoHeader}
-use Rattle.pen.specs.Written.{answerOf, laterOf}
-use Rattle.pen.specs.declared.Written.{Written}
 use Rattle.section.specs.Section.{commandLength, commandType, commandBytes, loopLength, loopPlace}
 use Rattle.table.specs.Bits.{bitsOf, field}
 use Rattle.table.specs.Lent.{viewed}
-use Rattle.table.specs.Writing.{Made}
 use Rattle.table.proofs.Reading.{bits-are}
 use Rattle.section_writer.specs.Canonical.{canonicalFrame, canonicalSection}
-use Rattle.section_writer.specs.Writing.{madeIf, sectionMade}
 use Rattle.section_writer.proofs.Forms.{Framed, framed}
 
 -- ---- the canonical form
@@ -57,13 +52,3 @@ module _ (s : List ℕ) (f : Bool) (ef : f ≡ canonicalFrame s) where
           let b : length s - 4 - (14 + n + 2) ≡ loopLength s = omega (arith, x, size) in
           let t : take (length s - 4 - (14 + n + 2)) (drop (14 + n + 2) s) ≡ take (loopLength s) (drop (16 + commandLength s) s) = ap₂ (λ (i j : ℕ). take i (drop j s)) b a in
           rw (is-framed, ← is-command, not-false c h, le-leb (16 + commandLength s + loopLength s) (length s) (omega (arith, x))) (el ∙ ap canonicalLoop t)
-
--- ---- the writer
-module _ (k : Bool) (h : SpliceInfoHeader) (m : Made) (kind : ℕ) (loop : List ℕ) (e : k ≡ canonicalLoop loop) where
-  is-made : madeIf k h m kind loop ≡ sectionMade h m kind loop
-  unfolding sectionMade
-  is-made = ap (λ (b : Bool). madeIf b h m kind loop) e
-
-  pub wrote-by-loop : (r : Written) (t u : List ℕ) → (r ≡ answerOf (madeIf k h m kind loop) t) × (u ≡ laterOf (madeIf k h m kind loop) t)
-      → (r ≡ answerOf (sectionMade h m kind loop) t) × (u ≡ laterOf (sectionMade h m kind loop) t)
-  wrote-by-loop r t u w = (w .0 ∙ ap (λ (x : Made). answerOf x t) is-made, w .1 ∙ ap (λ (x : Made). laterOf x t) is-made)

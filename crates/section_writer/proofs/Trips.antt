@@ -56,6 +56,13 @@ all-false false false false true b₅ e = absurd (omega arith)
 all-false false false false false true e = absurd (omega arith)
 all-false false false false false false e = (refl, refl, refl, refl, refl)
 
+-- what no refusal says of the header and the section's length
+pub tests-passed : (h : SpliceInfoHeader) (r size extent : ℕ) (canonical : Bool) → first 31 (conditions h r size extent canonical) ≡ 0
+    → (numbersFit h ≡ true) × (fairHead h ≡ true) × (sectionLength size extent ≤ 4096)
+tests-passed h r size extent canonical e =
+    let a = all-false (eqb r 31) (eqb r 32 || not (numbersFit h)) (eqb r 33 || not (fairHead h)) (ltb 4096 (sectionLength size extent)) (not canonical) e in
+    (not-false _ (or-false (eqb r 32) (not (numbersFit h)) (a .1) .1), not-false _ (or-false (eqb r 33) (not (fairHead h)) (a .2) .1), ltb-false 4096 (sectionLength size extent) (a .3))
+
 unless-made : (n : ℕ) (f b : List ℕ) → unless n f ≡ made b → (n ≡ 0) × (b ≡ f)
 unless-made zero f b e = (refl, cc)
 unless-made (suc n) f b e = zero-one cc
@@ -77,16 +84,15 @@ section-wrote canonical h command kind loop b e =
     let n = sectionLength (length (bytesIn command)) (length loop) in
     let u = unless-made (first 31 (conditions h r (length (bytesIn command)) (length loop) canonical)) (frame h kind (bytesIn command) loop) b e in
     let a = all-false (eqb r 31) (eqb r 32 || not (numbersFit h)) (eqb r 33 || not (fairHead h)) (ltb 4096 n) (not canonical) (u .0) in
-    let w = or-false (eqb r 32) (not (numbersFit h)) (a .1) in
-    let k = or-false (eqb r 33) (not (fairHead h)) (a .2) in
+    let p = tests-passed h r (length (bytesIn command)) (length loop) canonical (u .0) in
     record {
-      fits = not-false _ (w .1);
-      fair = not-false _ (k .1);
-      short = ltb-false 4096 n (a .3);
+      fits = p .0;
+      fair = p .1;
+      short = p .2;
       form = not-false _ (a .4);
       seen = eqb-false r 31 (a .0);
-      within = eqb-false r 32 (w .0);
-      kept = eqb-false r 33 (k .0);
+      within = eqb-false r 32 (or-false (eqb r 32) (not (numbersFit h)) (a .1) .0);
+      kept = eqb-false r 33 (or-false (eqb r 33) (not (fairHead h)) (a .2) .0);
       bytes = u .1;
     }
 

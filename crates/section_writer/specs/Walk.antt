@@ -3,21 +3,26 @@ use Prim.Native.Nat.{ℕ, _+_, _*_, _^_}
 use mathlib.Core.List.{List, _++_}
 use mathlib.Core.Path.{_≡_}
 use lib.Dec.{eqb}
-use lib.ListN.{drop}
+use lib.ListN.{length, drop}
 use Rattle.command.specs.Command.{private}
 use Rattle.command.specs.Insert.{insert}
+use Rattle.command_writer.specs.Survey.{answerTo}
+use Rattle.command_measure.specs.declared.Measured.{Measured}
 use Rattle.crc.specs.Crc.{crcBytesOf}
+use Rattle.descriptor_form.specs.Canonical.{canonicalLoop}
 use Rattle.header.specs.Header.{headerOf}
 use Rattle.header.specs.Time.{spliceTime}
 use Rattle.header.specs.declared.header.HeaderRead.{HeaderRead}
 use Rattle.header.specs.declared.header.SpliceInfoHeader.{SpliceInfoHeader}
 use Rattle.names.specs.Algorithm.{algorithmNumber}
-use Rattle.section.specs.Section.{commandType, commandBytes, loopPlace}
+use Rattle.pen.specs.declared.Written.{Written}
+use Rattle.section.specs.Section.{first, commandType, commandBytes, loopPlace}
 use Rattle.table.specs.Bits.{pick, bitsOf}
 use Rattle.table.specs.Lent.{viewed}
 use Rattle.table.specs.Table.{Table, Answer, got, short, parse}
 use Rattle.table.specs.Writing.{Same}
-use Rattle.section_writer.specs.Frame.{headed, measured}
+use Rattle.section_writer.specs.Frame.{headed, measured, sectionLength}
+use Rattle.section_writer.specs.Writing.{conditions}
 
 -- the numbers in the first six and in the last five bytes of a header that is not encrypted
 unfoldable pub frontNumber : SpliceInfoHeader → ℕ
@@ -29,6 +34,10 @@ backNumber h kind size = ((h .«cw_index» * 4096 + h .tier) * 4096 + size) * 25
 -- what follows the command, where `before` stands before it
 unfoldable pub tail : List ℕ → List ℕ → List ℕ
 tail before loop = measured loop ++ crcBytesOf (before ++ measured loop)
+
+-- What is answered where the target has `room` bytes: of a header, of what the command measures, and of the loop.
+unfoldable pub answerFor : SpliceInfoHeader → Measured → List ℕ → ℕ → Written
+answerFor h m loop room = answerTo (record { refusal = first 31 (conditions h (m .refusal) (m .size) (length loop) (canonicalLoop loop)); size = sectionLength (m .size) (length loop) }) room
 
 -- the bytes of a section's loop
 abbrev pub loopBytes : List ℕ → List ℕ

@@ -9,9 +9,9 @@ ghost use Rattle.section_writer.specs.Canonical.{canonicalFrame, canonic
 ghost use Rattle.command.specs.Command.{array};
 ghost use Rattle.command_measure.specs.Made.{commandMade};
 ghost use Rattle.pen.specs.Written.{answerOf, laterOf};
-ghost use Rattle.section_writer.specs.Writing.{conditions, kindOf, madeIf, sectionMade};
+ghost use Rattle.section_writer.specs.Writing.{conditions, kindOf, sectionMade};
 ghost use Rattle.section.specs.Section.{first};
-ghost use Rattle.section_writer.specs.Walk.{frontNumber, backNumber, tail};
+ghost use Rattle.section_writer.specs.Walk.{frontNumber, backNumber, tail, answerFor};
 ghost use Rattle.table.specs.Lent.{stored};
 use canonical_command::is_canonical_command;
 use canonical_loop::is_canonical_loop;
@@ -19,6 +19,7 @@ use command::CommandRead;
 use command::SpliceCommand;
 use command::components::ComponentSplice;
 use command::read_command;
+use command_measure::Measured;
 use command_measure::measure_bare;
 use command_measure::measure_command;
 use command_writer::put_bare;
@@ -152,36 +153,30 @@ fn kind_of(command: SpliceCommand) -> u8
     }
 }
 
-// A section from the target's first byte on, or a refusal: 31 to 36; whether the loop is canonical (35) is handed in. No byte is stored before the last test.
-fn write_section_if(
-    canonical: bool,
+// What is answered where the target has `room` bytes: one of the refusals 31 to 36, or how many bytes the section has.
+fn answer_for(
     header: SpliceInfoHeader,
-    command: SpliceCommand,
-    components: [ComponentSplice; 255],
-    lent: &[u8],
+    measured: Measured,
     descriptors: &[u8],
-    target: &mut [u8],
+    room: usize,
 ) -> Written
-    ensures answer { λ r. ⌜ r ≡ answerOf (madeIf canonical header (commandMade command components (now (lent .entry))) (kindOf command) (now (descriptors .entry))) (now (target .entry)) ⌝ }
-    ensures bytes { λ _. ⌜ now (target .exit) ≡ laterOf (madeIf canonical header (commandMade command components (now (lent .entry))) (kindOf command) (now (descriptors .entry))) (now (target .entry)) ⌝ }
+    ensures { λ r. ⌜ r ≡ answerFor header measured (now (descriptors .entry)) room ⌝ }
 {
-    let measured = measure_command(command, components, lent);
-    let size = measured.size;
-    let refusal = refusal_of(header, measured.refusal, size, descriptors.len(), canonical);
+    let canonical = is_canonical_loop(descriptors);
+    let extent = descriptors.len();
+    let refusal = refusal_of(header, measured.refusal, measured.size, extent, canonical);
     if 0 < refusal {
         return Written::Refused(refusal);
     }
-    let length = 20 + size + descriptors.len();
-    if target.len() < length {
+    let length = 20 + measured.size + extent;
+    if room < length {
         return Written::Refused(36);
     }
-    put_head(target, header, kind_of(command), size, descriptors.len());
-    put_command(target, 14, command, components, lent);
-    put_tail(target, 14 + size, descriptors);
     Written::Wrote(length)
 }
 
-// A section from the target's first byte on, or a refusal: 31 to 36. `lent` are the bytes that the command's views refer to.
+// A section from the target's first byte on, or a refusal: 31 to 36. `lent` are the bytes that the command's views refer to. No byte is stored before the last
+// test.
 pub fn write_section(
     header: SpliceInfoHeader,
     command: SpliceCommand,
@@ -193,49 +188,21 @@ pub fn write_section(
     ensures answer { λ r. ⌜ r ≡ answerOf (sectionMade header (commandMade command components (now (lent .entry))) (kindOf command) (now (descriptors .entry))) (now (target .entry)) ⌝ }
     ensures bytes { λ _. ⌜ now (target .exit) ≡ laterOf (sectionMade header (commandMade command components (now (lent .entry))) (kindOf command) (now (descriptors .entry))) (now (target .entry)) ⌝ }
 {
-    let canonical = is_canonical_loop(descriptors);
-    write_section_if(
-        canonical,
-        header,
-        command,
-        components,
-        lent,
-        descriptors,
-        target,
-    )
-}
-
-// ---- of a command whose components are all blank: one that has none needs no array
-
-// Whether the loop is canonical (35) is handed in. No byte is stored before the last test.
-fn write_bare_if(
-    canonical: bool,
-    header: SpliceInfoHeader,
-    command: SpliceCommand,
-    lent: &[u8],
-    descriptors: &[u8],
-    target: &mut [u8],
-) -> Written
-    ensures answer { λ r. ⌜ r ≡ answerOf (madeIf canonical header (commandMade command (array []) (now (lent .entry))) (kindOf command) (now (descriptors .entry))) (now (target .entry)) ⌝ }
-    ensures bytes { λ _. ⌜ now (target .exit) ≡ laterOf (madeIf canonical header (commandMade command (array []) (now (lent .entry))) (kindOf command) (now (descriptors .entry))) (now (target .entry)) ⌝ }
-{
-    let measured = measure_bare(command, lent);
+    let measured = measure_command(command, components, lent);
     let size = measured.size;
-    let refusal = refusal_of(header, measured.refusal, size, descriptors.len(), canonical);
-    if 0 < refusal {
-        return Written::Refused(refusal);
+    let answer = answer_for(header, measured, descriptors, target.len());
+    match answer {
+        Written::Wrote(_) => {
+            put_head(target, header, kind_of(command), size, descriptors.len());
+            put_command(target, 14, command, components, lent);
+            put_tail(target, 14 + size, descriptors);
+        }
+        Written::Refused(_) => {}
     }
-    let total = 20 + size + descriptors.len();
-    if target.len() < total {
-        return Written::Refused(36);
-    }
-    put_head(target, header, kind_of(command), size, descriptors.len());
-    put_bare(target, 14, command, lent);
-    put_tail(target, 14 + size, descriptors);
-    Written::Wrote(total)
+    answer
 }
 
-// A section from the target's first byte on, or a refusal: 31 to 36.
+// The same of a command whose components are all blank: one that has none needs no array.
 pub fn write_bare_section(
     header: SpliceInfoHeader,
     command: SpliceCommand,
@@ -246,8 +213,18 @@ pub fn write_bare_section(
     ensures answer { λ r. ⌜ r ≡ answerOf (sectionMade header (commandMade command (array []) (now (lent .entry))) (kindOf command) (now (descriptors .entry))) (now (target .entry)) ⌝ }
     ensures bytes { λ _. ⌜ now (target .exit) ≡ laterOf (sectionMade header (commandMade command (array []) (now (lent .entry))) (kindOf command) (now (descriptors .entry))) (now (target .entry)) ⌝ }
 {
-    let sound = is_canonical_loop(descriptors);
-    write_bare_if(sound, header, command, lent, descriptors, target)
+    let measured = measure_bare(command, lent);
+    let size = measured.size;
+    let answer = answer_for(header, measured, descriptors, target.len());
+    match answer {
+        Written::Wrote(_) => {
+            put_head(target, header, kind_of(command), size, descriptors.len());
+            put_bare(target, 14, command, lent);
+            put_tail(target, 14 + size, descriptors);
+        }
+        Written::Refused(_) => {}
+    }
+    answer
 }
 
 // ---- the canonical form
