@@ -6,7 +6,7 @@ use lib.Dec.{eqb}
 use lib.ListN.{length, drop}
 use Rattle.command.specs.Command.{private}
 use Rattle.command.specs.Insert.{insert}
-use Rattle.command_writer.specs.Survey.{answerTo}
+use Rattle.command_writer.specs.Walk.{answerTo}
 use Rattle.command_measure.specs.declared.Measured.{Measured}
 use Rattle.crc.specs.Crc.{crcBytesOf}
 use Rattle.descriptor_form.specs.Canonical.{canonicalLoop}
