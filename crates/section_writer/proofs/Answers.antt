@@ -95,10 +95,10 @@ module _ (h : SpliceInfoHeader) (c : SpliceCommand) (cs : List ComponentSplice) 
       go true e true l = rw long at (wrote-answer section t (frame h (kindOf c) payload loop) (is-made (eqb-true n 0 e)) (let o = leb-true (sectionLength (m .size) (length loop)) (length t) l in omega (arith, o, long)) .0)
 
   -- where the answer is that it is written
-  module _ (t : List ℕ) (k : ℕ) (e : answerFor h m loop (length t) ≡ Written.Wrote k) where
+  module _ (t : List ℕ) (r : Written) (k : ℕ) (is : r ≡ answerFor h m loop (length t)) (e : r ≡ Written.Wrote k) where
     no-refusal : (n ≡ 0) × (sectionLength (m .size) (length loop) ≤ length t)
     unfolding answerFor
-    no-refusal = go (eqb n 0) refl (leb (sectionLength (m .size) (length loop)) (length t)) refl e
+    no-refusal = go (eqb n 0) refl (leb (sectionLength (m .size) (length loop)) (length t)) refl (sym is ∙ e)
       where
         go : (z : Bool) → eqb n 0 ≡ z → (f : Bool) → leb (sectionLength (m .size) (length loop)) (length t) ≡ f
             → pick z (pick f (Written.Wrote (sectionLength (m .size) (length loop))) (Written.Refused 36)) (Written.Refused n) ≡ Written.Wrote k

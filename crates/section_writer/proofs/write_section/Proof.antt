@@ -34,7 +34,7 @@ put-head-requires c κs =
     let w = t .before .before in
     let m = w .before in
     let a = m .before .before .before .before .args in
-    let g = allowed (a .header) (a .command) (a .components) (a .lent .now) (a .descriptors .now) (m .measure-command .result) (m .measure-command .ensures .0) (a .target .now) _ (sym (w .answer-for .ensures) ∙ t .enum-told .given .1) in
+    let g = allowed (a .header) (a .command) (a .components) (a .lent .now) (a .descriptors .now) (m .measure-command .result) (m .measure-command .ensures .0) (a .target .now) _ _ (w .answer-for .ensures) (t .enum-told .given .1) in
     (g .0, g .1, g .2, omega (arith, g .3))
 
 put-command-requires : tie.Need-put-command-requires
@@ -46,7 +46,7 @@ add-put-tail c =
     let w = t .before .before in
     let m = w .before in
     let a = m .before .before .before .before .args in
-    let g = allowed (a .header) (a .command) (a .components) (a .lent .now) (a .descriptors .now) (m .measure-command .result) (m .measure-command .ensures .0) (a .target .now) _ (sym (w .answer-for .ensures) ∙ t .enum-told .given .1) in
+    let g = allowed (a .header) (a .command) (a .components) (a .lent .now) (a .descriptors .now) (m .measure-command .result) (m .measure-command .ensures .0) (a .target .now) _ _ (w .answer-for .ensures) (t .enum-told .given .1) in
     omega (arith, g .2)
 
 put-tail-requires : tie.Need-put-tail-requires
@@ -57,7 +57,7 @@ put-tail-requires c κs =
     let w = t .before .before in
     let m = w .before in
     let a = m .before .before .before .before .args in
-    let g = allowed (a .header) (a .command) (a .components) (a .lent .now) (a .descriptors .now) (m .measure-command .result) (m .measure-command .ensures .0) (a .target .now) _ (sym (w .answer-for .ensures) ∙ t .enum-told .given .1) in
+    let g = allowed (a .header) (a .command) (a .components) (a .lent .now) (a .descriptors .now) (m .measure-command .result) (m .measure-command .ensures .0) (a .target .now) _ _ (w .answer-for .ensures) (t .enum-told .given .1) in
     let n = kept-length (a .target .now) _ _ _ _ _ _ (h .put-head .ensures) (p .put-command .ensures) in
     (omega (arith, g .2), omega (arith, g .3, n))
 
@@ -77,7 +77,7 @@ returns c =
     let w = t .before .before in
     let m = w .before in
     let a = m .before .before .before .before .args in
-    (is w, wrote-section (a .header) (a .command) (a .components) (a .lent .now) (a .descriptors .now) (m .measure-command .result) (m .measure-command .ensures .0) (a .target .now) _ (sym (w .answer-for .ensures) ∙ t .enum-told .given .1) _ _ _ _ (k .kind-of .ensures) (h .put-head .ensures) (p .put-command .ensures) (e .put-tail .ensures))
+    (is w, wrote-section (a .header) (a .command) (a .components) (a .lent .now) (a .descriptors .now) (m .measure-command .result) (m .measure-command .ensures .0) (a .target .now) _ _ (w .answer-for .ensures) (t .enum-told .given .1) _ _ _ _ (k .kind-of .ensures) (h .put-head .ensures) (p .put-command .ensures) (e .put-tail .ensures))
 
 returns-2 : tie.Need-returns-2
 returns-2 c =
