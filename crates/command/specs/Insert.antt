@@ -55,7 +55,7 @@ abbrev pub count : SpliceMode → ℕ
 count (SpliceMode.Program t) = 0
 count (SpliceMode.Components n) = n
 
--- is it all immediate? With no component: no
+-- is it immediate? By components as the first of them says, with none: no (mixed ones are refused by `unmixed`)
 abbrev pub allImmediate : WithComponents SpliceMode → Bool
 allImmediate m = pick (byProgram (m .value)) (immediate (programTime (m .value))) (ltb 0 (count (m .value)) && immediate (getD (m .components) 0 blank .«splice_time»))
 

@@ -70,7 +70,7 @@ fn time_fits(time: SpliceTime) -> bool
     }
 }
 
-// The bytes of a time, none where the insert is immediate.
+// The bytes of a time, none where the insert is immediate. (An immediate time among timed ones is refused.)
 fn time_size(time: SpliceTime, at_once: bool) -> usize
     ensures { λ r. ⌜ (r ≡ timeBytes «at_once» time) × (r ≤ 5) ⌝ }
 {

@@ -1,4 +1,4 @@
-// Writing the payload of a command. One without components, or with blank ones, needs no array; the forms below that take it say what components add.
+// Writing the payload of a command. One without components, or with blank ones, is handed no array; the forms below that take it say what components add.
 ghost use mathlib.Core.Path.{_≡_};
 ghost use mathlib.Core.List.{[]};
 ghost use Prim.Native.Nat.{_+_, _≤_};

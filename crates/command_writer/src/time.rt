@@ -5,7 +5,8 @@ use header::time::SpliceTime;
 use pen::put_bits;
 use table::cursor::Cursor;
 
-// The flag and its reserved bits are all 1 where a time is specified; else the flag is clear.
+// The flag and its reserved bits are all 1 where a time is specified; else the flag is clear. (An immediate time is refused or left out before; a time fits its
+// 33 bits, which the remainder says to the proof.)
 pub(crate) fn store_time(out: &mut [u8], c: Cursor, time: SpliceTime) -> Cursor
     requires { ⌜ Fits (now out) c (ink (timeFields time)) ⌝ }
     ensures { λ r. ⌜ Pens (now (out .entry)) c (ink (timeFields time)) (now (out .exit)) r ⌝ }

@@ -51,7 +51,7 @@ allZero (b ∷ bs) = eqb b 0 && allZero bs
 unfoldable pub alone : List ℕ → List ℕ → Bool
 alone identifier eidr = allZero identifier && allZero eidr
 
--- "reserved descriptor "CUEI" with tag 0 to 3"
+-- "reserved descriptor "CUEI" with tag 0 to 3"; and no EIDR beside it
 unfoldable pub fairReserved : ℕ → List ℕ → List ℕ → Bool
 fairReserved tag identifier eidr = not (isCuei identifier && ltb tag 4) && allZero eidr
 

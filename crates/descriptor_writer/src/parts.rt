@@ -65,6 +65,7 @@ pub(crate) fn store_flags(
     put_bits(out, c, 8, first * 128 + second * 64 + third * 32 + rest)
 }
 
+// (The offset fits its 33 bits, which the remainder says to the proof.)
 fn store_component(out: &mut [u8], c: Cursor, component: ModeComponent) -> Cursor
     ensures { λ r. ⌜ ((from : List ℕ) → Stores (now (out .entry)) c (contents from (componentsFields (component ∷ []))) (now (out .exit)) r) ⌝ }
 {

@@ -200,5 +200,6 @@ pub(crate) fn write_bare_segmentation(
     if refusal != 0 {
         return Written::Refused(refusal);
     }
+    // no bytes of components
     write_fair_segmentation(x, &lent[0..0], eidr, lent, target)
 }

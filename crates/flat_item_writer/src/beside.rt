@@ -1,4 +1,5 @@
-// What stands beside an item: an identifier; components, which are places of two words; and an EIDR, a byte to a word.
+// What stands beside an item: an identifier; components, which are places of two words; and an EIDR, a byte to a word. Before the 255 places stand refusal,
+// three values and the count, five words; so the EIDR begins at word 515.
 ghost use mathlib.Core.Path.{_≡_};
 ghost use Prim.Native.Nat.{_≤_};
 ghost use Rattle.flat_item_writer.specs.ItemWords.{identifierFrom, placeFrom, placesFrom, eidrFrom, besideFrom, placesWithin, besideWithin};

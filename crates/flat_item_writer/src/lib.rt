@@ -137,7 +137,7 @@ fn write_from_words(words: &[u64], beside: &[u64], lent: &[u8], target: &mut [u8
     flat_written(write_given(d, identifier, count, beside, lent, target))
 }
 
-// The same. Where there are fewer words than the struct has, they are filled up: the slice's length is tested once and not for each word.
+// The same. Where there are fewer words than the struct has, they are filled up, so that the compiler tests the slice's length once and not for each word.
 pub fn write_descriptor_words(
     words: &[u64],
     beside: &[u64],

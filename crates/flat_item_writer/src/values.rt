@@ -1,4 +1,4 @@
-// Items.
+// The descriptor that words make, and refusals 32 and 33 of its words.
 ghost use mathlib.Core.Path.{_≡_};
 ghost use Rattle.descriptor.specs.Segmentation.{deviceOf};
 ghost use lib.ListN.{drop};
@@ -130,7 +130,7 @@ pub(crate) fn is_item_within(words: &[u64]) -> bool
     are_four_within(16, 8, 64, 64, words_from(words, 29))
 }
 
-// Refusal 33 of the words of an item from its last segment number on: are they those of a flat form?
+// Refusal 33 of the words of an item from sub_segments_expected on, word 26: are they those of a flat form?
 fn is_flat_end(i: FlatItem, words: &[u64]) -> bool
     ensures { λ r. ⌜ r ≡ same (drop 20 (itemWords i)) (drop 26 (now (words .entry))) ⌝ }
 {

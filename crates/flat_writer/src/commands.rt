@@ -1,4 +1,4 @@
-// Commands.
+// The command that words make, and refusals 32 and 33 of its words.
 ghost use mathlib.Core.List.{[]};
 ghost use mathlib.Core.Path.{_≡_};
 ghost use Prim.Native.Nat.{_≤_};

@@ -29,7 +29,7 @@ fn component_from(words: &[u64]) -> ComponentSplice
     }
 }
 
-// Refusal 33 of one of them: a tag over 255, a kind that no time has, ticks beside another kind than that of a specified time.
+// Refusal 33 of one of them: a kind that no time has, ticks beside another kind than that of a specified time. (A tag over 255 is refused with 32 before.)
 fn is_own_component(words: &[u64]) -> bool
     ensures { λ r. ⌜ r ≡ ownComponent (now (words .entry)) ⌝ }
 {

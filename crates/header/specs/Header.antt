@@ -44,7 +44,7 @@ headerRead (short expected actual) = TooShort
 unfoldable pub headerOf : List ℕ → HeaderRead
 headerOf s = headerRead (parse spliceHeader (bitsOf s) 0)
 
--- 01's number and values for each refusal
+-- 01's number of the refusal; it has no values
 abbrev pub numberOf : HeaderRead → ℕ
 numberOf (Header h) = 0
 numberOf TooShort = 5

@@ -28,7 +28,7 @@ conditions header r size extent canonical =
     ∷ not canonical
     ∷ []
 
--- "31 to 36 are checked in order of number": the bytes, unless one applies
+-- 31 to 35, "checked in order of number": the bytes, unless one applies
 abbrev pub unless : ℕ → List ℕ → Made
 unless zero b = made b
 unless (suc n) b = refused (suc n)

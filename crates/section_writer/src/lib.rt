@@ -53,7 +53,7 @@ fn numbers_fit(header: SpliceInfoHeader) -> bool
     true
 }
 
-// Refusal 33: not encrypted, and an algorithm that its own number stands for.
+// Is there nothing of refusal 33: is it not encrypted, and its algorithm one that its own number stands for?
 fn fair_head(header: SpliceInfoHeader) -> bool
     ensures { λ r. ⌜ r ≡ fairHead header ⌝ }
 {
@@ -84,6 +84,7 @@ fn refusal_of(header: SpliceInfoHeader, r: u8, size: usize, extent: usize, canon
     if !fair_head(header) {
         return 33;
     }
+    // 4,096 bytes less the 20 around command and loop
     if 4076 < size {
         return 34;
     }
@@ -116,7 +117,7 @@ fn back_number(header: SpliceInfoHeader, kind: u8, size: usize) -> u64
     ((wide(header.cw_index) * 4096 + header.tier as u64) * 4096 + size as u64) * 256 + wide(kind)
 }
 
-// All before the command: 14 bytes.
+// All before the command: 14 bytes. section_length counts the 20 bytes around command and loop less 3.
 fn put_head(out: &mut [u8], header: SpliceInfoHeader, kind: u8, size: usize, extent: usize)
     requires { ⌜ (numbersFit header ≡ true) × (fairHead header ≡ true) × (sectionLength size extent ≤ 4096) × (14 ≤ length (now out)) ⌝ }
     ensures { λ _. ⌜ now (out .exit) ≡ stored (now (out .entry)) 0 (head header kind size extent) ⌝ }
@@ -215,8 +216,8 @@ pub fn write_bare_section(
 {
     let measured = measure_bare(command, lent);
     let size = measured.size;
-    let answer = answer_for(header, measured, descriptors, target.len());
-    match answer {
+    let outcome = answer_for(header, measured, descriptors, target.len());
+    match outcome {
         Written::Wrote(_) => {
             put_head(target, header, kind_of(command), size, descriptors.len());
             put_bare(target, 14, command, lent);
@@ -224,7 +225,7 @@ pub fn write_bare_section(
         }
         Written::Refused(_) => {}
     }
-    answer
+    outcome
 }
 
 // ---- the canonical form

@@ -78,7 +78,7 @@ abbrev pub print : List Content → List ℕ
 print [] = []
 print (c ∷ cs) = bitsIn c ++ print cs
 
--- the bytes of x, or the number of a refusal: 31, 32, 33 in that order. `fair` is what the structure's own rules say of 33
+-- what is made of a value: its bytes, or the number of a refusal
 pub data Made : Type 0 where
   made : List ℕ → Made
   refused : ℕ → Made
@@ -92,6 +92,7 @@ unfoldable pub bytesIn : Made → List ℕ
 bytesIn (made b) = b
 bytesIn (refused n) = []
 
+-- 31, 32, 33 in that order; `fair` is what the structure's own rules say of 33
 abbrev pub makeOf : Bool → List ℕ → List Field → Made
 makeOf fair lent fs =
     pick (seen lent fs)

@@ -117,7 +117,8 @@ bytes-after-an-insert-are-tolerated = tolerated.insert-on
 pub bytes-after-a-time-signal-are-tolerated : (payload more : List ℕ) (c : SpliceCommand) → commandOf 0x06 payload ≡ CommandRead.Is c → commandOf 0x06 (payload ++ more) ≡ CommandRead.Is c
 bytes-after-a-time-signal-are-tolerated = tolerated.time-signal-on
 
--- "Bytes left over are tolerated", of avail, DTMF and time descriptors (a reserved one has no bytes left over, and those of a segmentation descriptor are its sub-segments)
+-- "Bytes left over are tolerated", of avail, DTMF and time descriptors. (A reserved one has none left over; of a segmentation descriptor they stand behind its sub-segments, or
+-- behind a cancelled one's head, which is not stated here.)
 pub bytes-left-over-by-an-avail-are-tolerated : (payload more : List ℕ) (d : Descriptor) → availOf payload ≡ DescriptorRead.Is d → availOf (payload ++ more) ≡ DescriptorRead.Is d
 bytes-left-over-by-an-avail-are-tolerated = tolerated.avail-on
 
