@@ -8,7 +8,7 @@ use Rattle.table.specs.Bits.{pick, bitsOf}
 use Rattle.table.specs.Lent.{filledTo}
 use Rattle.table.specs.Table.{Table, done, inside, uimsbf, remaining, part, Answer, got, short, parse}
 use Rattle.table.specs.declared.View.{View}
-use Rattle.command.specs.Insert.{WithComponents, insert, blank}
+use Rattle.command.specs.Insert.{WithComponents, insert, insertOf, count, blank}
 use Rattle.command.specs.declared.CommandRead.{CommandRead}
 use Rattle.command.specs.declared.Private.{Private}
 use Rattle.command.specs.declared.SpliceCommand.{SpliceCommand}
@@ -55,6 +55,10 @@ ofInsert f none (SpliceCommand.SpliceInsert i) = f i
 ofInsert f none (SpliceCommand.TimeSignal t) = none
 ofInsert f none SpliceCommand.BandwidthReservation = none
 ofInsert f none (SpliceCommand.PrivateCommand p) = none
+
+-- how many components a command has
+abbrev pub countIn : SpliceCommand → ℕ
+countIn c = ofInsert (λ i. count (insertOf (i .«splice_detail») .«splice_mode»)) 0 c
 
 abbrev pub ofPrivate : {A : Type 0} → (Private → A) → A → SpliceCommand → A
 ofPrivate f none SpliceCommand.SpliceNull = none

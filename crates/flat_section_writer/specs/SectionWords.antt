@@ -5,7 +5,8 @@ use lib.Dec.{eqb}
 use Rattle.command_measure.specs.Made.{commandMade}
 use Rattle.flat.specs.Flat.{flatHeader}
 use Rattle.flat.specs.declared.headers.FlatHeader.{FlatHeader}
-use Rattle.flat_writer.specs.CommandWords.{commandGiven, countIn, componentsFrom, commandRefusal}
+use Rattle.command.specs.Command.{countIn}
+use Rattle.flat_writer.specs.CommandWords.{commandGiven, componentsFrom, commandRefusal}
 use Rattle.flat_writer.specs.Words.{word, within, same, refusalOf, lowerOf, noLess}
 use Rattle.header.specs.declared.header.SpliceInfoHeader.{SpliceInfoHeader}
 use Rattle.names.specs.Algorithm.{algorithmOf}

@@ -2,10 +2,10 @@
 ghost use mathlib.Core.List.{[]};
 ghost use mathlib.Core.Path.{_≡_};
 ghost use Prim.Native.Nat.{_≤_};
-ghost use Rattle.command.specs.Command.{array};
+ghost use Rattle.command.specs.Command.{array, countIn};
 ghost use Rattle.command_measure.specs.Made.{commandMade};
 ghost use Rattle.flat_section_writer.specs.SectionWords.{headerFrom, headerWords, headerRefusal, either, sectionWordsMade};
-ghost use Rattle.flat_writer.specs.CommandWords.{countIn, componentsFrom};
+ghost use Rattle.flat_writer.specs.CommandWords.{componentsFrom};
 ghost use Rattle.flat_writer.specs.Words.{flatWritten, noLess};
 ghost use Rattle.pen.specs.Written.{answerOf, laterOf};
 ghost use Rattle.section_writer.specs.Writing.{sectionMade, kindOf};

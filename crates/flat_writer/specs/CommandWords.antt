@@ -4,8 +4,7 @@ use mathlib.Core.Bool.{Bool, _&&_}
 use mathlib.Core.List.{List, [], _∷_}
 use lib.Dec.{eqb}
 use lib.ListN.{drop}
-use Rattle.command.specs.Command.{array, ofInsert}
-use Rattle.command.specs.Insert.{count, insertOf}
+use Rattle.command.specs.Command.{array, countIn}
 use Rattle.command.specs.declared.Private.{Private}
 use Rattle.command.specs.declared.SpliceCommand.{SpliceCommand}
 use Rattle.command.specs.declared.SpliceCommand.the-variants as command
@@ -151,9 +150,6 @@ commandFrom c =
 -- ---- struct scte35_insert_components: after refusal and count, which are not looked at, places of three words, as many as the command says
 abbrev pub splicesIn : List ℕ → List ℕ
 splicesIn words = drop 2 words
-
-abbrev pub countIn : SpliceCommand → ℕ
-countIn c = ofInsert (λ i. count (insertOf (i .«splice_detail») .«splice_mode»)) 0 c
 
 -- component_tag; splice_time
 unfoldable pub componentWords : FlatComponentSplice → List ℕ

@@ -8,12 +8,11 @@ use mathlib.Core.List.{List, [], _++_}
 use mathlib.Core.Path.{_≡_, refl, ap, sym, _∙_}
 use lib.Dec.{leb}
 use lib.ListN.{length, take, drop}
-use Rattle.command.specs.Command.{private, componentsOf}
+use Rattle.command.specs.Command.{private, componentsOf, countIn}
 use Rattle.command.specs.declared.Private.{Private}
 use Rattle.command.specs.declared.SpliceCommand.{SpliceCommand}
 use Rattle.command.specs.declared.components.ComponentSplice.{ComponentSplice}
 use Rattle.command_measure.specs.Made.{insertMade, commandMade}
-use Rattle.flat_writer.specs.CommandWords.{countIn}
 use Rattle.header.specs.Time.{spliceTime, notImmediate}
 use Rattle.items.specs.Items.{Listed, listed}
 use Rattle.loop_laws.proofs.Loops.{back-at}

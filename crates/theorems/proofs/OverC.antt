@@ -9,7 +9,7 @@ use lib.Dec.{ltb, eqb}
 use lib.ListN.{length, take, drop, replicate}
 use lib.Seq.{take-at}
 use borrow.Author.Tests.{lt-ltb, ltb-true, ltb-false, eq-eqb}
-use Rattle.command.specs.Command.{array}
+use Rattle.command.specs.Command.{array, countIn}
 use Rattle.command.specs.Insert as insert
 use Rattle.command.specs.Insert.{count, programTime, blank, immediate, insertOf}
 use Rattle.command.specs.declared.CommandRead.{CommandRead}
@@ -33,7 +33,7 @@ use Rattle.flat_section_writer.proofs.Back.{header-back}
 use Rattle.flat_section_writer.specs.SectionWords.{headerFrom, headerWords, headerWidths, headerRefusal, either, sectionWordsMade}
 use Rattle.flat_writer.proofs.Back.{command-back}
 use Rattle.flat_writer.proofs.Words.{and-unit, places-length}
-use Rattle.flat_writer.specs.CommandWords.{commandWords, commandWidths, timeFrom, countIn, componentWords, componentWidths, componentFrom, splicesIn, componentsFrom, ownComponent, splicesWithin, ownSplices, commandRefusal, commandGiven, commandWordsMade}
+use Rattle.flat_writer.specs.CommandWords.{commandWords, commandWidths, timeFrom, componentWords, componentWidths, componentFrom, splicesIn, componentsFrom, ownComponent, splicesWithin, ownSplices, commandRefusal, commandGiven, commandWordsMade}
 use Rattle.flat_writer.specs.Typed.{TypedMode, TypedDetail, Typed}
 use Rattle.flat_writer.specs.Words.{within, same, placesOf, eachPlace, refusalOf, noLess}
 use Rattle.header.specs.Time.{ticks}

@@ -9,7 +9,7 @@ use lib.Dec.{ltb, eqb}
 use lib.ListN.{length, take, drop, replicate, length-append}
 use lib.Seq.{length-take-le, take-add, drop-at}
 use borrow.Author.Tests.{ltb-true, eqb-true}
-use Rattle.command.specs.Command.{private, read, empty, commandOf, array, componentsOf}
+use Rattle.command.specs.Command.{private, read, empty, commandOf, array, componentsOf, countIn}
 use Rattle.command.specs.Fair.{fairInsert}
 use Rattle.command.specs.Insert.{WithComponents, blank, count, insert, insertOf, byProgram, lasting, outOfNetwork}
 use Rattle.command.specs.declared.CommandRead.{CommandRead}
@@ -34,7 +34,7 @@ use Rattle.flat_section_writer.specs.Typed as header
 use Rattle.flat_section_writer.specs.SectionWords.{headerWords, sectionWordsMade}
 use Rattle.flat.specs.declared.commands.FlatCommand.{FlatCommand}
 use Rattle.flat_writer.proofs.Back as flat
-use Rattle.flat_writer.specs.CommandWords.{commandWords, countIn, componentsFrom, splicesWithin, ownSplices, commandRefusal, commandGiven}
+use Rattle.flat_writer.specs.CommandWords.{commandWords, componentsFrom, splicesWithin, ownSplices, commandRefusal, commandGiven}
 use Rattle.flat_writer.specs.Typed.{TypedMode, TypedDetail, Typed}
 use Rattle.flat_writer.specs.Words.{placesOf, eachPlace}
 use Rattle.header.specs.Time.{spliceTime}

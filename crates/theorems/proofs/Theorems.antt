@@ -7,7 +7,7 @@ use mathlib.Core.Bool.{true, false, not}
 use mathlib.Core.List.{List, [], _∷_, _++_, map}
 use mathlib.Core.Path.{_≡_}
 use lib.ListN.{length, drop}
-use Rattle.command.specs.Command.{private, commandOf, array, componentsOf}
+use Rattle.command.specs.Command.{private, commandOf, array, componentsOf, countIn}
 use Rattle.command.specs.declared.CommandRead.{CommandRead}
 use Rattle.command.specs.declared.Private.{Private}
 use Rattle.command.specs.declared.SpliceCommand.{SpliceCommand}
@@ -30,7 +30,7 @@ use Rattle.flat_items.specs.FlatItem.{flatStep, flatBeside}
 use Rattle.flat_section_writer.specs.Typed as header
 use Rattle.flat_section_writer.specs.SectionWords.{headerWords, sectionWordsMade}
 use Rattle.flat_writer.specs.Typed as command
-use Rattle.flat_writer.specs.CommandWords.{commandWords, countIn, commandGiven, commandWordsMade}
+use Rattle.flat_writer.specs.CommandWords.{commandWords, commandGiven, commandWordsMade}
 use Rattle.header.specs.Time.{adjustedOf}
 use Rattle.header.specs.declared.header.SpliceInfoHeader.{SpliceInfoHeader}
 use Rattle.header.specs.declared.time.AdjustedTime.{AdjustedTime}

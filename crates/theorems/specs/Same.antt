@@ -4,9 +4,8 @@ use Prim.Native.Nat.{ℕ}
 use mathlib.Core.List.{List}
 use mathlib.Core.Path.{_≡_}
 use lib.ListN.{take}
-use Rattle.command.specs.Command.{withView}
+use Rattle.command.specs.Command.{withView, countIn}
 use Rattle.command.specs.declared.SpliceCommand.{SpliceCommand}
-use Rattle.flat_writer.specs.CommandWords.{countIn}
 use Rattle.items.specs.Items.{itemsOf}
 use Rattle.loop_laws.specs.Loops.{SameItems}
 use Rattle.section.specs.Section.{privateView}

@@ -4,7 +4,7 @@ use Prim.Native.Nat.{ℕ, _≤_}
 use mathlib.Core.List.{List, []}
 use mathlib.Core.Path.{_≡_, refl, ap, sym, _∙_}
 use native.Mathlib.Omega.{arith}
-use Rattle.command.specs.Command.{array}
+use Rattle.command.specs.Command.{array, countIn}
 use Rattle.command.specs.declared.SpliceCommand.{SpliceCommand}
 use Rattle.command.specs.declared.components.ComponentSplice.{ComponentSplice}
 use Rattle.command_measure.specs.Made.{commandMade}
@@ -13,7 +13,7 @@ use Rattle.pen.specs.Written.{answerOf, laterOf}
 use Rattle.section_writer.specs.Writing.{sectionMade, kindOf}
 use Rattle.table.specs.Writing.{Made}
 use Rattle.flat_writer.specs.Words.{noLess, flatWritten}
-use Rattle.flat_writer.specs.CommandWords.{commandGiven, countIn, componentsFrom, commandRefusal}
+use Rattle.flat_writer.specs.CommandWords.{commandGiven, componentsFrom, commandRefusal}
 use Rattle.flat_section_writer.specs.SectionWords.{headerFrom, headerRefusal, either, sectionWordsMade}
 use Rattle.flat_writer.proofs.Components.{no-places}
 use Rattle.flat_writer.proofs.Refusals.{command-small}

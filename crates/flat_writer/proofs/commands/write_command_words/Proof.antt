@@ -4,14 +4,14 @@ use Prim.Native.Nat.{ℕ, _≤_}
 use mathlib.Core.List.{List, []}
 use mathlib.Core.Path.{_≡_, refl, ap, sym, _∙_}
 use native.Mathlib.Omega.{arith}
-use Rattle.command.specs.Command.{array}
+use Rattle.command.specs.Command.{array, countIn}
 use Rattle.command.specs.declared.SpliceCommand.{SpliceCommand}
 use Rattle.command.specs.declared.components.ComponentSplice.{ComponentSplice}
 use Rattle.command_measure.specs.Made.{commandMade}
 use Rattle.pen.specs.Written.{answerOf, laterOf}
 use Rattle.table.specs.Writing.{Made}
 use Rattle.flat_writer.specs.Words.{noLess, flatWritten}
-use Rattle.flat_writer.specs.CommandWords.{commandGiven, countIn, componentsFrom, commandRefusal, commandWordsMade}
+use Rattle.flat_writer.specs.CommandWords.{commandGiven, componentsFrom, commandRefusal, commandWordsMade}
 use Rattle.flat_writer.proofs.Components.{no-places}
 use Rattle.flat_writer.proofs.Refusals.{command-small}
 use Rattle.flat_writer.proofs.commands.write_command_words.Statement.{statement}
