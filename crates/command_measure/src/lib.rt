@@ -12,6 +12,7 @@ use crate::measure::measure_time;
 use command::Private;
 use command::SpliceCommand;
 use command::components::ComponentSplice;
+use table::lent::lies_in;
 
 pub mod measure;
 
@@ -35,17 +36,12 @@ fn measure_private(p: Private, lent: &[u8]) -> Measured
     ensures { λ r. ⌜ r ≡ measuredOf (make private true (now (lent .entry)) p) ⌝ }
 {
     let bytes = p.private_bytes;
-    let at = bytes.at;
-    let len = bytes.len;
-    if lent.len() < at {
-        return refuse(31);
-    }
-    if lent.len() - at < len {
+    if !lies_in(lent, bytes) {
         return refuse(31);
     }
     Measured {
         refusal: 0,
-        size: 4 + len,
+        size: 4 + bytes.len,
     }
 }
 

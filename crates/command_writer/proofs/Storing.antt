@@ -7,7 +7,7 @@ use native.Mathlib.Numerals.{add-one}
 use native.Mathlib.Omega.{arith}
 use lib.ListN.{length, take, getD, length-append}
 use lib.Seq.{take-suc}
-use Rattle.command.specs.Insert.{immediate, count}
+use Rattle.command.specs.Insert.{immediate, count, outOfNetwork}
 use Rattle.command.specs.declared.components.ComponentSplice.{ComponentSplice}
 use Rattle.command.specs.declared.insert.Break.{Break}
 use Rattle.command.specs.declared.insert.Insert.{Insert}
@@ -17,6 +17,9 @@ use Rattle.command.specs.declared.insert.SpliceInsert.{SpliceInsert}
 use Rattle.command.specs.declared.insert.SpliceMode.{SpliceMode}
 use Rattle.header.specs.declared.time.SpliceTime.{SpliceTime}
 use Rattle.header.specs.declared.time.SpliceTime.the-variants.{Immediate, Unspecified, At}
+use Rattle.names.specs.Flags.{networkFlag, returnFlag}
+use Rattle.names.specs.declared.flags.NetworkIndicator.{NetworkIndicator}
+use Rattle.names.specs.declared.flags.ReturnMode.{ReturnMode}
 use Rattle.pen.specs.Pen.{Pens, Fits}
 use Rattle.pen.proofs.Penned.{length-penned}
 use Rattle.pen.proofs.Tables.{Goes, pens-place, pens-append, pens-last, pens-same, print-beside, ink-append}
@@ -110,6 +113,15 @@ module _ (t : List ℕ) (c : Cursor) (u : List ℕ) (d : Cursor) where
 flag-most : (b : Bool) → flagNumber b ≤ 1
 flag-most true = omega arith
 flag-most false = omega arith
+
+-- the numbers of two names are those of flags
+pub network-bit : (n : NetworkIndicator) → networkFlag n ≡ flagNumber (outOfNetwork n)
+network-bit NetworkIndicator.In = refl
+network-bit NetworkIndicator.Out = refl
+
+pub return-bit : (m : ReturnMode) → returnFlag m ≡ flagNumber (automatic m)
+return-bit ReturnMode.Manual = refl
+return-bit ReturnMode.Automatic = refl
 
 pub flags-bits : (a b c d : Bool) (y : ℕ) → y ≡ flagNumber a * 128 + flagNumber b * 64 + flagNumber c * 32 + flagNumber d * 16 + 15 → ink (flagFields a b c d) ≡ ink (bits 8 y ∷ [])
 flags-bits a b c d y e =

@@ -3,15 +3,14 @@ ghost use Prim.Native.Nat.{_+_, _*_, _%_, _^_, _<_, _≤_};
 ghost use lib.ListN.{take};
 ghost use mathlib.Core.List.{[]};
 ghost use mathlib.Core.Path.{_≡_};
-ghost use Rattle.command.specs.Insert.{outOfNetwork, byProgram, lasting};
+ghost use Rattle.command.specs.Insert.{byProgram, lasting};
 ghost use Rattle.command.specs.Command.{array};
 ghost use Rattle.command.specs.declared.insert.Break.{Break};
 ghost use Rattle.command.specs.declared.insert.SpliceMode.{SpliceMode};
-ghost use Rattle.command_measure.specs.Fields.{ink, componentFields, listFields, automatic, insertFlags, breakFields, tailFields, endFields, placesOf, activeFields, insertFields};
+ghost use Rattle.command_measure.specs.Fields.{ink, componentFields, listFields, insertFlags, breakFields, tailFields, endFields, placesOf, activeFields, insertFields};
 ghost use Rattle.command_measure.specs.Made.{counted};
 ghost use Rattle.pen.specs.Pen.{Fits, Pens};
 ghost use Rattle.table.specs.Bits.{AllBytes};
-ghost use Rattle.table.specs.Table.{flagNumber};
 ghost use Rattle.table.proofs.Steppings.{Settled};
 use crate::time::store_time;
 use command::components::ComponentSplice;
@@ -25,10 +24,9 @@ use command::insert::SpliceMode;
 use command_measure::measure::are_immediate;
 use command_measure::measure::is_immediate;
 use header::time::SpliceTime;
-use names::flags::NetworkIndicator;
-use names::flags::ReturnMode;
 use pen::put_bits;
 use table::cursor::Cursor;
+use table::numbers::flag_number;
 use table::numbers::wide;
 
 fn store_component(out: &mut [u8], c: Cursor, component: ComponentSplice, at_once: bool) -> Cursor
@@ -65,33 +63,6 @@ fn store_components(
     next
 }
 
-fn flag_number(set: bool) -> u64
-    ensures { λ r. ⌜ (r ≡ flagNumber set) × (r ≤ 1) ⌝ }
-{
-    if set {
-        return 1;
-    }
-    0
-}
-
-fn is_automatic(mode: ReturnMode) -> bool
-    ensures { λ r. ⌜ r ≡ automatic mode ⌝ }
-{
-    match mode {
-        ReturnMode::Automatic => true,
-        ReturnMode::Manual => false,
-    }
-}
-
-fn is_out(indicator: NetworkIndicator) -> bool
-    ensures { λ r. ⌜ r ≡ outOfNetwork indicator ⌝ }
-{
-    match indicator {
-        NetworkIndicator::Out => true,
-        NetworkIndicator::In => false,
-    }
-}
-
 fn is_program(mode: SpliceMode) -> bool
     ensures { λ r. ⌜ r ≡ byProgram mode ⌝ }
 {
@@ -118,7 +89,7 @@ fn store_flags(out: &mut [u8], c: Cursor, insert: Insert, at_once: bool) -> Curs
     let indicator = insert.network_indicator;
     let mode = insert.splice_mode;
     let duration = insert.duration;
-    let first = flag_number(is_out(indicator));
+    let first = wide(indicator.flag());
     let second = flag_number(is_program(mode));
     let third = flag_number(lasts(duration));
     let fourth = flag_number(at_once);
@@ -137,7 +108,7 @@ fn store_break(out: &mut [u8], c: Cursor, d: SpliceDuration) -> Cursor
 {
     let mode = d.return_mode;
     let duration = d.duration;
-    let returns = flag_number(is_automatic(mode));
+    let returns = wide(mode.flag());
     put_bits(
         out,
         c,

@@ -1,5 +1,5 @@
 -- What the tests answer, step by step.
-use Prim.Native.Nat.{ℕ, zero, suc, _+_, _-_, _*_, _^_, _<_, _≤_}
+use Prim.Native.Nat.{ℕ, zero, suc, _+_, _*_, _^_, _<_, _≤_}
 use mathlib.Core.Bool.{Bool, true, false, not, _&&_}
 use mathlib.Core.List.{List, [], _∷_, _++_}
 use mathlib.Core.Path.{_≡_, refl, ap, sym, _∙_}
@@ -9,7 +9,7 @@ use native.Mathlib.Omega.{arith}
 use lib.Dec.{leb, ltb, eqb}
 use lib.ListN.{length, getD, take, drop, replicate, length-take, length-replicate}
 use lib.Seq.{drop-cons, drop-length, length-take-le}
-use borrow.Author.Tests.{ltb-true, ltb-false, leb-true, leb-false, eqb-true, not-true, not-false, lt-ltb, le-ltb, le-leb, lt-leb, eq-eqb, ne-eqb}
+use borrow.Author.Tests.{ltb-true, ltb-false, eqb-true, not-true, not-false, lt-ltb, le-ltb, eq-eqb, ne-eqb}
 use Rattle.names.specs.Segmentation.{segmentationNumber, fairSegmentation}
 use Rattle.table.specs.Bits.{pick}
 use Rattle.table.specs.Lent.{viewed}
@@ -29,14 +29,6 @@ use Rattle.descriptor.specs.declared.segmentation.SubSegment.{SubSegment}
 use Rattle.descriptor.specs.declared.segmentation.SubSegments.{SubSegments}
 use Rattle.descriptor_form.specs.Walk.{componentsFields, modeFields, durationFields, subFields, backFields, numbersFit}
 use Rattle.descriptor_form.specs.Writing.{accepts, allZero, alone, fairReserved, fairUpid, writtenKind}
-
--- ---- a view in the lent bytes, summed without wrapping
-pub lies : (at len n : ℕ) → at ≤ n → leb len (n - at) ≡ leb (at + len) n
-lies at len n h = go (leb len (n - at)) refl
-  where
-    go : (b : Bool) → leb len (n - at) ≡ b → b ≡ leb (at + len) n
-    go true e = sym (le-leb (at + len) n (omega (arith, leb-true len (n - at) e)))
-    go false e = sym (lt-leb (at + len) n (omega (arith, leb-false len (n - at) e)))
 
 -- ---- all zero: what is left says what the whole says
 module _ (s : List ℕ) (i : ℕ) (inv : allZero (drop i s) ≡ allZero s) where

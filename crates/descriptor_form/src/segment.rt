@@ -11,7 +11,6 @@ ghost use Rattle.descriptor_form.specs.Walk.{componentsFields, modeField
 ghost use Rattle.descriptor_form.specs.Walk.{RefusedSo};
 ghost use Rattle.descriptor_form.specs.Writing.{segmentationMade, modeSize, durationSize};
 use crate::is_zero;
-use crate::lies_in;
 use crate::upids::is_fair_upid;
 use descriptor::segmentation::DeliveryRestrictionFlags;
 use descriptor::segmentation::ModeComponent;
@@ -21,6 +20,7 @@ use descriptor::segmentation::SegmentationDuration;
 use descriptor::segmentation::SegmentationInsert;
 use descriptor::segmentation::SegmentationMode;
 use descriptor::segmentation::SubSegments;
+use table::lent::lies_in;
 use table::numbers::wide;
 
 // ---- what each flag should say

@@ -4,7 +4,6 @@ ghost use mathlib.Core.List.{_∷_};
 ghost use Prim.Native.Nat.{_<_, _≤_};
 ghost use Rattle.descriptor_form.specs.Writing.{cuei};
 ghost use Rattle.table.specs.Bits.{AllBytes};
-ghost use Rattle.table.specs.Table.{flagNumber};
 ghost use Rattle.descriptor_writer.specs.Stores.{Stores, start, frameContents};
 use pen::put_bits;
 use pen::put_run;
@@ -15,12 +14,6 @@ pub(crate) fn cuei() -> [u8; 4]
     ensures { λ r. ⌜ r ≡ cuei ⌝ }
 {
     [0x43, 0x55, 0x45, 0x49]
-}
-
-pub(crate) fn number_of(flag: bool) -> u64
-    ensures { λ r. ⌜ (r ≡ flagNumber flag) × (r ≤ 1) ⌝ }
-{
-    if flag { 1 } else { 0 }
 }
 
 // From the target's first byte on.

@@ -8,7 +8,6 @@ ghost use Rattle.descriptor.specs.declared.segmentation.ModeComponent.{ModeComp
 ghost use Rattle.descriptor_form.specs.Walk.{headFields, flagFields, deliveryFields, componentsFields, modeFields, durationFields, subFields, backFields};
 ghost use Rattle.table.specs.Writing.{number, contents, print};
 ghost use Rattle.descriptor_writer.specs.Stores.{Stores, componentBytes};
-use crate::frame::number_of;
 use descriptor::segmentation::DeliveryRestrictionFlags;
 use descriptor::segmentation::ModeComponent;
 use descriptor::segmentation::SegmentationDuration;
@@ -18,6 +17,7 @@ use descriptor::segmentation::SubSegments;
 use pen::put_bits;
 use pen::put_run;
 use table::cursor::Cursor;
+use table::numbers::flag_number;
 use table::numbers::wide;
 
 pub(crate) fn store_head(out: &mut [u8], c: Cursor, event: u32, cancel: bool) -> Cursor
@@ -27,7 +27,7 @@ pub(crate) fn store_head(out: &mut [u8], c: Cursor, event: u32, cancel: bool) ->
         out,
         c,
         40,
-        event as u64 * 256 + number_of(cancel) * 128 + 127,
+        event as u64 * 256 + flag_number(cancel) * 128 + 127,
     )
 }
 
@@ -39,9 +39,9 @@ fn delivery_number(delivery: DeliveryRestrictionFlags) -> u64
         DeliveryRestrictionFlags::None => 31,
         DeliveryRestrictionFlags::DeliveryRestrictions(r) => {
             let device = r.device_restrictions;
-            let web = number_of(r.web_delivery_allowed_flag);
-            let blackout = number_of(r.no_regional_blackout_flag);
-            let archive = number_of(r.archive_allowed_flag);
+            let web = flag_number(r.web_delivery_allowed_flag);
+            let blackout = flag_number(r.no_regional_blackout_flag);
+            let archive = flag_number(r.archive_allowed_flag);
             web * 16 + blackout * 8 + archive * 4 + wide(device.bits())
         }
     }
@@ -58,9 +58,9 @@ pub(crate) fn store_flags(
 ) -> Cursor
     ensures { λ r. ⌜ ((from : List ℕ) → Stores (now (out .entry)) c (contents from (flagFields program lasts free ++ deliveryFields delivery)) (now (out .exit)) r) ⌝ }
 {
-    let first = number_of(program);
-    let second = number_of(lasts);
-    let third = number_of(free);
+    let first = flag_number(program);
+    let second = flag_number(lasts);
+    let third = flag_number(free);
     let rest = delivery_number(delivery);
     put_bits(out, c, 8, first * 128 + second * 64 + third * 32 + rest)
 }

@@ -12,11 +12,11 @@ use descriptor::plain::DTMFDescriptor;
 use descriptor::plain::TimeDescriptor;
 use descriptor_form::is_alone;
 use descriptor_form::is_fair_reserved;
-use descriptor_form::lies_in;
 use pen::Written;
 use pen::put_bits;
 use pen::put_run;
 use table::View;
+use table::lent::lies_in;
 use table::lent::view;
 use table::numbers::wide;
 

@@ -3,12 +3,20 @@ ghost use mathlib.Core.Path.{_≡_};
 ghost use Prim.Native.Nat.{_+_, _*_, _%_, _^_, _<_, _≤_};
 ghost use lib.ListN.{getD};
 ghost use Rattle.table.specs.Bits.{bitsOf, field};
+ghost use Rattle.table.specs.Table.{flagNumber};
 
 // A byte as a number that has room for more.
 pub fn wide(b: u8) -> u64
     ensures { λ r. ⌜ (r ≡ b) × (r < 256) ⌝ }
 {
     b as u64
+}
+
+// A flag as a number of one bit.
+pub fn flag_number(set: bool) -> u64
+    ensures { λ r. ⌜ (r ≡ flagNumber set) × (r ≤ 1) ⌝ }
+{
+    if set { 1 } else { 0 }
 }
 
 // The byte at a place, 0 past the end.

@@ -16,10 +16,12 @@ use Rattle.crc_table.proofs.second_byte.turned_48.Reads as turned-48
 use Rattle.crc_table.proofs.third_byte.turned_40.Reads as turned-40
 use Rattle.crc_table.proofs.last_byte.turned_32.Reads as turned-32
 use Rattle.table.proofs.numbers.wide.Reads as wide
+use Rattle.table.proofs.numbers.flag_number.Reads as flag-number
 use Rattle.table.proofs.numbers.byte.Reads as byte
 use Rattle.table.proofs.numbers.bits.Reads as bits
 use Rattle.table.proofs.numbers.big_endian.Reads as big-endian
 use Rattle.table.proofs.numbers.time33.Reads as time33
+use Rattle.table.proofs.lent.lies_in.Reads as lies-in
 use Rattle.table.proofs.lent.view.Reads as view
 use Rattle.table.proofs.cursor.Cursor.left.Reads as cursor-left
 use Rattle.table.proofs.cursor.Cursor.take.Reads as cursor-take
@@ -132,6 +134,9 @@ turned-32-is-fixed = record { takes-any = λ κ a. tt; one-answer = λ κ a x y 
 pub wide-is-fixed : Fixed wide.Asked wide.Learnt
 wide-is-fixed = record { takes-any = λ κ a. tt; one-answer = λ κ a x y e f p q. p .0 ∙ sym (q .0) }
 
+pub flag-number-is-fixed : Fixed flag-number.Asked flag-number.Learnt
+flag-number-is-fixed = record { takes-any = λ κ a. tt; one-answer = λ κ a x y e f p q. p .0 ∙ sym (q .0) }
+
 pub byte-is-fixed : Fixed byte.Asked byte.Learnt
 byte-is-fixed = record { takes-any = λ κ a. tt; one-answer = λ κ a x y e f p q. p ∙ sym q }
 
@@ -143,6 +148,9 @@ big-endian-is-fixed = record { takes-any = λ κ a. tt; one-answer = λ κ a x y
 
 pub time33-is-fixed : Fixed time33.Asked time33.Learnt
 time33-is-fixed = record { takes-any = λ κ a. tt; one-answer = λ κ a x y e f p q. p ∙ sym q }
+
+pub lies-in-is-fixed : Fixed lies-in.Asked lies-in.Learnt
+lies-in-is-fixed = record { takes-any = λ κ a. tt; one-answer = λ κ a x y e f p q. p ∙ sym q }
 
 pub view-is-fixed : FixedIn view.Asked view.Learnt (λ κ answer after. now answer)
 view-is-fixed = record { takes-any = λ κ a. tt; seen = λ κ a x y e f p q. p ∙ sym q }

@@ -3,7 +3,6 @@ use mathlib.Core.Path.{_≡_, sym, _∙_}
 use denote.Ref.{now}
 use Rattle.pen.proofs.put_bits.Reads as put-bits
 use Rattle.pen.proofs.put_run.Reads as put-run
-use Rattle.descriptor_form.proofs.lies_in.Reads as lies-in
 use Rattle.descriptor_form.proofs.is_zero.Reads as is-zero
 use Rattle.descriptor_form.proofs.is_alone.Reads as is-alone
 use Rattle.descriptor_form.proofs.is_fair_reserved.Reads as is-fair-reserved
@@ -53,9 +52,6 @@ pub put-run-fixes-the-target : FixedIn put-run.Asked put-run.Learnt (λ κ answe
 put-run-fixes-the-target = record { takes-any = λ κ a. tt; seen = λ κ a x y e f p q. p .bytes ∙ sym (q .bytes) }
 
 -- ---- descriptor_form: the tests of the descriptor writer
-
-pub lies-in-is-fixed : Fixed lies-in.Asked lies-in.Learnt
-lies-in-is-fixed = record { takes-any = λ κ a. tt; one-answer = λ κ a x y e f p q. p ∙ sym q }
 
 pub is-zero-is-fixed : Fixed is-zero.Asked is-zero.Learnt
 is-zero-is-fixed = record { takes-any = λ κ a. tt; one-answer = λ κ a x y e f p q. p ∙ sym q }

@@ -1,20 +1,19 @@
 -- `command_writer::insert::store_break`: a flag, reserved bits and the duration are one number.
 use Prim.Native.Nat.{_+_, _*_, _%_}
-use mathlib.Core.Path.{_≡_, ap, _∙_}
+use mathlib.Core.Path.{_≡_, _∙_}
 use native.Mathlib.Omega.{arith}
 use Rattle.command.specs.declared.insert.Break.{Break}
-use Rattle.table.specs.Table.{flagNumber}
 use Rattle.command_measure.specs.Fields.{breakFields}
-use Rattle.command_writer.proofs.Storing.{pens-all, break-bits}
+use Rattle.command_writer.proofs.Storing.{pens-all, break-bits, return-bit}
 use borrow.Author.Needs.{needs}
 use Rattle.command_writer.proofs.insert.store_break.Statement.{statement}
 use Rattle.command_writer.proofs.insert.store_break.Tie as tie
 
-is-automatic-requires : tie.Need-is-automatic-requires
-is-automatic-requires c κs = search needs
+flag-requires : tie.Need-flag-requires
+flag-requires c κs = search needs
 
-flag-number-requires : tie.Need-flag-number-requires
-flag-number-requires c κs = search needs
+wide-requires : tie.Need-wide-requires
+wide-requires c κs = search needs
 
 mul-put-bits : tie.Need-mul-put-bits
 mul-put-bits c = search needs
@@ -36,16 +35,16 @@ returns c =
     let p = c .before .before in
     let f = p .before .before in
     let a = f .before .before .before .args in
-    let e = f .flag-number .ensures .0 ∙ ap flagNumber (f .before .is-automatic .ensures) in
-    let y = f .flag-number .result * 0x8000000000 + 0x7E00000000 + a .d .duration % 0x200000000 in
+    let e = f .wide .ensures .0 ∙ f .before .flag .ensures ∙ return-bit (a .d .«return_mode») in
+    let y = f .wide .result * 0x8000000000 + 0x7E00000000 + a .d .duration % 0x200000000 in
     pens-all (a .out .now) (a .c) _ _ (breakFields (Break.Lasts (a .d))) 40 y (break-bits (a .d) y (omega (arith, e))) (p .put-bits .ensures)
 
 pub store-break-spec : {M : Type 1} → statement M
 store-break-spec =
     tie.close
     (tie.spec
-    is-automatic-requires
-    flag-number-requires
+    flag-requires
+    wide-requires
     mul-put-bits
     add-put-bits
     add-put-bits-2

@@ -5,31 +5,31 @@ use native.Mathlib.Omega.{arith}
 use Rattle.command.specs.Insert.{outOfNetwork, byProgram, lasting}
 use Rattle.table.specs.Table.{flagNumber}
 use Rattle.command_measure.specs.Fields.{insertFlags}
-use Rattle.command_writer.proofs.Storing.{pens-all, flags-bits}
+use Rattle.command_writer.proofs.Storing.{pens-all, flags-bits, network-bit}
 use borrow.Author.Needs.{needs}
 use Rattle.command_writer.proofs.insert.store_flags.Statement.{statement}
 use Rattle.command_writer.proofs.insert.store_flags.Tie as tie
 
-is-out-requires : tie.Need-is-out-requires
-is-out-requires c κs = search needs
+flag-requires : tie.Need-flag-requires
+flag-requires c κs = search needs
 
-flag-number-requires : tie.Need-flag-number-requires
-flag-number-requires c κs = search needs
+wide-requires : tie.Need-wide-requires
+wide-requires c κs = search needs
 
 is-program-requires : tie.Need-is-program-requires
 is-program-requires c κs = search needs
 
-flag-number-requires-2 : tie.Need-flag-number-requires-2
-flag-number-requires-2 c κs = search needs
+flag-number-requires : tie.Need-flag-number-requires
+flag-number-requires c κs = search needs
 
 lasts-requires : tie.Need-lasts-requires
 lasts-requires c κs = search needs
 
+flag-number-requires-2 : tie.Need-flag-number-requires-2
+flag-number-requires-2 c κs = search needs
+
 flag-number-requires-3 : tie.Need-flag-number-requires-3
 flag-number-requires-3 c κs = search needs
-
-flag-number-requires-4 : tie.Need-flag-number-requires-4
-flag-number-requires-4 c κs = search needs
 
 mul-put-bits : tie.Need-mul-put-bits
 mul-put-bits c = search needs
@@ -70,11 +70,11 @@ returns c =
     let f₁ = f₂ .before .before in
     let a = f₁ .before .before .before .args in
     let i = a .insert in
-    let e₁ = f₁ .flag-number .ensures .0 ∙ ap flagNumber (f₁ .before .is-out .ensures) in
-    let e₂ = f₂ .flag-number2 .ensures .0 ∙ ap flagNumber (f₂ .before .is-program .ensures) in
-    let e₃ = f₃ .flag-number3 .ensures .0 ∙ ap flagNumber (f₃ .before .lasts .ensures) in
-    let e₄ = f₄ .flag-number4 .ensures .0 in
-    let y = f₁ .flag-number .result * 128 + f₂ .flag-number2 .result * 64 + f₃ .flag-number3 .result * 32 + f₄ .flag-number4 .result * 16 + 15 in
+    let e₁ = f₁ .wide .ensures .0 ∙ f₁ .before .flag .ensures ∙ network-bit (i .«network_indicator») in
+    let e₂ = f₂ .flag-number .ensures .0 ∙ ap flagNumber (f₂ .before .is-program .ensures) in
+    let e₃ = f₃ .flag-number2 .ensures .0 ∙ ap flagNumber (f₃ .before .lasts .ensures) in
+    let e₄ = f₄ .flag-number3 .ensures .0 in
+    let y = f₁ .wide .result * 128 + f₂ .flag-number .result * 64 + f₃ .flag-number2 .result * 32 + f₄ .flag-number3 .result * 16 + 15 in
     pens-all (a .out .now) (a .c) _ _ (insertFlags i (a .at-once)) 8 y
     (flags-bits (outOfNetwork (i .«network_indicator»)) (byProgram (i .«splice_mode»)) (lasting (i .duration)) (a .at-once) y (omega (arith, e₁, e₂, e₃, e₄))) (p .put-bits .ensures)
 
@@ -82,13 +82,13 @@ pub store-flags-spec : {M : Type 1} → statement M
 store-flags-spec =
     tie.close
     (tie.spec
-    is-out-requires
-    flag-number-requires
+    flag-requires
+    wide-requires
     is-program-requires
-    flag-number-requires-2
+    flag-number-requires
     lasts-requires
+    flag-number-requires-2
     flag-number-requires-3
-    flag-number-requires-4
     mul-put-bits
     mul-put-bits-2
     add-put-bits

@@ -12,14 +12,14 @@ enum-told c = search needs
 enum-known-delivery : tie.Need-enum-known-delivery
 enum-known-delivery c = search needs
 
-number-of-requires : tie.Need-number-of-requires
-number-of-requires c κs = search needs
+flag-number-requires : tie.Need-flag-number-requires
+flag-number-requires c κs = search needs
 
-number-of-requires-2 : tie.Need-number-of-requires-2
-number-of-requires-2 c κs = search needs
+flag-number-requires-2 : tie.Need-flag-number-requires-2
+flag-number-requires-2 c κs = search needs
 
-number-of-requires-3 : tie.Need-number-of-requires-3
-number-of-requires-3 c κs = search needs
+flag-number-requires-3 : tie.Need-flag-number-requires-3
+flag-number-requires-3 c κs = search needs
 
 mul-result : tie.Need-mul-result
 mul-result c = search needs
@@ -56,8 +56,8 @@ returns-2 c =
     let n₁ = n₂ .before in
     let d = n₁ .before .before in
     let v = c .wide .ensures .0 ∙ b .bits .ensures in (
-      omega (arith, n₁ .number-of .ensures .1, n₂ .number-of2 .ensures .1, n₃ .number-of3 .ensures .1, v, device-small (d .delivery .given .0 .0 .«device_restrictions»)),
-      λ from. delivery-bits from _ _ _ _ _ _ _ (d .delivery .given .1) (n₁ .number-of .ensures) (n₂ .number-of2 .ensures) (n₃ .number-of3 .ensures) v refl,
+      omega (arith, n₁ .flag-number .ensures .1, n₂ .flag-number2 .ensures .1, n₃ .flag-number3 .ensures .1, v, device-small (d .delivery .given .0 .0 .«device_restrictions»)),
+      λ from. delivery-bits from _ _ _ _ _ _ _ (d .delivery .given .1) (n₁ .flag-number .ensures) (n₂ .flag-number2 .ensures) (n₃ .flag-number3 .ensures) v refl,
     )
 
 pub delivery-number-spec : {M : Type 1} → statement M
@@ -66,9 +66,9 @@ delivery-number-spec =
     (tie.spec
     enum-told
     enum-known-delivery
-    number-of-requires
-    number-of-requires-2
-    number-of-requires-3
+    flag-number-requires
+    flag-number-requires-2
+    flag-number-requires-3
     mul-result
     mul-result-2
     add-result

@@ -6,14 +6,14 @@ use borrow.Author.Needs.{needs}
 use Rattle.descriptor_writer.proofs.parts.store_flags.Statement.{statement}
 use Rattle.descriptor_writer.proofs.parts.store_flags.Tie as tie
 
-number-of-requires : tie.Need-number-of-requires
-number-of-requires c κs = search needs
+flag-number-requires : tie.Need-flag-number-requires
+flag-number-requires c κs = search needs
 
-number-of-requires-2 : tie.Need-number-of-requires-2
-number-of-requires-2 c κs = search needs
+flag-number-requires-2 : tie.Need-flag-number-requires-2
+flag-number-requires-2 c κs = search needs
 
-number-of-requires-3 : tie.Need-number-of-requires-3
-number-of-requires-3 c κs = search needs
+flag-number-requires-3 : tie.Need-flag-number-requires-3
+flag-number-requires-3 c κs = search needs
 
 delivery-number-requires : tie.Need-delivery-number-requires
 delivery-number-requires c κs = search needs
@@ -50,15 +50,15 @@ returns c =
     let n₂ = n₃ .before in
     let n₁ = n₂ .before in
     let a = n₁ .before .before .args in
-    λ from. put-joined _ _ _ _ _ 8 _ (flags-bits from (a .program) (a .lasts) (a .free) (a .delivery) _ _ _ _ _ (n₁ .number-of .ensures) (n₂ .number-of2 .ensures) (n₃ .number-of3 .ensures) (d .delivery-number .ensures .0) (d .delivery-number .ensures .1 from) refl) (p .put-bits .ensures)
+    λ from. put-joined _ _ _ _ _ 8 _ (flags-bits from (a .program) (a .lasts) (a .free) (a .delivery) _ _ _ _ _ (n₁ .flag-number .ensures) (n₂ .flag-number2 .ensures) (n₃ .flag-number3 .ensures) (d .delivery-number .ensures .0) (d .delivery-number .ensures .1 from) refl) (p .put-bits .ensures)
 
 pub store-flags-spec : {M : Type 1} → statement M
 store-flags-spec =
     tie.close
     (tie.spec
-    number-of-requires
-    number-of-requires-2
-    number-of-requires-3
+    flag-number-requires
+    flag-number-requires-2
+    flag-number-requires-3
     delivery-number-requires
     mul-put-bits
     mul-put-bits-2

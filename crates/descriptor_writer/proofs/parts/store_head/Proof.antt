@@ -9,8 +9,8 @@ use Rattle.descriptor_writer.proofs.parts.store_head.Tie as tie
 mul-put-bits : tie.Need-mul-put-bits
 mul-put-bits c = search needs
 
-number-of-requires : tie.Need-number-of-requires
-number-of-requires c κs = search needs
+flag-number-requires : tie.Need-flag-number-requires
+flag-number-requires c κs = search needs
 
 mul-put-bits-2 : tie.Need-mul-put-bits-2
 mul-put-bits-2 c = search needs
@@ -32,14 +32,14 @@ returns c =
     let p = c .before .before in
     let n = p .before in
     let a = n .before .before .before .args in
-    λ from. put-joined _ _ _ _ _ 40 _ (head-bits from (a .event) (a .cancel) _ _ (n .number-of .ensures) refl) (p .put-bits .ensures)
+    λ from. put-joined _ _ _ _ _ 40 _ (head-bits from (a .event) (a .cancel) _ _ (n .flag-number .ensures) refl) (p .put-bits .ensures)
 
 pub store-head-spec : {M : Type 1} → statement M
 store-head-spec =
     tie.close
     (tie.spec
     mul-put-bits
-    number-of-requires
+    flag-number-requires
     mul-put-bits-2
     add-put-bits
     add-put-bits-2
