@@ -45,6 +45,23 @@ static void print_item(const uint8_t *loop, struct scte35_step x)
     printf("\n");
 }
 
+enum { mid_type = 13 };
+
+/* The parts of a MID, at every level: the type and the bytes of each. */
+static void print_parts(const uint8_t *loop, struct scte35_step x)
+{
+    if (x.item.segmentation.segmentation_upid_type != mid_type)
+        return;
+    const uint8_t *mid = loop + x.item.bytes.at;
+    struct scte35_upid u = scte35_upid(mid_type, mid, x.item.bytes.len, 0);
+    for (uint64_t i = 0; i < u.count; i++) {
+        printf("%*spart of type %" PRIu64 " ", (int)(4 * u.parts[i].level), "", u.parts[i].type);
+        for (uint64_t k = 0; k < u.parts[i].len; k++)
+            printf("%02x", mid[u.parts[i].start + k]);
+        printf("\n");
+    }
+}
+
 /* Every item of the loop as its descriptor, one behind the other: their length, or 0 and the refusal of the first that is refused. */
 static struct scte35_written write_loop(const uint8_t *loop, size_t n, uint8_t *target, size_t room)
 {
@@ -92,6 +109,7 @@ int main(int argc, char **argv)
     for (uint64_t at = 0; at < x.descriptors.len;) {
         struct scte35_step item = scte35_step(loop, x.descriptors.len, at);
         print_item(loop, item);
+        print_parts(loop, item);
         at = item.next;
     }
     static uint8_t target[SCTE35_MAX_SECTION];

@@ -91,7 +91,7 @@ partsOf (suc n) level start (k ∷ (l ∷ rest)) =
     ∷ (cond (eqb k 13) (partsOf n (level + 1) (start + 2) (take l rest)) []
     ++ partsOf n level (start + (2 + l)) (drop l rest))
 
--- "A part list of anything but a MID has count 0"
+-- of anything but a MID the list has count 0 (docs/DECISIONS.md)
 unfoldable pub listOf : ℕ → ℕ → ℕ → List ℕ → List Part
 listOf k level start bytes = cond (eqb k 13) (partsOf (length bytes) level start bytes) []
 
