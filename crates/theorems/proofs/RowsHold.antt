@@ -14,14 +14,14 @@ use Rattle.table.specs.Table.{number, bit, reserved, part, remaining, list, can
 use Rattle.upid.specs.Cover.{All, none, more}
 use Rattle.upid.specs.Text.{textOf, done, step, within}
 use Rattle.upid.specs.Upid as upid
-use Rattle.upid.specs.Upid.{upidOf, checkOf, readOf, walkOf, _then_, plainOf, lengthOf, isText, reportedOf, listOf, partsOf, listed, unlessRefused, tells}
+use Rattle.upid.specs.Upid.{upidOf, checkOf, readOf, walkOf, _then_, plainOf, lengthOf, isText, reportedOf, listOf, partsOf, listed, unlessRefused}
 use Rattle.theorems.specs.Rows.{insertsAre, Holds, rows}
 
 pub every-row : All Holds rows
-unfolding rows itemsOf itemsFrom stepOf wholeAt readAt numberOf valuesOf upid.numberOf upid.valuesOf descriptorOf cueiOf isCuei availOf dtmfOf reservedOf avail dtmf privateBytes number bit reserved part remaining list viewed tells upidOf checkOf readOf walkOf _then_ plainOf lengthOf isText reportedOf listOf partsOf listed unlessRefused textOf done step within commandOf canonicalCommand canonicalBy componentsOf array insert active ending moded breakDuration timeUnless component spliceTime segmentationOf insertOf inserted head front parts deliveryRestrictions mode duration writtenUpid back subSegments names.segmentationOf
+unfolding rows itemsOf itemsFrom stepOf wholeAt readAt numberOf valuesOf upid.numberOf upid.valuesOf descriptorOf cueiOf isCuei availOf dtmfOf reservedOf avail dtmf privateBytes number bit reserved part remaining list viewed upidOf checkOf readOf walkOf _then_ plainOf lengthOf isText reportedOf listOf partsOf listed unlessRefused textOf done step within commandOf canonicalCommand canonicalBy componentsOf array insert active ending moded breakDuration timeUnless component spliceTime segmentationOf insertOf inserted head front parts deliveryRestrictions mode duration writtenUpid back subSegments names.segmentationOf
 every-row =
     more refl (more refl (more refl (more refl (more refl (more refl (more refl
     (more refl (more refl (more refl
     (more refl (more refl
-    (more {x = insertsAre _ _ _} (record { this = record { value = refl; components = refl }; that = record { value = refl; components = refl }; first-is = refl; second-is-not = refl })
+    (more {x = insertsAre _ _} (record { value = _; this = refl; that = refl; components = refl; first-is = refl; second-is-not = refl })
     (more refl (more refl (more refl none)))))))))))))))

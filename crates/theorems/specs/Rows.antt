@@ -4,14 +4,10 @@ use mathlib.Core.Bool.{true, false}
 use mathlib.Core.List.{List, [], _∷_, _++_, map}
 use mathlib.Core.Path.{_≡_}
 use Rattle.canonical_command.specs.Canonical.{canonicalCommand}
-use Rattle.command.specs.Command.{commandOf, componentsOf, array}
-use Rattle.command.specs.Insert.{WithComponents}
+use Rattle.command.specs.Command.{commandOf, componentsOf}
 use Rattle.command.specs.declared.CommandRead.{CommandRead}
 use Rattle.command.specs.declared.SpliceCommand.{SpliceCommand}
-use Rattle.command.specs.declared.insert.Break.{Break}
 use Rattle.command.specs.declared.insert.Insertion.{Insertion}
-use Rattle.command.specs.declared.insert.SpliceInsert.{SpliceInsert}
-use Rattle.command.specs.declared.insert.SpliceMode.{SpliceMode}
 use Rattle.descriptor.specs.Descriptor.{cuei, segmentationOf}
 use Rattle.descriptor.specs.Segmentation.{blankUpid}
 use Rattle.descriptor.specs.declared.Descriptor.{Descriptor}
@@ -27,12 +23,12 @@ use Rattle.header.specs.declared.time.SpliceTime.{SpliceTime}
 use Rattle.items.specs.Items as items
 use Rattle.items.specs.Items.{Listed, itemsOf}
 use Rattle.items.specs.declared.Item.{Item}
-use Rattle.names.specs.declared.flags.NetworkIndicator.{NetworkIndicator}
 use Rattle.names.specs.declared.segmentation.SegmentationTypeId.{SegmentationTypeId}
 use Rattle.table.specs.Lent.{viewed}
 use Rattle.upid.specs.Upid as upids
-use Rattle.upid.specs.Upid.{upidOf, told}
+use Rattle.upid.specs.Upid.{upidOf, partsIn}
 use Rattle.upid.specs.declared.Part.{Part}
+use Rattle.upid.specs.declared.UpidRead.{UpidRead}
 
 -- ---- what is read, in document 01's terms
 
@@ -70,9 +66,9 @@ abbrev pub payloadSays : List ℕ → DescriptorRead → Says
 payloadSays payload (DescriptorRead.Is d) = descriptorSays payload [] d
 payloadSays payload (DescriptorRead.Refused r) = refused (upids.numberOf r) (upids.valuesOf r)
 
-abbrev pub upidSays : upids.Told → Says
-upidSays (upids.accepted kind parts) = upid kind parts
-upidSays (upids.refused number values) = refused number values
+abbrev pub upidSays : UpidRead → List Part → Says
+upidSays (UpidRead.Fine kind) parts = upid kind parts
+upidSays (UpidRead.Refused r) parts = refused (upids.numberOf r) (upids.valuesOf r)
 
 abbrev pub commandSays : CommandRead → Says
 commandSays (CommandRead.Is c) = command c
@@ -89,27 +85,24 @@ pub data Row : Type 0 where
   -- a command's payload under its type
   commandIs : ℕ → List ℕ → Says → Row
   -- two payloads of inserts, with one reading: only the first is canonical
-  insertsAre : List ℕ → List ℕ → WithComponents Insertion → Row
+  insertsAre : List ℕ → List ℕ → Row
   -- a segmentation descriptor's payload
   segmentationIs : List ℕ → Says → Row
 
--- a payload is read as this insert with its components
-pub record ReadAs (payload : List ℕ) (x : WithComponents Insertion) : Type 0 where
-  pub value : commandOf 0x05 payload ≡ CommandRead.Is (SpliceCommand.SpliceInsert (x .value))
-  pub components : componentsOf payload ≡ array (x .components)
-
 -- "equal readings, only the first canonical", which is what `is_canonical_command` answers
-pub record Alike (first second : List ℕ) (x : WithComponents Insertion) : Type 0 where
-  pub this : ReadAs first x
-  pub that : ReadAs second x
+pub record Alike (first second : List ℕ) : Type 0 where
+  pub value : Insertion
+  pub this : commandOf 0x05 first ≡ CommandRead.Is (SpliceCommand.SpliceInsert value)
+  pub that : commandOf 0x05 second ≡ CommandRead.Is (SpliceCommand.SpliceInsert value)
+  pub components : componentsOf first ≡ componentsOf second
   pub first-is : canonicalCommand 0x05 first ≡ true
   pub second-is-not : canonicalCommand 0x05 second ≡ false
 
 abbrev pub Holds : Row → Type 0
 Holds (loopIs loop says) = map (listedSays loop) (itemsOf loop) ≡ says
-Holds (upidIs kind bytes says) = upidSays (told (upidOf kind bytes)) ≡ says
+Holds (upidIs kind bytes says) = upidSays (upidOf kind bytes .read) (partsIn (upidOf kind bytes)) ≡ says
 Holds (commandIs kind payload says) = commandSays (commandOf kind payload) ≡ says
-Holds (insertsAre first second x) = Alike first second x
+Holds (insertsAre first second) = Alike first second
 Holds (segmentationIs payload says) = payloadSays payload (segmentationOf payload) ≡ says
 
 -- ---- the rows
@@ -122,24 +115,6 @@ C rest = cuei ++ rest
 abbrev pub counting : ℕ → ℕ → List ℕ
 counting from zero = []
 counting from (suc n) = from ∷ counting (from + 1) n
-
--- an insert by components with count 0
-abbrev pub noComponents : WithComponents Insertion
-noComponents = record {
-  value = record {
-    «splice_event_id» = 1;
-    reserved = 127;
-    «splice_detail» = SpliceInsert.Insert (record {
-      «network_indicator» = NetworkIndicator.In;
-      «splice_mode» = SpliceMode.Components 0;
-      duration = Break.Absent;
-      «unique_program_id» = 0;
-      «avail_num» = 0;
-      «avails_expected» = 0;
-    });
-  };
-  components = [];
-}
 
 -- event 42: a program start, 1 of 1, without restrictions, duration or UPID
 abbrev pub programStart : SubSegments → SegmentationDescriptor
@@ -187,7 +162,7 @@ rows =
     -- "l. time signal 7F: unspecified."
     ∷ commandIs 0x06 (0x7F ∷ []) (command (SpliceCommand.TimeSignal SpliceTime.Unspecified))
     -- "m. insert 00 00 00 01 7F 0F 00 00 00 00 00 and the same with 1F: equal readings, only the first canonical."
-    ∷ insertsAre (0x00 ∷ 0x00 ∷ 0x00 ∷ 0x01 ∷ 0x7F ∷ 0x0F ∷ 0x00 ∷ 0x00 ∷ 0x00 ∷ 0x00 ∷ 0x00 ∷ []) (0x00 ∷ 0x00 ∷ 0x00 ∷ 0x01 ∷ 0x7F ∷ 0x1F ∷ 0x00 ∷ 0x00 ∷ 0x00 ∷ 0x00 ∷ 0x00 ∷ []) noComponents
+    ∷ insertsAre (0x00 ∷ 0x00 ∷ 0x00 ∷ 0x01 ∷ 0x7F ∷ 0x0F ∷ 0x00 ∷ 0x00 ∷ 0x00 ∷ 0x00 ∷ 0x00 ∷ []) (0x00 ∷ 0x00 ∷ 0x00 ∷ 0x01 ∷ 0x7F ∷ 0x1F ∷ 0x00 ∷ 0x00 ∷ 0x00 ∷ 0x00 ∷ 0x00 ∷ [])
     -- "n. Segmentation payload 00 00 00 2A 7F BF 00 00 10 01 01: program start, no sub-segments; with 01: 21 (1, 0); with 01 02: sub-segment 1 of 2."
     ∷ segmentationIs (0x00 ∷ 0x00 ∷ 0x00 ∷ 0x2A ∷ 0x7F ∷ 0xBF ∷ 0x00 ∷ 0x00 ∷ 0x10 ∷ 0x01 ∷ 0x01 ∷ []) (segmentation (programStart SubSegments.Absent))
     ∷ segmentationIs (0x00 ∷ 0x00 ∷ 0x00 ∷ 0x2A ∷ 0x7F ∷ 0xBF ∷ 0x00 ∷ 0x00 ∷ 0x10 ∷ 0x01 ∷ 0x01 ∷ 0x01 ∷ []) (refused 21 (1 ∷ 0 ∷ []))

@@ -3,7 +3,19 @@ use Prim.Native.Nat.{ℕ}
 use mathlib.Core.Path.{_≡_, refl}
 use mathlib.Core.List.{List, [], _∷_}
 use Rattle.upid.specs.Text.{textOf, done, step, within}
-use Rattle.upid.specs.Upid.{numberOf, valuesOf, upidOf, checkOf, readOf, walkOf, _then_, plainOf, lengthOf, isText, reportedOf, listOf, partsOf, listed, unlessRefused, Told, accepted, refused, tells, told}
+use Rattle.upid.specs.Upid.{numberOf, valuesOf, upidOf, checkOf, readOf, walkOf, _then_, plainOf, lengthOf, isText, reportedOf, listOf, partsOf, listed, unlessRefused}
+
+-- an answer in document 01's terms: a reported type with parts, or a refusal's number with its values
+pub data Told : Type 0 where
+  accepted : ℕ → List Part → Told
+  refused : ℕ → List ℕ → Told
+
+unfoldable pub tells : UpidRead → List Part → Told
+tells (Fine k) ps = accepted k ps
+tells (Refused r) ps = refused (numberOf r) (valuesOf r)
+
+abbrev pub told : Upid → Told
+told u = tells (u .read) (partsIn u)
 
 -- one row: a type, the bytes, and what they are read as
 pub record Row : Type 0 where
@@ -25,10 +37,18 @@ rows =
     -- a part of one byte; a short payload before the part's type
     ∷ record { kind = 13; bytes = 0x09 ∷ 0x00 ∷ 0x08 ∷ []; answer = refused 21 (1 ∷ 0 ∷ []) }
     ∷ record { kind = 13; bytes = 0x00 ∷ 0x05 ∷ 0x01 ∷ []; answer = refused 21 (5 ∷ 1 ∷ []) }
+    -- of two faulty parts the first: type 0, before a payload that is short
+    ∷ record { kind = 13; bytes = 0x00 ∷ 0x00 ∷ 0x08 ∷ 0x03 ∷ 0x01 ∷ []; answer = refused 23 [] }
     -- type 5 reports 6; type 6 has 12 bytes, and no other number
     ∷ record { kind = 5; bytes = 1 ∷ 2 ∷ 3 ∷ 4 ∷ 5 ∷ 6 ∷ 7 ∷ 8 ∷ []; answer = accepted 6 [] }
     ∷ record { kind = 6; bytes = 1 ∷ 2 ∷ 3 ∷ 4 ∷ 5 ∷ 6 ∷ 7 ∷ 8 ∷ []; answer = refused 25 (6 ∷ 12 ∷ 8 ∷ []) }
     ∷ record { kind = 13; bytes = 0x06 ∷ 0x01 ∷ 0x00 ∷ []; answer = refused 25 (6 ∷ 12 ∷ 1 ∷ []) }
+    -- "types 2, 5, 8 have 8; 3, 6, 7, 10 have 12; 4 has 32"
+    ∷ record { kind = 8; bytes = 1 ∷ []; answer = refused 25 (8 ∷ 8 ∷ 1 ∷ []) }
+    ∷ record { kind = 3; bytes = 1 ∷ []; answer = refused 25 (3 ∷ 12 ∷ 1 ∷ []) }
+    ∷ record { kind = 7; bytes = 1 ∷ []; answer = refused 25 (7 ∷ 12 ∷ 1 ∷ []) }
+    ∷ record { kind = 10; bytes = 1 ∷ []; answer = refused 25 (10 ∷ 12 ∷ 1 ∷ []) }
+    ∷ record { kind = 4; bytes = 1 ∷ []; answer = refused 25 (4 ∷ 32 ∷ 1 ∷ []) }
     -- text that is not UTF-8, and length before text
     ∷ record { kind = 13; bytes = 0x02 ∷ 0x08 ∷ 0x41 ∷ 0x41 ∷ 0x41 ∷ 0x41 ∷ 0x41 ∷ 0x41 ∷ 0xC3 ∷ 0x41 ∷ []; answer = refused 24 (2 ∷ 2 ∷ 8 ∷ []) }
     ∷ record { kind = 2; bytes = 0xC3 ∷ 0x41 ∷ []; answer = refused 25 (2 ∷ 8 ∷ 2 ∷ []) }
@@ -42,4 +62,5 @@ pub rows-hold : Hold rows
 unfolding rows tells numberOf valuesOf upidOf checkOf readOf walkOf _then_ plainOf lengthOf isText reportedOf listOf partsOf listed unlessRefused textOf done step within
 rows-hold =
     more refl (more refl (more refl (more refl (more refl (more refl
-    (more refl (more refl (more refl (more refl (more refl (more refl none)))))))))))
+    (more refl (more refl (more refl (more refl (more refl (more refl
+    (more refl (more refl (more refl (more refl (more refl (more refl none)))))))))))))))))

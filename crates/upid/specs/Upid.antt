@@ -137,15 +137,3 @@ partView p = record { at = p .start; len = p .len }
 -- the parts in an answer: those before its count
 abbrev pub partsIn : Upid → List Part
 partsIn u = take (u .list .count) (u .list .parts)
-
--- an answer in document 01's terms: a reported type with parts, or a refusal's number with its values
-pub data Told : Type 0 where
-  accepted : ℕ → List Part → Told
-  refused : ℕ → List ℕ → Told
-
-unfoldable pub tells : UpidRead → List Part → Told
-tells (Fine k) ps = accepted k ps
-tells (Refused r) ps = refused (numberOf r) (valuesOf r)
-
-abbrev pub told : Upid → Told
-told u = tells (u .read) (partsIn u)
