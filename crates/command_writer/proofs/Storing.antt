@@ -17,7 +17,8 @@ use Rattle.command.specs.declared.insert.SpliceInsert.{SpliceInsert}
 use Rattle.command.specs.declared.insert.SpliceMode.{SpliceMode}
 use Rattle.header.specs.declared.time.SpliceTime.{SpliceTime}
 use Rattle.header.specs.declared.time.SpliceTime.the-variants.{Immediate, Unspecified, At}
-use Rattle.pen.specs.Pen.{Pens, Fits}
+use Rattle.pen.specs.Pen.{Pens}
+use Rattle.pen.specs.Walk.{Fits}
 use Rattle.pen.proofs.Penned.{length-penned}
 use Rattle.pen.proofs.Tables.{Goes, pens-place, pens-append, pens-last, pens-same, print-beside, ink-append}
 use Rattle.table.specs.Bits.{bitsOfNum}

@@ -1,8 +1,6 @@
 // What the descriptor writer makes of an item: the values that it refuses, and the bytes that it takes (document 01, "Canonical form and writer").
 ghost use mathlib.Core.Path.{_≡_};
-ghost use Prim.Native.Nat.{_+_};
-ghost use lib.Dec.{leb};
-ghost use lib.ListN.{length};
+ghost use Rattle.table.specs.Lent.{liesIn};
 ghost use Rattle.descriptor_form.specs.Writing.{allZero, alone, fairReserved};
 use descriptor::is_cuei;
 use table::View;
@@ -12,7 +10,7 @@ pub mod upids;
 
 // Refusal 31: whether a view lies in the lent bytes. Its offset and length are summed without wrapping.
 pub fn lies_in(lent: &[u8], v: View) -> bool
-    ensures { λ r. ⌜ r ≡ leb (v .at + v .len) (length (now (lent .entry))) ⌝ }
+    ensures { λ r. ⌜ r ≡ liesIn (now (lent .entry)) v ⌝ }
 {
     let at = v.at;
     let len = v.len;

@@ -39,20 +39,6 @@ joinedMade (m ∷ ms) = m followed-by joinedMade ms
 unfoldable pub loopMade : List ℕ → Made
 loopMade loop = joinedMade (map (writtenAt loop) (itemsOf loop))
 
--- ---- equal readings of two loops: the same items in order
-
--- the item x of one loop and the item y of another are descriptors with equal readings
-pub record SameItem (loop other : List ℕ) (x y : Listed) : Type 0 where
-  pub this : Descriptor
-  pub that : Descriptor
-  pub first : x .step .item ≡ Is this
-  pub second : y .step .item ≡ Is that
-  pub same : SameReading loop this (x .step .identifier) (readingOf loop (x .offset) .beside) other that (y .step .identifier) (readingOf other (y .offset) .beside)
-
-pub data SameItems (loop other : List ℕ) : List Listed → List Listed → Type 0 where
-  done : SameItems loop other [] []
-  pair : {x y : Listed} {xs ys : List Listed} → SameItem loop other x y → SameItems loop other xs ys → SameItems loop other (x ∷ xs) (y ∷ ys)
-
 -- ---- descriptors that are handed in, one after the other, each with the bytes that its views refer to
 
 pub record Given : Type 0 where
@@ -67,12 +53,31 @@ givenMade g = descriptorMade (g .descriptor) (g .identifier) (g .beside) (g .len
 abbrev pub GivenTypes : Given → Type 0
 GivenTypes g = Handed (g .descriptor) (g .identifier) (g .beside) (g .lent)
 
+-- an item y of a loop that is the descriptor d, as it is handed in
+abbrev pub itemGiven : List ℕ → Listed → Descriptor → Given
+itemGiven loop y d = record { descriptor = d; identifier = y .step .identifier; beside = readingOf loop (y .offset) .beside; lent = loop }
+
+-- ---- equal readings, in order
+
 -- the item x of the loop is a descriptor that is equal to what was handed in
 pub record ItemBack (loop : List ℕ) (x : Listed) (g : Given) : Type 0 where
   pub again : Descriptor
   pub is : x .step .item ≡ Is again
   pub same : SameReading loop again (x .step .identifier) (readingOf loop (x .offset) .beside) (g .lent) (g .descriptor) (g .identifier) (g .beside)
 
-pub data ItemsBack (loop : List ℕ) : List Listed → List Given → Type 0 where
-  over : ItemsBack loop [] []
-  back : {x : Listed} {g : Given} {xs : List Listed} {gs : List Given} → ItemBack loop x g → ItemsBack loop xs gs → ItemsBack loop (x ∷ xs) (g ∷ gs)
+-- the item x of one loop and the item y of another are descriptors with equal readings
+pub record SameItem (loop other : List ℕ) (x y : Listed) : Type 0 where
+  pub that : Descriptor
+  pub is : y .step .item ≡ Is that
+  pub back : ItemBack loop x (itemGiven other y that)
+
+-- R holds of two lists, one by one
+pub data Pairs {A B : Type 0} (R : A → B → Type 0) : List A → List B → Type 0 where
+  over : Pairs R [] []
+  pair : {x : A} {y : B} {xs : List A} {ys : List B} → R x y → Pairs R xs ys → Pairs R (x ∷ xs) (y ∷ ys)
+
+abbrev pub ItemsBack : List ℕ → List Listed → List Given → Type 0
+ItemsBack loop xs gs = Pairs (ItemBack loop) xs gs
+
+abbrev pub SameItems : List ℕ → List ℕ → List Listed → List Listed → Type 0
+SameItems loop other xs ys = Pairs (SameItem loop other) xs ys
