@@ -34,7 +34,7 @@ use Rattle.items.specs.Place.{movedDescriptor}
 use Rattle.items.specs.declared.Item.{Item}
 use Rattle.items.specs.declared.Item.the-variants.{Is}
 use Rattle.items.specs.declared.reading.Reading.{Reading}
-use Rattle.loop_laws.specs.Loops.{itemMade, writtenAt, _followed-by_, joinedMade, Given, givenMade, GivenTypes, ItemBack, SameItems, ItemsBack, Pairs, over, pair}
+use Rattle.loop_laws.specs.Loops.{itemMade, writtenAt, _followed-by_, joinedMade, Given, givenMade, itemGiven, GivenTypes, ItemBack, SameItems, ItemsBack, Pairs, over, pair}
 use Rattle.loop_laws.proofs.Pieces.{Canonical, cut-canonical, At, Items, end, item, items-cut}
 use Rattle.loop_laws.proofs.Places.{moved-values, moved-count, moved-view, moved-bytes}
 
@@ -129,7 +129,7 @@ module _ (loop : List ℕ) (offset : ℕ) (t : List ℕ) (a : At loop offset t) 
 
 -- what is written of the item is the piece
 pub written-at : (loop : List ℕ) (offset : ℕ) (t : List ℕ) (a : At loop offset t) → Back loop offset t a → writtenAt loop (listed loop offset) ≡ made t
-written-at loop o t a b = ap (λ (y : Item). itemMade loop y (stepOf loop o .identifier) (readingOf loop o .beside)) (b .is) ∙ b .writes
+written-at loop o t a b = ap (itemMade λ d. givenMade (itemGiven loop (listed loop o) d)) (b .is) ∙ b .writes
 
 -- ---- all of them
 
