@@ -19,7 +19,8 @@ use Rattle.command.specs.declared.insert.Insertion.{Insertion}
 use Rattle.command.specs.declared.insert.SpliceInsert.{SpliceInsert}
 use Rattle.header.specs.Time.{spliceTime, notImmediate}
 use Rattle.header.specs.declared.time.SpliceTime.{SpliceTime}
-use Rattle.pen.specs.Pen.{Pens, Fits, penned}
+use Rattle.pen.specs.Pen.{Pens, penned}
+use Rattle.pen.specs.Walk.{Fits}
 use Rattle.pen.specs.Written.{answerOf, laterOf, refusalIn, bytesIn}
 use Rattle.pen.specs.declared.Written.{Written}
 use Rattle.pen.proofs.Penned.{penned-stored}

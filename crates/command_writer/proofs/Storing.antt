@@ -20,7 +20,8 @@ use Rattle.header.specs.declared.time.SpliceTime.the-variants.{Immediate, Unspe
 use Rattle.names.specs.Flags.{networkFlag, returnFlag}
 use Rattle.names.specs.declared.flags.NetworkIndicator.{NetworkIndicator}
 use Rattle.names.specs.declared.flags.ReturnMode.{ReturnMode}
-use Rattle.pen.specs.Pen.{Pens, Fits}
+use Rattle.pen.specs.Pen.{Pens}
+use Rattle.pen.specs.Walk.{Fits}
 use Rattle.pen.proofs.Penned.{length-penned}
 use Rattle.pen.proofs.Tables.{Goes, pens-place, pens-append, pens-last, pens-same, print-beside, ink-append}
 use Rattle.table.specs.Bits.{bitsOfNum}

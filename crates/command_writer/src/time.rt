@@ -1,6 +1,7 @@
 // Writing a splice_time().
 ghost use Rattle.command_measure.specs.Fields.{ink, timeFields};
-ghost use Rattle.pen.specs.Pen.{Fits, Pens};
+ghost use Rattle.pen.specs.Pen.{Pens};
+ghost use Rattle.pen.specs.Walk.{Fits};
 use header::time::SpliceTime;
 use pen::put_bits;
 use table::cursor::Cursor;

@@ -16,7 +16,7 @@ use Rattle.table.specs.declared.cursor.Short.{Short}
 use Rattle.table.proofs.Laws.{field-there}
 use Rattle.table.proofs.Lists.{zero-one}
 use Rattle.table.proofs.Reading.{field-lt}
-use Rattle.table.proofs.Steps.{onward, takes-in, lacks-in, reads-number, reads-flag, list-turn, list-short, list-none}
+use Rattle.table.proofs.Steps.{reads-in, onward, takes-in, lacks-in, reads-number, reads-flag, list-turn, list-short, list-none}
 use Rattle.upid.specs.Upid.{eidrOf}
 use Rattle.descriptor.specs.Segmentation.{
   deliveryRestrictions,
@@ -38,7 +38,7 @@ use Rattle.descriptor.specs.Segmentation.{
 }
 use Rattle.descriptor.specs.Walk.{filling}
 use Rattle.descriptor.specs.Descriptor.{descriptorOf}
-use Rattle.descriptor.specs.Whole.{blanks, filled, blankBeside, besideIn, besideOf, besideRead, identifierRead, wholeOf}
+use Rattle.descriptor.specs.Whole.{filled, blankBeside, besideIn, besideOf, besideRead, identifierRead, wholeOf}
 use Rattle.descriptor.specs.declared.DescriptorRead.{DescriptorRead}
 use Rattle.descriptor.specs.declared.back.Back.{Back}
 use Rattle.descriptor.specs.declared.front.Component.{Component}
@@ -48,7 +48,6 @@ use Rattle.descriptor.specs.declared.segmentation.SegmentationDetail.the
 use Rattle.descriptor.specs.declared.segmentation.SegmentationMode.{SegmentationMode}
 use Rattle.descriptor.specs.declared.segmentation.SegmentationUpid.{SegmentationUpid}
 use Rattle.descriptor.specs.declared.whole.Beside.{Beside}
-use Rattle.descriptor.proofs.Insides.{reads-in}
 
 -- ---- where the components lie
 reads-ones : {X : Type 0} (s : List ℕ) (at w : ℕ) (t : Table X) (y : X) (m : ℕ) → parse (ones w t) (bitsOf s) at ≡ got y m → parse t (bitsOf s) (at + w) ≡ got y m
@@ -85,7 +84,7 @@ mode-listed s false x m e =
     let e₀ = reads-number s 48 8 _ _ x m e .0 in
     let e₁ = reads-number s 48 8 _ _ x m e .1 in
     let i = reads-in (list (field (bitsOf s) 48 8) blankComponent component) _ _ (bitsOf s) 56 x m e₁ in
-    rw (← (ap modeIn (i .3))) (i .1, i .2, field-lt s 48 8, e₀)
+    rw (← (ap modeIn (i .back))) (i .seam, i .front, field-lt s 48 8, e₀)
 
 abbrev modeOf : Answer Fore → Moded
 modeOf (got x m) = record { mode = x .front .«segmentation_mode»; components = x .components }
@@ -95,12 +94,12 @@ parts-listed : (s : List ℕ) (p l f : Bool) (x : Fore) (m : ℕ) → parse (par
 unfolding parts
 parts-listed s p l f x m e =
     let i = reads-in (deliveryRestrictions f) _ _ (bitsOf s) 43 x m e in
-    let j = reads-in (mode p) _ _ (bitsOf s) (i .1) x m (i .3) in
-    let k = reads-in (duration l) _ _ (bitsOf s) (j .1) x m (j .3) in
-    let w = reads-in writtenUpid _ _ (bitsOf s) (k .1) x m (k .3) in
-    let z : record { mode = x .front .«segmentation_mode»; components = x .components } ≡ j .0 = sym (ap modeOf (w .3)) in
-    let g : parse (mode p) (bitsOf s) 48 ≡ got (j .0) (j .1) = rw (restrictions-at s f (i .0) (i .1) (i .2)) (j .2) in
-    subst (λ (y : Moded). Listed s (y .mode) (y .components)) (sym z) (mode-listed s p (j .0) (j .1) g)
+    let j = reads-in (mode p) _ _ (bitsOf s) (i .seam) x m (i .back) in
+    let k = reads-in (duration l) _ _ (bitsOf s) (j .seam) x m (j .back) in
+    let w = reads-in writtenUpid _ _ (bitsOf s) (k .seam) x m (k .back) in
+    let z : record { mode = x .front .«segmentation_mode»; components = x .components } ≡ j .inner = sym (ap modeOf (w .back)) in
+    let g : parse (mode p) (bitsOf s) 48 ≡ got (j .inner) (j .seam) = rw (restrictions-at s f (i .inner) (i .seam) (i .front)) (j .front) in
+    subst (λ (y : Moded). Listed s (y .mode) (y .components)) (sym z) (mode-listed s p (j .inner) (j .seam) g)
 
 front-listed : (s : List ℕ) (x : Fore) (m : ℕ) → parse front (bitsOf s) 40 ≡ got x m → Listed s (x .front .«segmentation_mode») (x .components)
 unfolding front
@@ -128,9 +127,9 @@ unfolding list
 list-length zero bs at cs m e = let z : cs ≡ [] = cc in ap length z
 list-length (suc n) bs at cs m e =
     let i = reads-in component _ _ bs at cs m e in
-    let j = reads-in (list n blankComponent component) (drop 1) _ bs (i .1) cs m (i .3) in
-    let z : cs ≡ i .0 ∷ j .0 = cc (j .3) in
-    ap length z ∙ ap suc (list-length n bs (i .1) (j .0) (j .1) (j .2))
+    let j = reads-in (list n blankComponent component) (drop 1) _ bs (i .seam) cs m (i .back) in
+    let z : cs ≡ i .inner ∷ j .inner = cc (j .back) in
+    ap length z ∙ ap suc (list-length n bs (i .seam) (j .inner) (j .seam) (j .front))
 
 drop-replicate : (i n : ℕ) (a : ModeComponent) → drop i (replicate n a) ≡ replicate (n - i) a
 drop-replicate zero n a = rw sub-zero
@@ -144,20 +143,16 @@ sets-front n a xs h =
     sets-eq xs (replicate n a) 0 f ∙ rw (e, drop-replicate)
 
 pub filled-is : (n : ℕ) (bs : List ℕ) (at : ℕ) (cs : List ModeComponent) (m : ℕ) → n ≤ 255 → parse (list n blankComponent component) bs at ≡ got cs m
-    → filling blanks 0 (parse (list n blankComponent component) bs at) ≡ filled cs
-unfolding filling blanks filled
+    → filling (filled []) 0 (parse (list n blankComponent component) bs at) ≡ filled cs
+unfolding filling filled
 filled-is n bs at cs m h e = rw e (sets-front 255 blankComponent cs (omega (arith, list-length n bs at cs m e)))
-
-filled-none : filled [] ≡ blanks
-unfolding filled blanks
-filled-none = refl
 
 -- ---- the loop that fills: what is left gives what the whole gives
 abbrev pub fillingFrom : List ℕ → List ModeComponent → ℕ → ℕ → ℕ → List ModeComponent
 fillingFrom s out i n c = filling out i (parse (list n blankComponent component) (bitsOf s) (c * 8))
 
-pub fill-start : (s : List ℕ) (n c : ℕ) (out : List ModeComponent) → out ≡ blanks → (length out ≡ 255) × (fillingFrom s out 0 (n - 0) c ≡ fillingFrom s blanks 0 n c)
-unfolding blanks
+pub fill-start : (s : List ℕ) (n c : ℕ) (out : List ModeComponent) → out ≡ filled [] → (length out ≡ 255) × (fillingFrom s out 0 (n - 0) c ≡ fillingFrom s (filled []) 0 n c)
+unfolding filled
 fill-start s n c out e =
     let z : n - 0 ≡ n = omega arith in
     (ap length e ∙ length-replicate 255 blankComponent, rw (e, z))
@@ -168,8 +163,8 @@ unfolding filling
 filling-onward bs out i y (got xs m) = refl
 filling-onward bs out i y (short e a) = refl
 
-module _ (s : List ℕ) (n from : ℕ) (out : List ModeComponent) (i c : ℕ) (inv : fillingFrom s out i (n - i) c ≡ fillingFrom s blanks 0 n from) where
-  pub fill-end : n ≤ i → out ≡ fillingFrom s blanks 0 n from
+module _ (s : List ℕ) (n from : ℕ) (out : List ModeComponent) (i c : ℕ) (inv : fillingFrom s out i (n - i) c ≡ fillingFrom s (filled []) 0 n from) where
+  pub fill-end : n ≤ i → out ≡ fillingFrom s (filled []) 0 n from
   unfolding filling
   fill-end h =
       let z : n - i ≡ 0 = omega arith in
@@ -181,7 +176,7 @@ module _ (s : List ℕ) (n from : ℕ) (out : List ModeComponent) (i c : ℕ) (i
     left-at = ap (λ (k : ℕ). fillingFrom s out i k c) (let z : n - i ≡ suc (n - (i + 1)) = omega arith in z)
 
     pub fill-turn : (k : ℕ) → k ≡ i → (m : Component) → parse component (bitsOf s) (c * 8) ≡ got (m .component) (m .next * 8)
-        → fillingFrom s (set out k (m .component)) (i + 1) (n - (i + 1)) (m .next) ≡ fillingFrom s blanks 0 n from
+        → fillingFrom s (set out k (m .component)) (i + 1) (n - (i + 1)) (m .next) ≡ fillingFrom s (filled []) 0 n from
     fill-turn k ek m e =
         rw ek
         (ap (λ (k : ℕ). filling (set out i (m .component)) k (parse (list (n - (i + 1)) blankComponent component) (bitsOf s) (m .next * 8))) (add-one i)
@@ -190,7 +185,7 @@ module _ (s : List ℕ) (n from : ℕ) (out : List ModeComponent) (i c : ℕ) (i
         ∙ filling-onward (bitsOf s) out i (m .component) _)
         ∙ sym left-at ∙ inv)
 
-    pub fill-short : (x : Short) → parse component (bitsOf s) (c * 8) ≡ short (x .expected) (x .actual) → blanks ≡ fillingFrom s blanks 0 n from
+    pub fill-short : (x : Short) → parse component (bitsOf s) (c * 8) ≡ short (x .expected) (x .actual) → filled [] ≡ fillingFrom s (filled []) 0 n from
     unfolding filling
     fill-short x e =
         sym (ap (filling out i) (list-short (n - (i + 1)) blankComponent component (bitsOf s) (c * 8) (x .expected) (x .actual) e))
@@ -208,7 +203,7 @@ module _ (s : List ℕ) where
 
   module _ (h : Head) (eh : parse head (bitsOf s) 0 ≡ got h 40) where
     pub beside-cancelled : h .cancel ≡ true → blankBeside ≡ besideOf s
-    unfolding segmentation besideOf besideIn blankBeside blanks filled eidrOf
+    unfolding segmentation besideOf besideIn blankBeside filled eidrOf
     beside-cancelled on =
         let g : parse segmentation (bitsOf s) 0 ≡ got (record { descriptor = record { «segmentation_event_id» = h .event; «descriptor_detail» = Cancel }; components = [] }) 40 =
         takes-in head _ _ (bitsOf s) 0 h 40 eh ∙ rw on in
@@ -245,11 +240,11 @@ module _ (s : List ℕ) where
               ∙ takes-in back _ _ (bitsOf s) j b m eb) in
               rw (g, ← eheld, e)
 
-          pub beside-program : f .«segmentation_mode» ≡ SegmentationMode.Program → (all : List ModeComponent) → all ≡ blanks → record { components = all; eidr = held } ≡ besideOf s
-          beside-program e all eall = beside all (eall ∙ sym (ap filled (there-as s f cs j ef SegmentationMode.Program e) ∙ filled-none))
+          pub beside-program : f .«segmentation_mode» ≡ SegmentationMode.Program → (all : List ModeComponent) → all ≡ filled [] → record { components = all; eidr = held } ≡ besideOf s
+          beside-program e all eall = beside all (eall ∙ sym (ap filled (there-as s f cs j ef SegmentationMode.Program e)))
 
           pub beside-components : (n : ℕ) → f .«segmentation_mode» ≡ SegmentationMode.Component n → (all : List ModeComponent)
-              → all ≡ filling blanks 0 (parse (list n blankComponent component) (bitsOf s) 56) → record { components = all; eidr = held } ≡ besideOf s
+              → all ≡ filling (filled []) 0 (parse (list n blankComponent component) (bitsOf s) 56) → record { components = all; eidr = held } ≡ besideOf s
           beside-components n e all eall =
               let t : (m : ℕ) × (parse (list n blankComponent component) (bitsOf s) 56 ≡ got cs m) × (n < 256) × (56 ≤ length s * 8) = there-as s f cs j ef (SegmentationMode.Component n) e in
               beside all (eall ∙ filled-is n (bitsOf s) 56 _ (t .0) (omega arith) (t .1))

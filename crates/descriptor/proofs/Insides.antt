@@ -14,7 +14,7 @@ use Rattle.table.specs.declared.View.{View}
 use Rattle.table.proofs.Bits.{length-bits}
 use Rattle.table.proofs.Laws.{view-there}
 use Rattle.table.proofs.Lists.{zero-one}
-use Rattle.table.proofs.Steps.{onward, parse-inside, reads-number, reads-flag}
+use Rattle.table.proofs.Steps.{reads-in, reads-number, reads-flag}
 use Rattle.upid.specs.Cover.{All, none, more}
 use Rattle.upid.specs.Upid.{checkOf}
 use Rattle.upid.specs.declared.Refusal.{Refusal}
@@ -27,19 +27,18 @@ use Rattle.descriptor.specs.Descriptor.{
   dtmfOf,
   timeOf,
   reservedOf,
-  moved,
+  movedRefusal,
   reportedUpid,
   ifFine,
   inserted,
   insertOf,
   segmentationOf,
   isCuei,
-  cueiOf,
   descriptorOf,
 }
 use Rattle.descriptor.specs.Plain.{avail, dtmf, time}
 use Rattle.descriptor.specs.Segmentation.{Fore, blankUpid, deliveryRestrictions, mode, duration, writtenUpid, parts, front, back, head}
-use Rattle.descriptor.specs.Views.{upidViews, refusalViews}
+use Rattle.descriptor.specs.Views.{withoutView, upidViews, refusalViews}
 use Rattle.descriptor.specs.Walk.{readViews}
 use Rattle.descriptor.specs.declared.Descriptor.the-variants.{Avail, Dtmf, Time}
 use Rattle.descriptor.specs.declared.DescriptorRead.{DescriptorRead}
@@ -48,16 +47,8 @@ use Rattle.descriptor.specs.declared.plain.DTMFDescriptor.{DTMFDescripto
 use Rattle.descriptor.specs.declared.segmentation.SegmentationUpid.{SegmentationUpid}
 use Rattle.descriptor.proofs.Plains.{reserved-is}
 
--- ---- a table inside another, and a run, that were read are there
-pub reads-in : {X Y : Type 0} (t : Table Y) (q : X → Y) (k : Y → Table X) (bs : List ℕ) (at : ℕ) (x : X) (m : ℕ) → parse (inside t q k) bs at ≡ got x m
-    → (y : Y) × (n : ℕ) × (parse t bs at ≡ got y n) × (parse (k y) bs n ≡ got x m)
-reads-in {X} {Y} t q k bs at x m e = go (parse t bs at) refl (sym (parse-inside t q k bs at) ∙ e)
-  where
-    go : (r : Answer Y) → parse t bs at ≡ r → onward bs k r ≡ got x m → (y : Y) × (n : ℕ) × (parse t bs at ≡ got y n) × (parse (k y) bs n ≡ got x m)
-    go (got y n) h f = (y, n, h, f)
-    go (short a b) h f = zero-one cc
-
-pub reads-part : {X : Type 0} (s : List ℕ) (at n : ℕ) (q : X → View) (k : View → Table X) (y : X) (m : ℕ) → parse (inside (part n) q k) (bitsOf s) at ≡ got y m
+-- ---- a run that was read is there
+reads-part : {X : Type 0} (s : List ℕ) (at n : ℕ) (q : X → View) (k : View → Table X) (y : X) (m : ℕ) → parse (inside (part n) q k) (bitsOf s) at ≡ got y m
     → (at + n * 8 ≤ length s * 8) × (parse (k (record { at = at / 8; len = n })) (bitsOf s) (at + n * 8) ≡ got y m)
 unfolding part
 reads-part {X} s at n q k y m e = rw (length-bits s) at (view-there n (λ (x : X). q x .at) (λ a. k (record { at = a; len = n })) (bitsOf s) at y m e)
@@ -73,8 +64,8 @@ dtmf-inside s x m e =
     let e₂ = reads-number s 8 3 _ _ x m e₁ .1 in
     let i = reads-in (reserved 5) _ _ (bitsOf s) 11 x m e₂ in
     let n = field (bitsOf s) 8 3 in
-    let j = reads-part s (i .1) n _ _ x m (i .3) in
-    let z : x .«dtmf_chars» ≡ record { at = i .1 / 8; len = n } = cc (j .1) in
+    let j = reads-part s (i .seam) n _ _ x m (i .back) in
+    let z : x .«dtmf_chars» ≡ record { at = i .seam / 8; len = n } = cc (j .1) in
     rw z (omega (arith, j .0))
 
 upid-inside : (s : List ℕ) (at : ℕ) (u : SegmentationUpid) (m : ℕ) → parse writtenUpid (bitsOf s) at ≡ got u m → Inside s (u .bytes)
@@ -97,13 +88,13 @@ parts-inside : (s : List ℕ) (p l f : Bool) (at : ℕ) (x : Fore) (m : ℕ) →
 unfolding parts
 parts-inside s p l f at x m e =
     let i = reads-in (deliveryRestrictions f) _ _ (bitsOf s) at x m e in
-    let j = reads-in (mode p) _ _ (bitsOf s) (i .1) x m (i .3) in
-    let k = reads-in (duration l) _ _ (bitsOf s) (j .1) x m (j .3) in
-    let w = reads-in writtenUpid _ _ (bitsOf s) (k .1) x m (k .3) in
-    let z : x .front .«segmentation_upid» ≡ w .0 = sym (ap written (w .3)) in
-    rw z (upid-inside s (k .1) (w .0) (w .1) (w .2))
+    let j = reads-in (mode p) _ _ (bitsOf s) (i .seam) x m (i .back) in
+    let k = reads-in (duration l) _ _ (bitsOf s) (j .seam) x m (j .back) in
+    let w = reads-in writtenUpid _ _ (bitsOf s) (k .seam) x m (k .back) in
+    let z : x .front .«segmentation_upid» ≡ w .inner = sym (ap written (w .back)) in
+    rw z (upid-inside s (k .seam) (w .inner) (w .seam) (w .front))
 
-front-inside : (s : List ℕ) (at : ℕ) (x : Fore) (m : ℕ) → parse front (bitsOf s) at ≡ got x m → Inside s (x .front .«segmentation_upid» .bytes)
+pub front-inside : (s : List ℕ) (at : ℕ) (x : Fore) (m : ℕ) → parse front (bitsOf s) at ≡ got x m → Inside s (x .front .«segmentation_upid» .bytes)
 unfolding front
 front-inside s at x m e =
     let e₁ = reads-flag s at _ _ x m e .1 in
@@ -131,7 +122,7 @@ reported-inside : (s : List ℕ) (v : View) (b : Bool) → Inside s v → All (I
 reported-inside s v true h = none
 reported-inside s v false h = more h none
 
-refusal-inside : (s : List ℕ) (v : View) (k : ℕ) (r : Refusal) → Inside s v → checkOf k (viewed s v) ≡ UpidRead.Refused r → All (Inside s) (refusalViews (moved (v .at) r))
+refusal-inside : (s : List ℕ) (v : View) (k : ℕ) (r : Refusal) → Inside s v → checkOf k (viewed s v) ≡ UpidRead.Refused r → All (Inside s) (refusalViews (movedRefusal (v .at) r))
 refusal-inside s v k TooLong h e = none
 refusal-inside s v k (Short x a) h e = none
 refusal-inside s v k Mismatch h e = none
@@ -140,7 +131,7 @@ refusal-inside s v k (WrongLength q x a) h e = none
 
 fine-inside : (s : List ℕ) (v : View) (k : ℕ) (a : UpidRead) (f : SegmentationUpid → DescriptorRead) → Inside s v → checkOf k (viewed s v) ≡ a
     → ((u : SegmentationUpid) → All (Inside s) (upidViews u) → AllInside s (f u)) → AllInside s (ifFine a v f)
-fine-inside s v k (UpidRead.Fine q) f h e g = g (reportedUpid q v) (reported-inside s v (eqb q 0 || eqb q 10) h)
+fine-inside s v k (UpidRead.Fine q) f h e g = g (reportedUpid q v) (reported-inside s v (withoutView q) h)
 fine-inside s v k (UpidRead.Refused r) f h e g = refusal-inside s v k r h e
 
 insert-inside : (s : List ℕ) (event at : ℕ) → AllInside s (insertOf s event at)
@@ -175,18 +166,16 @@ characters-inside : (s : List ℕ) → AllInside s (dtmfOf s)
 unfolding dtmfOf
 characters-inside s = then-inside s (parse dtmf (bitsOf s) 0) (λ x at. Is (Dtmf x)) λ x m e. more (dtmf-inside s x m e) none
 
-cuei-inside : (tag : ℕ) (s : List ℕ) → AllInside s (cueiOf tag s)
-unfolding cueiOf
-cuei-inside tag s =
-    let three = pick (eqb tag 3) (timeOf s) (reservedOf tag s) in
-    let two = pick (eqb tag 2) (segmentationOf s) three in
-    let one = pick (eqb tag 1) (dtmfOf s) two in
-    pick-inside s (eqb tag 0) (availOf s) one (avail-inside s)
-    (pick-inside s (eqb tag 1) (dtmfOf s) two (characters-inside s)
-    (pick-inside s (eqb tag 2) (segmentationOf s) three (segmentation-inside s)
-    (pick-inside s (eqb tag 3) (timeOf s) (reservedOf tag s) (time-inside s) (reserved-inside tag s))))
-
 -- the views of whatever is read lie in the payload
 pub read-inside : (tag : ℕ) (identifier payload : List ℕ) → All (λ (v : View). v .at + v .len ≤ length payload) (readViews (descriptorOf tag identifier payload))
 unfolding descriptorOf
-read-inside tag id s = pick-inside s (isCuei id) (cueiOf tag s) (reservedOf tag s) (cuei-inside tag s) (reserved-inside tag s)
+read-inside tag id s =
+    let three = pick (eqb tag 3) (timeOf s) (reservedOf tag s) in
+    let two = pick (eqb tag 2) (segmentationOf s) three in
+    let one = pick (eqb tag 1) (dtmfOf s) two in
+    pick-inside s (isCuei id) (pick (eqb tag 0) (availOf s) one) (reservedOf tag s)
+    (pick-inside s (eqb tag 0) (availOf s) one (avail-inside s)
+    (pick-inside s (eqb tag 1) (dtmfOf s) two (characters-inside s)
+    (pick-inside s (eqb tag 2) (segmentationOf s) three (segmentation-inside s)
+    (pick-inside s (eqb tag 3) (timeOf s) (reservedOf tag s) (time-inside s) (reserved-inside tag s)))))
+    (reserved-inside tag s)

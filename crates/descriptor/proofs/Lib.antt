@@ -10,3 +10,4 @@ pub mod SegmentationTells
 pub mod SegmentationLaws
 pub mod Insides
 pub mod Besides
+pub mod Longer

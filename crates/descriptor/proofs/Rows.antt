@@ -9,7 +9,7 @@ use Rattle.table.specs.Table.{number, bit, reserved, part, remaining, list}
 use Rattle.upid.specs.Upid.{checkOf}
 use Rattle.upid.specs.declared.Refusal.{Refusal}
 use Rattle.descriptor.specs.Descriptor as d
-use Rattle.descriptor.specs.Descriptor.{availOf, dtmfOf, inserted, insertOf, descriptorOf, cueiOf, isCuei}
+use Rattle.descriptor.specs.Descriptor.{availOf, dtmfOf, inserted, insertOf, descriptorOf, isCuei}
 use Rattle.descriptor.specs.Plain.{avail, dtmf}
 use Rattle.descriptor.specs.Segmentation.{blankUpid, deviceOf, deliveryRestrictions, mode, duration, writtenUpid, parts, front, subSegments, back, head}
 use Rattle.descriptor.specs.declared.Descriptor.the-variants.{Dtmf, Segmentation}
@@ -26,11 +26,11 @@ abbrev cuei : List ℕ
 cuei = 0x43 ∷ 0x55 ∷ 0x45 ∷ 0x49 ∷ []
 
 pub row-b : descriptorOf 0 cuei [] ≡ Refused (Refusal.Short 4 0)
-unfolding descriptorOf isCuei cueiOf availOf
+unfolding descriptorOf isCuei availOf
 row-b = refl
 
 pub row-g : descriptorOf 1 cuei (0xb1 ∷ 0x3f ∷ 0x34 ∷ []) ≡ Is (Dtmf (record { preroll = 177; «dtmf_chars» = record { at = 2; len = 1 } }))
-unfolding descriptorOf isCuei cueiOf dtmfOf dtmf number reserved part
+unfolding descriptorOf isCuei dtmfOf dtmf number reserved part
 row-g = refl
 
 -- a program start without restrictions, with these sub-segments
@@ -53,14 +53,14 @@ start sub = Is (Segmentation (record {
 }))
 
 pub row-n : descriptorOf 2 cuei (0 ∷ 0 ∷ 0 ∷ 0x2a ∷ 0x7f ∷ 0xbf ∷ 0 ∷ 0 ∷ 0x10 ∷ 1 ∷ 1 ∷ []) ≡ start SubSegments.Absent
-unfolding descriptorOf isCuei cueiOf d.segmentationOf insertOf inserted head front parts deliveryRestrictions mode duration writtenUpid back subSegments number bit reserved part remaining viewed checkOf
+unfolding descriptorOf isCuei d.segmentationOf insertOf inserted head front parts deliveryRestrictions mode duration writtenUpid back subSegments number bit reserved part remaining viewed checkOf
 row-n = refl
 
 pub row-n-1 : descriptorOf 2 cuei (0 ∷ 0 ∷ 0 ∷ 0x2a ∷ 0x7f ∷ 0xbf ∷ 0 ∷ 0 ∷ 0x10 ∷ 1 ∷ 1 ∷ 1 ∷ []) ≡ Refused (Refusal.Short 1 0)
-unfolding descriptorOf isCuei cueiOf d.segmentationOf insertOf inserted head front parts deliveryRestrictions mode duration writtenUpid back subSegments number bit reserved part remaining viewed checkOf
+unfolding descriptorOf isCuei d.segmentationOf insertOf inserted head front parts deliveryRestrictions mode duration writtenUpid back subSegments number bit reserved part remaining viewed checkOf
 row-n-1 = refl
 
 pub row-n-2 : descriptorOf 2 cuei (0 ∷ 0 ∷ 0 ∷ 0x2a ∷ 0x7f ∷ 0xbf ∷ 0 ∷ 0 ∷ 0x10 ∷ 1 ∷ 1 ∷ 1 ∷ 2 ∷ [])
     ≡ start (SubSegments.Is (record { «sub_segment_num» = 1; «sub_segments_expected» = 2 }))
-unfolding descriptorOf isCuei cueiOf d.segmentationOf insertOf inserted head front parts deliveryRestrictions mode duration writtenUpid back subSegments number bit reserved part remaining viewed checkOf
+unfolding descriptorOf isCuei d.segmentationOf insertOf inserted head front parts deliveryRestrictions mode duration writtenUpid back subSegments number bit reserved part remaining viewed checkOf
 row-n-2 = refl

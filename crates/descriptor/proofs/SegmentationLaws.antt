@@ -23,7 +23,9 @@ use Rattle.descriptor.specs.Segmentation.{
   countOf,
   Moded,
   mode,
+  modeSize,
   duration,
+  durationSize,
   writtenUpid,
   Fore,
   parts,
@@ -60,15 +62,6 @@ use Rattle.descriptor.specs.declared.segmentation.SegmentationUpid.{Segm
 use Rattle.descriptor.specs.declared.segmentation.SubSegments.{SubSegments}
 use Rattle.descriptor.proofs.SegmentationTells.{segmentation-tells}
 use Rattle.descriptor.proofs.Structures.{RoundTrips, round-trips}
-
--- ---- the bytes of each part
-abbrev pub modeBytes : SegmentationMode → ℕ
-modeBytes SegmentationMode.Program = 0
-modeBytes (SegmentationMode.Component n) = 1 + n * 6
-
-abbrev pub durationBytes : SegmentationDuration → ℕ
-durationBytes SegmentationDuration.Absent = 0
-durationBytes (SegmentationDuration.Ticks t) = 5
 
 -- ---- each part's own fields lead to it
 device-back : (d : DeviceRestrictions) → deviceOf (restrictionsBits d) ≡ d
@@ -108,7 +101,7 @@ components-lead cs at m = rw (all cs) at (leads-list blankComponent component (�
     all (c ∷ cs) = let z = all cs in omega arith
 
 mode-leads : (k : SegmentationMode) (cs : List ModeComponent) (at m : ℕ) → length cs ≡ countOf k
-    → Leads (mode (byProgram k)) (record { mode = k; components = cs }) (record { mode = k; components = cs }) at (at + modeBytes k * 8) m
+    → Leads (mode (byProgram k)) (record { mode = k; components = cs }) (record { mode = k; components = cs }) at (at + modeSize k * 8) m
 unfolding mode
 mode-leads SegmentationMode.Program [] at m e = leads-done (record { mode = SegmentationMode.Program; components = [] }) _ _ _ _ m refl (omega arith)
 mode-leads SegmentationMode.Program (c ∷ cs) at m e = absurd (omega arith)
@@ -119,7 +112,7 @@ mode-leads (SegmentationMode.Component n) cs at m e =
     (components-lead cs (at + 8) _)
     (leads-done (record { mode = SegmentationMode.Component (length cs); components = cs }) _ _ _ _ m refl (omega arith))))
 
-duration-leads : (x : SegmentationDuration) (at m : ℕ) → Leads (duration (lasting x)) x x at (at + durationBytes x * 8) m
+duration-leads : (x : SegmentationDuration) (at m : ℕ) → Leads (duration (lasting x)) x x at (at + durationSize x * 8) m
 unfolding duration
 duration-leads SegmentationDuration.Absent at m = leads-done SegmentationDuration.Absent _ _ _ _ m refl (omega arith)
 duration-leads (SegmentationDuration.Ticks t) at m = leads-number 40 _ _ _ _ at _ m (leads-done (SegmentationDuration.Ticks t) _ _ _ _ m refl (omega arith))
@@ -167,7 +160,7 @@ agreed false false e = refl
 
 -- where the UPID's bytes are written, and the bytes up to them
 abbrev pub upidPlace : Front → ℕ
-upidPlace f = 8 + modeBytes (f .«segmentation_mode») + durationBytes (f .«segmentation_duration»)
+upidPlace f = 8 + modeSize (f .«segmentation_mode») + durationSize (f .«segmentation_duration»)
 
 abbrev pub frontMoved : Front → Front
 frontMoved f = record {
@@ -186,7 +179,7 @@ frontBytes f = upidPlace f + f .«segmentation_upid» .bytes .len
 module _ (x : Fore) (m : ℕ) (fits : length (x .components) ≡ countOf (x .front .«segmentation_mode»)) where
   -- with flags that agree with their parts
   parts-lead : (p l f : Bool) → p ≡ byProgram (x .front .«segmentation_mode») → l ≡ lasting (x .front .«segmentation_duration») → f ≡ unrestricted (x .front .«delivery_restrictions»)
-      → Leads (parts p l f) x (record {
+      → Leads (parts (byProgram (x .front .«segmentation_mode»)) (lasting (x .front .«segmentation_duration»)) (unrestricted (x .front .«delivery_restrictions»))) x (record {
         front = frontMoved (record {
           «program_segmentation_flag» = p;
           «segmentation_duration_flag» = l;
@@ -200,8 +193,8 @@ module _ (x : Fore) (m : ℕ) (fits : length (x .components) ≡ countOf (x .fro
       }) 43 (frontBytes (x .front) * 8) m
   unfolding parts
   parts-lead p l f ep el ef =
-      let modes = modeBytes (x .front .«segmentation_mode») in
-      let lasts = durationBytes (x .front .«segmentation_duration») in
+      let modes = modeSize (x .front .«segmentation_mode») in
+      let lasts = durationSize (x .front .«segmentation_duration») in
       let at = 48 + modes * 8 + lasts * 8 in
       let z : (at + 8 + 8) / 8 ≡ 8 + modes + lasts = omega arith in
       rw (ep, el, ef)

@@ -87,15 +87,15 @@ agrees-same true = refl
 agrees-same false = refl
 
 parts-tells : (p l f : Bool) (at : ℕ) → (at + 5) % 8 ≡ 0 → Tells (parts p l f) at (λ a y.
-    ((((a % 8 ≡ 0) × (fairFront (y .front) ≡ true)) × (y .front .«program_segmentation_flag» ≡ p)) × (y .front .«segmentation_duration_flag» ≡ l))
-    × (y .front .«delivery_not_restricted_flag» ≡ f))
+    ((((a % 8 ≡ 0) × (fairFront (y .front) ≡ true)) × (byProgram (y .front .«segmentation_mode») ≡ p)) × (lasting (y .front .«segmentation_duration») ≡ l))
+    × (unrestricted (y .front .«delivery_restrictions») ≡ f))
 unfolding parts fairFront
 parts-tells p l f at e =
     tells-in (deliveryRestrictions f) _ _ at _ _ (delivery-tells f at) λ a r g.
     tells-in (mode p) _ _ a _ _ (mode-tells p a (omega arith)) λ b m h.
     tells-in (duration l) _ _ b _ _ (duration-tells l b (h .0)) λ c d i.
     tells-in writtenUpid _ _ c _ _ (upid-tells c (i .0)) λ z u j.
-    ((((((((j, rw (g .1, h .1, i .1, agrees-same p, agrees-same l, agrees-same f)), refl), refl), refl), refl), refl), refl), refl)
+    ((((((((j, rw (g .1, h .1, i .1, agrees-same p, agrees-same l, agrees-same f)), h .1), i .1), g .1), refl), refl), refl), refl)
 
 front-tells : (at : ℕ) → at % 8 ≡ 0 → Tells front at (λ a y. (a % 8 ≡ 0) × (fairFront (y .front) ≡ true))
 unfolding front

@@ -19,7 +19,7 @@ use Rattle.upid.specs.Upid.{checkOf}
 use Rattle.upid.specs.declared.Refusal.{Refusal}
 use Rattle.upid.specs.declared.UpidRead.{UpidRead}
 use Rattle.upid.proofs.Theorems.{view-of-24-lies-inside}
-use Rattle.descriptor.specs.Descriptor.{moved, reportedUpid, ifFine, inserted, insertOf, segmentationOf, _andThen_}
+use Rattle.descriptor.specs.Descriptor.{movedRefusal, reportedUpid, ifFine, inserted, insertOf, segmentationOf, _andThen_}
 use Rattle.descriptor.specs.Segmentation.{Moded, Fore, Head, deliveryRestrictions, mode, duration, writtenUpid, parts, front, back, head}
 use Rattle.descriptor.specs.Walk.{lacking, restrictionsIn, upidAnswer, upidChecked}
 use Rattle.descriptor.specs.declared.Descriptor.the-variants.{Segmentation}
@@ -122,7 +122,7 @@ module _ (s : List ℕ) (u : SegmentationUpid) (b : List ℕ) (a : UpidRead) (eb
   pub upid-fine : (k : ℕ) (v : SegmentationUpid) → a ≡ UpidRead.Fine k → v ≡ reportedUpid k (u .bytes) → UpidChecked.Is v ≡ upidChecked s u
   upid-fine k v e ev = rw ev (sym (answered ∙ ap (λ x. upidAnswer x (u .bytes)) e))
 
-  pub upid-refused : (r q : Refusal) → a ≡ UpidRead.Refused r → q ≡ moved (u .bytes .at) r → UpidChecked.Refused q ≡ upidChecked s u
+  pub upid-refused : (r q : Refusal) → a ≡ UpidRead.Refused r → q ≡ movedRefusal (u .bytes .at) r → UpidChecked.Refused q ≡ upidChecked s u
   upid-refused r q e eq = rw eq (sym (answered ∙ ap (λ x. upidAnswer x (u .bytes)) e))
 
   -- its text lies in the payload
@@ -150,7 +150,7 @@ checked-is (UpidRead.Refused r) v k u e = zero-one cc
 
 checked-refused : (a : UpidRead) (v : View) (k : SegmentationUpid → DescriptorRead) (r : Refusal) → UpidChecked.Refused r ≡ upidAnswer a v → Refused r ≡ ifFine a v k
 checked-refused (UpidRead.Fine kind) v k r e = zero-one cc
-checked-refused (UpidRead.Refused q) v k r e = let z : r ≡ moved (v .at) q = cc in rw z
+checked-refused (UpidRead.Refused q) v k r e = let z : r ≡ movedRefusal (v .at) q = cc in rw z
 
 -- ---- what follows the head, step by step
 module _ (s : List ℕ) (event at : ℕ) where

@@ -1,6 +1,6 @@
 -- What a descriptor's payload is read as. 01, "Loop items". These are definitions.
 use Prim.Native.Nat.{ℕ}
-use mathlib.Core.Bool.{Bool, true, false, _&&_, _||_}
+use mathlib.Core.Bool.{Bool, _&&_}
 use mathlib.Core.List.{List, [], _∷_}
 use lib.Dec.{ltb, eqb}
 use lib.ListN.{length, getD}
@@ -14,6 +14,7 @@ use Rattle.upid.specs.declared.Refusal.the-variants.{TooLong, Short, Mismatch, 
 use Rattle.upid.specs.declared.UpidRead.{UpidRead}
 use Rattle.descriptor.specs.Plain.{avail, dtmf, time, privateBytes}
 use Rattle.descriptor.specs.Segmentation.{Fore, Head, head, front, back, insertFrom}
+use Rattle.descriptor.specs.Views.{withoutView}
 use Rattle.descriptor.specs.declared.Descriptor.{Descriptor}
 use Rattle.descriptor.specs.declared.Descriptor.the-variants.{Avail, Dtmf, Segmentation, Time, Reserved}
 use Rattle.descriptor.specs.declared.DescriptorRead.{DescriptorRead}
@@ -47,21 +48,21 @@ reservedOf tag s = parse privateBytes (bitsOf s) 0 andThen λ v at. Is (Reserved
 
 -- ---- segmentation: the UPID's own rules stand between the fields up to it and those after it
 
--- a view in a UPID at `at` of the payload
-abbrev pub moved : ℕ → Refusal → Refusal
-moved at TooLong = TooLong
-moved at (Short expected actual) = Short expected actual
-moved at Mismatch = Mismatch
-moved at (NotText kind text) = NotText kind (shifted at text)
-moved at (WrongLength kind expected actual) = WrongLength kind expected actual
+-- a refusal whose view, of a UPID or of a payload at `at`, counts from the start of the bytes that this lies in
+abbrev pub movedRefusal : ℕ → Refusal → Refusal
+movedRefusal at TooLong = TooLong
+movedRefusal at (Short expected actual) = Short expected actual
+movedRefusal at Mismatch = Mismatch
+movedRefusal at (NotText kind text) = NotText kind (shifted at text)
+movedRefusal at (WrongLength kind expected actual) = WrongLength kind expected actual
 
 -- "Length 0 at top level is None"; "The EIDR identifier of 12 bytes is held by value. Else an item's UPID is its reported type and one view of its bytes"
 abbrev pub reportedUpid : ℕ → View → SegmentationUpid
-reportedUpid kind bytes = record { kind = kind; bytes = pick (eqb kind 0 || eqb kind 10) noView bytes }
+reportedUpid kind bytes = record { kind = kind; bytes = pick (withoutView kind) noView bytes }
 
 abbrev pub ifFine : UpidRead → View → (SegmentationUpid → DescriptorRead) → DescriptorRead
 ifFine (UpidRead.Fine kind) bytes k = k (reportedUpid kind bytes)
-ifFine (UpidRead.Refused r) bytes k = Refused (moved (bytes .at) r)
+ifFine (UpidRead.Refused r) bytes k = Refused (movedRefusal (bytes .at) r)
 
 unfoldable pub inserted : ℕ → Front → SegmentationUpid → Back → DescriptorRead
 inserted event f upid b = Is (Segmentation (record { «segmentation_event_id» = event; «descriptor_detail» = Insert (insertFrom f upid b) }))
@@ -81,7 +82,7 @@ segmentationOf s =
     (Is (Segmentation (record { «segmentation_event_id» = h .event; «descriptor_detail» = Cancel })))
     (insertOf s (h .event) at)
 
--- ---- by tag and identifier
+-- ---- by identifier and tag
 
 -- "CUEI"
 abbrev pub cuei : List ℕ
@@ -90,13 +91,16 @@ cuei = 0x43 ∷ 0x55 ∷ 0x45 ∷ 0x49 ∷ []
 unfoldable pub isCuei : List ℕ → Bool
 isCuei id = eqb (getD id 0 0) (getD cuei 0 0) && (eqb (getD id 1 0) (getD cuei 1 0) && (eqb (getD id 2 0) (getD cuei 2 0) && eqb (getD id 3 0) (getD cuei 3 0)))
 
-unfoldable pub cueiOf : ℕ → List ℕ → DescriptorRead
-cueiOf tag s =
-    pick (eqb tag 0) (availOf s)
-    (pick (eqb tag 1) (dtmfOf s)
-    (pick (eqb tag 2) (segmentationOf s)
-    (pick (eqb tag 3) (timeOf s)
-    (reservedOf tag s))))
+-- of "CUEI" 0 avail, 1 DTMF, 2 segmentation, 3 time; "Other tags or identifiers: reserved"
+abbrev pub byKind : {A : Type 0} → ℕ → List ℕ → A → A → A → A → A → A
+byKind tag identifier avail dtmf segmentation time reserved =
+    pick (isCuei identifier)
+    (pick (eqb tag 0) avail
+    (pick (eqb tag 1) dtmf
+    (pick (eqb tag 2) segmentation
+    (pick (eqb tag 3) time
+    reserved))))
+    reserved
 
 unfoldable pub descriptorOf : ℕ → List ℕ → List ℕ → DescriptorRead
-descriptorOf tag identifier s = pick (isCuei identifier) (cueiOf tag s) (reservedOf tag s)
+descriptorOf tag identifier s = byKind tag identifier (availOf s) (dtmfOf s) (segmentationOf s) (timeOf s) (reservedOf tag s)

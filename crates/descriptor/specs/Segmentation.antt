@@ -1,5 +1,5 @@
 -- The payload of a segmentation descriptor. 01, "Loop items". The rules of its UPID are not the table's: here it has the type that is written.
-use Prim.Native.Nat.{ℕ}
+use Prim.Native.Nat.{ℕ, _+_, _*_}
 use mathlib.Core.Bool.{Bool, true, false, not, _&&_}
 use mathlib.Core.List.{List, []}
 use lib.Dec.{eqb}
@@ -45,6 +45,10 @@ restricted DeliveryRestrictionFlags.None = record {
 }
 restricted (DeliveryRestrictionFlags.DeliveryRestrictions r) = r
 
+abbrev pub unrestricted : DeliveryRestrictionFlags → Bool
+unrestricted DeliveryRestrictionFlags.None = true
+unrestricted (DeliveryRestrictionFlags.DeliveryRestrictions r) = false
+
 unfoldable pub deliveryRestrictions : Bool → Table DeliveryRestrictionFlags
 deliveryRestrictions not-restricted =
     pick not-restricted
@@ -73,6 +77,10 @@ component =
 abbrev pub blankComponent : ModeComponent
 blankComponent = record { «component_tag» = 0; «pts_offset» = 0 }
 
+abbrev pub byProgram : SegmentationMode → Bool
+byProgram Program = true
+byProgram (Component n) = false
+
 abbrev pub countOf : SegmentationMode → ℕ
 countOf Program = 0
 countOf (Component n) = n
@@ -90,11 +98,20 @@ mode program-segmentation =
     inside (list component-count blankComponent component) (λ x. x .components) λ components.
     done (record { mode = Component component-count; components = components }))
 
+-- how many bytes the mode with its components takes
+abbrev pub modeSize : SegmentationMode → ℕ
+modeSize Program = 0
+modeSize (Component n) = 1 + n * 6
+
 -- ---- "duration 40 if flagged"
 
 abbrev pub ticks : SegmentationDuration → ℕ
 ticks SegmentationDuration.Absent = 0
 ticks (Ticks t) = t
+
+abbrev pub lasting : SegmentationDuration → Bool
+lasting SegmentationDuration.Absent = false
+lasting (Ticks t) = true
 
 unfoldable pub duration : Bool → Table SegmentationDuration
 duration flagged =
@@ -102,6 +119,10 @@ duration flagged =
     (uimsbf 40 ticks λ segmentation-duration.
     done (Ticks segmentation-duration))
     (done SegmentationDuration.Absent)
+
+abbrev pub durationSize : SegmentationDuration → ℕ
+durationSize SegmentationDuration.Absent = 0
+durationSize (Ticks t) = 5
 
 -- ---- "UPID type 8, length 8, bytes"
 
@@ -137,11 +158,12 @@ parts program lasting free =
       components = moded .components;
     })
 
+-- Each flag is written as its part says, so that every number handed in is looked at. Where a flag says otherwise, that is refusal 33 (`fairDetail`).
 unfoldable pub front : Table Fore
 front =
-    flag (λ x. x .front .«program_segmentation_flag») λ program-segmentation.
-    flag (λ x. x .front .«segmentation_duration_flag») λ segmentation-duration.
-    flag (λ x. x .front .«delivery_not_restricted_flag») λ delivery-not-restricted.
+    flag (λ x. byProgram (x .front .«segmentation_mode»)) λ program-segmentation.
+    flag (λ x. lasting (x .front .«segmentation_duration»)) λ segmentation-duration.
+    flag (λ x. unrestricted (x .front .«delivery_restrictions»)) λ delivery-not-restricted.
     parts program-segmentation segmentation-duration delivery-not-restricted
 
 -- ---- "Then 0 bytes left: no sub-segments; 1 left: 21 (1, 0); 2 or more: two bytes of sub-segments." In the canonical form there are no more.
@@ -260,6 +282,10 @@ backOf (Insert i) = record {
   «sub_segments» = i .«sub_segments»;
 }
 
+-- how many components a segmentation descriptor has
+abbrev pub componentCount : SegmentationDescriptor → ℕ
+componentCount x = countOf (frontOf (x .«descriptor_detail») .«segmentation_mode»)
+
 -- the same with another UPID
 abbrev pub withUpid : SegmentationInsert → SegmentationUpid → SegmentationInsert
 withUpid i upid = insertFrom (frontOf (Insert i)) upid (backOf (Insert i))
@@ -284,18 +310,6 @@ segmentation =
 abbrev pub agrees : Bool → Bool → Bool
 agrees true b = b
 agrees false b = not b
-
-abbrev pub byProgram : SegmentationMode → Bool
-byProgram Program = true
-byProgram (Component n) = false
-
-abbrev pub lasting : SegmentationDuration → Bool
-lasting SegmentationDuration.Absent = false
-lasting (Ticks t) = true
-
-abbrev pub unrestricted : DeliveryRestrictionFlags → Bool
-unrestricted DeliveryRestrictionFlags.None = true
-unrestricted (DeliveryRestrictionFlags.DeliveryRestrictions r) = false
 
 unfoldable pub fairFront : Front → Bool
 fairFront f =

@@ -1,8 +1,9 @@
 -- The views in a descriptor, and in a refusal of one. These are definitions.
 use Prim.Native.Nat.{ℕ}
-use mathlib.Core.Bool.{cond, _||_}
+use mathlib.Core.Bool.{Bool, _||_}
 use mathlib.Core.List.{List, [], _∷_}
 use lib.Dec.{eqb}
+use Rattle.table.specs.Bits.{pick}
 use Rattle.table.specs.declared.View.{View}
 use Rattle.upid.specs.declared.Refusal.{Refusal}
 use Rattle.upid.specs.declared.Refusal.the-variants.{TooLong, Short, Mismatch, NotText, WrongLength}
@@ -13,9 +14,12 @@ use Rattle.descriptor.specs.declared.segmentation.SegmentationDetail.{Se
 use Rattle.descriptor.specs.declared.segmentation.SegmentationDetail.the-variants.{Cancel, Insert}
 use Rattle.descriptor.specs.declared.segmentation.SegmentationUpid.{SegmentationUpid}
 
--- None (type 0) and EIDR (type 10) have none
+-- the types of a UPID that have no view: None (type 0) has no bytes, and of EIDR (type 10) "The EIDR identifier of 12 bytes is held by value"
+abbrev pub withoutView : ℕ → Bool
+withoutView kind = eqb kind 0 || eqb kind 10
+
 abbrev pub upidViews : SegmentationUpid → List View
-upidViews u = cond (eqb (u .kind) 0 || eqb (u .kind) 10) [] (u .bytes ∷ [])
+upidViews u = pick (withoutView (u .kind)) [] (u .bytes ∷ [])
 
 abbrev pub detailViews : SegmentationDetail → List View
 detailViews Cancel = []

@@ -1,6 +1,6 @@
 -- What the contracts of private functions say: the readings of the tables as the functions answer them. These are definitions.
 use Prim.Native.Nat.{ℕ, _*_, _-_, _/_, _%_}
-use mathlib.Core.List.{List}
+use mathlib.Core.List.{List, []}
 use mathlib.Core.Path.{_≡_}
 use lib.Dec.{eqb}
 use lib.Seq.{sets}
@@ -13,10 +13,10 @@ use Rattle.table.specs.declared.cursor.Short as lacks
 use Rattle.upid.specs.Upid.{checkOf}
 use Rattle.upid.specs.declared.Refusal.the-variants.{Short}
 use Rattle.upid.specs.declared.UpidRead.{UpidRead}
-use Rattle.descriptor.specs.Descriptor.{moved, reportedUpid}
+use Rattle.descriptor.specs.Descriptor.{movedRefusal, reportedUpid}
 use Rattle.descriptor.specs.Segmentation.{deviceOf, Moded, Fore, Head}
 use Rattle.descriptor.specs.Views.{descriptorViews, refusalViews}
-use Rattle.descriptor.specs.Whole.{blanks}
+use Rattle.descriptor.specs.Whole.{filled}
 use Rattle.descriptor.specs.declared.DescriptorRead.{DescriptorRead}
 use Rattle.descriptor.specs.declared.DescriptorRead.the-variants.{Is, Refused}
 use Rattle.descriptor.specs.declared.back.Back.{Back}
@@ -115,7 +115,7 @@ backRead (BackRead.Lacks e) r = r ≡ short (e .expected) (e .actual)
 -- a UPID that is checked
 abbrev pub upidAnswer : UpidRead → View → UpidChecked
 upidAnswer (UpidRead.Fine kind) bytes = UpidChecked.Is (reportedUpid kind bytes)
-upidAnswer (UpidRead.Refused r) bytes = UpidChecked.Refused (moved (bytes .at) r)
+upidAnswer (UpidRead.Refused r) bytes = UpidChecked.Refused (movedRefusal (bytes .at) r)
 
 unfoldable pub upidChecked : List ℕ → SegmentationUpid → UpidChecked
 upidChecked s u = upidAnswer (checkOf (u .kind) (viewed s (u .bytes))) (u .bytes)
@@ -123,7 +123,7 @@ upidChecked s u = upidAnswer (checkOf (u .kind) (viewed s (u .bytes))) (u .bytes
 -- components stored in an array from place i on; the blank array where they are not all there
 unfoldable pub filling : List ModeComponent → ℕ → Answer (List ModeComponent) → List ModeComponent
 filling out i (got cs at) = sets out i cs
-filling out i (short expected actual) = blanks
+filling out i (short expected actual) = filled []
 
 -- the views in what is read
 abbrev pub readViews : DescriptorRead → List View

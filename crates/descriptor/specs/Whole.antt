@@ -34,15 +34,12 @@ ofReserved its none (Time x) = none
 ofReserved its none (Reserved tag v) = its
 
 -- ---- the array of a segmentation descriptor, and its EIDR
-unfoldable pub blanks : List ModeComponent
-blanks = filledTo 255 blankComponent []
-
 -- "arrays with a count, 255 components, blank (all zero ..) past it"
 unfoldable pub filled : List ModeComponent → List ModeComponent
 filled cs = filledTo 255 blankComponent cs
 
 unfoldable pub blankBeside : Beside
-blankBeside = record { components = blanks; eidr = replicate 12 0 }
+blankBeside = record { components = filled []; eidr = replicate 12 0 }
 
 -- beside a segmentation descriptor, which has a UPID as written; "The EIDR identifier of 12 bytes is held by value"
 unfoldable pub besideIn : List ℕ → Answer table.Segmentation → Beside

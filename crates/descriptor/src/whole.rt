@@ -1,10 +1,11 @@
 // What stands beside a descriptor, for those who ask: the identifier of a reserved one, and the components and the EIDR of a segmentation descriptor.
 ghost use mathlib.Core.Path.{_≡_};
+ghost use mathlib.Core.List.{[]};
 ghost use Prim.Native.Nat.{_*_, _≤_};
 ghost use lib.ListN.{length};
 ghost use Rattle.descriptor.specs.Segmentation.{blankComponent, component};
 ghost use Rattle.descriptor.specs.Walk.{filling};
-ghost use Rattle.descriptor.specs.Whole.{blankBeside, blanks, besideOf, besideRead, identifierRead, wholeOf};
+ghost use Rattle.descriptor.specs.Whole.{blankBeside, filled, besideOf, besideRead, identifierRead, wholeOf};
 ghost use Rattle.table.specs.Bits.{bitsOf};
 ghost use Rattle.table.specs.Table.{list, parse};
 use crate::Descriptor;
@@ -38,7 +39,7 @@ pub struct WholeDescriptor {
 }
 
 fn no_components() -> [ModeComponent; 255]
-    ensures { λ r. ⌜ r ≡ blanks ⌝ }
+    ensures { λ r. ⌜ r ≡ filled [] ⌝ }
 {
     let none = ModeComponent {
         component_tag: 0,
@@ -60,7 +61,7 @@ pub fn blank_beside() -> Beside
 // n components from a byte on; none where they are not all there.
 fn list_components(s: &[u8], from: usize, n: u8) -> [ModeComponent; 255]
     requires { ⌜ from ≤ length (now s) ⌝ }
-    ensures { λ r. ⌜ r ≡ filling blanks 0 (parse (list n blankComponent component) (bitsOf (now (s .entry))) (from * 8)) ⌝ }
+    ensures { λ r. ⌜ r ≡ filling (filled []) 0 (parse (list n blankComponent component) (bitsOf (now (s .entry))) (from * 8)) ⌝ }
 {
     let mut out = no_components();
     let mut next = from;

@@ -32,7 +32,7 @@ use Rattle.descriptor.specs.Segmentation.{
   headOf,
   frontOf,
   backOf,
-  insertFrom,
+  withUpid,
   Segmentation,
   segmentation,
   byProgram,
@@ -50,7 +50,7 @@ use Rattle.descriptor.specs.declared.segmentation.SegmentationUpid.{Segmentatio
 use Rattle.descriptor.specs.declared.segmentation.SubSegments.{SubSegments}
 use Rattle.descriptor_form.specs.Walk.{deliveryFields, componentFields, componentsFields, modeFields, durationFields, upidFields, subFields, backFields, flagFields, headFields, insertFields, segmentFields}
 use Rattle.descriptor_form.specs.Writing as writing
-use Rattle.descriptor_form.specs.Writing.{writtenInsert, writtenDetail}
+use Rattle.descriptor_form.specs.Writing.{writtenDetail}
 
 -- the fields of a table inside another, and then those of the outer one
 in-fields : {X Y : Type 0} (t : Table Y) (q : X → Y) (k : Y → Table X) (x : X) (at : ℕ) (fs gs : List Field) → walk t (q x) at .fields ≡ fs
@@ -105,13 +105,9 @@ flag-fields p k x at fs e = ap (λ (b : Bool). bits 1 (flagNumber (p x)) ∷ wal
     again true = refl
     again false = refl
 
--- an insert as its table has it: each flag as its part says, and this UPID as it is written
-abbrev pub flagged : SegmentationInsert → SegmentationUpid → SegmentationInsert
-flagged i upid = insertFrom (frontOf (Insert (writtenInsert i))) upid (backOf (Insert i))
-
 module _ (i : SegmentationInsert) (upid : SegmentationUpid) (cs : List ModeComponent) (fits : length cs ≡ countOf (i .«segmentation_mode»)) where
   abbrev fore : Fore
-  fore = record { front = frontOf (Insert (flagged i upid)); components = cs }
+  fore = record { front = frontOf (Insert (withUpid i upid)); components = cs }
 
   parts-fields : (at : ℕ) → walk (parts (byProgram (i .«segmentation_mode»)) (lasting (i .«segmentation_duration»)) (unrestricted (i .«delivery_restrictions»))) fore at .fields
       ≡ deliveryFields (i .«delivery_restrictions»)
@@ -138,13 +134,13 @@ module _ (i : SegmentationInsert) (upid : SegmentationUpid) (cs : List ModeCompo
       (flag-fields _ _ fore (at + 1 + 1) _
       (parts-fields (at + 1 + 1 + 1))))
 
-  back-fields : (at : ℕ) → walk back (backOf (Insert (flagged i upid))) at .fields ≡ backFields i
+  back-fields : (at : ℕ) → walk back (backOf (Insert (withUpid i upid))) at .fields ≡ backFields i
   unfolding back number
   back-fields at =
       ap (λ (l : List Field). bits 8 (segmentationNumber (i .«segmentation_type_id»)) ∷ (bits 8 (i .«segment_num») ∷ (bits 8 (i .«segments_expected») ∷ l)))
-      (in-fields subSegments _ _ (backOf (Insert (flagged i upid))) (at + 8 + 8 + 8) _ _ (sub-fields (i .«sub_segments») _) refl ∙ append-nil (subFields (i .«sub_segments»)))
+      (in-fields subSegments _ _ (backOf (Insert (withUpid i upid))) (at + 8 + 8 + 8) _ _ (sub-fields (i .«sub_segments») _) refl ∙ append-nil (subFields (i .«sub_segments»)))
 
-  all-fields : (event : ℕ) → (let x : Segmentation = record { descriptor = record { «segmentation_event_id» = event; «descriptor_detail» = Insert (flagged i upid) }; components = cs } in
+  all-fields : (event : ℕ) → (let x : Segmentation = record { descriptor = record { «segmentation_event_id» = event; «descriptor_detail» = Insert (withUpid i upid) }; components = cs } in
       walk segmentation x 0 .fields
       ≡ headFields event false
       ++ (flagFields (byProgram (i .«segmentation_mode»)) (lasting (i .«segmentation_duration»)) (unrestricted (i .«delivery_restrictions»))
@@ -153,7 +149,7 @@ module _ (i : SegmentationInsert) (upid : SegmentationUpid) (cs : List ModeCompo
       ++ (durationFields (i .«segmentation_duration») ++ (upidFields upid ++ backFields i))))))
   unfolding segmentation head number bit reserved
   all-fields event =
-      let x : Segmentation = record { descriptor = record { «segmentation_event_id» = event; «descriptor_detail» = Insert (flagged i upid) }; components = cs } in
+      let x : Segmentation = record { descriptor = record { «segmentation_event_id» = event; «descriptor_detail» = Insert (withUpid i upid) }; components = cs } in
       ap (λ (l : List Field). headFields event false ++ l)
       (in-fields front _ _ x 40 _ _ (front-fields 40) (in-fields back _ _ x _ _ _ (back-fields _) refl ∙ append-nil (backFields i))
       ∙ simp (append-assoc, append-nil))
@@ -166,7 +162,7 @@ foreFields event i cs =
     ++ (deliveryFields (i .«delivery_restrictions») ++ (modeFields (i .«segmentation_mode») cs ++ durationFields (i .«segmentation_duration»))))
 
 pub insert-fields : (event : ℕ) (i : SegmentationInsert) (upid : SegmentationUpid) (cs : List ModeComponent) → length cs ≡ countOf (i .«segmentation_mode»)
-    → (let x : Segmentation = record { descriptor = record { «segmentation_event_id» = event; «descriptor_detail» = Insert (flagged i upid) }; components = cs } in
+    → (let x : Segmentation = record { descriptor = record { «segmentation_event_id» = event; «descriptor_detail» = Insert (withUpid i upid) }; components = cs } in
     walk segmentation x 0 .fields ≡ foreFields event i cs ++ (upidFields upid ++ backFields i))
 insert-fields event i upid cs e = all-fields i upid cs e event ∙ simp append-assoc
 

@@ -16,7 +16,7 @@ use Rattle.table.specs.Writing.{Field, walk, seen, within, contents, print, Mad
 use Rattle.table.proofs.Lists.{zero-one, and-true}
 use Rattle.table.proofs.Structure.{Wrote, wrote, write-size}
 use Rattle.table.proofs.Walks.{print-length}
-use Rattle.descriptor.specs.Segmentation.{agrees, byProgram, countOf, fairDetail, fairFront, frontOf, lasting, segmentation, unrestricted}
+use Rattle.descriptor.specs.Segmentation.{componentCount, countOf, fairDetail, fairFront, frontOf, segmentation}
 use Rattle.descriptor.specs.declared.segmentation.ModeComponent.{ModeComponent}
 use Rattle.descriptor.specs.declared.segmentation.SegmentationDescriptor.{SegmentationDescriptor}
 use Rattle.descriptor.specs.declared.segmentation.SegmentationDetail.{SegmentationDetail}
@@ -25,9 +25,9 @@ use Rattle.descriptor.specs.declared.segmentation.SegmentationDuration.{Segment
 use Rattle.descriptor.specs.declared.segmentation.SegmentationMode.{SegmentationMode}
 use Rattle.descriptor.specs.declared.segmentation.SegmentationUpid.{SegmentationUpid}
 use Rattle.descriptor.specs.declared.whole.Beside.{Beside}
-use Rattle.descriptor.proofs.SegmentationLaws.{modeBytes, durationBytes, detailBytes, segmentation-ends, segmentationStructure}
+use Rattle.descriptor.proofs.SegmentationLaws.{detailBytes, segmentation-ends, segmentationStructure}
 use Rattle.descriptor_form.specs.Walk.{segmentFields, payloadSize}
-use Rattle.descriptor_form.specs.Writing.{allZero, fairUpid, fairSegment, segmentationMade, upidIn, upidSource, written, writtenDetail, modeSize, durationSize}
+use Rattle.descriptor_form.specs.Writing.{allZero, fairUpid, fairSegment, segmentationMade, upidIn, upidSource, written, writtenDetail}
 use Rattle.descriptor_form.proofs.Fields.{fields-are}
 
 -- ---- what is made, undone
@@ -46,34 +46,20 @@ makes fair l fs e =
     let k = if-zero fair _ 33 (omega arith) (j .1) in
     rw (i .0, j .0, k .0)
 
-agrees-same : (b : Bool) → agrees b b ≡ true
-agrees-same true = refl
-agrees-same false = refl
-
 fair-written : (d : SegmentationDetail) → fairDetail d ≡ true → fairDetail (writtenDetail d) ≡ true
 unfolding fairDetail fairFront
-fair-written Cancel e = refl
-fair-written (Insert i) e =
-    rw (agrees-same (byProgram (i .«segmentation_mode»)), agrees-same (lasting (i .«segmentation_duration»)), agrees-same (unrestricted (i .«delivery_restrictions»)))
-    (and-true (fairFront (frontOf (Insert i))) _ e .1)
+fair-written Cancel e = e
+fair-written (Insert i) e = e
 
 pub count-written : (d : SegmentationDetail) → countOf (frontOf (writtenDetail d) .«segmentation_mode») ≡ countOf (frontOf d .«segmentation_mode»)
 count-written Cancel = refl
 count-written (Insert i) = refl
 
 -- ---- the bytes of a payload
-mode-size : (k : SegmentationMode) → modeBytes k ≡ modeSize k
-mode-size SegmentationMode.Program = refl
-mode-size (SegmentationMode.Component n) = refl
-
-duration-size : (d : SegmentationDuration) → durationBytes d ≡ durationSize d
-duration-size SegmentationDuration.Absent = refl
-duration-size (SegmentationDuration.Ticks t) = refl
-
 size-is : (d : SegmentationDetail) → detailBytes (writtenDetail d) ≡ payloadSize d
 unfolding payloadSize
 size-is Cancel = refl
-size-is (Insert i) = rw (mode-size (i .«segmentation_mode»), duration-size (i .«segmentation_duration»))
+size-is (Insert i) = refl
 
 -- no refusal: a UPID's view in the lent bytes, and not too long
 pub zero-view : (x : SegmentationDescriptor) (id : List ℕ) (beside : Beside) (lent : List ℕ) → refusalIn (segmentationMade x id beside lent) ≡ 0
@@ -84,15 +70,15 @@ zero-view x id beside lent e =
     let j = if-zero (leb (upidIn x .bytes .len) 255) _ 32 (omega arith) (i .1) in
     (leb-true (upidIn x .bytes .len) 255 (j .0), leb-true (upidIn x .bytes .at + upidIn x .bytes .len) (length lent) (i .0))
 
-module _ (x : SegmentationDescriptor) (id : List ℕ) (beside : Beside) (lent : List ℕ) (all : countOf (frontOf (x .«descriptor_detail») .«segmentation_mode») ≤ length (beside .components)) where
+module _ (x : SegmentationDescriptor) (id : List ℕ) (beside : Beside) (lent : List ℕ) (all : componentCount x ≤ length (beside .components)) where
   abbrev source : List ℕ
   source = upidSource (upidIn x) (beside .eidr) lent
 
   abbrev cs : List ModeComponent
-  cs = take (countOf (frontOf (x .«descriptor_detail») .«segmentation_mode»)) (beside .components)
+  cs = take (componentCount x) (beside .components)
 
-  pub counted : length cs ≡ countOf (frontOf (x .«descriptor_detail») .«segmentation_mode»)
-  counted = length-take-le (countOf (frontOf (x .«descriptor_detail») .«segmentation_mode»)) (beside .components) all
+  pub counted : length cs ≡ componentCount x
+  counted = length-take-le (componentCount x) (beside .components) all
 
   pub made-zero : refusalIn (segmentationMade x id beside lent) ≡ 0
       → segmentationMade x id beside lent ≡ made (bytesOf (print (contents source (segmentFields (x .«segmentation_event_id») (x .«descriptor_detail») cs))))

@@ -14,8 +14,8 @@ use Rattle.table.specs.Bits.{pick, bytesOf}
 use Rattle.table.specs.Table.{flagNumber}
 use Rattle.table.specs.Writing.{Field, bits, run, rest, walk, seen, within, contents, print, Made, made, refused, makeOf, make, refusalIn}
 use Rattle.table.proofs.Lists.{and-assoc}
-use Rattle.descriptor.specs.Segmentation.{blankUpid, byProgram, countOf, fairDetail, frontOf, lasting, segmentation, unrestricted}
-use Rattle.descriptor.specs.Whole.{blanks}
+use Rattle.descriptor.specs.Segmentation.{componentCount, blankUpid, byProgram, countOf, fairDetail, frontOf, lasting, segmentation, unrestricted}
+use Rattle.descriptor.specs.Whole.{filled}
 use Rattle.descriptor.specs.declared.segmentation.DeliveryRestrictionFlags.{DeliveryRestrictionFlags}
 use Rattle.descriptor.specs.declared.segmentation.ModeComponent.{ModeComponent}
 use Rattle.descriptor.specs.declared.segmentation.SegmentationDescriptor.{SegmentationDescriptor}
@@ -212,10 +212,10 @@ module _ (x : SegmentationDescriptor) (id eidr lent : List ℕ) (n : ℕ) where
   So cs = n ≡ refusalIn (segmentationMade x id (record { components = cs; eidr = eidr }) lent)
 
   pub refused-all : ((cs : List ModeComponent) → So cs) → RefusedSo x id eidr lent n
-  refused-all h = record { bare = h blanks; others = λ cs l f. h cs }
+  refused-all h = record { bare = h (filled []); others = λ cs l f. h cs }
 
-  pub refused-fit : countOf (frontOf (x .«descriptor_detail») .«segmentation_mode») < 256 → ((cs : List ModeComponent) → length cs ≡ 255 → ModeFits x cs → So cs) → RefusedSo x id eidr lent n
-  refused-fit few h = record { bare = h blanks blanks-length (blanks-fit (frontOf (x .«descriptor_detail») .«segmentation_mode») few); others = h }
+  pub refused-fit : componentCount x < 256 → ((cs : List ModeComponent) → length cs ≡ 255 → ModeFits x cs → So cs) → RefusedSo x id eidr lent n
+  refused-fit few h = record { bare = h (filled []) blanks-length (blanks-fit (frontOf (x .«descriptor_detail») .«segmentation_mode») few); others = h }
 
   pub refused-insert : (i : SegmentationInsert) → x .«descriptor_detail» ≡ Insert i
       → RefusedSo (record { «segmentation_event_id» = x .«segmentation_event_id»; «descriptor_detail» = Insert i }) id eidr lent n → RefusedSo x id eidr lent n

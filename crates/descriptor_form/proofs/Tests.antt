@@ -18,7 +18,7 @@ use Rattle.upid.specs.Upid.{checkOf}
 use Rattle.upid.specs.declared.UpidRead.{UpidRead}
 use Rattle.descriptor.specs.Descriptor.{isCuei}
 use Rattle.descriptor.specs.Segmentation.{agrees, blankComponent, byProgram, countOf, lasting, unrestricted, fairFront, fairDetail}
-use Rattle.descriptor.specs.Whole.{blanks}
+use Rattle.descriptor.specs.Whole.{filled}
 use Rattle.descriptor.specs.declared.segmentation.ModeComponent.{ModeComponent}
 use Rattle.descriptor.specs.declared.segmentation.SegmentationDetail.the-variants.{Insert}
 use Rattle.descriptor.specs.declared.segmentation.SegmentationDuration.{SegmentationDuration}
@@ -123,13 +123,13 @@ all-blank zero m = refl
 all-blank (suc n) zero = refl
 all-blank (suc n) (suc m) = all-blank n m
 
-pub blanks-fit : (k : SegmentationMode) → countOf k < 256 → within (modeFields k (take (countOf k) blanks)) ≡ true
-unfolding blanks
+pub blanks-fit : (k : SegmentationMode) → countOf k < 256 → within (modeFields k (take (countOf k) (filled []))) ≡ true
+unfolding filled
 blanks-fit SegmentationMode.Program h = refl
 blanks-fit (SegmentationMode.Component n) h = rw (lt-ltb n 256 h) (all-blank n 255)
 
-pub blanks-length : length blanks ≡ 255
-unfolding blanks
+pub blanks-length : length (filled []) ≡ 255
+unfolding filled
 blanks-length = length-replicate 255 blankComponent
 
 -- ---- components: likewise

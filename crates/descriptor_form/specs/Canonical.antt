@@ -9,7 +9,7 @@ use Rattle.table.specs.Bits.{pick, bitsOf}
 use Rattle.table.specs.Lent.{viewed}
 use Rattle.table.specs.Table.{Answer, got, short, parse, canonicalBy}
 use Rattle.upid.specs.Upid.{checkOf}
-use Rattle.descriptor.specs.Descriptor.{isCuei}
+use Rattle.descriptor.specs.Descriptor.{byKind}
 use Rattle.descriptor.specs.Plain.{avail, dtmf, time, privateBytes}
 use Rattle.descriptor.specs.Segmentation.{Segmentation, segmentation}
 use Rattle.descriptor.specs.declared.segmentation.SegmentationUpid.{SegmentationUpid}
@@ -29,13 +29,7 @@ canonicalSegmentation s = canonicalBy segmentation s && upidCanonical s (parse s
 -- a payload, by identifier and tag
 unfoldable pub canonicalPayload : ℕ → List ℕ → List ℕ → Bool
 canonicalPayload tag identifier s =
-    pick (isCuei identifier)
-    (pick (eqb tag 0) (canonicalBy avail s)
-    (pick (eqb tag 1) (canonicalBy dtmf s)
-    (pick (eqb tag 2) (canonicalSegmentation s)
-    (pick (eqb tag 3) (canonicalBy time s)
-    (canonicalBy privateBytes s)))))
-    (canonicalBy privateBytes s)
+    byKind tag identifier (canonicalBy avail s) (canonicalBy dtmf s) (canonicalSegmentation s) (canonicalBy time s) (canonicalBy privateBytes s)
 
 -- a whole descriptor: tag, length, identifier of 4, payload; the length is that of what follows it, and no more than 254
 unfoldable pub canonicalDescriptor : List ℕ → Bool

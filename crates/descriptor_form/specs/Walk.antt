@@ -9,9 +9,8 @@ use Rattle.names.specs.Flags.{restrictionsBits}
 use Rattle.names.specs.Segmentation.{segmentationNumber}
 use Rattle.table.specs.Table.{flagNumber}
 use Rattle.table.specs.Writing.{Field, bits, run, rest, within, refusalIn}
-use Rattle.descriptor.specs.Segmentation.{byProgram, lasting, unrestricted, subBytes, countOf, frontOf}
-use Rattle.descriptor.specs.Views.{withUpids}
-use Rattle.descriptor.specs.Whole.{blanks}
+use Rattle.descriptor.specs.Segmentation.{componentCount, byProgram, lasting, unrestricted, subBytes, frontOf, modeSize, durationSize}
+use Rattle.descriptor.specs.Whole.{filled}
 use Rattle.descriptor.specs.declared.segmentation.DeliveryRestrictionFlags.{DeliveryRestrictionFlags}
 use Rattle.descriptor.specs.declared.segmentation.ModeComponent.{ModeComponent}
 use Rattle.descriptor.specs.declared.segmentation.SegmentationDescriptor.{SegmentationDescriptor}
@@ -22,8 +21,7 @@ use Rattle.descriptor.specs.declared.segmentation.SegmentationInsert.{Segmentat
 use Rattle.descriptor.specs.declared.segmentation.SegmentationMode.{SegmentationMode}
 use Rattle.descriptor.specs.declared.segmentation.SegmentationUpid.{SegmentationUpid}
 use Rattle.descriptor.specs.declared.segmentation.SubSegments.{SubSegments}
-use Rattle.table.specs.Lent.{noView}
-use Rattle.descriptor_form.specs.Writing.{writtenUpid, segmentationMade, modeSize, durationSize}
+use Rattle.descriptor_form.specs.Writing.{writtenUpid, segmentationMade}
 
 abbrev pub headFields : ℕ → Bool → List Field
 headFields event cancel = bits 32 event ∷ (bits 1 (flagNumber cancel) ∷ (bits 7 127 ∷ []))
@@ -97,14 +95,10 @@ payloadSize (Insert i) =
 -- the count of a segmentation descriptor and that many components within their fields
 abbrev pub ModeFits : SegmentationDescriptor → List ModeComponent → Type 0
 ModeFits x components =
-    within (modeFields (frontOf (x .«descriptor_detail») .«segmentation_mode») (take (countOf (frontOf (x .«descriptor_detail») .«segmentation_mode»)) components)) ≡ true
+    within (modeFields (frontOf (x .«descriptor_detail») .«segmentation_mode») (take (componentCount x) components)) ≡ true
 
 -- n is the number of the first refusal, or 0: of blank components, and of any others that fit
 pub record RefusedSo (x : SegmentationDescriptor) (identifier eidr lent : List ℕ) (n : ℕ) : Type 0 where
-  pub bare : n ≡ refusalIn (segmentationMade x identifier (record { components = blanks; eidr = eidr }) lent)
+  pub bare : n ≡ refusalIn (segmentationMade x identifier (record { components = filled []; eidr = eidr }) lent)
   pub others : (components : List ModeComponent) → length components ≡ 255 → ModeFits x components
       → n ≡ refusalIn (segmentationMade x identifier (record { components = components; eidr = eidr }) lent)
-
--- ---- a detail without its view
-abbrev pub viewlessDetail : SegmentationDetail → SegmentationDetail
-viewlessDetail d = withUpids (λ u. record { kind = u .kind; bytes = noView }) d

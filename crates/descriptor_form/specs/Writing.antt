@@ -7,7 +7,7 @@ use mathlib.Core.List.{List, [], _∷_, _++_}
 use lib.Dec.{leb, ltb, eqb}
 use lib.ListN.{length, take}
 use Rattle.table.specs.Bits.{pick}
-use Rattle.table.specs.Lent.{viewed}
+use Rattle.table.specs.Lent.{liesIn, viewed}
 use Rattle.table.specs.Writing.{Made, made, refused, make}
 use Rattle.table.specs.declared.View.{View}
 use Rattle.upid.specs.Upid.{checkOf}
@@ -16,17 +16,14 @@ use Rattle.descriptor.specs.Descriptor.{isCuei}
 pub use Rattle.descriptor.specs.Descriptor.{cuei}
 use Rattle.descriptor.specs.Plain.{avail, dtmf, time, privateBytes}
 use Rattle.descriptor.specs.Segmentation as table
-use Rattle.descriptor.specs.Segmentation.{agrees, byProgram, countOf, fairDetail, frontOf, lasting, segmentation, unrestricted}
+use Rattle.descriptor.specs.Segmentation.{componentCount, agrees, fairDetail, frontOf, segmentation}
+use Rattle.descriptor.specs.Views.{withUpids}
 use Rattle.descriptor.specs.Whole.{ofReserved}
 use Rattle.descriptor.specs.declared.Descriptor.{Descriptor}
 use Rattle.descriptor.specs.declared.Descriptor.the-variants.{Avail, Dtmf, Segmentation, Time, Reserved}
 use Rattle.descriptor.specs.declared.segmentation.ModeComponent.{ModeComponent}
 use Rattle.descriptor.specs.declared.segmentation.SegmentationDescriptor.{SegmentationDescriptor}
 use Rattle.descriptor.specs.declared.segmentation.SegmentationDetail.{SegmentationDetail}
-use Rattle.descriptor.specs.declared.segmentation.SegmentationDetail.the-variants.{Cancel, Insert}
-use Rattle.descriptor.specs.declared.segmentation.SegmentationDuration.{SegmentationDuration}
-use Rattle.descriptor.specs.declared.segmentation.SegmentationInsert.{SegmentationInsert}
-use Rattle.descriptor.specs.declared.segmentation.SegmentationMode.{SegmentationMode}
 use Rattle.descriptor.specs.declared.segmentation.SegmentationUpid.{SegmentationUpid}
 use Rattle.descriptor.specs.declared.whole.Beside.{Beside}
 
@@ -89,31 +86,14 @@ fairUpid u eidr lent =
 
 -- ---- a segmentation descriptor
 
--- Each flag as its part says, so that every number handed in is looked at. Where a flag says otherwise, that is refusal 33 (`fairDetail`).
-abbrev pub writtenInsert : SegmentationInsert → SegmentationInsert
-writtenInsert i = record {
-  «program_segmentation_flag» = byProgram (i .«segmentation_mode»);
-  «segmentation_duration_flag» = lasting (i .«segmentation_duration»);
-  «delivery_not_restricted_flag» = unrestricted (i .«delivery_restrictions»);
-  «delivery_restrictions» = i .«delivery_restrictions»;
-  «segmentation_mode» = i .«segmentation_mode»;
-  «segmentation_duration» = i .«segmentation_duration»;
-  «segmentation_upid» = writtenUpid (i .«segmentation_upid»);
-  «segmentation_type_id» = i .«segmentation_type_id»;
-  «segment_num» = i .«segment_num»;
-  «segments_expected» = i .«segments_expected»;
-  «sub_segments» = i .«sub_segments»;
-}
-
 abbrev pub writtenDetail : SegmentationDetail → SegmentationDetail
-writtenDetail Cancel = Cancel
-writtenDetail (Insert i) = Insert (writtenInsert i)
+writtenDetail d = withUpids writtenUpid d
 
 -- the components up to the count; "array places past a count" are not looked at
 abbrev pub written : SegmentationDescriptor → List ModeComponent → table.Segmentation
 written x components = record {
   descriptor = record { «segmentation_event_id» = x .«segmentation_event_id»; «descriptor_detail» = writtenDetail (x .«descriptor_detail») };
-  components = take (countOf (frontOf (x .«descriptor_detail») .«segmentation_mode»)) components;
+  components = take (componentCount x) components;
 }
 
 -- the UPID handed in: a cancelled one has the blank
@@ -127,20 +107,11 @@ fairSegment x identifier eidr lent = allZero identifier && (fairDetail (x .«des
 -- 31 and 32 are also of a view that should be blank: "over .. 255 UPID bytes"
 unfoldable pub segmentationMade : SegmentationDescriptor → List ℕ → Beside → List ℕ → Made
 segmentationMade x identifier beside lent =
-    pick (leb (upidIn x .bytes .at + upidIn x .bytes .len) (length lent))
+    pick (liesIn lent (upidIn x .bytes))
     (pick (leb (upidIn x .bytes .len) 255)
     (make segmentation (fairSegment x identifier (beside .eidr) lent) (upidSource (upidIn x) (beside .eidr) lent) (written x (beside .components)))
     (refused 32))
     (refused 31)
-
--- how many bytes the mode with its components takes, and the duration
-abbrev pub modeSize : SegmentationMode → ℕ
-modeSize SegmentationMode.Program = 0
-modeSize (SegmentationMode.Component n) = 1 + n * 6
-
-abbrev pub durationSize : SegmentationDuration → ℕ
-durationSize SegmentationDuration.Absent = 0
-durationSize (SegmentationDuration.Ticks t) = 5
 
 -- ---- any descriptor: its payload's bytes, by its table, and refusals 31, 32 and 33 in that order
 

@@ -3,13 +3,13 @@ ghost use mathlib.Core.Path.{_≡_};
 ghost use Prim.Native.Nat.{_<_};
 ghost use mathlib.Core.List.{[]};
 ghost use lib.ListN.{take};
-ghost use Rattle.descriptor.specs.Segmentation.{agrees, byProgram, countOf, fairDetail, frontOf, lasting, unrestricted, subBytes};
-ghost use Rattle.descriptor.specs.Whole.{blanks};
+ghost use Rattle.descriptor.specs.Segmentation.{componentCount, agrees, byProgram, countOf, fairDetail, lasting, unrestricted, subBytes, modeSize, durationSize};
+ghost use Rattle.descriptor.specs.Whole.{filled};
 ghost use Rattle.descriptor.specs.declared.segmentation.SegmentationDetail.the-variants.{Insert};
 ghost use Rattle.table.specs.Writing.{within, refusalIn};
 ghost use Rattle.descriptor_form.specs.Walk.{componentsFields, modeFields, durationFields, subFields, numbersFit};
 ghost use Rattle.descriptor_form.specs.Walk.{RefusedSo};
-ghost use Rattle.descriptor_form.specs.Writing.{segmentationMade, modeSize, durationSize};
+ghost use Rattle.descriptor_form.specs.Writing.{segmentationMade};
 use crate::is_zero;
 use crate::upids::is_fair_upid;
 use descriptor::segmentation::DeliveryRestrictionFlags;
@@ -224,7 +224,7 @@ pub fn refusal_of_bare(
     eidr: [u8; 12],
     lent: &[u8],
 ) -> u8
-    ensures { λ r. ⌜ r ≡ refusalIn (segmentationMade x identifier (record { components = blanks; eidr = eidr }) (now (lent .entry))) ⌝ }
+    ensures { λ r. ⌜ r ≡ refusalIn (segmentationMade x identifier (record { components = filled []; eidr = eidr }) (now (lent .entry))) ⌝ }
 {
     refusal_without_components(x, identifier, eidr, lent)
 }
@@ -261,7 +261,7 @@ pub fn refusal_of_segmentation(
 
 // How many components it has.
 pub fn count_of(x: SegmentationDescriptor) -> u8
-    ensures { λ r. ⌜ r ≡ countOf (frontOf (x .«descriptor_detail») .«segmentation_mode») ⌝ }
+    ensures { λ r. ⌜ r ≡ componentCount x ⌝ }
 {
     let detail = x.descriptor_detail;
     let insert = match detail {

@@ -21,8 +21,8 @@ use Rattle.table.proofs.Structure as laws
 use Rattle.upid.specs.Upid.{checkOf}
 use Rattle.upid.proofs.Walks.{empty}
 use Rattle.descriptor.specs.Plain.{avail, dtmf, time, privateBytes}
-use Rattle.descriptor.specs.Segmentation.{agrees, backOf, countOf, fairDetail, fairFront, frontOf, head, insertFrom, segmentation}
-use Rattle.descriptor.specs.Views.{detailViews, descriptorViews}
+use Rattle.descriptor.specs.Segmentation.{componentCount, agrees, backOf, countOf, fairDetail, fairFront, frontOf, head, insertFrom, segmentation}
+use Rattle.descriptor.specs.Views.{withoutView, detailViews, descriptorViews, withUpids}
 use Rattle.descriptor.specs.declared.Descriptor.{Descriptor}
 use Rattle.descriptor.specs.declared.Descriptor.the-variants.{Avail, Dtmf, Segmentation, Time, Reserved}
 use Rattle.descriptor.specs.declared.plain.DTMFDescriptor.{DTMFDescriptor}
@@ -33,8 +33,8 @@ use Rattle.descriptor.specs.declared.segmentation.SegmentationDetail.the-varian
 use Rattle.descriptor.specs.declared.segmentation.SegmentationInsert.{SegmentationInsert}
 use Rattle.descriptor.specs.declared.segmentation.SegmentationUpid.{SegmentationUpid}
 use Rattle.descriptor.specs.declared.whole.Beside.{Beside}
-use Rattle.descriptor_form.specs.Walk.{upidFields, viewlessDetail}
-use Rattle.descriptor_form.specs.Same.{SameReading, viewless, bytesOfViews, componentsOf}
+use Rattle.descriptor_form.specs.Walk.{upidFields}
+use Rattle.descriptor_form.specs.Same.{SameReading, viewless, bytesOfViews, countBeside, viewlessUpid}
 use Rattle.descriptor_form.specs.Writing.{framedMade, allZero, alone, fairReserved, accepts, fairUpid, fairSegment, segmentationMade, payloadMade, descriptorMade, tagOf, identifierOf, upidIn, upidSource, writtenDetail, writtenKind, writtenUpid}
 use Rattle.descriptor_form.proofs.Fields.{insert-fields}
 use Rattle.descriptor_form.proofs.Making.{all-fair, by-table, counted, zero-view}
@@ -79,7 +79,7 @@ withView v (Segmentation x) = Segmentation (record { «segmentation_event_id» =
 withView v (Time x) = Time x
 withView v (Reserved tag own) = Reserved tag v
 
-detail-own : (d : SegmentationDetail) → detailAt (detailView d) (viewlessDetail d) ≡ d
+detail-own : (d : SegmentationDetail) → detailAt (detailView d) (withUpids viewlessUpid d) ≡ d
 detail-own Cancel = refl
 detail-own (Insert i) = refl
 
@@ -90,7 +90,7 @@ own-view (Segmentation x) = ap (λ (d : SegmentationDetail). Segmentation (recor
 own-view (Time x) = refl
 own-view (Reserved tag own) = refl
 
-detail-any : (v : View) (d : SegmentationDetail) → detailAt v (viewlessDetail d) ≡ detailAt v d
+detail-any : (v : View) (d : SegmentationDetail) → detailAt v (withUpids viewlessUpid d) ≡ detailAt v d
 detail-any v Cancel = refl
 detail-any v (Insert i) = refl
 
@@ -139,7 +139,7 @@ segmentMade x id eidr cs lent =
     (refused 31)
 
 segment-is : (x : SegmentationDescriptor) (id : List ℕ) (b : Beside) (lent : List ℕ)
-    → segmentationMade x id b lent ≡ segmentMade x id (b .eidr) (take (countOf (frontOf (x .«descriptor_detail») .«segmentation_mode»)) (b .components)) lent
+    → segmentationMade x id b lent ≡ segmentMade x id (b .eidr) (take (componentCount x) (b .components)) lent
 unfolding segmentationMade
 segment-is x id b lent = refl
 
@@ -224,7 +224,7 @@ module _ (s r : List ℕ) (w : View) (p id : List ℕ) (b : Beside) where
   detail-alike event Cancel places h e = cancel-alike event e
   detail-alike event (Insert i) places h e = insert-alike event i places h e
 
-  payload-alike : (d : Descriptor) → componentsOf d ≤ length (b .components) → SameView s (viewIn d) r w → payloadMade d id b s ≡ made p → payloadMade (withView w d) id b r ≡ made p
+  payload-alike : (d : Descriptor) → countBeside d ≤ length (b .components) → SameView s (viewIn d) r w → payloadMade d id b s ≡ made p → payloadMade (withView w d) id b r ≡ made p
   unfolding payloadMade avail time fields.number
   payload-alike (Avail x) places h e = e
   payload-alike (Dtmf x) places h e = dtmf-alike s r w p (alone id (b .eidr)) x h e
@@ -238,7 +238,7 @@ detail-count w (Insert i) = refl
 
 -- what stands beside is looked at up to the count
 module _ (lent id : List ℕ) (b c : Beside) (eidrs : b .eidr ≡ c .eidr) where
-  payload-beside : (d : Descriptor) → take (componentsOf d) (b .components) ≡ take (componentsOf d) (c .components) → payloadMade d id b lent ≡ payloadMade d id c lent
+  payload-beside : (d : Descriptor) → take (countBeside d) (b .components) ≡ take (countBeside d) (c .components) → payloadMade d id b lent ≡ payloadMade d id c lent
   unfolding payloadMade
   payload-beside (Avail x) h = ap (λ (e : List ℕ). make avail (alone id e) lent x) eidrs
   payload-beside (Dtmf x) h = ap (λ (e : List ℕ). make dtmf (alone id e) lent x) eidrs
@@ -246,7 +246,7 @@ module _ (lent id : List ℕ) (b c : Beside) (eidrs : b .eidr ≡ c .eidr) where
   payload-beside (Time x) h = ap (λ (e : List ℕ). make time (alone id e) lent x) eidrs
   payload-beside (Reserved tag own) h = ap (λ (e : List ℕ). make privateBytes (fairReserved tag id e) lent own) eidrs
 
-count-of : (w : View) (d : Descriptor) → componentsOf (withView w d) ≡ componentsOf d
+count-of : (w : View) (d : Descriptor) → countBeside (withView w d) ≡ countBeside d
 count-of w (Avail x) = refl
 count-of w (Dtmf x) = refl
 count-of w (Segmentation x) = detail-count w (x .«descriptor_detail»)
@@ -268,23 +268,23 @@ identifier-of w (Time x) id = refl
 identifier-of w (Reserved tag own) id = refl
 
 module _ (s r t id : List ℕ) (b c : Beside) (eidrs : b .eidr ≡ c .eidr) where
-  with-view : (w : View) (d : Descriptor) → componentsOf d ≤ length (b .components) → SameView s (viewIn d) r w
-      → take (componentsOf d) (b .components) ≡ take (componentsOf (withView w d)) (c .components) → descriptorMade d id b s ≡ made t → descriptorMade (withView w d) id c r ≡ made t
+  with-view : (w : View) (d : Descriptor) → countBeside d ≤ length (b .components) → SameView s (viewIn d) r w
+      → take (countBeside d) (b .components) ≡ take (countBeside (withView w d)) (c .components) → descriptorMade d id b s ≡ made t → descriptorMade (withView w d) id c r ≡ made t
   unfolding descriptorMade
   with-view w d places h same e =
       let u = unframed (tagOf d) (identifierOf d id) (payloadMade d id b s) t e in
-      let n : take (componentsOf (withView w d)) (b .components) ≡ take (componentsOf (withView w d)) (c .components) = ap (λ (n : ℕ). take n (b .components)) (count-of w d) ∙ same in
+      let n : take (countBeside (withView w d)) (b .components) ≡ take (countBeside (withView w d)) (c .components) = ap (λ (n : ℕ). take n (b .components)) (count-of w d) ∙ same in
       let g : payloadMade (withView w d) id c r ≡ made (u .0) = sym (payload-beside r id b c eidrs (withView w d) n) ∙ payload-alike s r w (u .0) id b d places h (u .1) in
       ap₂ (λ (k : ℕ) (i : List ℕ). framedMade k i (payloadMade (withView w d) id c r)) (tag-of w d) (identifier-of w d id)
       ∙ ap (framedMade (tagOf d) (identifierOf d id)) (g ∙ sym (u .1)) ∙ e
 
   -- of descriptors that are alike the same is written
-  pub alike-made : (d e : Descriptor) → componentsOf d ≤ length (b .components) → viewless d ≡ viewless e → SameView s (viewIn d) r (viewIn e)
-      → take (componentsOf d) (b .components) ≡ take (componentsOf e) (c .components) → descriptorMade d id b s ≡ made t → descriptorMade e id c r ≡ made t
+  pub alike-made : (d e : Descriptor) → countBeside d ≤ length (b .components) → viewless d ≡ viewless e → SameView s (viewIn d) r (viewIn e)
+      → take (countBeside d) (b .components) ≡ take (countBeside e) (c .components) → descriptorMade d id b s ≡ made t → descriptorMade e id c r ≡ made t
   alike-made d e places values h same m =
       let k : withView (viewIn e) d ≡ e = views-differ d e values in
       subst (λ (f : Descriptor). descriptorMade f id c r ≡ made t) k
-      (with-view (viewIn e) d places h (same ∙ ap (λ (f : Descriptor). take (componentsOf f) (c .components)) (sym k)) m)
+      (with-view (viewIn e) d places h (same ∙ ap (λ (f : Descriptor). take (countBeside f) (c .components)) (sym k)) m)
 
 -- ---- equal readings, of both of which something is written
 
@@ -298,7 +298,7 @@ pub no-views : (s r : List ℕ) → SameView s noView r noView
 no-views s r = both-none s noView r noView (omega arith) (omega arith) refl refl
 
 -- None and EIDR have no bytes
-none-fair : (u : SegmentationUpid) (eidr lent : List ℕ) → eqb (u .kind) 0 || eqb (u .kind) 10 ≡ true → fairUpid u eidr lent ≡ true → u .bytes .len ≡ 0
+none-fair : (u : SegmentationUpid) (eidr lent : List ℕ) → withoutView (u .kind) ≡ true → fairUpid u eidr lent ≡ true → u .bytes .len ≡ 0
 unfolding fairUpid
 none-fair u eidr lent k f = go (eqb (u .kind) 10) (eqb (u .kind) 0) k f
   where
@@ -312,7 +312,7 @@ none-fair u eidr lent k f = go (eqb (u .kind) 10) (eqb (u .kind) 0) k f
 -- what is written of a descriptor tells of its view: it lies in the lent bytes, and is empty of None and EIDR
 abbrev pub DetailTold : SegmentationDetail → Type 0
 DetailTold Cancel = Unit {0}
-DetailTold (Insert i) = eqb (i .«segmentation_upid» .kind) 0 || eqb (i .«segmentation_upid» .kind) 10 ≡ true → i .«segmentation_upid» .bytes .len ≡ 0
+DetailTold (Insert i) = withoutView (i .«segmentation_upid» .kind) ≡ true → i .«segmentation_upid» .bytes .len ≡ 0
 
 abbrev pub NoneTold : Descriptor → Type 0
 NoneTold (Avail x) = Unit {0}
@@ -329,7 +329,7 @@ module _ (s p id : List ℕ) (b : Beside) where
       let x : SegmentationDescriptor = record { «segmentation_event_id» = event; «descriptor_detail» = Insert i } in
       (zero-view x id b s (ap refusalIn e) .1, λ k. none-fair (i .«segmentation_upid») (b .eidr) s k (all-fair x id b s places p e .2))
 
-  payload-told : (d : Descriptor) → componentsOf d ≤ length (b .components) → payloadMade d id b s ≡ made p → (viewIn d .at + viewIn d .len ≤ length s) × NoneTold d
+  payload-told : (d : Descriptor) → countBeside d ≤ length (b .components) → payloadMade d id b s ≡ made p → (viewIn d .at + viewIn d .len ≤ length s) × NoneTold d
   unfolding payloadMade dtmf privateBytes fields.number fields.reserved fields.part fields.remaining
   payload-told (Avail x) places e = (omega arith, tt)
   payload-told (Dtmf x) places e =
@@ -340,7 +340,7 @@ module _ (s p id : List ℕ) (b : Beside) where
   payload-told (Reserved tag v) places e =
       (leb-true _ _ (and-true (leb (v .at + v .len) (length s)) true (laws.wrote (fairReserved tag id (b .eidr)) s (walk privateBytes v 0 .fields) p e .views) .0), tt)
 
-pub made-told : (s t id : List ℕ) (b : Beside) (d : Descriptor) → componentsOf d ≤ length (b .components) → descriptorMade d id b s ≡ made t → (viewIn d .at + viewIn d .len ≤ length s) × NoneTold d
+pub made-told : (s t id : List ℕ) (b : Beside) (d : Descriptor) → countBeside d ≤ length (b .components) → descriptorMade d id b s ≡ made t → (viewIn d .at + viewIn d .len ≤ length s) × NoneTold d
 unfolding descriptorMade
 made-told s t id b d places e =
     let u = unframed (tagOf d) (identifierOf d id) (payloadMade d id b s) t e in
@@ -355,10 +355,10 @@ module _ (s r : List ℕ) (w : View) where
       → bytesOfViews s (detailViews d) ≡ bytesOfViews r (detailViews (detailAt w d)) → SameView s (detailView d) r (detailView (detailAt w d))
   unfolding first
   detail-view Cancel f g e = no-views s r
-  detail-view (Insert i) f g e = go (i .«segmentation_upid») (eqb (i .«segmentation_upid» .kind) 0 || eqb (i .«segmentation_upid» .kind) 10) (f .0) (f .1) (g .1) refl e
+  detail-view (Insert i) f g e = go (i .«segmentation_upid») (withoutView (i .«segmentation_upid» .kind)) (f .0) (f .1) (g .1) refl e
     where
-      go : (u : SegmentationUpid) (t : Bool) → u .bytes .at + u .bytes .len ≤ length s → (eqb (u .kind) 0 || eqb (u .kind) 10 ≡ true → u .bytes .len ≡ 0) → (eqb (u .kind) 0 || eqb (u .kind) 10 ≡ true → w .len ≡ 0)
-          → eqb (u .kind) 0 || eqb (u .kind) 10 ≡ t → bytesOfViews s (cond t [] (u .bytes ∷ [])) ≡ bytesOfViews r (cond t [] (w ∷ [])) → SameView s (u .bytes) r w
+      go : (u : SegmentationUpid) (t : Bool) → u .bytes .at + u .bytes .len ≤ length s → (withoutView (u .kind) ≡ true → u .bytes .len ≡ 0) → (withoutView (u .kind) ≡ true → w .len ≡ 0)
+          → withoutView (u .kind) ≡ t → bytesOfViews s (cond t [] (u .bytes ∷ [])) ≡ bytesOfViews r (cond t [] (w ∷ [])) → SameView s (u .bytes) r w
       go u true a n m t h = both-none s (u .bytes) r w a (g .0) (n t) (m t)
       go u false a n m t h = by-bytes s (u .bytes) r w a (g .0) (ap first h)
 
@@ -372,7 +372,7 @@ module _ (s r : List ℕ) (w : View) where
   view-same (Reserved tag own) f g e = by-bytes s own r w (f .0) (g .0) (ap first e)
 
 -- what is written of equal readings is equal
-pub same-made : (s r t q : List ℕ) (d e : Descriptor) (id other : List ℕ) (b c : Beside) → componentsOf d ≤ length (b .components) → componentsOf e ≤ length (c .components)
+pub same-made : (s r t q : List ℕ) (d e : Descriptor) (id other : List ℕ) (b c : Beside) → countBeside d ≤ length (b .components) → countBeside e ≤ length (c .components)
     → SameReading s d id b r e other c → descriptorMade d id b s ≡ made t → descriptorMade e other c r ≡ made q → t ≡ q
 same-made s r t q d e id other b c pd pe same m n =
     let k : withView (viewIn e) d ≡ e = views-differ d e (same .values) in

@@ -12,9 +12,9 @@ use Rattle.table.specs.Writing.{walk, Made, made, refused, make}
 use Rattle.table.specs.declared.View.{View}
 use Rattle.table.proofs.Lists.{zero-one, and-true}
 use Rattle.table.proofs.Structure as laws
-use Rattle.descriptor.specs.Descriptor.{isCuei, cueiOf, descriptorOf, reservedOf}
+use Rattle.descriptor.specs.Descriptor.{availOf, dtmfOf, segmentationOf, timeOf, reservedOf, isCuei, descriptorOf}
 use Rattle.descriptor.specs.Plain.{avail, dtmf, time, privateBytes}
-use Rattle.descriptor.specs.Whole.{blankBeside, blanks, besideRead, identifierRead}
+use Rattle.descriptor.specs.Whole.{blankBeside, besideRead, identifierRead}
 use Rattle.descriptor.specs.declared.Descriptor.{Descriptor}
 use Rattle.descriptor.specs.declared.Descriptor.the-variants.{Avail, Dtmf, Time, Reserved}
 use Rattle.descriptor.specs.declared.DescriptorRead.the-variants.{Is}
@@ -67,7 +67,7 @@ module _ (id : List ℕ) (beside : Beside) (lent s : List ℕ) (four : length id
   both e = let i = and-true (allZero id) (allZero (beside .eidr)) e in (zeros id 4 (i .0) four, blank-eidr (i .1))
 
   pub avail-reads-back : (x : AvailDescriptor) → descriptorMade (Avail x) id beside lent ≡ made s → ReadsBack (Avail x) id beside lent s
-  unfolding descriptorMade payloadMade descriptorOf cueiOf isCuei
+  unfolding descriptorMade payloadMade descriptorOf isCuei
   avail-reads-back x e =
       let u = unframed 0 cuei (make avail (alone id (beside .eidr)) lent x) s e in
       let f = both (laws.wrote (alone id (beside .eidr)) lent (walk avail x 0 .fields) (u .0) (u .1) .fit) in
@@ -81,7 +81,7 @@ module _ (id : List ℕ) (beside : Beside) (lent s : List ℕ) (four : length id
       }
 
   pub time-reads-back : (x : TimeDescriptor) → descriptorMade (Time x) id beside lent ≡ made s → ReadsBack (Time x) id beside lent s
-  unfolding descriptorMade payloadMade descriptorOf cueiOf isCuei
+  unfolding descriptorMade payloadMade descriptorOf isCuei
   time-reads-back x e =
       let u = unframed 3 cuei (make time (alone id (beside .eidr)) lent x) s e in
       let f = both (laws.wrote (alone id (beside .eidr)) lent (walk time x 0 .fields) (u .0) (u .1) .fit) in
@@ -95,7 +95,7 @@ module _ (id : List ℕ) (beside : Beside) (lent s : List ℕ) (four : length id
       }
 
   pub dtmf-reads-back : (x : DTMFDescriptor) → AllBytes lent → descriptorMade (Dtmf x) id beside lent ≡ made s → ReadsBack (Dtmf x) id beside lent s
-  unfolding descriptorMade payloadMade descriptorOf cueiOf isCuei
+  unfolding descriptorMade payloadMade descriptorOf isCuei
   dtmf-reads-back x a e =
       let u = unframed 1 cuei (make dtmf (alone id (beside .eidr)) lent x) s e in
       let f = both (laws.wrote (alone id (beside .eidr)) lent (walk dtmf x 0 .fields) (u .0) (u .1) .fit) in
@@ -110,7 +110,7 @@ module _ (id : List ℕ) (beside : Beside) (lent s : List ℕ) (four : length id
       }
 
   pub reserved-reads-back : (tag : ℕ) (v : View) → AllBytes lent → descriptorMade (Reserved tag v) id beside lent ≡ made s → ReadsBack (Reserved tag v) id beside lent s
-  unfolding descriptorMade payloadMade descriptorOf cueiOf fairReserved
+  unfolding descriptorMade payloadMade descriptorOf fairReserved
   reserved-reads-back tag v a e =
       let u = unframed tag id (make privateBytes (fairReserved tag id (beside .eidr)) lent v) s e in
       let fair = laws.wrote (fairReserved tag id (beside .eidr)) lent (walk privateBytes v 0 .fields) (u .0) (u .1) .fit in
@@ -131,7 +131,8 @@ module _ (id : List ℕ) (beside : Beside) (lent s : List ℕ) (four : length id
       foreign : (p : List ℕ) → not (isCuei id && ltb tag 4) ≡ true → descriptorOf tag id p ≡ reservedOf tag p
       foreign p h = go (isCuei id) (ltb tag 4) refl h
         where
-          go : (c l : Bool) → ltb tag 4 ≡ l → not (c && l) ≡ true → pick c (cueiOf tag p) (reservedOf tag p) ≡ reservedOf tag p
+          go : (c l : Bool) → ltb tag 4 ≡ l → not (c && l) ≡ true
+              → pick c (pick (eqb tag 0) (availOf p) (pick (eqb tag 1) (dtmfOf p) (pick (eqb tag 2) (segmentationOf p) (pick (eqb tag 3) (timeOf p) (reservedOf tag p))))) (reservedOf tag p) ≡ reservedOf tag p
           go false l e h = refl
           go true true e h = zero-one cc
           go true false e h =

@@ -27,7 +27,7 @@ use Rattle.descriptor.specs.Segmentation.{
   fairFront,
   fairDetail,
 }
-use Rattle.descriptor.specs.Whole.{blankBeside, blanks}
+use Rattle.descriptor.specs.Whole.{blankBeside}
 use Rattle.descriptor.specs.declared.Descriptor.{Descriptor}
 use Rattle.descriptor.specs.declared.Descriptor.the-variants.{Avail, Dtmf, Segmentation}
 use Rattle.descriptor.specs.declared.segmentation.DeliveryRestrictionFlags.{DeliveryRestrictionFlags}

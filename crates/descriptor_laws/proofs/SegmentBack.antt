@@ -18,9 +18,10 @@ use Rattle.upid.specs.Upid.{checkOf, eidrOf, reportedOf, upidOf}
 use Rattle.upid.specs.declared.UpidRead.{UpidRead}
 use Rattle.upid.specs.declared.UpidRead.the-variants.{Fine, Refused}
 use Rattle.upid.proofs.Theorems.{eidr-is-held-by-value}
-use Rattle.descriptor.specs.Descriptor.{isCuei, cueiOf, descriptorOf, reportedUpid, ifFine, segmentationOf}
+use Rattle.descriptor.specs.Descriptor.{isCuei, descriptorOf, reportedUpid, ifFine, segmentationOf}
 use Rattle.descriptor.specs.Segmentation as table
-use Rattle.descriptor.specs.Segmentation.{agrees, byProgram, countOf, fairDetail, fairFront, frontOf, lasting, segmentation, unrestricted}
+use Rattle.descriptor.specs.Segmentation.{componentCount, agrees, countOf, frontOf, segmentation}
+use Rattle.descriptor.specs.Views.{withoutView}
 use Rattle.descriptor.specs.Whole.{filled, besideIn, besideOf}
 use Rattle.descriptor.specs.declared.Descriptor.the-variants.{Segmentation}
 use Rattle.descriptor.specs.declared.DescriptorRead.the-variants.{Is}
@@ -35,9 +36,8 @@ use Rattle.descriptor.proofs.SegmentationLaws.{segmentationStructure, upidAt, u
 use Rattle.descriptor_form.specs.Canonical.{canonicalUpid, canonicalSegmentation, canonicalPayload, canonicalDescriptor}
 use Rattle.descriptor_form.specs.Same.{SameReading, bytesOfViews}
 use Rattle.descriptor_form.specs.Writing.{cuei, allZero, accepts, fairUpid, segmentationMade, payloadMade, descriptorMade, upidSource, written, writtenKind, writtenUpid}
-use Rattle.descriptor_form.proofs.Fields.{flagged, insert-fields}
+use Rattle.descriptor_form.proofs.Fields.{insert-fields}
 use Rattle.descriptor_form.proofs.Making.{all-fair, by-table, counted, zero-view}
-use Rattle.descriptor_form.specs.Walk.{viewlessDetail}
 use Rattle.descriptor_laws.proofs.Canon.{framed-canonical}
 use Rattle.descriptor_laws.proofs.PlainLaws.{viewed-at}
 use Rattle.descriptor_laws.proofs.PlainTrips.{ReadsBack, unframed, zeros}
@@ -58,7 +58,7 @@ pub record Written (u : SegmentationUpid) (eidr lent source : List ℕ) (w : Seg
   pub checked : checkOf (w .kind) (viewed source (w .bytes)) ≡ Fine (u .kind)
   pub held : eidrOf (w .kind) (viewed source (w .bytes)) ≡ eidr
   pub kinds : pick (eqb (w .bytes .len) 0) (eqb (w .kind) 0) true ≡ true
-  pub bytes : eqb (u .kind) 0 || eqb (u .kind) 10 ≡ false → viewed source (w .bytes) ≡ viewed lent (u .bytes)
+  pub bytes : withoutView (u .kind) ≡ false → viewed source (w .bytes) ≡ viewed lent (u .bytes)
   pub inside : w .bytes .at + w .bytes .len ≤ length source
   pub are : AllBytes source
 
@@ -146,24 +146,6 @@ module _ (u : SegmentationUpid) (eidr lent : List ℕ) (twelve : length eidr ≡
 
 -- ---- the descriptor
 
-agreed : (a b : Bool) → agrees a b ≡ true → a ≡ b
-agreed true true e = refl
-agreed true false e = zero-one cc
-agreed false true e = zero-one cc
-agreed false false e = refl
-
--- an insert whose flags are as its parts say
-pub flags-agree : (i : SegmentationInsert) → fairDetail (Insert i) ≡ true → flagged i (i .«segmentation_upid») ≡ i
-unfolding fairDetail fairFront
-flags-agree i f =
-    let a = and-true (fairFront (frontOf (Insert i))) _ f in
-    let b = and-true (agrees (i .«program_segmentation_flag») (byProgram (i .«segmentation_mode»))) _ (a .0) in
-    let c = and-true (agrees (i .«segmentation_duration_flag») (lasting (i .«segmentation_duration»))) _ (b .1) in
-    let p : i .«program_segmentation_flag» ≡ byProgram (i .«segmentation_mode») = agreed _ _ (b .0) in
-    let l : i .«segmentation_duration_flag» ≡ lasting (i .«segmentation_duration») = agreed _ _ (c .0) in
-    let d : i .«delivery_not_restricted_flag» ≡ unrestricted (i .«delivery_restrictions») = agreed _ _ (c .1) in
-    rw (← p, ← l, ← d)
-
 -- the views of a UPID that is reported: none of None and EIDR
 same-views : (s lent : List ℕ) (t : Bool) (v w : View) → (t ≡ false → viewed s v ≡ viewed lent w)
     → bytesOfViews s (cond t [] (pick t (record { at = 0; len = 0 }) v ∷ [])) ≡ bytesOfViews lent (cond t [] (w ∷ []))
@@ -217,7 +199,7 @@ module _ (id : List ℕ) (beside : Beside) (lent : List ℕ) (four : length id �
       cs = take (countOf (i .«segmentation_mode»)) (beside .components)
 
       abbrev there : SegmentationUpid
-      there = upidAt (upidPlace (frontOf (Insert (flagged i (writtenUpid (i .«segmentation_upid»)))))) (writtenUpid (i .«segmentation_upid»))
+      there = upidAt (upidPlace (frontOf (Insert (table.withUpid i (writtenUpid (i .«segmentation_upid»)))))) (writtenUpid (i .«segmentation_upid»))
 
       module _ (e : segmentationMade x id beside lent ≡ made p) where
         upid-is : Written u (beside .eidr) lent source w
@@ -244,13 +226,13 @@ module _ (id : List ℕ) (beside : Beside) (lent : List ℕ) (four : length id �
             let r = segmentation-write-read x id beside lent p places e in
             let f = all-fair x id beside lent places p e in
             let c = counted x id beside lent places in
-            let k = flagged i (reportedUpid (u .kind) (there .bytes)) in
+            let k = table.withUpid i (reportedUpid (u .kind) (there .bytes)) in
             record {
               again = record { «segmentation_event_id» = event; «descriptor_detail» = Insert k };
-              reading = r .2 ∙ ap (λ (c : UpidRead). ifFine c (there .bytes) λ v. Is (Segmentation (record { «segmentation_event_id» = event; «descriptor_detail» = Insert (flagged i v) }))) checked;
+              reading = r .2 ∙ ap (λ (c : UpidRead). ifFine c (there .bytes) λ v. Is (Segmentation (record { «segmentation_event_id» = event; «descriptor_detail» = Insert (table.withUpid i v) }))) checked;
               same = record {
-                values = ap (λ (j : SegmentationInsert). Segmentation (record { «segmentation_event_id» = event; «descriptor_detail» = viewlessDetail (Insert j) })) (flags-agree i (f .1));
-                bytes = same-views p lent (eqb (u .kind) 0 || eqb (u .kind) 10) (there .bytes) (u .bytes) (λ t. upid-bytes ∙ upid-is .bytes t);
+                values = refl;
+                bytes = same-views p lent (withoutView (u .kind)) (there .bytes) (u .bytes) (λ t. upid-bytes ∙ upid-is .bytes t);
                 identifiers = zeros id 4 (f .0) four;
                 components = rw (r .0) (counted-again (countOf (i .«segmentation_mode»)) cs c);
                 eidrs = rw (r .0) (ap (eidrOf (w .kind)) upid-bytes ∙ upid-is .held);
@@ -265,9 +247,9 @@ module _ (id : List ℕ) (beside : Beside) (lent : List ℕ) (four : length id �
 
 -- What is written of a segmentation descriptor reads back, and is canonical. (Its array has as many places as its count, or more.)
 module _ (x : SegmentationDescriptor) (id : List ℕ) (beside : Beside) (lent s : List ℕ) (four : length id ≡ 4) (twelve : length (beside .eidr) ≡ 12)
-    (held : AllBytes (beside .eidr)) (all : AllBytes lent) (places : countOf (frontOf (x .«descriptor_detail») .«segmentation_mode») ≤ length (beside .components)) where
+    (held : AllBytes (beside .eidr)) (all : AllBytes lent) (places : componentCount x ≤ length (beside .components)) where
   pub segmentation-reads-back : descriptorMade (Segmentation x) id beside lent ≡ made s → ReadsBack (Segmentation x) id beside lent s
-  unfolding descriptorMade payloadMade descriptorOf cueiOf isCuei
+  unfolding descriptorMade payloadMade descriptorOf isCuei
   segmentation-reads-back e =
       let u = unframed 2 cuei (segmentationMade x id beside lent) s e in
       let b = payload-back id beside lent four twelve held all (u .0) (x .«segmentation_event_id») (x .«descriptor_detail») places (u .1) in

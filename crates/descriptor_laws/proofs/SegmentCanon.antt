@@ -39,11 +39,11 @@ use Rattle.descriptor.proofs.SegmentationLaws.{Counted}
 use Rattle.descriptor_form.specs.Canonical.{canonicalUpid, canonicalSegmentation, upidCanonical}
 use Rattle.descriptor_form.specs.Walk.{upidFields}
 use Rattle.descriptor_form.specs.Writing.{allZero, accepts, fairUpid, fairSegment, segmentationMade, upidIn, upidSource, writtenKind, writtenUpid}
-use Rattle.descriptor_form.proofs.Fields.{flagged, insert-fields}
+use Rattle.descriptor_form.proofs.Fields.{insert-fields}
 use Rattle.descriptor_laws.proofs.PlainLaws.{viewed-at}
 use Rattle.descriptor_laws.proofs.Remade.{withUpid, insert-makes, upid-seen}
 use Rattle.descriptor_laws.proofs.Reported.{check-none, reports, eidr-is-written}
-use Rattle.descriptor_laws.proofs.SegmentBack.{viewed-length, viewed-none, flags-agree, counted-again}
+use Rattle.descriptor_laws.proofs.SegmentBack.{viewed-length, viewed-none, counted-again}
 use Rattle.descriptor_laws.proofs.SegmentRead.{after, segmentation-read}
 use Rattle.descriptor_laws.proofs.SegmentTrips.{segmentation-read-write}
 
@@ -286,9 +286,7 @@ module _ (p : List ℕ) (a : AllBytes p) where
           told = laws.wrote (fairDetail (Insert i)) p (walk segmentation x 0 .fields) p f
 
           fields-of : walk segmentation x 0 .fields ≡ withUpid event i cs u
-          fields-of =
-              ap (λ (j : SegmentationInsert). walk segmentation (record { descriptor = record { «segmentation_event_id» = event; «descriptor_detail» = Insert j }; components = cs }) 0 .fields) (sym (flags-agree i (told .fit)))
-              ∙ insert-fields event i u cs counts
+          fields-of = insert-fields event i u cs counts
 
           there : u .bytes .at + u .bytes .len ≤ length p
           there =
@@ -315,7 +313,7 @@ module _ (p : List ℕ) (a : AllBytes p) where
               let g : makeOf fair source (withUpid event i cs (writtenUpid v)) ≡ made p =
               insert-makes event i cs (fairDetail (Insert i)) fair p source u (writtenUpid v) p (ap (makeOf (fairDetail (Insert i)) p) (sym fields-of) ∙ f) (r .holds) (r .views) is in
               rw (le-leb (v .bytes .at + v .bytes .len) (length p) (r .there), le-leb (v .bytes .len) 255 (r .short))
-              (ap (λ (l : List ModeComponent). makeOf fair source (walk segmentation (record { descriptor = record { «segmentation_event_id» = event; «descriptor_detail» = Insert (flagged i (writtenUpid v)) }; components = l }) 0 .fields))
+              (ap (λ (l : List ModeComponent). makeOf fair source (walk segmentation (record { descriptor = record { «segmentation_event_id» = event; «descriptor_detail» = Insert (table.withUpid i (writtenUpid v)) }; components = l }) 0 .fields))
               (counted-again (countOf (i .«segmentation_mode»)) cs counts)
               ∙ ap (makeOf fair source) (insert-fields event i (writtenUpid v) cs counts) ∙ g)
 

@@ -16,7 +16,7 @@ use Rattle.descriptor.specs.declared.DescriptorRead.the-variants.{Is}
 use Rattle.descriptor.specs.declared.segmentation.SegmentationDetail.{SegmentationDetail}
 use Rattle.descriptor.specs.declared.segmentation.SegmentationDetail.the-variants.{Cancel, Insert}
 use Rattle.descriptor.specs.declared.segmentation.SegmentationUpid.{SegmentationUpid}
-use Rattle.descriptor.proofs.Insides.{reads-in}
+use Rattle.table.proofs.Steps.{reads-in}
 
 -- a detail as the table reads it, whose UPID is as written: with the UPID as its rules report it
 abbrev pub reportedDetail : SegmentationDetail → SegmentationUpid → SegmentationDetail
@@ -55,11 +55,11 @@ module _ (s : List ℕ) (x : table.Segmentation) (m : ℕ) where
   headed h at false off eh e =
       let g = rw off at e in
       let j = reads-in front _ _ (bitsOf s) at x m g in
-      let k = reads-in back _ _ (bitsOf s) (j .1) x m (j .3) in
-      rw (← (ap value (k .3)), eh, off, j .2, k .2)
+      let k = reads-in back _ _ (bitsOf s) (j .seam) x m (j .back) in
+      rw (← (ap value (k .back)), eh, off, j .front, k .front)
 
   pub segmentation-read : parse segmentation (bitsOf s) 0 ≡ got x m → segmentationOf s ≡ detailRead s (x .descriptor .«segmentation_event_id») (x .descriptor .«descriptor_detail»)
   unfolding segmentation
   segmentation-read e =
       let i = reads-in head _ after (bitsOf s) 0 x m e in
-      headed (i .0) (i .1) (i .0 .cancel) refl (i .2) (i .3)
+      headed (i .inner) (i .seam) (i .inner .cancel) refl (i .front) (i .back)

@@ -12,7 +12,7 @@ use Rattle.table.proofs.Lists.{zero-one, and-true, append-nil}
 use Rattle.table.proofs.Structure as laws
 use Rattle.descriptor.specs.Descriptor.{segmentationOf}
 use Rattle.descriptor.specs.Segmentation as table
-use Rattle.descriptor.specs.Segmentation.{countOf, fairDetail, frontOf, segmentation}
+use Rattle.descriptor.specs.Segmentation.{componentCount, fairDetail, segmentation}
 use Rattle.descriptor.specs.declared.segmentation.SegmentationDescriptor.{SegmentationDescriptor}
 use Rattle.descriptor.specs.declared.whole.Beside.{Beside}
 use Rattle.descriptor.proofs.SegmentationLaws.{segmentationStructure, segmentationMoved, detailMoved}
@@ -21,7 +21,7 @@ use Rattle.descriptor_form.proofs.Making.{by-table, counted, count-written}
 use Rattle.descriptor_laws.proofs.SegmentRead.{detailRead, segmentation-read}
 
 -- What is written reads, to its end, as what was handed in with the UPID as written, at its new place; it is canonical; and the reader goes by the UPID's rules.
-pub segmentation-write-read : (x : SegmentationDescriptor) (id : List ℕ) (beside : Beside) (lent b : List ℕ) → countOf (frontOf (x .«descriptor_detail») .«segmentation_mode») ≤ length (beside .components)
+pub segmentation-write-read : (x : SegmentationDescriptor) (id : List ℕ) (beside : Beside) (lent b : List ℕ) → componentCount x ≤ length (beside .components)
     → segmentationMade x id beside lent ≡ made b
     → (parse segmentation (bitsOf b) 0 ≡ got (segmentationMoved (written x (beside .components))) (length b * 8))
     × (canonicalBy segmentation b ≡ true)

@@ -13,7 +13,7 @@ use Rattle.descriptor.specs.declared.DescriptorRead.the-variants.{Is}
 use Rattle.descriptor.specs.declared.whole.Beside.{Beside}
 use Rattle.descriptor.specs.declared.whole.WholeDescriptor.{WholeDescriptor}
 use Rattle.descriptor_form.specs.Canonical.{canonicalDescriptor}
-use Rattle.descriptor_form.specs.Same.{SameReading, componentsOf}
+use Rattle.descriptor_form.specs.Same.{SameReading, countBeside}
 use Rattle.descriptor_form.specs.Writing.{descriptorMade}
 use Rattle.descriptor_laws.specs.Trips.{wholeIn, Handed, ReadAs}
 use Rattle.descriptor_laws.proofs.Alike.{same-made}
@@ -26,7 +26,7 @@ back : (d : Descriptor) (id : List ℕ) (beside : Beside) (lent s : List ℕ) �
 back (Avail x) id beside lent s h e = (avail-reads-back id beside lent s (h .four) (h .twelve) x e, avail-canonical id beside lent s x e)
 back (Dtmf x) id beside lent s h e = (dtmf-reads-back id beside lent s (h .four) (h .twelve) x (h .are) e, dtmf-canonical id beside lent s x e)
 back (Segmentation x) id beside lent s h e =
-    let places : componentsOf (Segmentation x) ≤ length (beside .components) = omega (arith, h .count, h .places) in
+    let places : countBeside (Segmentation x) ≤ length (beside .components) = omega (arith, h .count, h .places) in
     (segmentation-reads-back x id beside lent s (h .four) (h .twelve) (h .held) (h .are) places e, segmentation-canonical x id beside lent s (h .four) (h .twelve) (h .held) (h .are) places e)
 back (Time x) id beside lent s h e = (time-reads-back id beside lent s (h .four) (h .twelve) x e, time-canonical id beside lent s x e)
 back (Reserved tag v) id beside lent s h e = (reserved-reads-back id beside lent s (h .four) (h .twelve) tag v (h .are) e, reserved-canonical id beside lent s tag v (h .four) e)
@@ -51,13 +51,13 @@ descriptors-of-one-reading-are-one s r d e a b cs cr rs rr same =
     same-made (drop 6 s) (drop 6 r) s r d e (wholeIn s .identifier) (wholeIn r .identifier) (wholeIn s .beside) (wholeIn r .beside) (x .1) (y .1) same (x .0) (y .0)
   where
     written : (s : List ℕ) → AllBytes s → canonicalDescriptor s ≡ true → (d : Descriptor) → wholeIn s .read ≡ Is d
-        → (descriptorMade d (wholeIn s .identifier) (wholeIn s .beside) (drop 6 s) ≡ made s) × (componentsOf d ≤ length (wholeIn s .beside .components))
+        → (descriptorMade d (wholeIn s .identifier) (wholeIn s .beside) (drop 6 s) ≡ made s) × (countBeside d ≤ length (wholeIn s .beside .components))
     written s a c d e =
         let b = whole-back s a c in
         let i : Is (b .read) ≡ Is d = sym (ap (λ (w : WholeDescriptor). w .read) (b .whole)) ∙ e in
         let z : b .read ≡ d = one (b .read) d i in (
           subst (λ (k : Descriptor). descriptorMade k (wholeIn s .identifier) (wholeIn s .beside) (drop 6 s) ≡ made s) z (b .writes),
-          subst (λ (k : Descriptor). componentsOf k ≤ length (wholeIn s .beside .components)) z (b .places),
+          subst (λ (k : Descriptor). countBeside k ≤ length (wholeIn s .beside .components)) z (b .places),
         )
       where
         one : (x y : Descriptor) → Is x ≡ Is y → x ≡ y

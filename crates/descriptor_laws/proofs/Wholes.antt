@@ -23,7 +23,7 @@ use Rattle.descriptor.specs.declared.whole.Beside.{Beside}
 use Rattle.descriptor.specs.declared.whole.WholeDescriptor.{WholeDescriptor}
 use Rattle.descriptor.proofs.Tags.{is-foreign, is-avail, is-dtmf, is-segmentation, is-time, is-other}
 use Rattle.descriptor_form.specs.Canonical.{canonicalSegmentation, canonicalPayload, canonicalDescriptor}
-use Rattle.descriptor_form.specs.Same.{SameReading, componentsOf}
+use Rattle.descriptor_form.specs.Same.{SameReading, countBeside}
 use Rattle.descriptor_form.specs.Writing.{cuei, framed, framedMade, payloadMade, descriptorMade, tagOf, identifierOf}
 use Rattle.table.specs.Table.{canonicalBy}
 use Rattle.descriptor_laws.specs.Trips.{wholeIn, ReadAs}
@@ -109,7 +109,7 @@ pub record PayloadIs (tag : ℕ) (id p : List ℕ) : Type 0 where
   pub tagged : tagOf read ≡ tag
   pub identified : identifierOf read (identifierRead (Is read) id) ≡ id
   pub writes : payloadMade read (identifierRead (Is read) id) (besideRead (Is read) p) p ≡ made p
-  pub places : componentsOf read ≤ length (besideRead (Is read) p .components)
+  pub places : countBeside read ≤ length (besideRead (Is read) p .components)
 
 module _ (tag : ℕ) (id p : List ℕ) (four : length id ≡ 4) (a : AllBytes p) where
   foreign : reservedOf tag p ≡ descriptorOf tag id p → isCuei id && ltb tag 4 ≡ false → canonicalBy privateBytes p ≡ true → PayloadIs tag id p
@@ -165,7 +165,7 @@ pub record WholeBack (s : List ℕ) : Type 0 where
   pub read : Descriptor
   pub whole : wholeIn s ≡ record { read = Is read; identifier = identifierRead (Is read) (take 4 (drop 2 s)); beside = besideRead (Is read) (drop 6 s) }
   pub writes : descriptorMade read (wholeIn s .identifier) (wholeIn s .beside) (drop 6 s) ≡ made s
-  pub places : componentsOf read ≤ length (wholeIn s .beside .components)
+  pub places : countBeside read ≤ length (wholeIn s .beside .components)
 
 pub whole-back : (s : List ℕ) → AllBytes s → canonicalDescriptor s ≡ true → WholeBack s
 unfolding canonicalDescriptor descriptorMade framedMade
@@ -185,5 +185,5 @@ whole-back s a c =
           ap (λ (x : WholeDescriptor). descriptorMade (r .read) (x .identifier) (x .beside) p) w
           ∙ ap₂ (λ (k : ℕ) (i : List ℕ). framedMade k i (payloadMade (r .read) (identifierRead (Is (r .read)) id) (besideRead (Is (r .read)) p) p)) (r .tagged) (r .identified)
           ∙ ap (framedMade tag id) (r .writes) ∙ rw (le-leb (length p + 4) 254 (f .1)) (ap made (sym (f .0)));
-      places = subst (λ (x : WholeDescriptor). componentsOf (r .read) ≤ length (x .beside .components)) (sym w) (r .places);
+      places = subst (λ (x : WholeDescriptor). countBeside (r .read) ≤ length (x .beside .components)) (sym w) (r .places);
     }

@@ -9,7 +9,7 @@ use Rattle.descriptor.specs.declared.Descriptor.{Descriptor}
 use Rattle.descriptor.specs.declared.DescriptorRead.the-variants.{Is}
 use Rattle.descriptor.specs.declared.whole.Beside.{Beside}
 use Rattle.descriptor.specs.declared.whole.WholeDescriptor.{WholeDescriptor}
-use Rattle.descriptor_form.specs.Same.{SameReading, componentsOf}
+use Rattle.descriptor_form.specs.Same.{SameReading, countBeside}
 
 -- the reading of a whole descriptor's bytes: tag, length, identifier of 4, payload. Its views count from the payload's first byte
 abbrev pub wholeIn : List ℕ → WholeDescriptor
@@ -21,7 +21,7 @@ pub record Handed (d : Descriptor) (identifier : List ℕ) (beside : Beside) (le
   pub twelve : length (beside .eidr) ≡ 12
   pub held : AllBytes (beside .eidr)
   pub places : length (beside .components) ≡ 255
-  pub count : componentsOf d ≤ 255
+  pub count : countBeside d ≤ 255
   pub are : AllBytes lent
 
 -- the bytes s are read as a descriptor that is equal to what was handed in

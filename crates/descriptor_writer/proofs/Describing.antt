@@ -6,7 +6,7 @@ use Rattle.table.specs.Table.{number}
 use Rattle.table.specs.Writing.{make}
 use Rattle.table.specs.declared.View.{View}
 use Rattle.descriptor.specs.Plain.{avail, dtmf, time, privateBytes}
-use Rattle.descriptor.specs.Whole.{blanks}
+use Rattle.descriptor.specs.Whole.{filled}
 use Rattle.descriptor.specs.declared.Descriptor.{Descriptor}
 use Rattle.descriptor.specs.declared.Descriptor.the-variants.{Avail, Dtmf, Segmentation, Time, Reserved}
 use Rattle.descriptor.specs.declared.plain.AvailDescriptor.{AvailDescriptor}
@@ -44,7 +44,7 @@ module _ (d : Descriptor) (id : List ℕ) (beside : Beside) (lent t v : List ℕ
 -- what has no components is written alike beside any
 module _ (d : Descriptor) (id : List ℕ) (beside : Beside) (lent t v : List ℕ) (r : Written) where
   abbrev Bare : Type 0
-  Bare = Writes (descriptorMade d id (record { components = blanks; eidr = beside .eidr }) lent) t v r
+  Bare = Writes (descriptorMade d id (record { components = filled []; eidr = beside .eidr }) lent) t v r
 
   pub bare-avail : (x : AvailDescriptor) → d ≡ Avail x → Bare → Writes (descriptorMade d id beside lent) t v r
   unfolding descriptorMade payloadMade

@@ -18,7 +18,8 @@ use Rattle.pen.specs.Pen.{penned}
 use Rattle.pen.specs.Written.{answerOf, laterOf}
 use Rattle.pen.specs.declared.Written.{Written}
 use Rattle.pen.proofs.Penned.{penned-whole}
-use Rattle.descriptor_writer.specs.Stores.{Stores, Writes, start, frameContents}
+use Rattle.descriptor_writer.specs.Stores.{Writes}
+use Rattle.descriptor_writer.specs.Walk.{Stores, start, frameContents}
 
 pub place-start : place start ≡ 0
 unfolding place

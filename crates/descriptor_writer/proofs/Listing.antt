@@ -15,13 +15,13 @@ use Rattle.table.proofs.Bits.{length-num, length-bytesN}
 use Rattle.table.proofs.Fields.{bits-bytes}
 use Rattle.table.proofs.Lists.{append-nil}
 use Rattle.table.proofs.Walks.{print-bits}
-use Rattle.descriptor.specs.Segmentation.{countOf, frontOf}
+use Rattle.descriptor.specs.Segmentation.{componentCount}
 use Rattle.descriptor.specs.declared.segmentation.ModeComponent.{ModeComponent}
 use Rattle.descriptor.specs.declared.segmentation.SegmentationDescriptor.{SegmentationDescriptor}
 use Rattle.descriptor_form.specs.Walk.{componentsFields}
 use Rattle.pen.specs.Pen.{penned}
 use Rattle.pen.proofs.Penned.{penned-whole}
-use Rattle.descriptor_writer.specs.Stores.{Stores, start, componentBytes}
+use Rattle.descriptor_writer.specs.Walk.{Stores, start, componentBytes}
 use Rattle.descriptor_writer.proofs.Storing.{same-print}
 use Rattle.descriptor_writer.proofs.Framing.{place-start}
 
@@ -63,9 +63,9 @@ all-zeros zero = tt
 all-zeros (suc n) = (omega arith, all-zeros n)
 
 -- a descriptor's components, as many as it counts, in a part from the first byte on
-pub listed-so : (x : SegmentationDescriptor) (cs : List ModeComponent) (n : ℕ) → n ≡ countOf (frontOf (x .«descriptor_detail») .«segmentation_mode») → length cs ≡ 255 → n < 256
+pub listed-so : (x : SegmentationDescriptor) (cs : List ModeComponent) (n : ℕ) → n ≡ componentCount x → length cs ≡ 255 → n < 256
     → (t : List ℕ) → AllBytes t → length t ≡ 1530 → (v : List ℕ) (d : Cursor) → Stores t start (contents [] (componentsFields (take n cs))) v d
-    → take (n * 6 - 0) v ≡ componentBytes (take (countOf (frontOf (x .«descriptor_detail») .«segmentation_mode»)) cs)
+    → take (n * 6 - 0) v ≡ componentBytes (take (componentCount x) cs)
 listed-so x cs n e l h t a m v d s =
     let z : n * 6 - 0 ≡ n * 6 = omega arith in
     rw (z, ← e) (listed-there t v (take n cs) d (n * 6) a (ap (λ (k : ℕ). k * 6) (sym (length-take-le n cs (omega arith)))) (omega arith) s)

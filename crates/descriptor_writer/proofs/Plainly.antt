@@ -23,7 +23,8 @@ use Rattle.descriptor.specs.declared.plain.TimeDescriptor.{TimeDescriptor}
 use Rattle.descriptor_form.specs.Writing.{cuei, framedMade, alone, fairReserved}
 use Rattle.pen.specs.Pen.{Pens}
 use Rattle.pen.specs.declared.Written.{Written}
-use Rattle.descriptor_writer.specs.Stores.{Stores, Writes, start, frameContents}
+use Rattle.descriptor_writer.specs.Stores.{Writes}
+use Rattle.descriptor_writer.specs.Walk.{Stores, start, frameContents}
 use Rattle.descriptor_writer.proofs.Storing.{then, number-then, put-same, put-bytes, count-then}
 use Rattle.descriptor_writer.proofs.Framing.{writes-refused, writes-long, writes-short, writes-stored}
 

@@ -13,8 +13,8 @@ use Rattle.table.specs.Lent.{viewed}
 use Rattle.table.specs.Writing.{Field, Content, number, bytes, contents, print, Made, made, refused, refusalIn}
 use Rattle.table.specs.declared.View.{View}
 use Rattle.table.specs.declared.cursor.Cursor.{Cursor}
-use Rattle.descriptor.specs.Segmentation.{byProgram, countOf, frontOf, lasting, subBytes, unrestricted}
-use Rattle.descriptor.specs.Whole.{blanks, blankBeside}
+use Rattle.descriptor.specs.Segmentation.{componentCount, byProgram, countOf, frontOf, lasting, subBytes, unrestricted, modeSize, durationSize}
+use Rattle.descriptor.specs.Whole.{filled, blankBeside}
 use Rattle.descriptor.specs.declared.segmentation.ModeComponent.{ModeComponent}
 use Rattle.descriptor.specs.declared.segmentation.SegmentationDescriptor.{SegmentationDescriptor}
 use Rattle.descriptor.specs.declared.segmentation.SegmentationDetail.{SegmentationDetail}
@@ -24,12 +24,13 @@ use Rattle.descriptor.specs.declared.segmentation.SegmentationMode.{Segmentatio
 use Rattle.descriptor.specs.declared.segmentation.SegmentationUpid.{SegmentationUpid}
 use Rattle.descriptor.specs.declared.whole.Beside.{Beside}
 use Rattle.descriptor_form.specs.Walk.{headFields, flagFields, deliveryFields, modeFields, durationFields, upidFields, backFields, insertFields, segmentFields, payloadSize}
-use Rattle.descriptor_form.specs.Writing.{cuei, framedMade, segmentationMade, upidIn, upidSource, writtenKind, writtenUpid, modeSize, durationSize}
+use Rattle.descriptor_form.specs.Writing.{cuei, framedMade, segmentationMade, upidIn, upidSource, writtenKind, writtenUpid}
 use Rattle.descriptor_form.proofs.Making.{zero-view, made-zero, made-size, made-bits}
 use Rattle.pen.specs.Pen.{Pens}
 use Rattle.pen.specs.declared.Written.{Written}
 use Rattle.pen.proofs.Tables.{print-beside}
-use Rattle.descriptor_writer.specs.Stores.{Stores, Writes, start, frameContents}
+use Rattle.descriptor_writer.specs.Stores.{Writes}
+use Rattle.descriptor_writer.specs.Walk.{Stores, start, frameContents}
 use Rattle.descriptor_writer.proofs.Storing.{then, then-fields, same-print, put-bytes, number-then}
 use Rattle.descriptor_writer.proofs.Framing.{writes-refused, writes-long, writes-short, writes-stored}
 use Rattle.descriptor_writer.proofs.Plainly.{Framed, refuses}
@@ -134,7 +135,7 @@ module _ (x : SegmentationDescriptor) (cs : List ModeComponent) (eidr lent t : L
 -- ---- with blank components
 pub with-blanks : (x : SegmentationDescriptor) (id eidr lent t v : List ℕ) (r : Written) (b : Beside) → b ≡ blankBeside
     → Writes (framedMade 2 cuei (segmentationMade x id (record { components = b .components; eidr = eidr }) lent)) t v r
-    → Writes (framedMade 2 cuei (segmentationMade x id (record { components = blanks; eidr = eidr }) lent)) t v r
+    → Writes (framedMade 2 cuei (segmentationMade x id (record { components = filled []; eidr = eidr }) lent)) t v r
 unfolding blankBeside
 with-blanks x id eidr lent t v r b e w = rw e at w
 
@@ -153,10 +154,10 @@ module _ (x : SegmentationDescriptor) (id : List ℕ) (beside : Beside) (lent t 
   pub segment-view : n ≡ 0 → (upidIn x .bytes .len ≤ 255) × (upidIn x .bytes .at + upidIn x .bytes .len ≤ length lent)
   segment-view z = zero-view x id beside lent (sym en ∙ z)
 
-  module _ (zero : n ≡ 0) (all : countOf (frontOf (x .«descriptor_detail») .«segmentation_mode») ≤ length (beside .components)) where
+  module _ (zero : n ≡ 0) (all : componentCount x ≤ length (beside .components)) where
     abbrev cs : List Content
     cs = contents (upidSource (upidIn x) (beside .eidr) lent)
-        (segmentFields (x .«segmentation_event_id») (x .«descriptor_detail») (take (countOf (frontOf (x .«descriptor_detail») .«segmentation_mode»)) (beside .components)))
+        (segmentFields (x .«segmentation_event_id») (x .«descriptor_detail») (take (componentCount x) (beside .components)))
 
     segment-made : M ≡ made (bytesOf (print cs))
     segment-made = made-zero x id beside lent all (sym en ∙ zero)

@@ -17,9 +17,10 @@ use Rattle.table.proofs.Walks.{print-bits}
 use Rattle.descriptor.specs.Segmentation.{blankComponent}
 use Rattle.descriptor.specs.declared.segmentation.ModeComponent.{ModeComponent}
 use Rattle.descriptor_form.specs.Walk.{componentFields, componentsFields}
-use Rattle.pen.specs.Pen.{Fits, Pens}
+use Rattle.pen.specs.Pen.{Pens}
+use Rattle.pen.specs.Walk.{Fits}
 use Rattle.pen.proofs.Tables.{pens-append, pens-last}
-use Rattle.descriptor_writer.specs.Stores.{Stores}
+use Rattle.descriptor_writer.specs.Walk.{Stores}
 
 print-append : (cs ds : List Content) → print (cs ++ ds) ≡ print cs ++ print ds
 print-append [] ds = refl

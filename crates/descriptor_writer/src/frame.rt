@@ -4,7 +4,7 @@ ghost use mathlib.Core.List.{_∷_};
 ghost use Prim.Native.Nat.{_<_, _≤_};
 ghost use Rattle.descriptor_form.specs.Writing.{cuei};
 ghost use Rattle.table.specs.Bits.{AllBytes};
-ghost use Rattle.descriptor_writer.specs.Stores.{Stores, start, frameContents};
+ghost use Rattle.descriptor_writer.specs.Walk.{Stores, start, frameContents};
 use pen::put_bits;
 use pen::put_run;
 use table::cursor::Cursor;

@@ -1,6 +1,7 @@
 // The descriptor writer (document 01, "Canonical form and writer"): all tests first, in the order of the refusals' numbers, and then the stores, so that a
 // refused write changes no byte.
-ghost use Rattle.descriptor.specs.Whole.{blanks};
+ghost use mathlib.Core.List.{[]};
+ghost use Rattle.descriptor.specs.Whole.{filled};
 ghost use Rattle.descriptor_form.specs.Writing.{descriptorMade};
 ghost use Rattle.descriptor_writer.specs.Stores.{Writes};
 use crate::plain::write_avail;
@@ -27,7 +28,7 @@ pub fn write_bare_descriptor(
     lent: &[u8],
     target: &mut [u8],
 ) -> Written
-    ensures { λ r. ⌜ Writes (descriptorMade d identifier (record { components = blanks; eidr = eidr }) (now (lent .entry))) (now (target .entry)) (now (target .exit)) r ⌝ }
+    ensures { λ r. ⌜ Writes (descriptorMade d identifier (record { components = filled []; eidr = eidr }) (now (lent .entry))) (now (target .entry)) (now (target .exit)) r ⌝ }
 {
     match d {
         Descriptor::Avail(x) => write_avail(x, identifier, eidr, target),

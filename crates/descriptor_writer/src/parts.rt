@@ -7,7 +7,7 @@ ghost use lib.ListN.{take};
 ghost use Rattle.descriptor.specs.declared.segmentation.ModeComponent.{ModeComponent};
 ghost use Rattle.descriptor_form.specs.Walk.{headFields, flagFields, deliveryFields, componentsFields, modeFields, durationFields, subFields, backFields};
 ghost use Rattle.table.specs.Writing.{number, contents, print};
-ghost use Rattle.descriptor_writer.specs.Stores.{Stores, componentBytes};
+ghost use Rattle.descriptor_writer.specs.Walk.{Stores, componentBytes};
 use descriptor::segmentation::DeliveryRestrictionFlags;
 use descriptor::segmentation::ModeComponent;
 use descriptor::segmentation::SegmentationDuration;

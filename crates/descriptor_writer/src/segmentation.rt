@@ -1,16 +1,17 @@
 // Segmentation descriptors.
 ghost use mathlib.Core.Path.{_≡_};
-ghost use mathlib.Core.List.{List};
+ghost use mathlib.Core.List.{List, []};
 ghost use Prim.Native.Nat.{_+_, _≤_};
 ghost use lib.ListN.{length};
-ghost use Rattle.descriptor.specs.Segmentation.{countOf, frontOf};
-ghost use Rattle.descriptor.specs.Whole.{blanks};
+ghost use Rattle.descriptor.specs.Segmentation.{componentCount, countOf};
+ghost use Rattle.descriptor.specs.Whole.{filled};
 ghost use Rattle.descriptor.specs.declared.segmentation.ModeComponent.{ModeComponent};
 ghost use Rattle.descriptor.specs.declared.segmentation.SegmentationDetail.the-variants.{Insert};
 ghost use Rattle.descriptor_form.specs.Walk.{upidFields, insertFields, segmentFields, payloadSize};
 ghost use Rattle.descriptor_form.specs.Writing.{cuei, framedMade, segmentationMade, upidIn, upidSource, writtenUpid};
 ghost use Rattle.table.specs.Writing.{contents};
-ghost use Rattle.descriptor_writer.specs.Stores.{Stores, Writes, WritesFair, componentBytes};
+ghost use Rattle.descriptor_writer.specs.Stores.{Writes};
+ghost use Rattle.descriptor_writer.specs.Walk.{Stores, WritesFair, componentBytes};
 use crate::frame::cuei;
 use crate::frame::store_frame;
 use crate::parts::store_back;
@@ -58,7 +59,7 @@ fn size_of_insert(i: SegmentationInsert) -> usize
 
 fn size_of(x: SegmentationDescriptor) -> usize
     requires { ⌜ upidIn x .bytes .len ≤ 255 ⌝ }
-    ensures { λ r. ⌜ (r ≡ payloadSize (x .«descriptor_detail»)) × (countOf (frontOf (x .«descriptor_detail») .«segmentation_mode») ≤ 255) ⌝ }
+    ensures { λ r. ⌜ (r ≡ payloadSize (x .«descriptor_detail»)) × (componentCount x ≤ 255) ⌝ }
 {
     let detail = x.descriptor_detail;
     match detail {
@@ -189,7 +190,7 @@ pub(crate) fn write_bare_segmentation(
     lent: &[u8],
     target: &mut [u8],
 ) -> Written
-    ensures { λ r. ⌜ Writes (framedMade 2 cuei (segmentationMade x identifier (record { components = blanks; eidr = eidr }) (now (lent .entry)))) (now (target .entry)) (now (target .exit)) r ⌝ }
+    ensures { λ r. ⌜ Writes (framedMade 2 cuei (segmentationMade x identifier (record { components = filled []; eidr = eidr }) (now (lent .entry)))) (now (target .entry)) (now (target .exit)) r ⌝ }
 {
     if 0 < count_of(x) {
         let blank = blank_beside();

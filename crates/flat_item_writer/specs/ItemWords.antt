@@ -24,7 +24,7 @@ use Rattle.descriptor.specs.declared.segmentation.SegmentationUpid.{Segmentatio
 use Rattle.descriptor.specs.declared.segmentation.SubSegment.{SubSegment}
 use Rattle.descriptor.specs.declared.segmentation.SubSegments.{SubSegments}
 use Rattle.descriptor.specs.declared.whole.Beside.{Beside}
-use Rattle.descriptor_form.specs.Same.{componentsOf}
+use Rattle.descriptor_form.specs.Same.{countBeside}
 use Rattle.descriptor_form.specs.Writing.{descriptorMade}
 use Rattle.flat_items.specs.FlatItem.{flatDescriptor}
 use Rattle.flat_items.specs.declared.descriptors.FlatItem.{FlatItem}
@@ -234,9 +234,9 @@ ownItem d words = same (itemWords (flatDescriptor d)) (drop 6 words)
 
 -- the number of the words' own refusal, of a descriptor that they make
 unfoldable pub descriptorRefusal : Descriptor → List ℕ → List ℕ → ℕ
-descriptorRefusal d words beside = refusalOf (within itemWidths (drop 5 words) && besideWithin (componentsOf d) beside) (ownItem d words)
+descriptorRefusal d words beside = refusalOf (within itemWidths (drop 5 words) && besideWithin (countBeside d) beside) (ownItem d words)
 
 -- ---- the descriptor, or the number of a refusal: 31 to 34
 unfoldable pub descriptorWordsMade : List ℕ → List ℕ → List ℕ → Made
 descriptorWordsMade words beside lent =
-    noLess (descriptorRefusal (descriptorGiven words) words beside) (descriptorMade (descriptorGiven words) (identifierFrom words) (besideFrom (componentsOf (descriptorGiven words)) beside) lent)
+    noLess (descriptorRefusal (descriptorGiven words) words beside) (descriptorMade (descriptorGiven words) (identifierFrom words) (besideFrom (countBeside (descriptorGiven words)) beside) lent)

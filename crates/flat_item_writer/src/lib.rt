@@ -1,7 +1,7 @@
 // The descriptor writer over the C boundary: an item from the words of its step, and of what stands beside it.
 ghost use mathlib.Core.Path.{_≡_};
 ghost use Prim.Native.Nat.{_≤_};
-ghost use Rattle.descriptor_form.specs.Same.{componentsOf};
+ghost use Rattle.descriptor_form.specs.Same.{countBeside};
 ghost use Rattle.descriptor_form.specs.Writing.{descriptorMade};
 ghost use Rattle.descriptor_writer.specs.Stores.{Writes};
 ghost use Rattle.flat_item_writer.specs.ItemWords.{stepWords, besideFrom, ownItem, descriptorRefusal, descriptorWordsMade};
@@ -33,7 +33,7 @@ pub mod values;
 
 // How many components it has.
 fn count_in(d: Descriptor) -> u8
-    ensures { λ r. ⌜ r ≡ componentsOf d ⌝ }
+    ensures { λ r. ⌜ r ≡ countBeside d ⌝ }
 {
     let segmentation = match d {
         Descriptor::Avail(_) => return 0,

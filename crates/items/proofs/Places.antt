@@ -13,7 +13,8 @@ use Rattle.table.specs.declared.View.{View}
 use Rattle.upid.specs.Cover.{All, none, more}
 use Rattle.upid.specs.declared.Refusal.{Refusal}
 use Rattle.upid.specs.declared.Refusal.the-variants.{TooLong, Short, Mismatch, NotText, WrongLength}
-use Rattle.descriptor.specs.Views.{upidViews, detailViews, descriptorViews, refusalViews}
+use Rattle.descriptor.specs.Descriptor.{movedRefusal}
+use Rattle.descriptor.specs.Views.{withoutView, upidViews, detailViews, descriptorViews, refusalViews}
 use Rattle.descriptor.specs.Walk.{readViews}
 use Rattle.descriptor.specs.declared.Descriptor.{Descriptor}
 use Rattle.descriptor.specs.declared.Descriptor.the-variants.{Avail, Dtmf, Segmentation, Time, Reserved}
@@ -26,7 +27,7 @@ use Rattle.descriptor.specs.declared.segmentation.SegmentationDescriptor.{Segme
 use Rattle.descriptor.specs.declared.segmentation.SegmentationInsert.{SegmentationInsert}
 use Rattle.descriptor.specs.declared.segmentation.SegmentationUpid.{SegmentationUpid}
 use Rattle.descriptor.specs.Segmentation.{withUpid}
-use Rattle.items.specs.Place.{viewsOf, movedUpid, movedDescriptor, movedRefusal}
+use Rattle.items.specs.Place.{viewsOf, movedUpid, movedDescriptor}
 use Rattle.items.specs.Walk.{Movable, movedInsert, movedDetail}
 use Rattle.items.specs.Items.{itemAt}
 
@@ -102,7 +103,7 @@ same-kind false base u = refl
 
 upid-views : (base : ℕ) (u : SegmentationUpid) → upidViews (movedUpid base u) ≡ map (shifted base) (upidViews u)
 upid-views base u =
-    let t : Bool = eqb (u .kind) 0 || eqb (u .kind) 10 in
+    let t : Bool = withoutView (u .kind) in
     rw (same-kind t base u) (by-test t base u)
 
 detail-views : (base : ℕ) (d : SegmentationDetail) → detailViews (movedDetail base d) ≡ map (shifted base) (detailViews d)

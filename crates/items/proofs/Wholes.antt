@@ -10,7 +10,7 @@ use lib.ListN.{length, take, drop, getD, length-take, length-drop}
 use lib.Seq.{drop-cons}
 use Rattle.table.specs.declared.View.{View}
 use Rattle.upid.specs.declared.Refusal.{Refusal}
-use Rattle.descriptor.specs.Descriptor.{descriptorOf}
+use Rattle.descriptor.specs.Descriptor.{movedRefusal, descriptorOf}
 use Rattle.descriptor.specs.Views.{descriptorViews, refusalViews}
 use Rattle.descriptor.specs.Walk.{readViews}
 use Rattle.descriptor.specs.Whole.{identifierRead}
@@ -24,7 +24,7 @@ use Rattle.descriptor.specs.declared.plain.TimeDescriptor.{TimeDescriptor}
 use Rattle.descriptor.specs.declared.segmentation.SegmentationDescriptor.{SegmentationDescriptor}
 use Rattle.descriptor.proofs.Insides.{read-inside}
 use Rattle.items.specs.Items.{bare, itemAt, readAt, wholeAt}
-use Rattle.items.specs.Place.{movedDescriptor, movedRefusal}
+use Rattle.items.specs.Place.{movedDescriptor}
 use Rattle.items.specs.Walk.{Movable}
 use Rattle.items.specs.declared.Item.{Item}
 use Rattle.items.specs.declared.Item.the-variants.{Refused, Is}

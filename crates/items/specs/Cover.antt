@@ -1,10 +1,11 @@
 -- What it means that the items of a loop cover it, and that it can be cut in no other way. These are definitions.
 use Prim.Native.Nat.{ℕ, _+_, _≤_, _<_}
-use mathlib.Core.Bool.{Bool, cond, _&&_}
+use mathlib.Core.Bool.{Bool, _&&_}
 use mathlib.Core.List.{List, [], _∷_, _++_, map}
 use mathlib.Core.Path.{_≡_}
 use lib.Dec.{leb, ltb}
 use lib.ListN.{length, take, drop, getD}
+use Rattle.table.specs.Bits.{pick}
 use Rattle.items.specs.Items.{bare, Listed}
 use Rattle.items.specs.declared.Item.the-variants.{Refused}
 use Rattle.items.specs.declared.ItemRefusal.{ItemRefusal}
@@ -59,7 +60,7 @@ lies i x = leb (x .offset) i && ltb i (x .offset + x .used)
 
 unfoldable pub times : ℕ → List Listed → ℕ
 times i [] = 0
-times i (x ∷ xs) = cond (lies i x) 1 0 + times i xs
+times i (x ∷ xs) = pick (lies i x) 1 0 + times i xs
 
 -- ---- the claims
 

@@ -1,17 +1,17 @@
 -- One step over a descriptor loop, and the list of a loop's items (document 01, "Loop items"). These are definitions.
 use Prim.Native.Nat.{ℕ, zero, suc, _+_, _-_}
-use mathlib.Core.Bool.{cond}
 use mathlib.Core.List.{List, [], _∷_}
 use lib.Dec.{ltb, leb}
 use lib.ListN.{length, take, drop, getD, replicate}
+use Rattle.table.specs.Bits.{pick}
 use Rattle.upid.specs.Upid as upid
 use Rattle.upid.specs.declared.Refusal.the-variants.{TooLong, Short}
-use Rattle.descriptor.specs.Descriptor.{descriptorOf}
+use Rattle.descriptor.specs.Descriptor.{movedRefusal, descriptorOf}
 use Rattle.descriptor.specs.Whole.{blankBeside, besideRead, identifierRead}
 use Rattle.descriptor.specs.declared.DescriptorRead.{DescriptorRead}
 use Rattle.descriptor.specs.declared.DescriptorRead.the-variants as read
 use Rattle.descriptor.specs.declared.whole.Beside.{Beside}
-use Rattle.items.specs.Place.{movedDescriptor, movedRefusal}
+use Rattle.items.specs.Place.{movedDescriptor}
 use Rattle.items.specs.declared.Item.{Item}
 use Rattle.items.specs.declared.Item.the-variants.{End, Refused, Is}
 use Rattle.items.specs.declared.ItemRefusal.{ItemRefusal}
@@ -62,17 +62,17 @@ stepOf loop offset =
     let R : ℕ = length loop - offset in
     let L : ℕ = getD loop (offset + 1) 0 in
     -- refusal 2: "loop over 4,076"
-    cond (ltb 4076 (length loop)) (bare (Refused (Other TooLong)) (length loop))
+    pick (ltb 4076 (length loop)) (bare (Refused (Other TooLong)) (length loop))
     -- "At or past the end it says so, next offset the length. With R bytes left:"
-    (cond (leb (length loop) offset) (bare End (length loop))
+    (pick (leb (length loop) offset) (bare End (length loop))
     -- "R from 1 to 5: refusal 21 (2, 0); the loop ends, next offset its length"
-    (cond (ltb R 6) (bare (short 2 0) (length loop))
+    (pick (ltb R 6) (bare (short 2 0) (length loop))
     -- "R at least 6, length L, L + 2 > R: 21 (L + 2, 0); ends"
-    (cond (ltb R (L + 2)) (bare (short (L + 2) 0) (length loop))
+    (pick (ltb R (L + 2)) (bare (short (L + 2) 0) (length loop))
     -- "L = 255 that fits: 22; ends" (no byte is over 255)
-    (cond (ltb 254 L) (bare (Refused InvalidDescriptorLength) (length loop))
+    (pick (ltb 254 L) (bare (Refused InvalidDescriptorLength) (length loop))
     -- "L from 0 to 3: 21 (6, L + 2); the next item follows after L + 2 bytes"
-    (cond (ltb L 4) (bare (short 6 (L + 2)) (offset + (L + 2)))
+    (pick (ltb L 4) (bare (short 6 (L + 2)) (offset + (L + 2)))
     -- "Else tag, L, identifier of 4", and the payload
     (wholeAt loop offset L))))))
 
@@ -114,7 +114,7 @@ itemsFrom (suc n) loop offset = unlessEnd (stepOf loop offset .item) (listed loo
 
 -- a loop over 4,076 bytes is refused, and has no items
 unfoldable pub itemsOf : List ℕ → List Listed
-itemsOf loop = cond (ltb 4076 (length loop)) [] (itemsFrom (length loop) loop 0)
+itemsOf loop = pick (ltb 4076 (length loop)) [] (itemsFrom (length loop) loop 0)
 
 unfoldable pub countOf : List ℕ → Counted
-countOf loop = cond (ltb 4076 (length loop)) (counted.Refused (Other TooLong)) (counted.Are (length (itemsOf loop)))
+countOf loop = pick (ltb 4076 (length loop)) (counted.Refused (Other TooLong)) (counted.Are (length (itemsOf loop)))

@@ -1,13 +1,10 @@
 -- Where the views of an item lie (document 01, "Identifiers": "an item's UPID is its reported type and one view of its bytes"). These are definitions.
 use Prim.Native.Nat.{ℕ}
-use mathlib.Core.Bool.{cond, _||_}
 use mathlib.Core.List.{List, [], _∷_}
-use lib.Dec.{eqb}
+use Rattle.table.specs.Bits.{pick}
 use Rattle.table.specs.Lent.{noView, shifted}
 use Rattle.table.specs.declared.View.{View}
-use Rattle.upid.specs.declared.Refusal.{Refusal}
-use Rattle.descriptor.specs.Descriptor as descriptor
-use Rattle.descriptor.specs.Views.{descriptorViews, refusalViews, withViews}
+use Rattle.descriptor.specs.Views.{withoutView, descriptorViews, refusalViews, withViews}
 use Rattle.descriptor.specs.declared.Descriptor.{Descriptor}
 use Rattle.descriptor.specs.declared.segmentation.SegmentationUpid.{SegmentationUpid}
 use Rattle.items.specs.declared.Item.{Item}
@@ -34,11 +31,7 @@ viewOf item = firstView (viewsOf item)
 
 -- blank views stay blank
 abbrev pub movedUpid : ℕ → SegmentationUpid → SegmentationUpid
-movedUpid base u = cond (eqb (u .kind) 0 || eqb (u .kind) 10) u (record { kind = u .kind; bytes = shifted base (u .bytes) })
+movedUpid base u = pick (withoutView (u .kind)) u (record { kind = u .kind; bytes = shifted base (u .bytes) })
 
 abbrev pub movedDescriptor : ℕ → Descriptor → Descriptor
 movedDescriptor base d = withViews (movedUpid base) (shifted base) d
-
--- as the view of a UPID's refusal moves in its payload
-abbrev pub movedRefusal : ℕ → Refusal → Refusal
-movedRefusal = descriptor.moved

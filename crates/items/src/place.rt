@@ -2,8 +2,9 @@
 ghost use mathlib.Core.Path.{_≡_};
 ghost use Prim.Native.Nat.{_+_, _^_, _<_};
 ghost use Rattle.table.specs.Lent.{shifted, viewed};
+ghost use Rattle.descriptor.specs.Descriptor.{movedRefusal};
 ghost use Rattle.descriptor.specs.Views.{upidViews, descriptorViews, refusalViews};
-ghost use Rattle.items.specs.Place.{firstView, viewOf, movedUpid, movedDescriptor, movedRefusal};
+ghost use Rattle.items.specs.Place.{firstView, viewOf, movedUpid, movedDescriptor};
 ghost use Rattle.items.specs.Walk.{Movable, movedInsert};
 use crate::Item;
 use crate::ItemRefusal;

@@ -22,7 +22,7 @@ use Rattle.descriptor.specs.declared.whole.Beside.{Beside}
 use Rattle.descriptor.specs.declared.whole.WholeDescriptor.{WholeDescriptor}
 use Rattle.descriptor.proofs.Insides.{read-inside}
 use Rattle.descriptor_form.specs.Canonical.{canonicalLoop}
-use Rattle.descriptor_form.specs.Same.{bytesOfViews, componentsOf}
+use Rattle.descriptor_form.specs.Same.{bytesOfViews, countBeside}
 use Rattle.descriptor_form.specs.Writing.{descriptorMade}
 use Rattle.descriptor_laws.specs.Trips.{wholeIn, ReadAs}
 use Rattle.descriptor_laws.proofs.Alike.{SameView, viewIn, NoneTold, made-told, alike-made, same-made}
@@ -34,7 +34,7 @@ use Rattle.items.specs.Place.{movedDescriptor}
 use Rattle.items.specs.declared.Item.{Item}
 use Rattle.items.specs.declared.Item.the-variants.{Is}
 use Rattle.items.specs.declared.reading.Reading.{Reading}
-use Rattle.loop_laws.specs.Loops.{itemMade, writtenAt, _followed-by_, joinedMade, SameItems, done, pair, Given, givenMade, GivenTypes, ItemBack, ItemsBack, over, back}
+use Rattle.loop_laws.specs.Loops.{itemMade, writtenAt, _followed-by_, joinedMade, Given, givenMade, itemGiven, GivenTypes, ItemBack, SameItems, ItemsBack, Pairs, over, pair}
 use Rattle.loop_laws.proofs.Pieces.{Canonical, cut-canonical, At, Items, end, item, items-cut}
 use Rattle.loop_laws.proofs.Places.{moved-values, moved-count, moved-view, moved-bytes}
 
@@ -72,7 +72,7 @@ module _ (loop : List ℕ) (offset : ℕ) (t : List ℕ) (a : At loop offset t) 
     pub read : Descriptor
     pub is : stepOf loop offset .item ≡ Is read
     pub writes : descriptorMade read (stepOf loop offset .identifier) (readingOf loop offset .beside) loop ≡ made t
-    pub places : componentsOf read ≤ length (readingOf loop offset .beside .components)
+    pub places : countBeside read ≤ length (readingOf loop offset .beside .components)
     -- the piece alone is read as the same, with its view counted from its payload's first byte
     pub own : Descriptor
     pub alone : wholeIn t .read ≡ DescriptorRead.Is own
@@ -96,7 +96,7 @@ module _ (loop : List ℕ) (offset : ℕ) (t : List ℕ) (a : At loop offset t) 
         read = there;
         is = item-is ∙ ap (itemAt base) (ap (λ (x : WholeDescriptor). x .read) (w .whole));
         writes = ap₂ (λ (i : List ℕ) (c : Beside). descriptorMade there i c loop) identifier-is beside-is ∙ m;
-        places = subst (λ (c : Beside). componentsOf there ≤ length (c .components)) (sym beside-is) (omega (arith, moved-count base d, w .places));
+        places = subst (λ (c : Beside). countBeside there ≤ length (c .components)) (sym beside-is) (omega (arith, moved-count base d, w .places));
         own = d;
         alone = ap (λ (x : WholeDescriptor). x .read) (w .whole);
         moves = refl;
@@ -129,7 +129,7 @@ module _ (loop : List ℕ) (offset : ℕ) (t : List ℕ) (a : At loop offset t) 
 
 -- what is written of the item is the piece
 pub written-at : (loop : List ℕ) (offset : ℕ) (t : List ℕ) (a : At loop offset t) → Back loop offset t a → writtenAt loop (listed loop offset) ≡ made t
-written-at loop o t a b = ap (λ (y : Item). itemMade loop y (stepOf loop o .identifier) (readingOf loop o .beside)) (b .is) ∙ b .writes
+written-at loop o t a b = ap (itemMade λ d. givenMade (itemGiven loop (listed loop o) d)) (b .is) ∙ b .writes
 
 -- ---- all of them
 
@@ -156,34 +156,34 @@ one-read x y i e f =
 
 -- the piece is what is written of the descriptor that the item is
 named : (loop : List ℕ) (offset : ℕ) (t : List ℕ) → At loop offset t → AllBytes t → (d : Descriptor) → stepOf loop offset .item ≡ Is d
-    → (descriptorMade d (stepOf loop offset .identifier) (readingOf loop offset .beside) loop ≡ made t) × (componentsOf d ≤ length (readingOf loop offset .beside .components))
+    → (descriptorMade d (stepOf loop offset .identifier) (readingOf loop offset .beside) loop ≡ made t) × (countBeside d ≤ length (readingOf loop offset .beside .components))
 named loop o t a h d e =
     let b = back-at loop o t a h in
     let z : b .read ≡ d = one-read (b .read) d (stepOf loop o .item) (b .is) e in (
       subst (λ (k : Descriptor). descriptorMade k (stepOf loop o .identifier) (readingOf loop o .beside) loop ≡ made t) z (b .writes),
-      subst (λ (k : Descriptor). componentsOf k ≤ length (readingOf loop o .beside .components)) z (b .places),
+      subst (λ (k : Descriptor). countBeside k ≤ length (readingOf loop o .beside .components)) z (b .places),
     )
 
 module _ (loop other : List ℕ) (fits : length loop ≤ 4076) (fits₂ : length other ≤ 4076) where
   pub one-cut : {o₁ o₂ : ℕ} {ts us : List (List ℕ)} {xs ys : List Listed} → Items loop fits o₁ ts xs → Items other fits₂ o₂ us ys → All AllBytes ts → All AllBytes us → SameItems loop other xs ys → ts ≡ us
-  one-cut end end none none done = refl
+  one-cut end end none none over = refl
   one-cut (item {offset = o} {t = t} a i) (item {offset = q} {t = u} b j) (more h hs) (more k ks) (pair s ss) =
-      let m = named loop o t a h (s .this) (s .first) in
-      let n = named other q u b k (s .that) (s .second) in
+      let r = s .back in
+      let m = named loop o t a h (r .again) (r .is) in
+      let n = named other q u b k (s .that) (s .is) in
       ap₂ (λ (p : List ℕ) (ps : List (List ℕ)). p ∷ ps)
-      (same-made loop other t u (s .this) (s .that) (stepOf loop o .identifier) (stepOf other q .identifier) (readingOf loop o .beside) (readingOf other q .beside) (m .1) (n .1) (s .same) (m .0) (n .0))
+      (same-made loop other t u (r .again) (s .that) (stepOf loop o .identifier) (stepOf other q .identifier) (readingOf loop o .beside) (readingOf other q .beside) (m .1) (n .1) (r .same) (m .0) (n .0))
       (one-cut i j hs ks ss)
 
 -- ---- descriptors that are written, joined and read
 
 -- each piece is read as what was handed in
-data Reads : List (List ℕ) → List Given → Type 0 where
-  nil : Reads [] []
-  cons : {t : List ℕ} {g : Given} {ts : List (List ℕ)} {gs : List Given} → ReadAs t (g .descriptor) (g .identifier) (g .beside) (g .lent) → Reads ts gs → Reads (t ∷ ts) (g ∷ gs)
+abbrev Reads : List (List ℕ) → List Given → Type 0
+Reads ts gs = Pairs (λ (t : List ℕ) (g : Given). ReadAs t (g .descriptor) (g .identifier) (g .beside) (g .lent)) ts gs
 
 items-back : (loop : List ℕ) (fits : length loop ≤ 4076) {offset : ℕ} {ts : List (List ℕ)} {xs : List Listed} {gs : List Given} → Items loop fits offset ts xs → Reads ts gs → ItemsBack loop xs gs
-items-back loop fits end nil = over
-items-back loop fits (item {offset = o} {t = t} a i) (cons {g = g} r rs) = back (given-at loop o t a g r) (items-back loop fits i rs)
+items-back loop fits end over = over
+items-back loop fits (item {offset = o} {t = t} a i) (pair {y = g} r rs) = pair (given-at loop o t a g r) (items-back loop fits i rs)
 
 record Cut (gs : List Given) (loop : List ℕ) : Type 0 where
   pieces : List (List ℕ)
@@ -193,7 +193,7 @@ record Cut (gs : List Given) (loop : List ℕ) : Type 0 where
 
 given-cut : {gs : List Given} → All GivenTypes gs → (loop : List ℕ) → joinedMade (map givenMade gs) ≡ made loop → Cut gs loop
 unfolding joinedMade joined
-given-cut none loop e = record { pieces = []; canon = none; reads = nil; joins = cc }
+given-cut none loop e = record { pieces = []; canon = none; reads = over; joins = cc }
 given-cut (more {x = g} {xs = gs} h hs) loop e = go (givenMade g) (joinedMade (map givenMade gs)) (given-cut hs) refl refl e
   where
     go : (m n : Made) → ((c : List ℕ) → joinedMade (map givenMade gs) ≡ made c → Cut gs c) → givenMade g ≡ m → joinedMade (map givenMade gs) ≡ n → m followed-by n ≡ made loop → Cut (g ∷ gs) loop
@@ -203,7 +203,7 @@ given-cut (more {x = g} {xs = gs} h hs) loop e = go (givenMade g) (joinedMade (m
         let i = more-cut c en in
         let r = descriptor-write-read (g .descriptor) (g .identifier) (g .beside) (g .lent) t h em in
         let z : t ++ c ≡ loop = cc in
-        record { pieces = t ∷ i .pieces; canon = more (r .1) (i .canon); reads = cons (r .0) (i .reads); joins = ap (λ (l : List ℕ). t ++ l) (i .joins) ∙ z }
+        record { pieces = t ∷ i .pieces; canon = more (r .1) (i .canon); reads = pair (r .0) (i .reads); joins = ap (λ (l : List ℕ). t ++ l) (i .joins) ∙ z }
 
 pub given-back : {gs : List Given} → All GivenTypes gs → (loop : List ℕ) → length loop ≤ 4076 → joinedMade (map givenMade gs) ≡ made loop → (canonicalLoop loop ≡ true) × ItemsBack loop (itemsOf loop) gs
 given-back hs loop fits e =

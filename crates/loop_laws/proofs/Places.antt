@@ -13,15 +13,14 @@ use Rattle.table.specs.Lent.{viewed, shifted}
 use Rattle.table.specs.declared.View.{View}
 use Rattle.upid.specs.Cover.{All, none, more}
 use Rattle.descriptor.specs.Segmentation.{countOf, frontOf}
-use Rattle.descriptor.specs.Views.{descriptorViews}
+use Rattle.descriptor.specs.Views.{withoutView, descriptorViews, withUpids}
 use Rattle.descriptor.specs.declared.Descriptor.{Descriptor}
 use Rattle.descriptor.specs.declared.Descriptor.the-variants.{Avail, Dtmf, Segmentation, Time, Reserved}
 use Rattle.descriptor.specs.declared.DescriptorRead.the-variants as read
 use Rattle.descriptor.specs.declared.segmentation.SegmentationDetail.{SegmentationDetail}
 use Rattle.descriptor.specs.declared.segmentation.SegmentationDetail.the-variants.{Cancel, Insert}
 use Rattle.descriptor.specs.declared.segmentation.SegmentationUpid.{SegmentationUpid}
-use Rattle.descriptor_form.specs.Same.{viewless, bytesOfViews, componentsOf}
-use Rattle.descriptor_form.specs.Walk.{viewlessDetail}
+use Rattle.descriptor_form.specs.Same.{viewless, bytesOfViews, countBeside, viewlessUpid}
 use Rattle.descriptor_laws.proofs.Alike.{SameView, viewIn, detailView, DetailTold, NoneTold, by-bytes, both-none, no-views}
 use Rattle.descriptor_laws.proofs.PlainLaws.{viewed-at}
 use Rattle.items.specs.Place.{movedUpid, movedDescriptor}
@@ -40,13 +39,13 @@ run-of-run s b m a n h = part-of-front a n m (drop b s) h ∙ ap (take n) (drop-
 -- ---- values and counts
 
 pub kind-stays : (base : ℕ) (u : SegmentationUpid) → movedUpid base u .kind ≡ u .kind
-kind-stays base u = go (eqb (u .kind) 0 || eqb (u .kind) 10)
+kind-stays base u = go (withoutView (u .kind))
   where
     go : (t : Bool) → (let there : SegmentationUpid = cond t u (record { kind = u .kind; bytes = shifted base (u .bytes) }) in there .kind) ≡ u .kind
     go true = refl
     go false = refl
 
-detail-values : (base : ℕ) (d : SegmentationDetail) → viewlessDetail (movedDetail base d) ≡ viewlessDetail d
+detail-values : (base : ℕ) (d : SegmentationDetail) → withUpids viewlessUpid (movedDetail base d) ≡ withUpids viewlessUpid d
 detail-values base Cancel = refl
 detail-values base (Insert i) = rw (kind-stays base (i .«segmentation_upid»))
 
@@ -61,7 +60,7 @@ detail-count : (base : ℕ) (d : SegmentationDetail) → countOf (frontOf (moved
 detail-count base Cancel = refl
 detail-count base (Insert i) = refl
 
-pub moved-count : (base : ℕ) (d : Descriptor) → componentsOf (movedDescriptor base d) ≡ componentsOf d
+pub moved-count : (base : ℕ) (d : Descriptor) → countBeside (movedDescriptor base d) ≡ countBeside d
 moved-count base (Avail x) = refl
 moved-count base (Dtmf x) = refl
 moved-count base (Segmentation x) = detail-count base (x .«descriptor_detail»)
@@ -87,9 +86,9 @@ module _ (loop : List ℕ) (base n : ℕ) (there : base + n ≤ length loop) whe
 
   detail-view : (d : SegmentationDetail) → (detailView d .at + detailView d .len ≤ length payload) × DetailTold d → SameView payload (detailView d) loop (detailView (movedDetail base d))
   detail-view Cancel f = no-views payload loop
-  detail-view (Insert i) f = go (i .«segmentation_upid») (eqb (i .«segmentation_upid» .kind) 0 || eqb (i .«segmentation_upid» .kind) 10) refl (f .0) (f .1)
+  detail-view (Insert i) f = go (i .«segmentation_upid») (withoutView (i .«segmentation_upid» .kind)) refl (f .0) (f .1)
     where
-      go : (u : SegmentationUpid) (t : Bool) → eqb (u .kind) 0 || eqb (u .kind) 10 ≡ t → u .bytes .at + u .bytes .len ≤ length payload → (eqb (u .kind) 0 || eqb (u .kind) 10 ≡ true → u .bytes .len ≡ 0)
+      go : (u : SegmentationUpid) (t : Bool) → withoutView (u .kind) ≡ t → u .bytes .at + u .bytes .len ≤ length payload → (withoutView (u .kind) ≡ true → u .bytes .len ≡ 0)
           → SameView payload (u .bytes) loop (let there : SegmentationUpid = cond t u (record { kind = u .kind; bytes = shifted base (u .bytes) }) in there .bytes)
       go u true t h blank = let z = payload-size in both-none payload (u .bytes) loop (u .bytes) h (omega arith) (blank t) (blank t)
       go u false t h blank = same-there (u .bytes) h

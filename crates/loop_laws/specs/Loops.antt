@@ -12,17 +12,38 @@ use Rattle.items.specs.Items.{readingOf, Listed, itemsOf}
 use Rattle.items.specs.declared.Item.{Item}
 use Rattle.items.specs.declared.Item.the-variants.{End, Refused, Is}
 
+-- ---- a descriptor that is handed in, with the bytes that its views refer to
+
+pub record Given : Type 0 where
+  pub descriptor : Descriptor
+  pub identifier : List ℕ
+  pub beside : Beside
+  pub lent : List ℕ
+
+abbrev pub givenMade : Given → Made
+givenMade g = descriptorMade (g .descriptor) (g .identifier) (g .beside) (g .lent)
+
+abbrev pub GivenTypes : Given → Type 0
+GivenTypes g = Handed (g .descriptor) (g .identifier) (g .beside) (g .lent)
+
+abbrev pub SameGiven : Given → Given → Type 0
+SameGiven g h = SameReading (g .lent) (g .descriptor) (g .identifier) (g .beside) (h .lent) (h .descriptor) (h .identifier) (h .beside)
+
+-- the item x of a loop, as it is read, where it is the descriptor d: "The descriptor writer takes a readable item with the bytes its views refer to", which are the loop's
+abbrev pub itemGiven : List ℕ → Listed → Descriptor → Given
+itemGiven loop x d = record { descriptor = d; identifier = x .step .identifier; beside = readingOf loop (x .offset) .beside; lent = loop }
+
 -- ---- "Writing a reading means each item's descriptor, joined in order as the loop, then the section."
 
--- "The descriptor writer takes a readable item with the bytes its views refer to", which are the loop's. Of any other there is no descriptor.
-abbrev pub itemMade : List ℕ → Item → List ℕ → Beside → Made
-itemMade loop End identifier beside = refused 33
-itemMade loop (Refused r) identifier beside = refused 33
-itemMade loop (Is d) identifier beside = descriptorMade d identifier beside loop
+-- of any other item there is no descriptor
+abbrev pub itemMade : (Descriptor → Made) → Item → Made
+itemMade f End = refused 33
+itemMade f (Refused r) = refused 33
+itemMade f (Is d) = f d
 
 -- what is written of an item of the loop, as it is read
 abbrev pub writtenAt : List ℕ → Listed → Made
-writtenAt loop x = itemMade loop (x .step .item) (x .step .identifier) (readingOf loop (x .offset) .beside)
+writtenAt loop x = itemMade (λ d. givenMade (itemGiven loop x d)) (x .step .item)
 
 -- "joined in order": the first refusal stands
 infixr 40 _followed-by_
@@ -39,40 +60,27 @@ joinedMade (m ∷ ms) = m followed-by joinedMade ms
 unfoldable pub loopMade : List ℕ → Made
 loopMade loop = joinedMade (map (writtenAt loop) (itemsOf loop))
 
--- ---- equal readings of two loops: the same items in order
-
--- the item x of one loop and the item y of another are descriptors with equal readings
-pub record SameItem (loop other : List ℕ) (x y : Listed) : Type 0 where
-  pub this : Descriptor
-  pub that : Descriptor
-  pub first : x .step .item ≡ Is this
-  pub second : y .step .item ≡ Is that
-  pub same : SameReading loop this (x .step .identifier) (readingOf loop (x .offset) .beside) other that (y .step .identifier) (readingOf other (y .offset) .beside)
-
-pub data SameItems (loop other : List ℕ) : List Listed → List Listed → Type 0 where
-  done : SameItems loop other [] []
-  pair : {x y : Listed} {xs ys : List Listed} → SameItem loop other x y → SameItems loop other xs ys → SameItems loop other (x ∷ xs) (y ∷ ys)
-
--- ---- descriptors that are handed in, one after the other, each with the bytes that its views refer to
-
-pub record Given : Type 0 where
-  pub descriptor : Descriptor
-  pub identifier : List ℕ
-  pub beside : Beside
-  pub lent : List ℕ
-
-abbrev pub givenMade : Given → Made
-givenMade g = descriptorMade (g .descriptor) (g .identifier) (g .beside) (g .lent)
-
-abbrev pub GivenTypes : Given → Type 0
-GivenTypes g = Handed (g .descriptor) (g .identifier) (g .beside) (g .lent)
+-- ---- equal readings, in order
 
 -- the item x of the loop is a descriptor that is equal to what was handed in
 pub record ItemBack (loop : List ℕ) (x : Listed) (g : Given) : Type 0 where
   pub again : Descriptor
   pub is : x .step .item ≡ Is again
-  pub same : SameReading loop again (x .step .identifier) (readingOf loop (x .offset) .beside) (g .lent) (g .descriptor) (g .identifier) (g .beside)
+  pub same : SameGiven (itemGiven loop x again) g
 
-pub data ItemsBack (loop : List ℕ) : List Listed → List Given → Type 0 where
-  over : ItemsBack loop [] []
-  back : {x : Listed} {g : Given} {xs : List Listed} {gs : List Given} → ItemBack loop x g → ItemsBack loop xs gs → ItemsBack loop (x ∷ xs) (g ∷ gs)
+-- the item x of one loop and the item y of another are descriptors with equal readings
+pub record SameItem (loop other : List ℕ) (x y : Listed) : Type 0 where
+  pub that : Descriptor
+  pub is : y .step .item ≡ Is that
+  pub back : ItemBack loop x (itemGiven other y that)
+
+-- R holds of two lists, one by one
+pub data Pairs {A B : Type 0} (R : A → B → Type 0) : List A → List B → Type 0 where
+  over : Pairs R [] []
+  pair : {x : A} {y : B} {xs : List A} {ys : List B} → R x y → Pairs R xs ys → Pairs R (x ∷ xs) (y ∷ ys)
+
+abbrev pub ItemsBack : List ℕ → List Listed → List Given → Type 0
+ItemsBack loop xs gs = Pairs (ItemBack loop) xs gs
+
+abbrev pub SameItems : List ℕ → List ℕ → List Listed → List Listed → Type 0
+SameItems loop other xs ys = Pairs (SameItem loop other) xs ys

@@ -15,7 +15,7 @@ use lib.ListN.{length, take, drop, getD, length-append}
 use lib.Pow.{pow-pos}
 use borrow.Author.Tests.{le-leb}
 use lib.Seq.{length-take-le, take-suc}
-use Rattle.pen.specs.Walk.{inked}
+use Rattle.pen.specs.Walk.{Fits, inked}
 use Rattle.table.specs.Bits.{bitsOfNum, bitsOf, AllBytes}
 use Rattle.table.specs.Cursor.{place, cursorAt}
 use Rattle.table.specs.Table.{Table, inside, number, bit, flagNumber, reserved, part, remaining, uimsbf, flag, ones}
@@ -27,7 +27,7 @@ use Rattle.table.proofs.Bits.{AllBits, all-num, all-bits, bits-append, bits-joi
 use Rattle.table.proofs.Lists.{append-nil}
 use Rattle.table.proofs.Steppings.{Settled, place-of}
 use Rattle.table.proofs.Walks.{past, print-bits, walk-inside}
-use Rattle.pen.specs.Pen.{penned, penAfter, Pens, Fits}
+use Rattle.pen.specs.Pen.{penned, penAfter, Pens}
 use Rattle.pen.proofs.Penned.{length-penned, penned-append, penned-nil, low-bits}
 
 -- ---- the cursor

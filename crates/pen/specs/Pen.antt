@@ -1,5 +1,5 @@
 -- Bits stored into a lent target, from a cursor on.
-use Prim.Native.Nat.{ℕ, _+_, _*_, _≤_}
+use Prim.Native.Nat.{ℕ, _+_, _*_}
 use mathlib.Core.List.{List, _++_}
 use mathlib.Core.Path.{_≡_}
 use lib.Dec.{leb}
@@ -21,7 +21,3 @@ penAfter target c n = pick (leb (place c + n) (length target * 8)) (cursorAt (pl
 pub record Pens (target : List ℕ) (c : Cursor) (b : List ℕ) (later : List ℕ) (next : Cursor) : Type 0 where
   pub bytes : later ≡ penned target (place c) b
   pub cursor : next ≡ penAfter target c (length b)
-
--- there is room for them
-abbrev pub Fits : List ℕ → Cursor → List ℕ → Type 0
-Fits target c b = place c + length b ≤ length target * 8

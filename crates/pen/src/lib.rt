@@ -1,10 +1,10 @@
 // The writer's pen: fields stored at any bit of a lent target, and what a writer answers.
 ghost use mathlib.Core.Path.{_≡_};
 ghost use Prim.Native.Nat.{_+_, _-_, _*_, _/_, _%_, _^_, _<_, _≤_};
-ghost use Rattle.pen.specs.Walk.{withBits};
+ghost use Rattle.pen.specs.Walk.{Fits, withBits};
 ghost use Rattle.table.specs.Bits.{bitsOfNum, bitsOf, AllBytes};
 ghost use Rattle.table.proofs.Steppings.{Settled};
-ghost use Rattle.pen.specs.Pen.{Fits, Pens};
+ghost use Rattle.pen.specs.Pen.{Pens};
 use table::cursor::Cursor;
 use table::numbers::wide;
 use table::store::put_bytes;

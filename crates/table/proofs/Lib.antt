@@ -11,3 +11,4 @@ pub mod Reading
 pub mod Stores
 pub mod Steppings
 pub mod Cursors
+pub mod Longer

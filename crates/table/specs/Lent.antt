@@ -1,5 +1,6 @@
 -- Views of lent bytes, arrays with a count, and stores into a lent target.
 use Prim.Native.Nat.{ℕ, _+_, _-_}
+use mathlib.Core.Bool.{Bool}
 use mathlib.Core.List.{List, [], _++_}
 use lib.Dec.{leb}
 use lib.ListN.{length, take, drop, replicate}
@@ -14,9 +15,13 @@ noView = record { at = 0; len = 0 }
 abbrev pub shifted : ℕ → View → View
 shifted base v = record { at = base + v .at; len = v .len }
 
--- the bytes of a view; none where it reaches outside: where offset and length together exceed what was lent
+-- a view lies in the lent bytes, unless offset and length together exceed what was lent
+abbrev pub liesIn : List ℕ → View → Bool
+liesIn lent v = leb (v .at + v .len) (length lent)
+
+-- the bytes of a view; none where it reaches outside
 unfoldable pub viewed : List ℕ → View → List ℕ
-viewed lent v = pick (leb (v .at + v .len) (length lent)) (take (v .len) (drop (v .at) lent)) []
+viewed lent v = pick (liesIn lent v) (take (v .len) (drop (v .at) lent)) []
 
 -- "arrays with a count .. blank past it": n places
 abbrev pub filledTo : {A : Type 0} → ℕ → A → List A → List A

@@ -3,9 +3,10 @@ use Prim.Native.Nat.{ℕ, zero, suc, _+_, _*_, _/_, _^_}
 use mathlib.Core.Bool.{Bool, true, false, _&&_}
 use mathlib.Core.List.{List, [], _∷_, _++_}
 use mathlib.Core.Path.{_≡_}
-use lib.Dec.{ltb, leb}
-use lib.ListN.{length, take, drop}
+use lib.Dec.{ltb}
+use lib.ListN.{take, drop}
 use Rattle.table.specs.Bits.{pick, bitsOfNum, bitsOf, bytesOf}
+use Rattle.table.specs.Lent.{liesIn}
 use Rattle.table.specs.Table.{Table, done, uint, view, left, must}
 
 -- what a value has in one field: a number in w bits, n of the lent bytes from an offset on, or how many bytes are left
@@ -39,7 +40,7 @@ walk (must b t) x at = asking b (walk t x at)
 abbrev pub seen : List ℕ → List Field → Bool
 seen lent [] = true
 seen lent (bits w v ∷ fs) = seen lent fs
-seen lent (run n from ∷ fs) = leb (from + n) (length lent) && seen lent fs
+seen lent (run n from ∷ fs) = liesIn lent (record { at = from; len = n }) && seen lent fs
 seen lent (rest m ∷ fs) = seen lent fs
 
 -- refusal 32: is each number within its field?

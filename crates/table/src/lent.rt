@@ -1,14 +1,11 @@
 // The bytes of a view, as a part of those that were lent.
 ghost use mathlib.Core.Path.{_≡_};
-ghost use Prim.Native.Nat.{_+_};
-ghost use lib.Dec.{leb};
-ghost use lib.ListN.{length};
-ghost use Rattle.table.specs.Lent.{viewed};
+ghost use Rattle.table.specs.Lent.{liesIn, viewed};
 use crate::View;
 
 // Whether a view lies in the lent bytes. Its offset and length are summed without wrapping.
 pub fn lies_in(lent: &[u8], v: View) -> bool
-    ensures { λ r. ⌜ r ≡ leb (v .at + v .len) (length (now (lent .entry))) ⌝ }
+    ensures { λ r. ⌜ r ≡ liesIn (now (lent .entry)) v ⌝ }
 {
     let at = v.at;
     let len = v.len;

@@ -17,7 +17,7 @@ use Rattle.header.specs.Time.{spliceTime, notImmediate}
 use Rattle.items.specs.Items.{Listed, listed}
 use Rattle.loop_laws.proofs.Loops.{back-at}
 use Rattle.loop_laws.proofs.Pieces.{At}
-use Rattle.loop_laws.specs.Loops.{SameItem, SameItems, done, pair}
+use Rattle.loop_laws.specs.Loops.{SameItem, SameItems, over, pair}
 use Rattle.pen.specs.Written.{bytesIn}
 use Rattle.section.specs.Section.{commandType, commandBytes, privateView, sectionOf}
 use Rattle.section.specs.Whole.{besideCommand, besideSection, wholeSectionOf}
@@ -103,15 +103,13 @@ own-item : (loop : List ℕ) (offset : ℕ) (t : List ℕ) → At loop offset t 
 own-item loop offset t at all =
     let b = back-at loop offset t at all in
     record {
-      this = b .read;
       that = b .read;
-      first = b .is;
-      second = b .is;
-      same = record { values = refl; bytes = refl; identifiers = refl; components = refl; eidrs = refl };
+      is = b .is;
+      back = record { again = b .read; is = b .is; same = record { values = refl; bytes = refl; identifiers = refl; components = refl; eidrs = refl } };
     }
 
 own-items : (loop : List ℕ) {xs : List Listed} → All (λ (y : Listed). SameItem loop loop y y) xs → SameItems loop loop xs xs
-own-items loop none = done
+own-items loop none = over
 own-items loop (more h hs) = pair h (own-items loop hs)
 
 pub own-answer : (s : List ℕ) (x : Section) → AllBytes s → sectionOf s ≡ SectionRead.Is x → canonicalSection s ≡ true → SameSections s x s x

@@ -29,7 +29,7 @@ use Rattle.descriptor.specs.declared.whole.Beside.{Beside}
 use Rattle.descriptor_form.proofs.Refusals.{view-out, upid-long, numbers-over}
 use Rattle.descriptor_form.specs.Walk.{componentsFields, modeFields, durationFields, numbersFit}
 use Rattle.descriptor_form.specs.Writing.{framedMade, segmentationMade, payloadMade, descriptorMade, tagOf, identifierOf, upidIn, upidSource, fairSegment, writtenDetail}
-use Rattle.descriptor_form.specs.Same.{componentsOf}
+use Rattle.descriptor_form.specs.Same.{countBeside}
 use Rattle.flat_item_writer.proofs.Back.{descriptor-back}
 use Rattle.flat_item_writer.specs.ItemWords.{itemWords, itemWidths, descriptorGiven, identifierFrom, placesIn, eidrIn, placeWidths, placeFrom, byteFrom, placesFrom, eidrFrom, besideFrom, placesWithin, besideWithin, ownItem, descriptorRefusal, descriptorWordsMade}
 use Rattle.flat_item_writer.specs.Typed.{TypedMode, TypedSubs, TypedInsert, TypedDetail, Typed}
@@ -313,7 +313,7 @@ module _ (number : ℕ) (id : List ℕ) (beside : Beside) (lent : List ℕ) (sma
   item-wide (Descriptor.Reserved tag v) h e = reserved-wide tag v h e
 
   -- where a component's offset is over its field
-  places-wide : (d : Descriptor) → Typed d → writing.within (componentsFields (take (componentsOf d) (beside .components))) ≡ false → Wide (payloadMade d id beside lent)
+  places-wide : (d : Descriptor) → Typed d → writing.within (componentsFields (take (countBeside d) (beside .components))) ≡ false → Wide (payloadMade d id beside lent)
   unfolding payloadMade
   places-wide (Descriptor.Avail x) h e = zero-one cc
   places-wide (Descriptor.Dtmf x) h e = zero-one cc
@@ -327,7 +327,7 @@ module _ (number : ℕ) (id : List ℕ) (beside : Beside) (lent : List ℕ) (sma
   places-wide (Descriptor.Reserved tag v) h e = zero-one cc
 
   -- the components that a descriptor counts are all that is looked at
-  same-payload : (d : Descriptor) (others : List ModeComponent) → take (componentsOf d) others ≡ take (componentsOf d) (beside .components)
+  same-payload : (d : Descriptor) (others : List ModeComponent) → take (countBeside d) others ≡ take (countBeside d) (beside .components)
       → payloadMade d id (record { components = others; eidr = beside .eidr }) lent ≡ payloadMade d id beside lent
   unfolding payloadMade segmentationMade
   same-payload (Descriptor.Avail x) others e = refl
@@ -343,7 +343,7 @@ module _ (number : ℕ) (id : List ℕ) (beside : Beside) (lent : List ℕ) (sma
   same-payload (Descriptor.Time x) others e = refl
   same-payload (Descriptor.Reserved tag v) others e = refl
 
-  count-there : (d : Descriptor) → Typed d → componentsOf d ≤ 255
+  count-there : (d : Descriptor) → Typed d → countBeside d ≤ 255
   count-there (Descriptor.Avail x) h = omega arith
   count-there (Descriptor.Dtmf x) h = omega arith
   count-there (Descriptor.Segmentation x) h = go (x .«descriptor_detail») (h .1)
@@ -362,14 +362,14 @@ module _ (number : ℕ) (id : List ℕ) (beside : Beside) (lent : List ℕ) (sma
     abbrev side : List ℕ
     side = 0 ∷ 0 ∷ 0 ∷ 0 ∷ count ∷ pairsWords (map flatComponent (beside .components)) ++ beside .eidr
 
-    there : componentsOf d ≤ length (beside .components)
+    there : countBeside d ≤ length (beside .components)
     there = omega (arith, count-there d typed, t .places)
 
     eidr-is : eidrIn side ≡ beside .eidr
     eidr-is = pairs-past (beside .components) (beside .eidr) 510 (omega (arith, t .places))
 
     abbrev fits : Bool
-    fits = within itemWidths (number ∷ itemWords (flatDescriptor d)) && besideWithin (componentsOf d) side
+    fits = within itemWidths (number ∷ itemWords (flatDescriptor d)) && besideWithin (countBeside d) side
 
     abbrev own : Bool
     own = same (itemWords (flatDescriptor d)) (itemWords (flatDescriptor d))
@@ -378,34 +378,34 @@ module _ (number : ℕ) (id : List ℕ) (beside : Beside) (lent : List ℕ) (sma
     unfolding descriptorRefusal ownItem
     refusal-is = ap (λ (e : Descriptor). descriptorRefusal e words side) (descriptor-back 0 0 0 0 next number d typed)
 
-    beside-fits : besideWithin (componentsOf d) side ≡ writing.within (componentsFields (take (componentsOf d) (beside .components)))
+    beside-fits : besideWithin (countBeside d) side ≡ writing.within (componentsFields (take (countBeside d) (beside .components)))
     unfolding besideWithin placesWithin
     beside-fits =
-        ap₂ _&&_ (pairs-within (componentsOf d) (beside .components) (beside .eidr) (t .tags) there)
+        ap₂ _&&_ (pairs-within (countBeside d) (beside .components) (beside .eidr) (t .tags) there)
         (ap (within (replicate 12 8)) eidr-is ∙ bytes-within 12 (beside .eidr) (t .eidr-bytes) (t .twelve))
-        ∙ sym (and-unit (writing.within (componentsFields (take (componentsOf d) (beside .components)))))
+        ∙ sym (and-unit (writing.within (componentsFields (take (countBeside d) (beside .components)))))
 
     payload-wide : fits ≡ false → Wide (payloadMade d id beside lent)
     payload-wide e = go (within itemWidths (number ∷ itemWords (flatDescriptor d))) refl (sym (ap (λ (b : Bool). within itemWidths (number ∷ itemWords (flatDescriptor d)) && b) beside-fits) ∙ e)
       where
-        go : (b : Bool) → within itemWidths (number ∷ itemWords (flatDescriptor d)) ≡ b → b && writing.within (componentsFields (take (componentsOf d) (beside .components))) ≡ false → Wide (payloadMade d id beside lent)
+        go : (b : Bool) → within itemWidths (number ∷ itemWords (flatDescriptor d)) ≡ b → b && writing.within (componentsFields (take (countBeside d) (beside .components))) ≡ false → Wide (payloadMade d id beside lent)
         go true f e = places-wide d typed e
         go false f e = item-wide d typed f
 
-    beside-is : payloadMade d id (besideFrom (componentsOf d) side) lent ≡ payloadMade d id beside lent
+    beside-is : payloadMade d id (besideFrom (countBeside d) side) lent ≡ payloadMade d id beside lent
     unfolding besideFrom placesFrom eidrFrom filled
     beside-is =
-        let n = componentsOf d in
+        let n = countBeside d in
         let cs = placesOf placeFrom 2 n (placesIn side) in
         ap (λ (e : List ℕ). payloadMade d id (record { components = placesFrom n side; eidr = e }) lent) (ap (placesOf byteFrom 1 12) eidr-is ∙ bytes-back 12 (beside .eidr) (t .eidr-bytes) (t .twelve))
         ∙ same-payload d (placesFrom n side)
         (take-at cs (replicate (255 - length cs) blankComponent) n (places-length placeFrom 2 n (placesIn side)) ∙ pairs-back n (beside .components) (beside .eidr) (t .tags) there)
 
-    given-made : descriptorMade (descriptorGiven words) (identifierFrom words) (besideFrom (componentsOf (descriptorGiven words)) side) lent ≡ descriptorMade d id beside lent
+    given-made : descriptorMade (descriptorGiven words) (identifierFrom words) (besideFrom (countBeside (descriptorGiven words)) side) lent ≡ descriptorMade d id beside lent
     unfolding descriptorMade identifierFrom
     given-made =
-        ap (λ (e : Descriptor). descriptorMade e (identifierFrom words) (besideFrom (componentsOf e) side) lent) (descriptor-back 0 0 0 0 next number d typed)
-        ∙ ap (λ (l : List ℕ). descriptorMade d l (besideFrom (componentsOf d) side) lent) identifies ∙ ap (framedMade (tagOf d) (identifierOf d id)) beside-is
+        ap (λ (e : Descriptor). descriptorMade e (identifierFrom words) (besideFrom (countBeside e) side) lent) (descriptor-back 0 0 0 0 next number d typed)
+        ∙ ap (λ (l : List ℕ). descriptorMade d l (besideFrom (countBeside d) side) lent) identifies ∙ ap (framedMade (tagOf d) (identifierOf d id)) beside-is
 
     words-taken : descriptorWordsMade words side lent ≡ descriptorMade d id beside lent
     unfolding descriptorWordsMade descriptorMade

@@ -23,7 +23,7 @@ use Rattle.descriptor_form.proofs.Making.{counted, all-fair, by-table}
 use Rattle.descriptor_form.proofs.Refusals.{within-append}
 use Rattle.descriptor_form.specs.Walk.{deliveryFields, modeFields, durationFields, upidFields, subFields, backFields, segmentFields}
 use Rattle.descriptor_form.specs.Writing.{framed, framedMade, alone, writtenKind, writtenUpid, writtenDetail, written, upidIn, upidSource, segmentationMade, payloadMade, tagOf, identifierOf, descriptorMade}
-use Rattle.descriptor_form.specs.Same.{componentsOf}
+use Rattle.descriptor_form.specs.Same.{countBeside}
 use Rattle.flat_item_writer.specs.Typed.{TypedMode, TypedSubs, TypedInsert, TypedDetail, Typed}
 use Rattle.names.specs.Segmentation.{segmentationNumber}
 use Rattle.table.proofs.Lists.{zero-one, and-true}
@@ -118,15 +118,15 @@ detail-typed event SegmentationDetail.Cancel cs w f = (ltb-true _ _ (and-true (l
 detail-typed event (SegmentationDetail.Insert i) cs w f = insert-typed event i cs w f
 
 module _ (id : List ℕ) (beside : Beside) (lent : List ℕ) where
-  segmentation-typed : (x : SegmentationDescriptor) (b : List ℕ) → componentsOf (Descriptor.Segmentation x) ≤ length (beside .components) → segmentationMade x id beside lent ≡ made b → Typed (Descriptor.Segmentation x)
+  segmentation-typed : (x : SegmentationDescriptor) (b : List ℕ) → countBeside (Descriptor.Segmentation x) ≤ length (beside .components) → segmentationMade x id beside lent ≡ made b → Typed (Descriptor.Segmentation x)
   segmentation-typed x b all e =
-      let cs = take (componentsOf (Descriptor.Segmentation x)) (beside .components) in
+      let cs = take (countBeside (Descriptor.Segmentation x)) (beside .components) in
       let w = wrote (fairDetail (writtenDetail (x .«descriptor_detail»))) (upidSource (upidIn x) (beside .eidr) lent) (walk segmentation (written x (beside .components)) 0 .fields) b (by-table x id beside lent all b e) in
       let f = all-fair x id beside lent all b e in
       detail-typed (x .«segmentation_event_id») (x .«descriptor_detail») cs
       (sym (ap within (fields-are (x .«segmentation_event_id») (x .«descriptor_detail») cs (counted x id beside lent all))) ∙ w .widths) (f .1)
 
-  payload-typed : (d : Descriptor) (p : List ℕ) → tagOf d < 256 → componentsOf d ≤ length (beside .components) → payloadMade d id beside lent ≡ made p → Typed d
+  payload-typed : (d : Descriptor) (p : List ℕ) → tagOf d < 256 → countBeside d ≤ length (beside .components) → payloadMade d id beside lent ≡ made p → Typed d
   unfolding payloadMade avail dtmf time number reserved part
   payload-typed (Descriptor.Avail x) p t all e =
       let w = wrote (alone id (beside .eidr)) lent (walk avail x 0 .fields) p e in
@@ -143,7 +143,7 @@ module _ (id : List ℕ) (beside : Beside) (lent : List ℕ) where
       (ltb-true _ _ (b .0), ltb-true _ _ (c .0))
   payload-typed (Descriptor.Reserved tag v) p t all e = t
 
-  pub written-typed : (d : Descriptor) (t : List ℕ) → AllBytes t → componentsOf d ≤ length (beside .components) → descriptorMade d id beside lent ≡ made t → Typed d
+  pub written-typed : (d : Descriptor) (t : List ℕ) → AllBytes t → countBeside d ≤ length (beside .components) → descriptorMade d id beside lent ≡ made t → Typed d
   unfolding descriptorMade
   written-typed d t a all e =
       let f = framed-made (tagOf d) (identifierOf d id) (payloadMade d id beside lent) t e in

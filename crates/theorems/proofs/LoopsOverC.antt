@@ -11,7 +11,7 @@ use borrow.Author.Tests.{eqb-true}
 use Rattle.descriptor.specs.Descriptor.{descriptorOf}
 use Rattle.descriptor.specs.Segmentation as table
 use Rattle.descriptor.specs.Segmentation.{Moded, Fore, Head, blankComponent, component, mode, duration, deliveryRestrictions, parts, front, back, head, frontOf, segmentation}
-use Rattle.descriptor.specs.Whole.{blanks, filled, blankBeside, besideIn, besideOf, besideRead, identifierRead, wholeOf}
+use Rattle.descriptor.specs.Whole.{filled, blankBeside, besideIn, besideOf, besideRead, identifierRead, wholeOf}
 use Rattle.descriptor.specs.declared.Descriptor.{Descriptor}
 use Rattle.descriptor.specs.declared.DescriptorRead.{DescriptorRead}
 use Rattle.descriptor.specs.declared.segmentation.ModeComponent.{ModeComponent}
@@ -156,7 +156,7 @@ pub record Sized (beside : Beside) : Type 0 where
   pub eidr-bytes : AllBytes (beside .eidr)
 
 blank-sized : Sized blankBeside
-unfolding blankBeside blanks
+unfolding blankBeside filled
 blank-sized = record { places = length-replicate 255 blankComponent; tags = blank-tags 255; twelve = refl; eidr-bytes = zeros 12 }
 
 beside-sized : (p : List ℕ) → AllBytes p → Sized (besideOf p)

@@ -16,9 +16,15 @@ use Rattle.command.specs.declared.insert.Insertion.{Insertion}
 use Rattle.command_measure.specs.Made.{counted, commandMade}
 use Rattle.command_measure.specs.Survey.{Countable, Tags}
 use Rattle.crc.specs.Crc.{crcOf}
-use Rattle.descriptor.specs.Descriptor.{availOf, dtmfOf, timeOf}
+use Rattle.descriptor.proofs.Longer as longer
+use Rattle.descriptor.specs.Descriptor.{availOf, dtmfOf, timeOf, cuei, descriptorOf}
 use Rattle.descriptor.specs.declared.Descriptor.{Descriptor}
 use Rattle.descriptor.specs.declared.DescriptorRead.{DescriptorRead}
+use Rattle.descriptor.specs.declared.segmentation.SegmentationDescriptor.{SegmentationDescriptor}
+use Rattle.descriptor.specs.declared.segmentation.SegmentationDetail.{SegmentationDetail}
+use Rattle.descriptor.specs.declared.segmentation.SegmentationInsert.{SegmentationInsert}
+use Rattle.descriptor.specs.declared.segmentation.SubSegment.{SubSegment}
+use Rattle.descriptor.specs.declared.segmentation.SubSegments.{SubSegments}
 use Rattle.descriptor.specs.declared.whole.Beside.{Beside}
 use Rattle.descriptor_form.specs.Writing.{descriptorMade}
 use Rattle.flat.specs.Flat.{flatHeader}
@@ -117,16 +123,25 @@ bytes-after-an-insert-are-tolerated = tolerated.insert-on
 pub bytes-after-a-time-signal-are-tolerated : (payload more : List ℕ) (c : SpliceCommand) → commandOf 0x06 payload ≡ CommandRead.Is c → commandOf 0x06 (payload ++ more) ≡ CommandRead.Is c
 bytes-after-a-time-signal-are-tolerated = tolerated.time-signal-on
 
--- "Bytes left over are tolerated", of avail, DTMF and time descriptors. (A reserved one has none left over; of a segmentation descriptor they stand behind its sub-segments, or
--- behind a cancelled one's head, which is not stated here.)
+-- "Bytes left over are tolerated". (A reserved descriptor has none left over.)
 pub bytes-left-over-by-an-avail-are-tolerated : (payload more : List ℕ) (d : Descriptor) → availOf payload ≡ DescriptorRead.Is d → availOf (payload ++ more) ≡ DescriptorRead.Is d
-bytes-left-over-by-an-avail-are-tolerated = tolerated.avail-on
+bytes-left-over-by-an-avail-are-tolerated = longer.avail-on
 
 pub bytes-left-over-by-dtmf-are-tolerated : (payload more : List ℕ) (d : Descriptor) → dtmfOf payload ≡ DescriptorRead.Is d → dtmfOf (payload ++ more) ≡ DescriptorRead.Is d
-bytes-left-over-by-dtmf-are-tolerated = tolerated.dtmf-on
+bytes-left-over-by-dtmf-are-tolerated = longer.dtmf-on
 
 pub bytes-left-over-by-a-time-are-tolerated : (payload more : List ℕ) (d : Descriptor) → timeOf payload ≡ DescriptorRead.Is d → timeOf (payload ++ more) ≡ DescriptorRead.Is d
-bytes-left-over-by-a-time-are-tolerated = tolerated.time-on
+bytes-left-over-by-a-time-are-tolerated = longer.time-on
+
+-- Of a segmentation descriptor they stand behind the head of a cancelled one, and behind sub-segments. (Bytes behind one without sub-segments would be its sub-segments.)
+pub bytes-left-over-by-a-cancelled-segmentation-are-tolerated : (payload more : List ℕ) (x : SegmentationDescriptor) → descriptorOf 2 cuei payload ≡ DescriptorRead.Is (Descriptor.Segmentation x)
+    → x .«descriptor_detail» ≡ SegmentationDetail.Cancel → descriptorOf 2 cuei (payload ++ more) ≡ descriptorOf 2 cuei payload
+bytes-left-over-by-a-cancelled-segmentation-are-tolerated = longer.cancelled-on
+
+pub bytes-left-over-by-sub-segments-are-tolerated : (payload more : List ℕ) (x : SegmentationDescriptor) (i : SegmentationInsert) (sub : SubSegment)
+    → descriptorOf 2 cuei payload ≡ DescriptorRead.Is (Descriptor.Segmentation x) → x .«descriptor_detail» ≡ SegmentationDetail.Insert i → i .«sub_segments» ≡ SubSegments.Is sub
+    → descriptorOf 2 cuei (payload ++ more) ≡ descriptorOf 2 cuei payload
+bytes-left-over-by-sub-segments-are-tolerated = longer.sub-segments-on
 
 -- "Adjusted time: .. 0 to 17,179,869,182"
 pub an-adjusted-time-is-at-most-17179869182 : (t : SpliceTime) (adjustment n : ℕ) → adjustedOf t adjustment ≡ AdjustedTime.At n → n ≤ 17179869182

@@ -16,7 +16,7 @@ use Rattle.upid.specs.Upid as upid
 use Rattle.upid.specs.Upid.{checkOf}
 use Rattle.upid.specs.declared.UpidRead.{UpidRead}
 use Rattle.upid.specs.declared.UpidRead.the-variants.{Fine, Refused}
-use Rattle.descriptor.specs.Descriptor.{_andThen_, reportedUpid, ifFine, availOf, dtmfOf, timeOf, reservedOf, inserted, insertOf, segmentationOf, isCuei, cueiOf, descriptorOf}
+use Rattle.descriptor.specs.Descriptor.{_andThen_, reportedUpid, ifFine, availOf, dtmfOf, timeOf, reservedOf, inserted, insertOf, segmentationOf, isCuei, descriptorOf}
 use Rattle.descriptor.specs.Plain.{avail, dtmf, time, privateBytes}
 use Rattle.descriptor.specs.Segmentation.{Fore, Head, head, front, back, insertFrom, segmentation}
 use Rattle.descriptor.specs.Whole.{besideIn, besideOf}
@@ -101,7 +101,7 @@ module _ (s : List ℕ) where
   in-reserved tag = and-then (parse privateBytes (bitsOf s) 0) _ λ v m e. none
 
   pub sources : (tag : ℕ) (id : List ℕ) → Every (descriptorOf tag id s)
-  unfolding descriptorOf cueiOf
+  unfolding descriptorOf
   sources tag id =
       picked (isCuei id) _ _
       (λ t.

@@ -6,7 +6,7 @@ use mathlib.Core.Path.{_≡_, ap, sym, _∙_}
 use lib.ListN.{drop}
 use borrow.Author.Tests.{not-true, not-false}
 use Rattle.flat_writer.specs.Words.{within}
-use Rattle.descriptor_form.specs.Same.{componentsOf}
+use Rattle.descriptor_form.specs.Same.{countBeside}
 use Rattle.flat_item_writer.specs.ItemWords.{itemWidths, besideWithin, ownItem, descriptorRefusal}
 use Rattle.flat_writer.proofs.Words.{first-wide, second-wide, both-fit, all-own}
 use Rattle.flat_item_writer.proofs.descriptor_refusal.Statement.{statement}
@@ -15,7 +15,7 @@ use Rattle.flat_item_writer.proofs.descriptor_refusal.Tie as tie
 fits : (k : tie.Else1) → let a = k .before .before .before .before .args in within itemWidths (drop 5 (a .words .now)) ≡ true
 fits k = sym (k .before .is-item-within .ensures) ∙ not-false _ (k .if1 .left)
 
-all-fit : (k : tie.After-beside-within) → let a = k .before .before .before .before .before .before .args in k .beside-within .result ≡ besideWithin (componentsOf (a .d)) (a .beside .now)
+all-fit : (k : tie.After-beside-within) → let a = k .before .before .before .before .before .before .args in k .beside-within .result ≡ besideWithin (countBeside (a .d)) (a .beside .now)
 all-fit k = k .beside-within .ensures ∙ ap (λ (n : ℕ). besideWithin n (k .before .before .before .before .before .before .args .beside .now)) (k .before .count-in .ensures)
 
 is-item-within-requires : tie.Need-is-item-within-requires
@@ -25,7 +25,7 @@ returns : tie.Need-returns
 unfolding descriptorRefusal
 returns c =
     let a = c .before .before .before .before .args in
-    first-wide (within itemWidths (drop 5 (a .words .now))) (besideWithin (componentsOf (a .d)) (a .beside .now)) (ownItem (a .d) (a .words .now)) (sym (c .before .is-item-within .ensures) ∙ not-true _ (c .if1 .taken))
+    first-wide (within itemWidths (drop 5 (a .words .now))) (besideWithin (countBeside (a .d)) (a .beside .now)) (ownItem (a .d) (a .words .now)) (sym (c .before .is-item-within .ensures) ∙ not-true _ (c .if1 .taken))
 
 count-in-requires : tie.Need-count-in-requires
 count-in-requires c κs = search needs
@@ -40,7 +40,7 @@ returns-2 : tie.Need-returns-2
 unfolding descriptorRefusal
 returns-2 c =
     let a = c .before .before .before .before .before .before .before .args in
-    second-wide (within itemWidths (drop 5 (a .words .now))) (besideWithin (componentsOf (a .d)) (a .beside .now)) (ownItem (a .d) (a .words .now)) (fits (c .before .before .before)) (sym (all-fit (c .before)) ∙ not-true _ (c .if2 .taken))
+    second-wide (within itemWidths (drop 5 (a .words .now))) (besideWithin (countBeside (a .d)) (a .beside .now)) (ownItem (a .d) (a .words .now)) (fits (c .before .before .before)) (sym (all-fit (c .before)) ∙ not-true _ (c .if2 .taken))
 
 is-own-item-requires : tie.Need-is-own-item-requires
 is-own-item-requires c κs = search needs
@@ -49,13 +49,13 @@ returns-3 : tie.Need-returns-3
 unfolding descriptorRefusal
 returns-3 c =
     let a = c .before .before .before .before .before .before .before .before .before .args in
-    both-fit (within itemWidths (drop 5 (a .words .now))) (besideWithin (componentsOf (a .d)) (a .beside .now)) (ownItem (a .d) (a .words .now)) (fits (c .before .before .before .before .before)) (sym (all-fit (c .before .before .before)) ∙ not-false _ (c .before .before .if2 .left)) (sym (c .before .is-own-item .ensures) ∙ not-true _ (c .if3 .taken))
+    both-fit (within itemWidths (drop 5 (a .words .now))) (besideWithin (countBeside (a .d)) (a .beside .now)) (ownItem (a .d) (a .words .now)) (fits (c .before .before .before .before .before)) (sym (all-fit (c .before .before .before)) ∙ not-false _ (c .before .before .if2 .left)) (sym (c .before .is-own-item .ensures) ∙ not-true _ (c .if3 .taken))
 
 returns-4 : tie.Need-returns-4
 unfolding descriptorRefusal
 returns-4 c =
     let a = c .before .before .before .before .before .before .before .before .before .args in
-    all-own (within itemWidths (drop 5 (a .words .now))) (besideWithin (componentsOf (a .d)) (a .beside .now)) (ownItem (a .d) (a .words .now)) (fits (c .before .before .before .before .before)) (sym (all-fit (c .before .before .before)) ∙ not-false _ (c .before .before .if2 .left)) (sym (c .before .is-own-item .ensures) ∙ not-false _ (c .if3 .left))
+    all-own (within itemWidths (drop 5 (a .words .now))) (besideWithin (countBeside (a .d)) (a .beside .now)) (ownItem (a .d) (a .words .now)) (fits (c .before .before .before .before .before)) (sym (all-fit (c .before .before .before)) ∙ not-false _ (c .before .before .if2 .left)) (sym (c .before .is-own-item .ensures) ∙ not-false _ (c .if3 .left))
 
 pub descriptor-refusal-spec : {M : Type 1} → statement M
 descriptor-refusal-spec =

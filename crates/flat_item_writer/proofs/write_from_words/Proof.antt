@@ -9,14 +9,14 @@ use lib.ListN.{drop}
 use Rattle.descriptor.specs.declared.Descriptor.{Descriptor}
 use Rattle.descriptor_form.specs.Writing.{descriptorMade}
 use Rattle.flat_writer.specs.Words.{within, noLess}
-use Rattle.descriptor_form.specs.Same.{componentsOf}
+use Rattle.descriptor_form.specs.Same.{countBeside}
 use Rattle.flat_item_writer.specs.ItemWords.{descriptorGiven, itemWidths, identifierFrom, besideFrom, besideWithin, ownItem, descriptorRefusal, descriptorWordsMade}
 use Rattle.flat_writer.proofs.Words.{refusal-small, words-refused, words-taken, later-nil}
 use Rattle.flat_item_writer.proofs.write_from_words.Statement.{statement}
 use Rattle.flat_item_writer.proofs.write_from_words.Tie as tie
 
 parts : (words beside lent : List ℕ) (g : Descriptor) (identifier : List ℕ) (n : ℕ) (r : ℕ)
-    → g ≡ descriptorGiven words → identifier ≡ identifierFrom words → n ≡ componentsOf g → r ≡ descriptorRefusal g words beside
+    → g ≡ descriptorGiven words → identifier ≡ identifierFrom words → n ≡ countBeside g → r ≡ descriptorRefusal g words beside
     → noLess r (descriptorMade g identifier (besideFrom n beside) lent) ≡ descriptorWordsMade words beside lent
 unfolding descriptorWordsMade
 parts words beside lent g identifier n r e f h j = rw (j, h, f, e)
@@ -34,7 +34,7 @@ unfolding descriptorRefusal
 small k =
     let a = k .before .before .before .before .before .before .before .before .args in
     let g = k .before .before .before .descriptor-given .result in
-    omega (arith, k .descriptor-refusal .ensures, refusal-small (within itemWidths (drop 5 (a .words .now)) && besideWithin (componentsOf g) (a .beside .now)) (ownItem g (a .words .now)))
+    omega (arith, k .descriptor-refusal .ensures, refusal-small (within itemWidths (drop 5 (a .words .now)) && besideWithin (countBeside g) (a .beside .now)) (ownItem g (a .words .now)))
 
 descriptor-given-requires : tie.Need-descriptor-given-requires
 descriptor-given-requires c κs = search needs

@@ -1,9 +1,9 @@
 -- `flat_item_writer::write_given`, without components or with some. Assumes nothing.
 use borrow.Author.Needs.{needs}
 use Prim.Native.Nat.{ℕ}
-use mathlib.Core.List.{List}
+use mathlib.Core.List.{List, []}
 use mathlib.Core.Path.{_≡_, refl}
-use Rattle.descriptor.specs.Whole.{blanks, filled}
+use Rattle.descriptor.specs.Whole.{filled}
 use Rattle.descriptor.specs.declared.Descriptor.{Descriptor}
 use Rattle.descriptor.specs.declared.whole.Beside.{Beside}
 use Rattle.descriptor_form.specs.Writing.{descriptorMade}
@@ -14,12 +14,12 @@ use Rattle.flat_item_writer.specs.ItemWords.{placesFrom, eidrFrom, besid
 use Rattle.flat_item_writer.proofs.write_given.Statement.{statement}
 use Rattle.flat_item_writer.proofs.write_given.Tie as tie
 
-none-beside : (words : List ℕ) → besideFrom 0 words ≡ record { components = blanks; eidr = eidrFrom words }
-unfolding besideFrom placesFrom filled blanks placesOf
+none-beside : (words : List ℕ) → besideFrom 0 words ≡ record { components = filled []; eidr = eidrFrom words }
+unfolding besideFrom placesFrom filled placesOf
 none-beside words = refl
 
 module _ (d : Descriptor) (id words lent t v : List ℕ) (r : Written) (n : ℕ) where
-  without : n ≡ 0 → (eidr : List ℕ) → eidr ≡ eidrFrom words → Writes (descriptorMade d id (record { components = blanks; eidr = eidr }) lent) t v r
+  without : n ≡ 0 → (eidr : List ℕ) → eidr ≡ eidrFrom words → Writes (descriptorMade d id (record { components = filled []; eidr = eidr }) lent) t v r
       → Writes (descriptorMade d id (besideFrom n words) lent) t v r
   without z eidr e w = rw (z, none-beside words) (rw e at w)
 

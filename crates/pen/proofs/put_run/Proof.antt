@@ -6,7 +6,8 @@ use lib.ListN.{length}
 use Rattle.table.specs.Bits.{bitsOf}
 use Rattle.table.specs.Cursor.{place}
 use Rattle.table.proofs.Bits.{length-bits, bytes-all}
-use Rattle.pen.specs.Pen.{Pens, Fits}
+use Rattle.pen.specs.Pen.{Pens}
+use Rattle.pen.specs.Walk.{Fits}
 use Rattle.pen.proofs.Turns.{run-room, pens-none, pens-from, pens-stored, settled-is, place-is}
 use borrow.Author.Needs.{needs}
 use Rattle.pen.proofs.put_run.Statement.{statement}

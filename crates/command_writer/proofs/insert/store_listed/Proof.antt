@@ -6,7 +6,7 @@ use mathlib.Core.Bool.{Bool}
 use mathlib.Core.List.{List, [], _∷_, _++_}
 use lib.ListN.{length, take}
 use Rattle.command.specs.Insert.{count}
-use Rattle.pen.specs.Pen.{Fits}
+use Rattle.pen.specs.Walk.{Fits}
 use Rattle.pen.proofs.Tables.{Goes, pens-same}
 use Rattle.table.specs.Bits.{bitsOfNum}
 use Rattle.table.specs.Writing.{Field, bits}

@@ -1,11 +1,12 @@
 -- `descriptor::whole::list_components`. The loop's invariant: what is left, stored from place i on, gives what the whole gives.
 use Prim.Native.Nat.{_+_, _-_, _≤_}
+use mathlib.Core.List.{[]}
 use mathlib.Core.Path.{_≡_, _∙_}
 use native.Mathlib.Omega.{arith}
 use lib.ListN.{length, length-set}
 use Rattle.descriptor.specs.Segmentation.{component}
 use Rattle.descriptor.specs.Walk.{componentRead}
-use Rattle.descriptor.specs.Whole.{blanks}
+use Rattle.descriptor.specs.Whole.{filled}
 use Rattle.descriptor.proofs.Besides.{fillingFrom, fill-start, fill-end, fill-turn, fill-short}
 use Rattle.descriptor.proofs.Parts.{told, ends-inside}
 use borrow.Author.Needs.{needs}
@@ -13,7 +14,7 @@ use Rattle.descriptor.proofs.whole.list_components.Statement.{statement
 use Rattle.descriptor.proofs.whole.list_components.Tie as tie
 
 abbrev Inv-loop : tie.InvT-loop
-Inv-loop s from n out₀ next₀ i₀ out next i = (length out ≡ 255) × (next ≤ length s) × (i ≤ n) × (fillingFrom s out i (n - i) next ≡ fillingFrom s blanks 0 n next₀)
+Inv-loop s from n out₀ next₀ i₀ out next i = (length out ≡ 255) × (next ≤ length s) × (i ≤ n) × (fillingFrom s out i (n - i) next ≡ fillingFrom s (filled []) 0 n next₀)
 
 abbrev μ-loop : tie.MeasureT-loop
 μ-loop s from n out₀ next₀ i₀ out next i = n - i

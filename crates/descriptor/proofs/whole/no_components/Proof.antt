@@ -1,11 +1,11 @@
 -- `descriptor::whole::no_components`, by definition.
 use mathlib.Core.Path.{refl}
-use Rattle.descriptor.specs.Whole.{blanks}
+use Rattle.descriptor.specs.Whole.{filled}
 use Rattle.descriptor.proofs.whole.no_components.Statement.{statement}
 use Rattle.descriptor.proofs.whole.no_components.Tie as tie
 
 returns : tie.Need-returns
-unfolding blanks
+unfolding filled
 returns c = refl
 
 pub no-components-spec : {M : Type 1} → statement M

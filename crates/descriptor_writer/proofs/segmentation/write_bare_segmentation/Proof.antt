@@ -1,8 +1,9 @@
 -- `descriptor_writer::segmentation::write_bare_segmentation`, with components or without.
 use Prim.Native.Nat.{_<_}
+use mathlib.Core.List.{[]}
 use mathlib.Core.Path.{_≡_, sym, _∙_}
 use native.Mathlib.Omega.{arith}
-use Rattle.descriptor.specs.Whole.{blanks}
+use Rattle.descriptor.specs.Whole.{filled}
 use Rattle.descriptor_form.proofs.Tests.{blanks-length}
 use Rattle.descriptor_writer.proofs.Listing.{none-listed}
 use Rattle.descriptor_writer.proofs.Segmenting.{segment-refused, segment-view, with-blanks}
@@ -32,7 +33,7 @@ refusal-of-bare-requires c κs = search needs
 returns-2 : tie.Need-returns-2
 returns-2 c =
     let a = c .before .before .before .before .before .before .args in
-    segment-refused (a .x) _ (record { components = blanks; eidr = a .eidr }) (a .lent .now) (a .target .now) _ (c .before .refusal-of-bare .ensures) (c .if2 .taken)
+    segment-refused (a .x) _ (record { components = filled []; eidr = a .eidr }) (a .lent .now) (a .target .now) _ (c .before .refusal-of-bare .ensures) (c .if2 .taken)
 
 sub-write-fair-segmentation : tie.Need-sub-write-fair-segmentation
 sub-write-fair-segmentation c = search needs
@@ -46,7 +47,7 @@ part-write-fair-segmentation-end c = search needs
 write-fair-segmentation-requires : tie.Need-write-fair-segmentation-requires
 write-fair-segmentation-requires c κs =
     let a = c .before .before .before .before .before .before .before .before .args in
-    segment-view (a .x) _ (record { components = blanks; eidr = a .eidr }) (a .lent .now) (a .target .now) _ (c .before .before .before .refusal-of-bare .ensures) (c .before .before .if2 .left)
+    segment-view (a .x) _ (record { components = filled []; eidr = a .eidr }) (a .lent .now) (a .target .now) _ (c .before .before .before .refusal-of-bare .ensures) (c .before .before .if2 .left)
 
 same-length-2 : tie.Need-same-length-2
 same-length-2 c = search needs
@@ -54,8 +55,8 @@ same-length-2 c = search needs
 returns-3 : tie.Need-returns-3
 returns-3 c =
     let a = c .before .before .before .before .before .before .before .before .before .before .before .args in
-    c .before .before .write-fair-segmentation .ensures .fair (a .identifier) blanks blanks-length (sym (c .before .before .before .before .before .before .refusal-of-bare .ensures) ∙ c .before .before .before .before .before .if2 .left)
-    (none-listed _ blanks (sym (c .before .before .before .before .before .before .before .before .count-of .ensures) ∙ omega (arith, c .before .before .before .before .before .before .before .if1 .left)))
+    c .before .before .write-fair-segmentation .ensures .fair (a .identifier) (filled []) blanks-length (sym (c .before .before .before .before .before .before .refusal-of-bare .ensures) ∙ c .before .before .before .before .before .if2 .left)
+    (none-listed _ (filled []) (sym (c .before .before .before .before .before .before .before .before .count-of .ensures) ∙ omega (arith, c .before .before .before .before .before .before .before .if1 .left)))
 
 pub write-bare-segmentation-spec : {M : Type 1} → statement M
 write-bare-segmentation-spec =

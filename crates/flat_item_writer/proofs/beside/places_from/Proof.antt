@@ -5,7 +5,7 @@ use native.Mathlib.Omega.{arith}
 use lib.ListN.{length, replicate, length-replicate, length-set}
 use lib.Seq.{paste, paste-zero, drop-drop}
 use Rattle.descriptor.specs.Segmentation.{blankComponent}
-use Rattle.descriptor.specs.Whole.{blanks, blankBeside, filled}
+use Rattle.descriptor.specs.Whole.{filled, blankBeside}
 use Rattle.descriptor.specs.declared.whole.Beside.{Beside}
 use Rattle.flat.proofs.Arrays.{filled-turn}
 use Rattle.flat_writer.specs.Words.{placesOf}
@@ -24,7 +24,7 @@ blank-beside-requires : tie.Need-blank-beside-requires Inv-loop μ-loop
 blank-beside-requires c κs = omega arith
 
 loop-holds : tie.Need-loop-holds Inv-loop μ-loop
-unfolding blankBeside blanks
+unfolding blankBeside filled
 loop-holds c =
     let a = c .before .before .before .args in
     let e = ap (λ (b : Beside). b .components) (c .before .blank-beside .ensures) in
