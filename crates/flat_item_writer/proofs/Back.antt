@@ -21,8 +21,9 @@ use Rattle.names.specs.declared.flags.DeviceRestrictions.{DeviceRestrictions}
 use Rattle.names.proofs.Segmentations.{segmentation-laws}
 use Rattle.table.specs.Table.{flagNumber}
 use Rattle.table.specs.declared.View.{View}
-use Rattle.flat_item_writer.specs.ItemWords.{restrictionsIn, subSegmentsIn, segmentationIn, itemIn, itemWords, restrictionsFrom, deliveryFrom, modeFrom, durationFrom, subSegmentsFrom, insertFrom, descriptorFrom, descriptorGiven}
-use Rattle.flat_item_writer.specs.Typed.{TypedMode, TypedSubs, TypedInsert, TypedDetail, Typed}
+use Rattle.flat_item_writer.specs.ItemGiven.{restrictionsIn, subSegmentsIn, segmentationIn, itemIn, restrictionsFrom, deliveryFrom, modeFrom, durationFrom, subSegmentsFrom, insertFrom, descriptorFrom, descriptorGiven}
+use Rattle.flat_item_writer.specs.ItemWords.{itemWords}
+use Rattle.flat_item_writer.proofs.Typed.{TypedMode, TypedSubs, TypedInsert, TypedDetail, Typed}
 
 -- ---- the struct that the words of a step are, whatever stands before its item
 pub words-back : (refusal a b c next identifier : ℕ) (f : FlatItem) → itemIn (refusal ∷ a ∷ b ∷ c ∷ next ∷ identifier ∷ itemWords f) ≡ f
@@ -111,7 +112,7 @@ unfolding descriptorFrom segmentationItem bareSegmentation
 detail-back event SegmentationDetail.Cancel h t = rw (mod-eq-of-lt h)
 detail-back event (SegmentationDetail.Insert i) h t = rw (insert-back event i t) (event-back event i h)
 
-from-back : (d : Descriptor) → Typed d → descriptorFrom (flatDescriptor d) ≡ d
+pub from-back : (d : Descriptor) → Typed d → descriptorFrom (flatDescriptor d) ≡ d
 unfolding descriptorFrom flatDescriptor
 from-back (Descriptor.Avail x) h = rw (mod-eq-of-lt h)
 from-back (Descriptor.Dtmf x) h = rw (mod-eq-of-lt h)

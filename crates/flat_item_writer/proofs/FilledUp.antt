@@ -11,7 +11,8 @@ use lib.Seq.{getD-drop}
 use borrow.Author.Tests.{ltb-true, ltb-false}
 use Rattle.flat_items.specs.FlatItem.{flatDescriptor}
 use Rattle.flat_writer.specs.Words.{within, same, placesOf}
-use Rattle.flat_item_writer.specs.ItemWords.{firstWord, stepWords, restrictionsIn, subSegmentsIn, segmentationIn, itemIn, itemWords, itemWidths, identifierFrom, descriptorGiven, ownItem, descriptorRefusal, descriptorWordsMade}
+use Rattle.flat_item_writer.specs.ItemGiven.{firstWord, paddedWords, restrictionsIn, subSegmentsIn, segmentationIn, itemIn, identifierFrom, descriptorGiven, ownItem, descriptorRefusal, descriptorWordsMade}
+use Rattle.flat_item_writer.specs.ItemWords.{itemWords, itemWidths}
 use Rattle.flat_writer.proofs.Words.{word-drop, places-length, places-at}
 
 -- ---- two lists that have the same words, past their ends too
@@ -43,13 +44,13 @@ made-agree u v beside lent h = rw (item-agree u v h, h 5, within-agree itemWidth
 pub word-at-place : (words : List ℕ) (i : ℕ) → getD words i 0 ≡ firstWord (drop (i * 1) words)
 word-at-place words i = sym (word-drop words (i * 1) ∙ ap (λ (k : ℕ). getD words k 0) (mul-one i))
 
-step-agrees : (words : List ℕ) → length words < 33 → Agree (stepWords words) words
-unfolding stepWords
+step-agrees : (words : List ℕ) → length words < 33 → Agree (paddedWords words) words
+unfolding paddedWords
 step-agrees words l i = go (ltb i 33) refl
   where
     go : (t : Bool) → ltb i 33 ≡ t → getD (placesOf firstWord 1 33 words) i 0 ≡ getD words i 0
     go true e = sym (word-at-place words i ∙ places-at firstWord 1 33 words i 0 (ltb-true i 33 e))
     go false e = List·getD-eq-default (placesOf firstWord 1 33 words) 0 (omega (arith, places-length firstWord 1 33 words, ltb-false i 33 e)) ∙ sym (List·getD-eq-default words 0 (omega (arith, l, ltb-false i 33 e)))
 
-pub padded-made : (words beside lent : List ℕ) → length words < 33 → descriptorWordsMade (stepWords words) beside lent ≡ descriptorWordsMade words beside lent
-padded-made words beside lent l = made-agree (stepWords words) words beside lent (step-agrees words l)
+pub padded-made : (words beside lent : List ℕ) → length words < 33 → descriptorWordsMade (paddedWords words) beside lent ≡ descriptorWordsMade words beside lent
+padded-made words beside lent l = made-agree (paddedWords words) words beside lent (step-agrees words l)

@@ -1,2 +1,6 @@
+pub mod Answered
 pub mod Back
 pub mod FilledUp
+pub mod Own
+pub mod Told
+pub mod Typed

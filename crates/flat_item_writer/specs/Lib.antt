@@ -1,2 +1,2 @@
+pub mod ItemGiven
 pub mod ItemWords
-pub mod Typed

@@ -2,7 +2,8 @@
 // three values and the count, five words; so the EIDR begins at word 515.
 ghost use mathlib.Core.Path.{_≡_};
 ghost use Prim.Native.Nat.{_≤_};
-ghost use Rattle.flat_item_writer.specs.ItemWords.{identifierFrom, placeFrom, placesFrom, eidrFrom, besideFrom, placesWithin, besideWithin};
+ghost use Rattle.flat_item_writer.specs.ItemGiven.{identifierFrom, placeFrom, placesFrom, eidrFrom, besideFrom};
+ghost use Rattle.flat_item_writer.specs.ItemWords.{placesWithin, besideWithin};
 use descriptor::segmentation::ModeComponent;
 use descriptor::whole::Beside;
 use descriptor::whole::blank_beside;

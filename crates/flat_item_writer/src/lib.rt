@@ -4,7 +4,7 @@ ghost use Prim.Native.Nat.{_≤_};
 ghost use Rattle.descriptor_form.specs.Same.{countBeside};
 ghost use Rattle.descriptor_form.specs.Writing.{descriptorMade};
 ghost use Rattle.descriptor_writer.specs.Stores.{Writes};
-ghost use Rattle.flat_item_writer.specs.ItemWords.{stepWords, besideFrom, ownItem, descriptorRefusal, descriptorWordsMade};
+ghost use Rattle.flat_item_writer.specs.ItemGiven.{paddedWords, besideFrom, ownItem, descriptorRefusal, descriptorWordsMade};
 ghost use Rattle.flat_writer.specs.Words.{flatWritten};
 ghost use Rattle.pen.specs.Written.{answerOf, laterOf};
 use crate::beside::beside_from;
@@ -108,7 +108,7 @@ fn write_given(
 
 // The words of a step, 0 past the end of the slice.
 fn padded(words: &[u64]) -> [u64; 33]
-    ensures { λ r. ⌜ r ≡ stepWords (now (words .entry)) ⌝ }
+    ensures { λ r. ⌜ r ≡ paddedWords (now (words .entry)) ⌝ }
 {
     let mut out = [0u64; 33];
     let mut i: usize = 0;

@@ -31,8 +31,10 @@ use Rattle.descriptor_form.specs.Walk.{componentsFields, modeFields, durationFi
 use Rattle.descriptor_form.specs.Writing.{framedMade, segmentationMade, payloadMade, descriptorMade, tagOf, identifierOf, upidIn, upidSource, fairSegment, writtenDetail}
 use Rattle.descriptor_form.specs.Same.{countBeside}
 use Rattle.flat_item_writer.proofs.Back.{descriptor-back}
-use Rattle.flat_item_writer.specs.ItemWords.{itemWords, itemWidths, descriptorGiven, identifierFrom, placesIn, eidrIn, placeWidths, placeFrom, byteFrom, placesFrom, eidrFrom, besideFrom, placesWithin, besideWithin, ownItem, descriptorRefusal, descriptorWordsMade}
-use Rattle.flat_item_writer.specs.Typed.{TypedMode, TypedSubs, TypedInsert, TypedDetail, Typed}
+use Rattle.flat_item_writer.proofs.Told.{mode-count}
+use Rattle.flat_item_writer.specs.ItemGiven.{descriptorGiven, identifierFrom, placeFrom, byteFrom, placesFrom, eidrFrom, besideFrom, ownItem, descriptorRefusal, descriptorWordsMade}
+use Rattle.flat_item_writer.specs.ItemWords.{itemWords, itemWidths, placesIn, eidrIn, placeWidths, placesWithin, besideWithin}
+use Rattle.flat_item_writer.proofs.Typed.{TypedMode, TypedSubs, TypedInsert, TypedDetail, Typed}
 use Rattle.flat_items.specs.FlatItem.{flatRestrictions, flatSubSegments, wholeSegmentation, bareSegmentation, segmentationItem, flatDescriptor, flatItem, refusalIn, valuesIn, flatStep, flatComponent, flatBeside}
 use Rattle.flat_writer.proofs.Words.{and-unit, places-length}
 use Rattle.flat_writer.specs.Words.{within, same, placesOf, eachPlace, refusalOf, noLess}
@@ -50,8 +52,24 @@ use Rattle.table.specs.Table.{reserved, part, remaining}
 use Rattle.table.specs.Writing as writing
 use Rattle.table.specs.Writing.{Made, made, refused, Field, make, makeOf, seen, refusalIn as numberIn}
 use Rattle.table.specs.declared.View.{View}
-use Rattle.theorems.specs.OverC.{stepWords, pairsWords, besideWords, ModeTags, TypedBeside}
+use Rattle.theorems.specs.OverC.{stepWords, pairsWords, besideWords}
 use Rattle.theorems.proofs.OverC.{same-self, Wide, taken, flag-within}
+
+-- ---- what the types say of what stands beside an item
+
+-- each tag is a byte
+abbrev pub ModeTags : List ModeComponent → Type 0
+ModeTags [] = Unit {0}
+ModeTags (c ∷ cs) = (c .«component_tag» < 256) × ModeTags cs
+
+-- what the types say of the identifier, the array and the EIDR that stand beside an item
+pub record TypedBeside (identifier : List ℕ) (beside : Beside) : Type 0 where
+  pub four : length identifier ≡ 4
+  pub identifier-bytes : AllBytes identifier
+  pub places : length (beside .components) ≡ 255
+  pub tags : ModeTags (beside .components)
+  pub twelve : length (beside .eidr) ≡ 12
+  pub eidr-bytes : AllBytes (beside .eidr)
 
 -- ---- what is beside the item, from its words
 place-back : (c : ModeComponent) (words : List ℕ) → c .«component_tag» < 256 → placeFrom (c .«component_tag» ∷ c .«pts_offset» ∷ words) ≡ c
@@ -146,10 +164,6 @@ subs-within : (s : SubSegments) → TypedSubs s
 unfolding flatSubSegments
 subs-within SubSegments.Absent h = (refl, refl, refl)
 subs-within (SubSegments.Is x) h = (refl, lt-ltb (x .«sub_segment_num») 256 (h .0), lt-ltb (x .«sub_segments_expected») 256 (h .1))
-
-mode-count : (m : SegmentationMode) → TypedMode m → countOf m < 256
-mode-count SegmentationMode.Program h = omega arith
-mode-count (SegmentationMode.Component n) h = h
 
 duration-fits : (d : SegmentationDuration) → writing.within (durationFields d) ≡ true → ltb (ticks d) (2 ^ 40) ≡ true
 duration-fits SegmentationDuration.Absent e = refl

@@ -24,7 +24,8 @@ use Rattle.descriptor_form.proofs.Refusals.{within-append}
 use Rattle.descriptor_form.specs.Walk.{deliveryFields, modeFields, durationFields, upidFields, subFields, backFields, segmentFields}
 use Rattle.descriptor_form.specs.Writing.{framed, framedMade, alone, writtenKind, writtenUpid, writtenDetail, written, upidIn, upidSource, segmentationMade, payloadMade, tagOf, identifierOf, descriptorMade}
 use Rattle.descriptor_form.specs.Same.{countBeside}
-use Rattle.flat_item_writer.specs.Typed.{TypedMode, TypedSubs, TypedInsert, TypedDetail, Typed}
+use Rattle.flat_item_writer.proofs.Own.{agree}
+use Rattle.flat_item_writer.proofs.Typed.{TypedMode, TypedSubs, TypedInsert, TypedDetail, Typed}
 use Rattle.names.specs.Segmentation.{segmentationNumber}
 use Rattle.table.proofs.Lists.{zero-one, and-true}
 use Rattle.table.proofs.Structure.{wrote}
@@ -47,12 +48,6 @@ unfolding framed
 first-byte tag id p t e a = (subst AllBytes e a) .0
 
 -- ---- the parts of a segmentation descriptor
-agree : (a b : Bool) → agrees a b ≡ true → a ≡ b
-agree true true e = refl
-agree true false e = zero-one cc
-agree false true e = zero-one cc
-agree false false e = refl
-
 mode-typed : (m : SegmentationMode) (cs : List ModeComponent) → within (modeFields m cs) ≡ true → TypedMode m
 mode-typed SegmentationMode.Program cs w = tt
 mode-typed (SegmentationMode.Component n) cs w = ltb-true _ _ (and-true (ltb n (2 ^ 8)) _ w .0)

@@ -5,7 +5,7 @@ use mathlib.Core.List.{List, [], _∷_, _++_, map}
 use mathlib.Core.Path.{_≡_, refl, ap, ap₂, sym, subst, _∙_}
 use native.Mathlib.Omega.{arith}
 use lib.Dec.{eqb}
-use lib.ListN.{length, getD, take, drop, replicate, length-append, length-replicate, length-drop}
+use lib.ListN.{length, getD, take, drop, replicate, length-replicate, length-drop}
 use lib.Seq.{length-take-le}
 use borrow.Author.Tests.{eqb-true}
 use Rattle.descriptor.specs.Descriptor.{descriptorOf}
@@ -18,7 +18,8 @@ use Rattle.descriptor.specs.declared.segmentation.ModeComponent.{ModeComponent}
 use Rattle.descriptor.specs.declared.segmentation.SegmentationDetail.{SegmentationDetail}
 use Rattle.descriptor.specs.declared.whole.Beside.{Beside}
 use Rattle.descriptor_laws.specs.Trips.{wholeIn}
-use Rattle.flat_item_writer.specs.ItemWords.{descriptorWordsMade}
+use Rattle.flat_item_writer.proofs.Own.{filled-length}
+use Rattle.flat_item_writer.specs.ItemGiven.{descriptorWordsMade}
 use Rattle.flat_items.specs.FlatItem.{flatStep, flatBeside}
 use Rattle.items.specs.Items.{stepOf, readingOf, Listed, listed, itemsOf}
 use Rattle.items.specs.declared.Item.{Item}
@@ -42,8 +43,8 @@ use Rattle.table.specs.Writing.{Made, made}
 use Rattle.upid.specs.Cover.{All, none, more}
 use Rattle.upid.specs.Upid.{eidrOf}
 use Rattle.theorems.specs.Identifiers.{loopIn}
-use Rattle.theorems.specs.OverC.{stepWords, besideWords, wordsMadeAt, ModeTags, TypedBeside}
-use Rattle.theorems.proofs.ItemsOverC.{descriptor-taken}
+use Rattle.theorems.specs.OverC.{stepWords, besideWords, wordsMadeAt}
+use Rattle.theorems.proofs.ItemsOverC.{ModeTags, TypedBeside, descriptor-taken}
 use Rattle.theorems.proofs.ItemsTyped.{written-typed}
 use Rattle.theorems.proofs.ItemsWritten.{all-viewed, here-canonical, loop-written}
 use Rattle.theorems.proofs.Sections.{loop-short}
@@ -137,8 +138,7 @@ tags-append (c ∷ cs) ds t u = (t .0, tags-append cs ds (t .1) u)
 filled-small : (cs : List ModeComponent) → length cs ≤ 255 → ModeTags cs → (length (filled cs) ≡ 255) × ModeTags (filled cs)
 unfolding filled
 filled-small cs h t =
-    let r = replicate (255 - length cs) blankComponent in
-    (omega (arith, length-append cs r, length-replicate (255 - length cs) blankComponent, h), tags-append cs r t (blank-tags (255 - length cs)))
+    (filled-length cs h, tags-append cs (replicate (255 - length cs) blankComponent) t (blank-tags (255 - length cs)))
 
 eidr-small : (k : ℕ) (bytes : List ℕ) → AllBytes bytes → (length (eidrOf k bytes) ≡ 12) × AllBytes (eidrOf k bytes)
 unfolding eidrOf

@@ -25,14 +25,12 @@ use Rattle.descriptor.specs.declared.segmentation.SegmentationDetail.{Segmentat
 use Rattle.descriptor.specs.declared.segmentation.SegmentationInsert.{SegmentationInsert}
 use Rattle.descriptor.specs.declared.segmentation.SubSegment.{SubSegment}
 use Rattle.descriptor.specs.declared.segmentation.SubSegments.{SubSegments}
-use Rattle.descriptor.specs.declared.whole.Beside.{Beside}
-use Rattle.descriptor_form.specs.Writing.{descriptorMade}
 use Rattle.flat.specs.Flat.{flatHeader}
 use Rattle.flat.specs.FlatCommand.{flatCommand, flatSplices}
 use Rattle.flat.specs.FlatSection.{flatSectionRead}
-use Rattle.flat_item_writer.specs.Typed as item
-use Rattle.flat_item_writer.specs.ItemWords.{descriptorWordsMade}
-use Rattle.flat_items.specs.FlatItem.{flatStep, flatBeside}
+use Rattle.flat_item_writer.proofs.Answered as answered
+use Rattle.flat_item_writer.specs.ItemGiven.{descriptorWordsMade}
+use Rattle.flat_item_writer.specs.ItemWords.{DescriptorAnswer}
 use Rattle.flat_section_writer.specs.Typed as header
 use Rattle.flat_section_writer.specs.SectionWords.{headerWords, sectionWordsMade}
 use Rattle.flat_writer.specs.Typed as command
@@ -46,8 +44,6 @@ use Rattle.items.specs.Items.{stepOf, itemsOf}
 use Rattle.loop_laws.specs.Loops.{joinedMade, loopMade, Given, givenMade, GivenTypes, ItemsBack}
 use Rattle.pen.specs.Written.{answerOf, laterOf}
 use Rattle.pen.specs.declared.Written.{Written}
-use Rattle.items.specs.declared.Item.{Item}
-use Rattle.items.specs.declared.Step.{Step}
 use Rattle.names.specs.Algorithm.{fairAlgorithm}
 use Rattle.section.proofs.Acceptance as acceptance
 use Rattle.section.specs.Section.{commandType, commandBytes, loopLength, loopPlace, unknownCommand, conditions, first, sectionOf, numberOf, None}
@@ -63,14 +59,13 @@ use Rattle.table.specs.Lent.{viewed}
 use Rattle.table.specs.Writing.{Made, made, make}
 use Rattle.upid.specs.Cover.{All}
 use Rattle.theorems.specs.Identifiers.{OneRun, inSection, loopIn, identifiersOf, midsOf, Unsplit}
-use Rattle.theorems.specs.OverC.{componentsAnswered, splicesWords, stepWords, besideWords, wordsMadeAt, TypedBeside}
+use Rattle.theorems.specs.OverC.{componentsAnswered, splicesWords, wordsMadeAt}
 use Rattle.theorems.specs.Rows.{Holds, rows}
 use Rattle.theorems.specs.Same.{SameSections}
 use Rattle.theorems.specs.Sections.{known, EmptyCommand, spliceNull, eight, twelve, both, eightAndTwelve, Identified}
 use Rattle.theorems.specs.Written.{KeepsUpid, ChangesOnlyResult}
 use Rattle.theorems.proofs.Answers as answers
 use Rattle.theorems.proofs.CommandTypes as command-types
-use Rattle.theorems.proofs.ItemsOverC as items-over-c
 use Rattle.theorems.proofs.ItemsWritten as items-written
 use Rattle.theorems.proofs.LoopsOverC as loops-over-c
 use Rattle.theorems.proofs.OverC as over-c
@@ -227,12 +222,14 @@ pub uncounted-components-are-not-looked-at : (header command v w lent loop : Lis
     → sectionWordsMade header command v lent loop ≡ sectionWordsMade header command w lent loop
 uncounted-components-are-not-looked-at = sections-over-c.uncounted
 
--- And those of a step over a descriptor, with what stands beside it, as the descriptor. (`item.Typed`: its numbers are of their types; and, which words cannot say
--- otherwise, its flags say what their parts say, and its type number, if reserved, has no name.)
-pub descriptor-words-are-the-descriptor : (d : Descriptor) (next : ℕ) (identifier : List ℕ) (beside : Beside) (lent : List ℕ) → item.Typed d → TypedBeside identifier beside → length lent < 2 ^ 64
-    → (let step : Step = record { item = Item.Is d; identifier = identifier; next = next } in
-    descriptorWordsMade (stepWords (flatStep step)) (besideWords (flatBeside (record { step = step; beside = beside }))) lent ≡ descriptorMade d identifier beside lent)
-descriptor-words-are-the-descriptor = items-over-c.descriptor-taken
+-- What is made of the words of any step, with those of what stands beside it: 31 where its view lies outside, 32 where a word is over its field, 33 where the words are no
+-- descriptor's, and else what is made of the descriptor that they are (`DescriptorAnswer`, flat_item_writer/specs/ItemWords.antt)
+pub descriptor-words-are-answered : (words beside lent : List ℕ) → DescriptorAnswer words beside lent (descriptorWordsMade words beside lent)
+descriptor-words-are-answered = answered.descriptor-words-are-answered
+
+-- and that leaves one answer
+pub descriptor-answers-are-one : (words beside lent : List ℕ) (m n : Made) → DescriptorAnswer words beside lent m → DescriptorAnswer words beside lent n → m ≡ n
+descriptor-answers-are-one words beside lent m n = answered.descriptor-answers-are-one words beside lent
 
 -- Demand 2 over C, by items: what is written of the words of each item of a canonical section, joined in order, is its loop, and with it the section is written again
 pub a-canonical-section-is-what-is-written-of-its-items-words : (s : List ℕ) (x : Section) → AllBytes s → sectionOf s ≡ SectionRead.Is x → canonicalSection s ≡ true

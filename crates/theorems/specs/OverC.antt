@@ -1,16 +1,13 @@
--- The structs of C that stand beside a command, that are a step over a loop, and that stand beside an item, as the words that they are; and what the types say of
--- what stands beside an item. These are definitions.
-use Prim.Native.Nat.{ℕ, _+_, _<_}
+-- The structs of C that stand beside a command, that are a step over a loop, and that stand beside an item, as the words that they are. These are definitions.
+use Prim.Native.Nat.{ℕ, _+_}
 use mathlib.Core.List.{List, [], _∷_, _++_}
-use mathlib.Core.Path.{_≡_}
-use lib.ListN.{length, take, drop}
+use lib.ListN.{take, drop}
 use Rattle.command.specs.Command.{commandOf, componentsOf}
-use Rattle.descriptor.specs.declared.segmentation.ModeComponent.{ModeComponent}
-use Rattle.descriptor.specs.declared.whole.Beside.{Beside}
 use Rattle.flat.specs.FlatCommand.{flatSplices}
 use Rattle.flat.specs.declared.components.FlatComponentSplice.{FlatComponentSplice}
 use Rattle.flat.specs.declared.components.FlatSplices.{FlatSplices}
-use Rattle.flat_item_writer.specs.ItemWords.{itemWords, descriptorWordsMade}
+use Rattle.flat_item_writer.specs.ItemGiven.{descriptorWordsMade}
+use Rattle.flat_item_writer.specs.ItemWords.{itemWords}
 use Rattle.flat_items.specs.FlatItem.{flatStep, flatBeside}
 use Rattle.flat_items.specs.declared.beside.FlatBeside.{FlatBeside}
 use Rattle.flat_items.specs.declared.beside.FlatComponent.{FlatComponent}
@@ -18,7 +15,6 @@ use Rattle.flat_items.specs.declared.steps.FlatStep.{FlatStep}
 use Rattle.flat_writer.specs.CommandWords.{componentWords}
 use Rattle.items.specs.Items.{readingOf, Listed}
 use Rattle.section.specs.Section.{commandLength}
-use Rattle.table.specs.Bits.{AllBytes}
 use Rattle.table.specs.Writing.{Made}
 use Rattle.theorems.specs.Identifiers.{each}
 
@@ -49,17 +45,3 @@ besideWords b = b .refusal ∷ b .values ++ (b .count ∷ pairsWords (b .compone
 -- what is written over C of an item of a loop: of the words of its step, and of those that stand beside it
 abbrev pub wordsMadeAt : List ℕ → Listed → Made
 wordsMadeAt loop y = descriptorWordsMade (stepWords (flatStep (y .step))) (besideWords (flatBeside (readingOf loop (y .offset)))) loop
-
--- each tag is a byte
-abbrev pub ModeTags : List ModeComponent → Type 0
-ModeTags [] = Unit {0}
-ModeTags (c ∷ cs) = (c .«component_tag» < 256) × ModeTags cs
-
--- what the types say of the identifier, the array and the EIDR that stand beside an item
-pub record TypedBeside (identifier : List ℕ) (beside : Beside) : Type 0 where
-  pub four : length identifier ≡ 4
-  pub identifier-bytes : AllBytes identifier
-  pub places : length (beside .components) ≡ 255
-  pub tags : ModeTags (beside .components)
-  pub twelve : length (beside .eidr) ≡ 12
-  pub eidr-bytes : AllBytes (beside .eidr)

@@ -7,7 +7,8 @@ use lib.ListN.{drop}
 use borrow.Author.Tests.{not-true, not-false}
 use Rattle.flat_writer.specs.Words.{within}
 use Rattle.descriptor_form.specs.Same.{countBeside}
-use Rattle.flat_item_writer.specs.ItemWords.{itemWidths, besideWithin, ownItem, descriptorRefusal}
+use Rattle.flat_item_writer.specs.ItemGiven.{ownItem, descriptorRefusal}
+use Rattle.flat_item_writer.specs.ItemWords.{itemWidths, besideWithin}
 use Rattle.flat_writer.proofs.Words.{first-wide, second-wide, both-fit, all-own}
 use Rattle.flat_item_writer.proofs.descriptor_refusal.Statement.{statement}
 use Rattle.flat_item_writer.proofs.descriptor_refusal.Tie as tie

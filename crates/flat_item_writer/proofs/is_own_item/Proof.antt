@@ -5,7 +5,8 @@ use lib.ListN.{drop}
 use Rattle.flat_items.specs.FlatItem.{flatStep, flatItem}
 use Rattle.flat_items.specs.declared.steps.FlatStep.{FlatStep}
 use Rattle.flat_writer.specs.Words.{same}
-use Rattle.flat_item_writer.specs.ItemWords.{itemWords, ownItem}
+use Rattle.flat_item_writer.specs.ItemGiven.{ownItem}
+use Rattle.flat_item_writer.specs.ItemWords.{itemWords}
 use Rattle.flat_item_writer.proofs.is_own_item.Statement.{statement}
 use Rattle.flat_item_writer.proofs.is_own_item.Tie as tie
 

@@ -9,7 +9,7 @@ use lib.ListN.{length, getD, drop, replicate, length-set}
 use lib.Seq.{paste, paste-zero}
 use Rattle.flat.proofs.Arrays.{filled-turn, filled-all}
 use Rattle.flat_writer.specs.Words.{placesOf}
-use Rattle.flat_item_writer.specs.ItemWords.{firstWord, stepWords}
+use Rattle.flat_item_writer.specs.ItemGiven.{firstWord, paddedWords}
 use Rattle.flat_writer.proofs.Words.{places-length, places-at}
 use Rattle.flat_item_writer.proofs.FilledUp.{word-at-place}
 use Rattle.flat_item_writer.proofs.padded.Statement.{statement}
@@ -49,7 +49,7 @@ loop-again c =
     (omega arith, length-set (l .loop .out) (l .loop .i) _ ∙ l .loop .inv .1, filled-turn (replicate 33 0) (placesOf firstWord 1 33 (a .words .now)) (l .loop .out) (l .loop .i) _ 0 (omega arith) (omega (arith, places-length firstWord 1 33 (a .words .now))) e (l .loop .inv .2))
 
 returns : tie.Need-returns Inv-loop μ-loop
-unfolding stepWords
+unfolding paddedWords
 returns c =
     let l = c .before in
     let a = l .before .before .args in

@@ -6,7 +6,7 @@ use mathlib.Core.Path.{ap, _∙_}
 use Rattle.pen.specs.Written.{answerOf, laterOf}
 use Rattle.table.specs.Writing.{Made}
 use Rattle.flat_writer.specs.Words.{flatWritten}
-use Rattle.flat_item_writer.specs.ItemWords.{descriptorWordsMade}
+use Rattle.flat_item_writer.specs.ItemGiven.{descriptorWordsMade}
 use Rattle.flat_item_writer.proofs.FilledUp.{padded-made}
 use Rattle.flat_item_writer.proofs.write_descriptor_words.Statement.{statement}
 use Rattle.flat_item_writer.proofs.write_descriptor_words.Tie as tie

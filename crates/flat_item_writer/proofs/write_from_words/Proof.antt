@@ -10,7 +10,8 @@ use Rattle.descriptor.specs.declared.Descriptor.{Descriptor}
 use Rattle.descriptor_form.specs.Writing.{descriptorMade}
 use Rattle.flat_writer.specs.Words.{within, noLess}
 use Rattle.descriptor_form.specs.Same.{countBeside}
-use Rattle.flat_item_writer.specs.ItemWords.{descriptorGiven, itemWidths, identifierFrom, besideFrom, besideWithin, ownItem, descriptorRefusal, descriptorWordsMade}
+use Rattle.flat_item_writer.specs.ItemGiven.{descriptorGiven, identifierFrom, besideFrom, ownItem, descriptorRefusal, descriptorWordsMade}
+use Rattle.flat_item_writer.specs.ItemWords.{itemWidths, besideWithin}
 use Rattle.flat_writer.proofs.Words.{refusal-small, words-refused, words-taken, later-nil}
 use Rattle.flat_item_writer.proofs.write_from_words.Statement.{statement}
 use Rattle.flat_item_writer.proofs.write_from_words.Tie as tie

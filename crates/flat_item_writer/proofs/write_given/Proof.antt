@@ -10,7 +10,7 @@ use Rattle.descriptor_form.specs.Writing.{descriptorMade}
 use Rattle.descriptor_writer.specs.Stores.{Writes}
 use Rattle.pen.specs.declared.Written.{Written}
 use Rattle.flat_writer.specs.Words.{placesOf}
-use Rattle.flat_item_writer.specs.ItemWords.{placesFrom, eidrFrom, besideFrom}
+use Rattle.flat_item_writer.specs.ItemGiven.{placesFrom, eidrFrom, besideFrom}
 use Rattle.flat_item_writer.proofs.write_given.Statement.{statement}
 use Rattle.flat_item_writer.proofs.write_given.Tie as tie
 

@@ -1,6 +1,6 @@
 -- `flat_item_writer::beside::beside_from` meets its contract. Assumes nothing.
 use borrow.Author.Needs.{needs}
-use Rattle.flat_item_writer.specs.ItemWords.{besideFrom}
+use Rattle.flat_item_writer.specs.ItemGiven.{besideFrom}
 use Rattle.flat_item_writer.proofs.beside.beside_from.Statement.{statement}
 use Rattle.flat_item_writer.proofs.beside.beside_from.Tie as tie
 

@@ -8,7 +8,8 @@ use lib.ListN.{length, getD, drop, replicate, length-set}
 use lib.Seq.{paste, paste-zero, getD-drop}
 use Rattle.flat.proofs.Arrays.{filled-turn, filled-all}
 use Rattle.flat_writer.specs.Words.{placesOf}
-use Rattle.flat_item_writer.specs.ItemWords.{eidrIn, byteFrom, eidrFrom}
+use Rattle.flat_item_writer.specs.ItemGiven.{byteFrom, eidrFrom}
+use Rattle.flat_item_writer.specs.ItemWords.{eidrIn}
 use Rattle.flat_writer.proofs.Words.{word-drop, places-length, places-at}
 use Rattle.flat_item_writer.proofs.beside.eidr_from.Statement.{statement}
 use Rattle.flat_item_writer.proofs.beside.eidr_from.Tie as tie

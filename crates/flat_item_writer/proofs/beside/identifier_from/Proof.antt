@@ -1,7 +1,7 @@
 -- `flat_item_writer::beside::identifier_from` meets its contract. Assumes nothing.
 use borrow.Author.Needs.{needs}
 use native.Mathlib.Nat.{div-one}
-use Rattle.flat_item_writer.specs.ItemWords.{identifierFrom}
+use Rattle.flat_item_writer.specs.ItemGiven.{identifierFrom}
 use Rattle.flat_item_writer.proofs.beside.identifier_from.Statement.{statement}
 use Rattle.flat_item_writer.proofs.beside.identifier_from.Tie as tie
 

@@ -1,6 +1,6 @@
 -- `flat_item_writer::beside::place_from` meets its contract. Assumes nothing.
 use borrow.Author.Needs.{needs}
-use Rattle.flat_item_writer.specs.ItemWords.{placeFrom}
+use Rattle.flat_item_writer.specs.ItemGiven.{placeFrom}
 use Rattle.flat_item_writer.proofs.beside.place_from.Statement.{statement}
 use Rattle.flat_item_writer.proofs.beside.place_from.Tie as tie
 

@@ -9,7 +9,8 @@ use Rattle.descriptor.specs.Whole.{filled, blankBeside}
 use Rattle.descriptor.specs.declared.whole.Beside.{Beside}
 use Rattle.flat.proofs.Arrays.{filled-turn}
 use Rattle.flat_writer.specs.Words.{placesOf}
-use Rattle.flat_item_writer.specs.ItemWords.{placesIn, placeFrom, placesFrom}
+use Rattle.flat_item_writer.specs.ItemGiven.{placeFrom, placesFrom}
+use Rattle.flat_item_writer.specs.ItemWords.{placesIn}
 use Rattle.flat_writer.proofs.Words.{places-length, places-at, filled-front}
 use Rattle.flat_item_writer.proofs.beside.places_from.Statement.{statement}
 use Rattle.flat_item_writer.proofs.beside.places_from.Tie as tie

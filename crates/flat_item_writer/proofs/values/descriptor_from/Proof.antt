@@ -2,7 +2,7 @@
 use borrow.Author.Needs.{needs}
 use native.Mathlib.Omega.{arith}
 use borrow.Author.Tests.{ne-eqb}
-use Rattle.flat_item_writer.specs.ItemWords.{descriptorFrom}
+use Rattle.flat_item_writer.specs.ItemGiven.{descriptorFrom}
 use Rattle.flat_item_writer.proofs.values.descriptor_from.Statement.{statement}
 use Rattle.flat_item_writer.proofs.values.descriptor_from.Tie as tie
 

@@ -1,7 +1,7 @@
 -- `flat_item_writer::values::descriptor_given` meets its contract. Assumes nothing.
 use borrow.Author.Needs.{needs}
 use mathlib.Core.Path.{ap, _∙_}
-use Rattle.flat_item_writer.specs.ItemWords.{descriptorFrom}
+use Rattle.flat_item_writer.specs.ItemGiven.{descriptorFrom}
 use Rattle.flat_item_writer.proofs.values.descriptor_given.Statement.{statement}
 use Rattle.flat_item_writer.proofs.values.descriptor_given.Tie as tie
 

@@ -1,6 +1,6 @@
 -- `flat_item_writer::values::insert_from` meets its contract. Assumes nothing.
 use borrow.Author.Needs.{needs}
-use Rattle.flat_item_writer.specs.ItemWords.{insertFrom}
+use Rattle.flat_item_writer.specs.ItemGiven.{insertFrom}
 use Rattle.flat_item_writer.proofs.values.insert_from.Statement.{statement}
 use Rattle.flat_item_writer.proofs.values.insert_from.Tie as tie
 

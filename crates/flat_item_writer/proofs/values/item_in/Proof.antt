@@ -1,6 +1,6 @@
 -- `flat_item_writer::values::item_in` meets its contract. Assumes nothing.
 use borrow.Author.Needs.{needs}
-use Rattle.flat_item_writer.specs.ItemWords.{itemIn}
+use Rattle.flat_item_writer.specs.ItemGiven.{itemIn}
 use Rattle.flat_item_writer.proofs.values.item_in.Statement.{statement}
 use Rattle.flat_item_writer.proofs.values.item_in.Tie as tie
 

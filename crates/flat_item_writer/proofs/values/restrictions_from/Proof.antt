@@ -1,6 +1,6 @@
 -- `flat_item_writer::values::restrictions_from` meets its contract. Assumes nothing.
 use borrow.Author.Needs.{needs}
-use Rattle.flat_item_writer.specs.ItemWords.{restrictionsFrom}
+use Rattle.flat_item_writer.specs.ItemGiven.{restrictionsFrom}
 use Rattle.flat_item_writer.proofs.values.restrictions_from.Statement.{statement}
 use Rattle.flat_item_writer.proofs.values.restrictions_from.Tie as tie
 

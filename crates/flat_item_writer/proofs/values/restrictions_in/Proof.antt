@@ -1,6 +1,6 @@
 -- `flat_item_writer::values::restrictions_in` meets its contract. Assumes nothing.
 use borrow.Author.Needs.{needs}
-use Rattle.flat_item_writer.specs.ItemWords.{restrictionsIn}
+use Rattle.flat_item_writer.specs.ItemGiven.{restrictionsIn}
 use Rattle.flat_item_writer.proofs.values.restrictions_in.Statement.{statement}
 use Rattle.flat_item_writer.proofs.values.restrictions_in.Tie as tie
 

@@ -1,6 +1,6 @@
 -- `flat_item_writer::values::segmentation_in` meets its contract. Assumes nothing.
 use borrow.Author.Needs.{needs}
-use Rattle.flat_item_writer.specs.ItemWords.{segmentationIn}
+use Rattle.flat_item_writer.specs.ItemGiven.{segmentationIn}
 use Rattle.flat_item_writer.proofs.values.segmentation_in.Statement.{statement}
 use Rattle.flat_item_writer.proofs.values.segmentation_in.Tie as tie
 

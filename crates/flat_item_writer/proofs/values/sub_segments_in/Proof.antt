@@ -1,6 +1,6 @@
 -- `flat_item_writer::values::sub_segments_in` meets its contract. Assumes nothing.
 use borrow.Author.Needs.{needs}
-use Rattle.flat_item_writer.specs.ItemWords.{subSegmentsIn}
+use Rattle.flat_item_writer.specs.ItemGiven.{subSegmentsIn}
 use Rattle.flat_item_writer.proofs.values.sub_segments_in.Statement.{statement}
 use Rattle.flat_item_writer.proofs.values.sub_segments_in.Tie as tie
 

@@ -1,5 +1,5 @@
 -- What the types say of the numbers of a descriptor; and what words cannot say otherwise: a flag against its part, a reserved number that has a name. These are
--- definitions.
+-- definitions for proofs.
 use Prim.Native.Nat.{_^_, _<_}
 use mathlib.Core.Bool.{true}
 use mathlib.Core.Path.{_≡_}
