@@ -167,7 +167,7 @@ plain-break : (d : Break) → Plain (breakFields d)
 plain-break Break.Absent = tt
 plain-break (Break.Lasts d) = tt
 
-flag-within : (b : Bool) → ltb (flagNumber b) 2 ≡ true
+pub flag-within : (b : Bool) → ltb (flagNumber b) 2 ≡ true
 flag-within true = refl
 flag-within false = refl
 

@@ -11,6 +11,7 @@ use borrow.Author.Tests.{lt-ltb, ne-eqb}
 use Rattle.command.specs.Command.{array}
 use Rattle.command.specs.declared.SpliceCommand.{SpliceCommand}
 use Rattle.command.specs.declared.components.ComponentSplice.{ComponentSplice}
+use Rattle.command_measure.proofs.Making.{flag-within}
 use Rattle.command_measure.specs.Made.{commandMade}
 use Rattle.descriptor_form.specs.Canonical.{canonicalLoop}
 use Rattle.flat.specs.Flat.{flatHeader}
@@ -28,7 +29,6 @@ use Rattle.section_writer.proofs.Heads.{fitting, fits-within}
 use Rattle.section_writer.specs.Frame.{headed, head, body, frame, numbersFit, fairHead, sectionLength}
 use Rattle.section_writer.specs.Writing.{unless, madeIf, sectionMade, kindOf}
 use Rattle.table.proofs.Lists.{zero-one, and-true}
-use Rattle.table.specs.Table.{flagNumber}
 use Rattle.table.specs.Writing.{Made, made, refused}
 use Rattle.flat_section_writer.specs.SectionGiven.{headerFrom, headerRefusal, either, sectionWordsMade}
 use Rattle.flat_section_writer.specs.SectionWords.{headerWords, headerWidths, HeaderIs, sectionFits, SectionAnswer, outside, over, nobodys, its}
@@ -94,10 +94,6 @@ module _ (h : SpliceInfoHeader) (m : Made) (kind : ℕ) (loop : List ℕ) where
   headless = refl
 
 -- ---- the header that words make
-flag-within : (b : Bool) → ltb (flagNumber b) 2 ≡ true
-flag-within true = refl
-flag-within false = refl
-
 header-fits : (words : List ℕ) → within headerWidths words ≡ true → numbersFit (headerFrom words) ≡ true
 unfolding numbersFit headerFrom headerWidths
 header-fits words e =

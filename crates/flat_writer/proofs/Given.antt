@@ -8,7 +8,7 @@ use native.Mathlib.Omega.{arith}
 use lib.Dec.{eqb, ltb, leb, lit<}
 use lib.ListN.{length, getD, drop}
 use lib.Seq.{getD-drop, drop-drop}
-use borrow.Author.Tests.{ltb-true, lt-ltb, eqb-true, ne-eqb}
+use borrow.Author.Tests.{ltb-true, lt-ltb, eqb-true, eqb-false, ne-eqb}
 use Rattle.command.specs.Command.{countIn, ofPrivate}
 use Rattle.command.specs.Insert as insert
 use Rattle.command.specs.Insert.{programTime}
@@ -29,7 +29,7 @@ use Rattle.header.specs.declared.time.SpliceTime.{SpliceTime}
 use Rattle.names.specs.declared.flags.ReturnMode.{ReturnMode}
 use Rattle.table.proofs.Lists.{zero-one, and-true, and-assoc}
 use Rattle.table.specs.Bits.{pick}
-use Rattle.flat_writer.specs.CommandGiven.{modeIn, breakIn, insertIn, commandIn, timeFrom, modeFrom, breakFrom, insertFrom, insertionFrom, commandFrom, commandGiven, componentFrom, ownComponent}
+use Rattle.flat_writer.specs.CommandGiven.{modeIn, breakIn, insertIn, commandIn, timeFrom, viewFrom, modeFrom, breakFrom, insertFrom, insertionFrom, commandFrom, commandGiven, componentFrom, ownComponent}
 use Rattle.flat_writer.specs.CommandWords.{commandWords, commandWidths, componentWords, componentWidths, placesWords, placesIn, commandSeen}
 use Rattle.flat_writer.specs.Words.{word, within, same, placesOf, eachPlace}
 use Rattle.flat_writer.proofs.Back.{words-back, command-back, time-back}
@@ -128,6 +128,29 @@ own-given c words w e =
     ap commandFrom (own-in (flatCommand c) words e ∙ sym (words-back (flatCommand c)))
     ∙ command-back c (own-typed c (sym (within-same commandWidths (commandWords (flatCommand c)) words refl e) ∙ w))
 
+-- ---- by its kind: what holds of the command of each kind that the words may make
+from-kinds : (P : SpliceCommand → Type 0) (f : FlatCommand)
+    → (f .«splice_command_type» ≡ 0x05 → P (SpliceCommand.SpliceInsert (insertionFrom (f .insert))))
+    → (f .«splice_command_type» ≡ 0x06 → P (SpliceCommand.TimeSignal (timeFrom (f .«splice_time»))))
+    → (f .«splice_command_type» ≡ 0x07 → P SpliceCommand.BandwidthReservation)
+    → (f .«splice_command_type» ≡ 0xff → P (SpliceCommand.PrivateCommand (record { identifier = f .identifier % 2 ^ 32; «private_bytes» = viewFrom (f .«private_bytes») })))
+    → ((f .«splice_command_type» ≡ 0x05 → ⊥) → (f .«splice_command_type» ≡ 0xff → ⊥) → P SpliceCommand.SpliceNull)
+    → P (commandFrom f)
+unfolding commandFrom
+from-kinds P f insert time bandwidth private null = go (eqb k 0x05) refl (eqb k 0x06) refl (eqb k 0x07) refl (eqb k 0xff) refl
+  where
+    k : ℕ
+    k = f .«splice_command_type»
+
+    go : (b₅ : Bool) → eqb k 0x05 ≡ b₅ → (b₆ : Bool) → eqb k 0x06 ≡ b₆ → (b₇ : Bool) → eqb k 0x07 ≡ b₇ → (b₈ : Bool) → eqb k 0xff ≡ b₈
+        → P (pick b₅ (SpliceCommand.SpliceInsert (insertionFrom (f .insert))) (pick b₆ (SpliceCommand.TimeSignal (timeFrom (f .«splice_time»))) (pick b₇ SpliceCommand.BandwidthReservation
+        (pick b₈ (SpliceCommand.PrivateCommand (record { identifier = f .identifier % 2 ^ 32; «private_bytes» = viewFrom (f .«private_bytes») })) SpliceCommand.SpliceNull))))
+    go true e b₆ e₆ b₇ e₇ b₈ e₈ = insert (eqb-true k 0x05 e)
+    go false e true e₆ b₇ e₇ b₈ e₈ = time (eqb-true k 0x06 e₆)
+    go false e false e₆ true e₇ b₈ e₈ = bandwidth (eqb-true k 0x07 e₇)
+    go false e false e₆ false e₇ true e₈ = private (eqb-true k 0xff e₈)
+    go false e false e₆ false e₇ false e₈ = null (eqb-false k 0x05 e) (eqb-false k 0xff e₈)
+
 -- ---- its numbers are of their types, whatever the words are
 below : (x m : ℕ) → 0 < m → x % m < m
 below x m h = mod-lt x {m = m} h
@@ -141,21 +164,12 @@ detail-typed i false = (below _ 65536 (lit< tt), below _ 256 (lit< tt), below _ 
     mode true = tt
     mode false = below _ 256 (lit< tt)
 
-from-typed : (f : FlatCommand) → Typed (commandFrom f)
-unfolding commandFrom insertionFrom
-from-typed f = go (eqb (f .«splice_command_type») 0x05) (eqb (f .«splice_command_type») 0x06) (eqb (f .«splice_command_type») 0x07) (eqb (f .«splice_command_type») 0xff)
-  where
-    go : (b₅ b₆ b₇ b₈ : Bool)
-        → Typed (pick b₅ (SpliceCommand.SpliceInsert (insertionFrom (f .insert))) (pick b₆ (SpliceCommand.TimeSignal (timeFrom (f .«splice_time»))) (pick b₇ SpliceCommand.BandwidthReservation
-        (pick b₈ (SpliceCommand.PrivateCommand (record { identifier = f .identifier % 2 ^ 32; «private_bytes» = record { at = f .«private_bytes» .at; len = f .«private_bytes» .len } })) SpliceCommand.SpliceNull))))
-    go true b₆ b₇ b₈ = (below _ (2 ^ 32) (lit< tt), below _ 256 (lit< tt), detail-typed (f .insert) (eqb (f .insert .«splice_event_cancel_indicator») 1))
-    go false true b₇ b₈ = tt
-    go false false true b₈ = tt
-    go false false false true = below _ (2 ^ 32) (lit< tt)
-    go false false false false = tt
-
 pub given-typed : (words : List ℕ) → Typed (commandGiven words)
-given-typed words = from-typed (commandIn words)
+unfolding insertionFrom
+given-typed words =
+    let f = commandIn words in
+    from-kinds (λ c. Typed c) f (λ e. (below _ (2 ^ 32) (lit< tt), below _ 256 (lit< tt), detail-typed (f .insert) (eqb (f .insert .«splice_event_cancel_indicator») 1))) (λ e. tt) (λ e. tt)
+    (λ e. below _ (2 ^ 32) (lit< tt)) (λ a b. tt)
 
 pub places-tags : (n : ℕ) (words : List ℕ) → Tags (placesOf componentFrom 3 n words)
 unfolding placesOf componentFrom
@@ -197,25 +211,13 @@ small-detail i t d false = (mode (eqb (i .mode .«program_splice_flag») 1), las
     lasts false = refl
 
 pub given-small : (words : List ℕ) → within commandWidths words ≡ true → Small (commandGiven words)
-unfolding commandWidths commandFrom insertionFrom commandIn insertIn modeIn breakIn
-given-small words h = go (eqb (word words 1) 0x05) (eqb (word words 1) 0x06) (eqb (word words 1) 0x07) (eqb (word words 1) 0xff)
-  where
-    w : (i : ℕ) → i < 21 → word words i < 2 ^ getD commandWidths i 0
-    w = within-at commandWidths words h
-
-    f : FlatCommand
-    f = commandIn words
-
-    go : (b₅ b₆ b₇ b₈ : Bool)
-        → Small (pick b₅ (SpliceCommand.SpliceInsert (insertionFrom (f .insert))) (pick b₆ (SpliceCommand.TimeSignal (timeFrom (f .«splice_time»))) (pick b₇ SpliceCommand.BandwidthReservation
-        (pick b₈ (SpliceCommand.PrivateCommand (record { identifier = f .identifier % 2 ^ 32; «private_bytes» = record { at = f .«private_bytes» .at; len = f .«private_bytes» .len } })) SpliceCommand.SpliceNull))))
-    go true b₆ b₇ b₈ =
-        let k : word words 4 % 256 ≡ word words 4 = mod-eq-of-lt (omega (arith, w 4 (omega arith))) in
-        (lt-ltb (word words 4 % 256) 128 (omega (arith, k, w 4 (omega arith))), small-detail (insertIn words) (w 8 (omega arith)) (w 12 (omega arith)) (eqb (word words 3) 1))
-    go false true b₇ b₈ = small-time (record { kind = word words 16; ticks = word words 17 }) (w 17 (omega arith))
-    go false false true b₈ = tt
-    go false false false true = tt
-    go false false false false = tt
+unfolding commandWidths insertionFrom commandIn insertIn modeIn breakIn
+given-small words h =
+    let w : (i : ℕ) → i < 21 → word words i < 2 ^ getD commandWidths i 0 = within-at commandWidths words h in
+    let k : word words 4 % 256 ≡ word words 4 = mod-eq-of-lt (omega (arith, w 4 (omega arith))) in
+    from-kinds (λ c. Small c) (commandIn words)
+    (λ e. (lt-ltb (word words 4 % 256) 128 (omega (arith, k, w 4 (omega arith))), small-detail (insertIn words) (w 8 (omega arith)) (w 12 (omega arith)) (eqb (word words 3) 1)))
+    (λ e. small-time (record { kind = word words 16; ticks = word words 17 }) (w 17 (omega arith))) (λ e. tt) (λ e. tt) (λ a b. tt)
 
 pub places-fit : (n : ℕ) (words : List ℕ) → eachPlace (within componentWidths) 3 n words ≡ true → timesFit (placesOf componentFrom 3 n words) ≡ true
 unfolding eachPlace placesOf componentFrom componentWidths
@@ -226,49 +228,39 @@ places-fit (suc n) words e =
 
 -- ---- it counts the places that are looked at
 pub given-count : (words : List ℕ) → within commandWidths words ≡ true → countIn (commandGiven words) ≡ placesIn words
-unfolding commandWidths commandFrom insertionFrom insertFrom modeFrom commandIn insertIn modeIn
-given-count words h = go (eqb (word words 1) 0x05) (eqb (word words 1) 0x06) (eqb (word words 1) 0x07) (eqb (word words 1) 0xff) (eqb (word words 3) 1) (eqb (word words 3) 0) (eqb (word words 6) 1) (eqb (word words 6) 0)
-    (flags (word words 3) (w 3 (omega arith))) (flags (word words 6) (w 6 (omega arith)))
+unfolding commandWidths insertionFrom insertFrom modeFrom commandIn insertIn modeIn
+given-count words h =
+    from-kinds (λ c. countIn c ≡ placesIn words) (commandIn words)
+    (λ e. rw e (go (eqb (word words 3) 1) (eqb (word words 3) 0) (eqb (word words 6) 1) (eqb (word words 6) 0) (flags (word words 3) (w 3 (omega arith))) (flags (word words 6) (w 6 (omega arith)))))
+    (λ e. rw e) (λ e. rw e) (λ e. rw e) (λ a b. rw (ne-eqb (word words 1) 0x05 a))
   where
     w : (i : ℕ) → i < 21 → word words i < 2 ^ getD commandWidths i 0
     w = within-at commandWidths words h
-
-    f : FlatCommand
-    f = commandIn words
 
     flags : (x : ℕ) → x < 2 → eqb x 1 ≡ not (eqb x 0)
     flags zero h = refl
     flags (suc zero) h = refl
     flags (suc (suc x)) h = absurd (omega arith)
 
-    go : (b₅ b₆ b₇ b₈ cancel kept program listed : Bool) → cancel ≡ not kept → program ≡ not listed
-        → countIn (pick b₅ (SpliceCommand.SpliceInsert (record {
-          «splice_event_id» = word words 2 % 2 ^ 32;
-          reserved = word words 4 % 256;
-          «splice_detail» = pick cancel SpliceInsert.Cancel (SpliceInsert.Insert
-              (record {
-                «network_indicator» = insertFrom (f .insert) .«network_indicator»;
-                «splice_mode» = pick program (SpliceMode.Program (timeFrom (f .insert .mode .«splice_time»))) (SpliceMode.Components (word words 9 % 256));
-                duration = insertFrom (f .insert) .duration;
-                «unique_program_id» = word words 13 % 65536;
-                «avail_num» = word words 14 % 256;
-                «avails_expected» = word words 15 % 256;
-              }));
-        }))
-        (pick b₆ (SpliceCommand.TimeSignal (timeFrom (f .«splice_time»))) (pick b₇ SpliceCommand.BandwidthReservation
-        (pick b₈ (SpliceCommand.PrivateCommand (record { identifier = f .identifier % 2 ^ 32; «private_bytes» = record { at = f .«private_bytes» .at; len = f .«private_bytes» .len } })) SpliceCommand.SpliceNull))))
-        ≡ pick (b₅ && (kept && listed)) (word words 9) 0
-    go true b₆ b₇ b₈ true true program listed e g = zero-one cc
-    go true b₆ b₇ b₈ true false program listed e g = refl
-    go true b₆ b₇ b₈ false true true true e g = zero-one cc
-    go true b₆ b₇ b₈ false true true false e g = refl
-    go true b₆ b₇ b₈ false true false true e g = mod-eq-of-lt (w 9 (omega arith))
-    go true b₆ b₇ b₈ false true false false e g = zero-one cc
-    go true b₆ b₇ b₈ false false program listed e g = zero-one cc
-    go false true b₇ b₈ cancel kept program listed e g = refl
-    go false false true b₈ cancel kept program listed e g = refl
-    go false false false true cancel kept program listed e g = refl
-    go false false false false cancel kept program listed e g = refl
+    i : FlatInsert
+    i = insertIn words
+
+    go : (cancel kept program listed : Bool) → cancel ≡ not kept → program ≡ not listed
+        → insert.count (insert.insertOf (pick cancel SpliceInsert.Cancel (SpliceInsert.Insert (record {
+          «network_indicator» = insertFrom i .«network_indicator»;
+          «splice_mode» = pick program (SpliceMode.Program (timeFrom (i .mode .«splice_time»))) (SpliceMode.Components (word words 9 % 256));
+          duration = insertFrom i .duration;
+          «unique_program_id» = word words 13 % 65536;
+          «avail_num» = word words 14 % 256;
+          «avails_expected» = word words 15 % 256;
+        }))) .«splice_mode») ≡ pick (kept && listed) (word words 9) 0
+    go true true program listed e g = zero-one cc
+    go true false program listed e g = refl
+    go false true true true e g = zero-one cc
+    go false true true false e g = refl
+    go false true false true e g = mod-eq-of-lt (w 9 (omega arith))
+    go false true false false e g = zero-one cc
+    go false false program listed e g = zero-one cc
 
 -- ---- its components, too, are those whose words they are
 own-component : (c : ComponentSplice) (words : List ℕ) → within componentWidths words ≡ true → same (componentWords (flatComponent c)) words ≡ true → componentFrom words ≡ c
@@ -302,24 +294,9 @@ abbrev pub seenBy : SpliceCommand → List ℕ → Bool
 seenBy c lent = ofPrivate (λ p. leb (p .«private_bytes» .at + p .«private_bytes» .len) (length lent)) true c
 
 pub given-seen : (words lent : List ℕ) → commandSeen words lent ≡ seenBy (commandGiven words) lent
-unfolding commandSeen commandFrom commandIn
-given-seen words lent = go (eqb (word words 1) 0x05) (eqb (word words 1) 0x06) (eqb (word words 1) 0x07) (eqb (word words 1) 0xff) (other 0x05 (omega arith)) (other 0x06 (omega arith)) (other 0x07 (omega arith))
-  where
-    f : FlatCommand
-    f = commandIn words
-
-    other : (k : ℕ) → k < 0xff → eqb (word words 1) k ≡ true → eqb (word words 1) 0xff ≡ false
-    other k h e = ne-eqb (word words 1) 0xff (λ g. omega (arith, g, eqb-true (word words 1) k e))
-
-    go : (b₅ b₆ b₇ b₈ : Bool) → (b₅ ≡ true → b₈ ≡ false) → (b₆ ≡ true → b₈ ≡ false) → (b₇ ≡ true → b₈ ≡ false)
-        → pick b₈ (leb (word words 19 + word words 20) (length lent)) true
-        ≡ seenBy (pick b₅ (SpliceCommand.SpliceInsert (insertionFrom (f .insert))) (pick b₆ (SpliceCommand.TimeSignal (timeFrom (f .«splice_time»))) (pick b₇ SpliceCommand.BandwidthReservation
-        (pick b₈ (SpliceCommand.PrivateCommand (record { identifier = f .identifier % 2 ^ 32; «private_bytes» = record { at = f .«private_bytes» .at; len = f .«private_bytes» .len } })) SpliceCommand.SpliceNull)))) lent
-    go true b₆ b₇ b₈ e g h = rw (e refl)
-    go false true b₇ b₈ e g h = rw (g refl)
-    go false false true b₈ e g h = rw (h refl)
-    go false false false true e g h = refl
-    go false false false false e g h = refl
+unfolding commandSeen commandIn
+given-seen words lent =
+    from-kinds (λ c. commandSeen words lent ≡ seenBy c lent) (commandIn words) (λ e. rw e) (λ e. rw e) (λ e. rw e) (λ e. rw e) (λ a b. rw (ne-eqb (word words 1) 0xff b))
 
 pub own-seen : (c : SpliceCommand) (words lent : List ℕ) → same (commandWords (flatCommand c)) words ≡ true → commandSeen words lent ≡ seenBy c lent
 unfolding commandSeen commandWords flatCommand noCommand
