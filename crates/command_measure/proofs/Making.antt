@@ -71,7 +71,7 @@ Plain (bits w v ∷ fs) = Plain fs
 Plain (run n from ∷ fs) = ⊥
 Plain (rest m ∷ fs) = Plain fs
 
-plain-seen : (lent : List ℕ) (fs : List Field) → Plain fs → seen lent fs ≡ true
+pub plain-seen : (lent : List ℕ) (fs : List Field) → Plain fs → seen lent fs ≡ true
 plain-seen lent [] h = refl
 plain-seen lent (bits w v ∷ fs) h = plain-seen lent fs h
 plain-seen lent (run n from ∷ fs) h = absurd h
@@ -93,7 +93,7 @@ contents-plain lent (rest m ∷ fs) h = ap (λ (l : List Content). writing.count
 make-plain : (fair : Bool) (lent : List ℕ) (fs : List Field) → Plain fs → makeOf fair lent fs ≡ makeOf fair [] fs
 make-plain fair lent fs h = rw (plain-seen lent fs h, plain-seen [] fs h, contents-plain lent fs h)
 
-within-append : (fs gs : List Field) → within (fs ++ gs) ≡ within fs && within gs
+pub within-append : (fs gs : List Field) → within (fs ++ gs) ≡ within fs && within gs
 within-append [] gs = refl
 within-append (bits w v ∷ fs) gs = ap (λ (b : Bool). ltb v (2 ^ w) && b) (within-append fs gs) ∙ and-assoc (ltb v (2 ^ w)) (within fs) (within gs)
 within-append (run n from ∷ fs) gs = within-append fs gs
@@ -117,7 +117,7 @@ past-unless false Immediate at = omega arith
 past-unless false Unspecified at = omega arith
 past-unless false (At t) at = omega arith
 
-within-unless : (t : SpliceTime) → within (unlessFields (immediate t) t) ≡ ltb (ticks t) (2 ^ 33)
+pub within-unless : (t : SpliceTime) → within (unlessFields (immediate t) t) ≡ ltb (ticks t) (2 ^ 33)
 within-unless Immediate = refl
 within-unless Unspecified = refl
 within-unless (At t) = and-one (ltb t (2 ^ 33))
@@ -167,11 +167,11 @@ plain-break : (d : Break) → Plain (breakFields d)
 plain-break Break.Absent = tt
 plain-break (Break.Lasts d) = tt
 
-flag-within : (b : Bool) → ltb (flagNumber b) 2 ≡ true
+pub flag-within : (b : Bool) → ltb (flagNumber b) 2 ≡ true
 flag-within true = refl
 flag-within false = refl
 
-within-break : (d : Break) → within (breakFields d) ≡ ltb (insert.ticks d) (2 ^ 33)
+pub within-break : (d : Break) → within (breakFields d) ≡ ltb (insert.ticks d) (2 ^ 33)
 within-break Break.Absent = refl
 within-break (Break.Lasts d) = rw (flag-within (automatic (d .«return_mode»))) (and-one (ltb (d .duration) (2 ^ 33)))
 
@@ -189,7 +189,7 @@ module _ (i : Insert) (cs : List ComponentSplice) where
   within-mode (SpliceMode.Program t) b e n h f = ap (λ (x : Bool). within (unlessFields x t)) e ∙ within-unless t
   within-mode (SpliceMode.Components n) b e l h f = rw (lt-ltb n (2 ^ 8) l) (within-list b cs h f)
 
-  plain-active : Plain (activeFields i cs)
+  pub plain-active : Plain (activeFields i cs)
   plain-active =
       let b = immediateIn i cs in
       plain-append (modeFields b (i .«splice_mode») cs) (endFields i) (plain-mode b (i .«splice_mode») cs)

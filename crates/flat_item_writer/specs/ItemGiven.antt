@@ -32,7 +32,7 @@ use Rattle.flat_items.specs.declared.descriptors.FlatTimeDescriptor.{FlatTimeDe
 use Rattle.flat_items.specs.declared.segmentations.FlatRestrictions.{FlatRestrictions}
 use Rattle.flat_items.specs.declared.segmentations.FlatSegmentation.{FlatSegmentation}
 use Rattle.flat_items.specs.declared.segmentations.FlatSubSegments.{FlatSubSegments}
-use Rattle.flat_writer.specs.CommandWords.{viewFrom}
+use Rattle.flat_writer.specs.CommandGiven.{viewFrom}
 use Rattle.flat_writer.specs.Words.{word, within, same, placesOf, refusalOf, noLess}
 use Rattle.names.specs.Segmentation.{segmentationOf}
 use Rattle.table.specs.Bits.{pick, bigEndian}

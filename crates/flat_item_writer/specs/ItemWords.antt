@@ -105,7 +105,7 @@ pub record DescriptorIs (words beside : List ℕ) (d : Descriptor) (identifier :
   pub identifies : identifier ≡ bigEndian 4 (word words 5)
   -- as many components as d counts, and blanks past them
   pub listed : List ModeComponent
-  pub count : length listed ≡ componentsOf d
+  pub count : length listed ≡ countBeside d
   pub places : same (tagsAndOffsets listed) (placesIn beside) ≡ true
   pub components : b .components ≡ filled listed
   pub twelve : length (b .eidr) ≡ 12

@@ -10,8 +10,9 @@ use Rattle.names.specs.Command.{commandOf}
 use Rattle.names.proofs.Algorithms.{algorithm-laws}
 use Rattle.section_writer.specs.Frame.{headed}
 use Rattle.table.specs.Table.{flagNumber}
-use Rattle.flat_section_writer.specs.SectionWords.{headerFrom, headerWords}
-use Rattle.flat_section_writer.specs.Typed.{Typed}
+use Rattle.flat_section_writer.specs.SectionGiven.{headerFrom}
+use Rattle.flat_section_writer.specs.SectionWords.{headerWords}
+use Rattle.flat_section_writer.proofs.Typed.{Typed}
 
 flag-back : (b : Bool) → eqb (flagNumber b) 1 ≡ b
 flag-back true = refl

@@ -1,2 +1,4 @@
+pub mod Answers
 pub mod Back
 pub mod Refusals
+pub mod Typed

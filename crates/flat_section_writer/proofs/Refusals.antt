@@ -4,7 +4,8 @@ use mathlib.Core.Bool.{Bool, true, false}
 use mathlib.Core.List.{List}
 use lib.Dec.{eqb, ltb}
 use Rattle.flat.specs.Flat.{flatHeader}
-use Rattle.flat_section_writer.specs.SectionWords.{headerFrom, headerWords, headerWidths, headerRefusal, either}
+use Rattle.flat_section_writer.specs.SectionGiven.{headerFrom, headerRefusal, either}
+use Rattle.flat_section_writer.specs.SectionWords.{headerWords, headerWidths}
 use Rattle.flat_writer.specs.Words.{within, same}
 use Rattle.flat_writer.proofs.Words.{refusal-small}
 use Rattle.table.specs.Bits.{pick}

@@ -1,2 +1,2 @@
 pub mod SectionWords
-pub mod Typed
+pub mod SectionGiven

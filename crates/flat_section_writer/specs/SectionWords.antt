@@ -1,34 +1,23 @@
--- The header that words make, and the section of header, command and loop. 01, "Refusal numbers", 32 and 33. These are definitions.
-use Prim.Native.Nat.{ℕ, _%_}
+-- The words of a header, and what is answered of those of a header and of a command: refused by 31, 32 or 33, or written as the section of the values whose words they
+-- are. 01, "Refusal numbers". These are definitions.
+use Prim.Native.Nat.{ℕ}
+use mathlib.Core.Bool.{Bool, true, false, _&&_}
 use mathlib.Core.List.{List, [], _∷_}
-use lib.Dec.{eqb}
+use mathlib.Core.Path.{_≡_}
+use Rattle.command.specs.Command.{array}
+use Rattle.command.specs.declared.SpliceCommand.{SpliceCommand}
+use Rattle.command.specs.declared.components.ComponentSplice.{ComponentSplice}
 use Rattle.command_measure.specs.Made.{commandMade}
 use Rattle.flat.specs.Flat.{flatHeader}
 use Rattle.flat.specs.declared.headers.FlatHeader.{FlatHeader}
-use Rattle.command.specs.Command.{countIn}
-use Rattle.flat_writer.specs.CommandWords.{commandGiven, componentsFrom, commandRefusal}
-use Rattle.flat_writer.specs.Words.{word, within, same, refusalOf, lowerOf, noLess}
+use Rattle.flat_writer.specs.CommandWords.{CommandIs, commandSeen, commandFits}
+use Rattle.flat_writer.specs.Words.{within, same}
 use Rattle.header.specs.declared.header.SpliceInfoHeader.{SpliceInfoHeader}
-use Rattle.names.specs.Algorithm.{algorithmOf}
-use Rattle.names.specs.declared.command.SpliceCommandType.{SpliceCommandType}
+use Rattle.names.specs.Algorithm.{fairAlgorithm}
 use Rattle.section_writer.specs.Writing.{sectionMade, kindOf}
-use Rattle.table.specs.Bits.{pick}
-use Rattle.table.specs.Writing.{Made}
+use Rattle.table.specs.Writing.{Made, refused}
 
 -- ---- struct scte35_header: of its words, the command's length and type, which the writer works out, are not looked at
-unfoldable pub headerFrom : List ℕ → SpliceInfoHeader
-headerFrom words =
-    record {
-      «protocol_version» = word words 1 % 256;
-      «encrypted_packet» = eqb (word words 2) 1;
-      «encryption_algorithm» = algorithmOf (word words 3 % 256);
-      «pts_adjustment» = word words 4;
-      «cw_index» = word words 5 % 256;
-      tier = word words 6 % 65536;
-      «splice_command_length» = 0;
-      «splice_command_type» = SpliceCommandType.SpliceNull;
-    }
-
 unfoldable pub headerWords : FlatHeader → List ℕ
 headerWords h =
     h .refusal ∷ h .«protocol_version» ∷ h .«encrypted_packet» ∷ h .«encryption_algorithm» ∷ h .«pts_adjustment» ∷ h .«cw_index» ∷ h .tier ∷ []
@@ -37,20 +26,22 @@ headerWords h =
 unfoldable pub headerWidths : List ℕ
 headerWidths = 64 ∷ 8 ∷ 1 ∷ 6 ∷ 33 ∷ 8 ∷ 12 ∷ []
 
--- the number of the words' own refusal
-unfoldable pub headerRefusal : List ℕ → ℕ
-headerRefusal words = refusalOf (within headerWidths words) (same (headerWords (flatHeader (headerFrom words))) words)
+-- ---- what is answered
+-- the words are those of h. (A reserved algorithm whose number has a name has the words of that name.)
+pub record HeaderIs (words : List ℕ) (h : SpliceInfoHeader) : Type 0 where
+  pub own : same (headerWords (flatHeader h)) words ≡ true
+  pub fair : fairAlgorithm (h .«encryption_algorithm») ≡ true
 
--- ---- the section
--- the lower of two refusals, of which 0 is none
-abbrev pub either : ℕ → ℕ → ℕ
-either m n = pick (eqb m 0) n (pick (eqb n 0) m (lowerOf m n))
+-- refusal 32: "a number or count handed in exceeds its field"
+unfoldable pub sectionFits : List ℕ → List ℕ → List ℕ → Bool
+sectionFits header command components = within headerWidths header && commandFits command components
 
--- the bytes, or the number of a refusal: 31 to 35
-unfoldable pub sectionWordsMade : List ℕ → List ℕ → List ℕ → List ℕ → List ℕ → Made
-sectionWordsMade header command components lent loop =
-    noLess
-    (either (headerRefusal header) (commandRefusal (commandGiven command) command components))
-    (sectionMade (headerFrom header) (commandMade (commandGiven command) (componentsFrom (countIn (commandGiven command)) components) lent)
-    (kindOf (commandGiven command))
-    loop)
+-- as of a command's words
+pub data SectionAnswer (header command components lent loop : List ℕ) : Made → Type 0 where
+  outside : commandSeen command lent ≡ false → SectionAnswer header command components lent loop (refused 31)
+  over : commandSeen command lent ≡ true → sectionFits header command components ≡ false → SectionAnswer header command components lent loop (refused 32)
+  nobodys : commandSeen command lent ≡ true → sectionFits header command components ≡ true
+      → ((h : SpliceInfoHeader) (c : SpliceCommand) (cs : List ComponentSplice) → HeaderIs header h → CommandIs command components c cs → ⊥)
+      → SectionAnswer header command components lent loop (refused 33)
+  its : (h : SpliceInfoHeader) (c : SpliceCommand) (cs : List ComponentSplice) → HeaderIs header h → CommandIs command components c cs
+      → SectionAnswer header command components lent loop (sectionMade h (commandMade c (array cs) lent) (kindOf c) loop)

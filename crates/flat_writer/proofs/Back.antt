@@ -16,8 +16,9 @@ use Rattle.names.specs.Flags.{networkFlag, returnFlag}
 use Rattle.names.specs.declared.flags.NetworkIndicator.{NetworkIndicator}
 use Rattle.names.specs.declared.flags.ReturnMode.{ReturnMode}
 use Rattle.table.specs.Bits.{pick}
-use Rattle.flat_writer.specs.CommandWords.{modeIn, breakIn, insertIn, commandIn, commandWords, timeFrom, modeFrom, breakFrom, insertFrom, insertionFrom, commandFrom, commandGiven}
-use Rattle.flat_writer.specs.Typed.{TypedMode, TypedDetail, Typed}
+use Rattle.flat_writer.specs.CommandGiven.{modeIn, breakIn, insertIn, commandIn, timeFrom, modeFrom, breakFrom, insertFrom, insertionFrom, commandFrom, commandGiven}
+use Rattle.flat_writer.specs.CommandWords.{commandWords}
+use Rattle.flat_writer.proofs.Typed.{TypedMode, TypedDetail, Typed}
 
 -- ---- the struct that the words of a struct are
 pub words-back : (f : FlatCommand) → commandIn (commandWords f) ≡ f
@@ -25,7 +26,7 @@ unfolding commandIn insertIn modeIn breakIn commandWords
 words-back f = refl
 
 -- ---- part by part
-time-back : (t : SpliceTime) → timeFrom (flatTime t) ≡ t
+pub time-back : (t : SpliceTime) → timeFrom (flatTime t) ≡ t
 time-back SpliceTime.Immediate = refl
 time-back SpliceTime.Unspecified = refl
 time-back (SpliceTime.At t) = refl

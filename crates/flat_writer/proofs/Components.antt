@@ -13,7 +13,8 @@ use Rattle.command.specs.Command.{array}
 use Rattle.command.specs.Insert.{blank}
 use Rattle.command.specs.declared.components.ComponentSplice.{ComponentSplice}
 use Rattle.flat.specs.FlatCommand.{flatComponent}
-use Rattle.flat_writer.specs.CommandWords.{componentFrom, componentsFrom, componentWords, ownComponent}
+use Rattle.flat_writer.specs.CommandGiven.{componentFrom, componentsFrom, ownComponent}
+use Rattle.flat_writer.specs.CommandWords.{componentWords}
 use Rattle.flat_writer.specs.Words.{word, same, placesOf}
 use Rattle.flat_writer.proofs.Words.{and-unit, word-drop, word-drop-two, filled-front}
 

@@ -5,7 +5,8 @@ use mathlib.Core.List.{List}
 use Rattle.command.specs.declared.SpliceCommand.{SpliceCommand}
 use Rattle.flat.specs.FlatCommand.{flatCommand}
 use Rattle.command.specs.Command.{countIn}
-use Rattle.flat_writer.specs.CommandWords.{commandWords, commandWidths, splicesWithin, ownSplices, commandRefusal}
+use Rattle.flat_writer.specs.CommandGiven.{splicesWithin, ownSplices, commandRefusal}
+use Rattle.flat_writer.specs.CommandWords.{commandWords, commandWidths}
 use Rattle.flat_writer.specs.Words.{within, same}
 use Rattle.flat_writer.proofs.Words.{refusal-small}
 

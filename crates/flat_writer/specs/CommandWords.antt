@@ -1,77 +1,23 @@
--- The command that words make, and what is asked of the words. 01, "Refusal numbers", 32 and 33. These are definitions.
-use Prim.Native.Nat.{ℕ, _^_, _%_}
-use mathlib.Core.Bool.{Bool, _&&_}
-use mathlib.Core.List.{List, [], _∷_}
-use lib.Dec.{eqb}
-use lib.ListN.{drop}
+-- The words of a command, and what is answered of them: refused by 31, 32 or 33, or written as the value whose words they are. 01, "Refusal numbers". These are
+-- definitions.
+use Prim.Native.Nat.{ℕ, _+_}
+use mathlib.Core.Bool.{Bool, true, false, _&&_}
+use mathlib.Core.List.{List, [], _∷_, _++_, map}
+use mathlib.Core.Path.{_≡_}
+use lib.Dec.{eqb, leb}
+use lib.ListN.{length, drop}
 use Rattle.command.specs.Command.{array, countIn}
-use Rattle.command.specs.declared.Private.{Private}
 use Rattle.command.specs.declared.SpliceCommand.{SpliceCommand}
-use Rattle.command.specs.declared.SpliceCommand.the-variants as command
 use Rattle.command.specs.declared.components.ComponentSplice.{ComponentSplice}
-use Rattle.command.specs.declared.insert.Break.{Break}
-use Rattle.command.specs.declared.insert.Break.the-variants.{Absent, Lasts}
-use Rattle.command.specs.declared.insert.Insert.{Insert}
-use Rattle.command.specs.declared.insert.Insertion.{Insertion}
-use Rattle.command.specs.declared.insert.SpliceInsert.{SpliceInsert}
-use Rattle.command.specs.declared.insert.SpliceInsert.the-variants as insert
-use Rattle.command.specs.declared.insert.SpliceMode.{SpliceMode}
-use Rattle.command.specs.declared.insert.SpliceMode.the-variants.{Program, Components}
 use Rattle.command_measure.specs.Made.{commandMade}
 use Rattle.flat.specs.FlatCommand.{flatCommand, flatComponent}
-use Rattle.flat.specs.declared.FlatTime.{FlatTime}
-use Rattle.flat.specs.declared.FlatView.{FlatView}
-use Rattle.flat.specs.declared.commands.FlatBreak.{FlatBreak}
 use Rattle.flat.specs.declared.commands.FlatCommand.{FlatCommand}
-use Rattle.flat.specs.declared.commands.FlatInsert.{FlatInsert}
-use Rattle.flat.specs.declared.commands.FlatMode.{FlatMode}
 use Rattle.flat.specs.declared.components.FlatComponentSplice.{FlatComponentSplice}
-use Rattle.header.specs.declared.time.SpliceTime.{SpliceTime}
-use Rattle.header.specs.declared.time.SpliceTime.the-variants.{Immediate, Unspecified, At}
-use Rattle.names.specs.declared.flags.NetworkIndicator.{NetworkIndicator}
-use Rattle.names.specs.declared.flags.ReturnMode.{ReturnMode}
 use Rattle.table.specs.Bits.{pick}
-use Rattle.table.specs.Writing.{Made}
-use Rattle.table.specs.declared.View.{View}
-use Rattle.flat_writer.specs.Words.{word, within, same, placesOf, eachPlace, refusalOf, noLess}
+use Rattle.table.specs.Writing.{Made, refused}
+use Rattle.flat_writer.specs.Words.{word, within, same, eachPlace}
 
 -- ---- struct scte35_command: its words, and the width of each
-unfoldable pub modeIn : List ℕ → FlatMode
-modeIn words =
-    record {
-      «program_splice_flag» = word words 6;
-      «splice_time» = record { kind = word words 7; ticks = word words 8 };
-      «component_count» = word words 9;
-    }
-
-unfoldable pub breakIn : List ℕ → FlatBreak
-breakIn words = record { «duration_flag» = word words 10; «auto_return» = word words 11; duration = word words 12 }
-
-unfoldable pub insertIn : List ℕ → FlatInsert
-insertIn words =
-    record {
-      «splice_event_id» = word words 2;
-      «splice_event_cancel_indicator» = word words 3;
-      reserved = word words 4;
-      «out_of_network_indicator» = word words 5;
-      mode = modeIn words;
-      «break_duration» = breakIn words;
-      «unique_program_id» = word words 13;
-      «avail_num» = word words 14;
-      «avails_expected» = word words 15;
-    }
-
-unfoldable pub commandIn : List ℕ → FlatCommand
-commandIn words =
-    record {
-      refusal = word words 0;
-      «splice_command_type» = word words 1;
-      insert = insertIn words;
-      «splice_time» = record { kind = word words 16; ticks = word words 17 };
-      identifier = word words 18;
-      «private_bytes» = record { at = word words 19; len = word words 20 };
-    }
-
 unfoldable pub commandWords : FlatCommand → List ℕ
 commandWords c =
     c .refusal
@@ -103,50 +49,6 @@ commandWords c =
 unfoldable pub commandWidths : List ℕ
 commandWidths = 64 ∷ 8 ∷ 32 ∷ 1 ∷ 7 ∷ 1 ∷ 1 ∷ 2 ∷ 33 ∷ 8 ∷ 1 ∷ 1 ∷ 33 ∷ 16 ∷ 8 ∷ 8 ∷ 2 ∷ 33 ∷ 32 ∷ 64 ∷ 64 ∷ []
 
--- ---- the value: each number is reduced to its type's width, and a kind that has no value makes some other kind's, so that 32 or 33 applies
-abbrev pub timeFrom : FlatTime → SpliceTime
-timeFrom t = pick (eqb (t .kind) 1) Immediate (pick (eqb (t .kind) 3) (At (t .ticks)) Unspecified)
-
-abbrev pub viewFrom : FlatView → View
-viewFrom v = record { at = v .at; len = v .len }
-
-unfoldable pub modeFrom : FlatMode → SpliceMode
-modeFrom m = pick (eqb (m .«program_splice_flag») 1) (Program (timeFrom (m .«splice_time»))) (Components (m .«component_count» % 256))
-
-unfoldable pub breakFrom : FlatBreak → Break
-breakFrom b =
-    pick (eqb (b .«duration_flag») 1)
-    (Lasts (record { «return_mode» = pick (eqb (b .«auto_return») 1) ReturnMode.Automatic ReturnMode.Manual; duration = b .duration }))
-    Absent
-
-unfoldable pub insertFrom : FlatInsert → Insert
-insertFrom i =
-    record {
-      «network_indicator» = pick (eqb (i .«out_of_network_indicator») 1) NetworkIndicator.Out NetworkIndicator.In;
-      «splice_mode» = modeFrom (i .mode);
-      duration = breakFrom (i .«break_duration»);
-      «unique_program_id» = i .«unique_program_id» % 65536;
-      «avail_num» = i .«avail_num» % 256;
-      «avails_expected» = i .«avails_expected» % 256;
-    }
-
-unfoldable pub insertionFrom : FlatInsert → Insertion
-insertionFrom i =
-    record {
-      «splice_event_id» = i .«splice_event_id» % 2 ^ 32;
-      reserved = i .reserved % 256;
-      «splice_detail» = pick (eqb (i .«splice_event_cancel_indicator») 1) insert.Cancel (insert.Insert (insertFrom i));
-    }
-
-unfoldable pub commandFrom : FlatCommand → SpliceCommand
-commandFrom c =
-    pick (eqb (c .«splice_command_type») 0x05) (command.SpliceInsert (insertionFrom (c .insert)))
-    (pick (eqb (c .«splice_command_type») 0x06) (command.TimeSignal (timeFrom (c .«splice_time»)))
-    (pick (eqb (c .«splice_command_type») 0x07) command.BandwidthReservation
-    (pick (eqb (c .«splice_command_type») 0xff)
-    (command.PrivateCommand (record { identifier = c .identifier % 2 ^ 32; «private_bytes» = viewFrom (c .«private_bytes») }))
-    command.SpliceNull)))
-
 -- ---- struct scte35_insert_components: after refusal and count, which are not looked at, places of three words, as many as the command says
 abbrev pub splicesIn : List ℕ → List ℕ
 splicesIn words = drop 2 words
@@ -158,34 +60,33 @@ componentWords c = c .«component_tag» ∷ c .«splice_time» .kind ∷ c .«sp
 unfoldable pub componentWidths : List ℕ
 componentWidths = 8 ∷ 2 ∷ 33 ∷ []
 
-unfoldable pub componentFrom : List ℕ → ComponentSplice
-componentFrom words = record { «component_tag» = word words 0 % 256; «splice_time» = timeFrom (record { kind = word words 1; ticks = word words 2 }) }
+abbrev pub placesWords : List FlatComponentSplice → List ℕ
+placesWords [] = []
+placesWords (c ∷ cs) = componentWords c ++ placesWords cs
 
--- "array places past a count are left out": they are blank
-unfoldable pub componentsFrom : ℕ → List ℕ → List ComponentSplice
-componentsFrom n words = array (placesOf componentFrom 3 n (splicesIn words))
+-- ---- what is answered
+-- the words are those of c and of its components, cs
+pub record CommandIs (words components : List ℕ) (c : SpliceCommand) (cs : List ComponentSplice) : Type 0 where
+  pub own : same (commandWords (flatCommand c)) words ≡ true
+  pub counts : length cs ≡ countIn c
+  pub places : same (placesWords (map flatComponent cs)) (splicesIn components) ≡ true
 
--- ---- what is asked of the words
-unfoldable pub splicesWithin : ℕ → List ℕ → Bool
-splicesWithin n words = eachPlace (within componentWidths) 3 n (splicesIn words)
+-- how many places of components are looked at: those of an insert that is neither cancelled nor by program
+abbrev pub placesIn : List ℕ → ℕ
+placesIn words = pick (eqb (word words 1) 0x05 && (eqb (word words 3) 0 && eqb (word words 6) 0)) (word words 9) 0
 
-abbrev pub ownComponent : List ℕ → Bool
-ownComponent words = same (componentWords (flatComponent (componentFrom words))) words
+-- refusal 31: "a view reaches outside the lent bytes". Only a private command has one
+unfoldable pub commandSeen : List ℕ → List ℕ → Bool
+commandSeen words lent = pick (eqb (word words 1) 0xff) (leb (word words 19 + word words 20) (length lent)) true
 
-unfoldable pub ownSplices : ℕ → List ℕ → Bool
-ownSplices n words = eachPlace ownComponent 3 n (splicesIn words)
+-- refusal 32: "a number or count handed in exceeds its field"
+unfoldable pub commandFits : List ℕ → List ℕ → Bool
+commandFits words components = within commandWidths words && eachPlace (within componentWidths) 3 (placesIn words) (splicesIn components)
 
--- the number of the words' own refusal, of a command that they make
-unfoldable pub commandRefusal : SpliceCommand → List ℕ → List ℕ → ℕ
-commandRefusal c words components =
-    refusalOf
-    (within commandWidths words && splicesWithin (countIn c) components)
-    (same (commandWords (flatCommand c)) words && ownSplices (countIn c) components)
-
--- ---- the payload, or the number of a refusal: 31, 32 or 33
-abbrev pub commandGiven : List ℕ → SpliceCommand
-commandGiven words = commandFrom (commandIn words)
-
-unfoldable pub commandWordsMade : List ℕ → List ℕ → List ℕ → Made
-commandWordsMade words components lent =
-    noLess (commandRefusal (commandGiven words) words components) (commandMade (commandGiven words) (componentsFrom (countIn (commandGiven words)) components) lent)
+-- "31 to 36 are checked in order of number"; 33, of words that are no value's. Those of a value are answered as its writer answers
+pub data CommandAnswer (words components lent : List ℕ) : Made → Type 0 where
+  outside : commandSeen words lent ≡ false → CommandAnswer words components lent (refused 31)
+  over : commandSeen words lent ≡ true → commandFits words components ≡ false → CommandAnswer words components lent (refused 32)
+  nobodys : commandSeen words lent ≡ true → commandFits words components ≡ true
+      → ((c : SpliceCommand) (cs : List ComponentSplice) → CommandIs words components c cs → ⊥) → CommandAnswer words components lent (refused 33)
+  its : (c : SpliceCommand) (cs : List ComponentSplice) → CommandIs words components c cs → CommandAnswer words components lent (commandMade c (array cs) lent)

@@ -1,4 +1,4 @@
 pub mod Words
 pub mod CommandWords
+pub mod CommandGiven
 pub mod Walk
-pub mod Typed

@@ -23,14 +23,21 @@ unfoldable pub same : List ℕ → List ℕ → Bool
 same [] words = true
 same (x ∷ own) words = eqb (word words 0) x && same own (drop 1 words)
 
--- the first n places of an array, each of k words; and whether each of them passes a test
-unfoldable pub placesOf : {A : Type 0} → (List ℕ → A) → ℕ → ℕ → List ℕ → List A
-placesOf f k zero words = []
-placesOf f k (suc n) words = f words ∷ placesOf f k n (drop k words)
-
+-- does each of the first n places of an array, each of k words, pass a test?
 unfoldable pub eachPlace : (List ℕ → Bool) → ℕ → ℕ → List ℕ → Bool
 eachPlace test k zero words = true
 eachPlace test k (suc n) words = test words && eachPlace test k n (drop k words)
+
+-- ---- the flat form of what a writer answers
+unfoldable pub flatWritten : Written → FlatWritten
+flatWritten (Written.Wrote n) = record { refusal = 0; length = n }
+flatWritten (Written.Refused n) = record { refusal = n; length = 0 }
+
+-- ---- for what the contracts say by functions (CommandGiven.antt and the like)
+-- the first n places of an array, each of k words
+unfoldable pub placesOf : {A : Type 0} → (List ℕ → A) → ℕ → ℕ → List ℕ → List A
+placesOf f k zero words = []
+placesOf f k (suc n) words = f words ∷ placesOf f k n (drop k words)
 
 -- the number of the words' own refusal, 0 for none
 abbrev pub refusalOf : Bool → Bool → ℕ
@@ -47,8 +54,3 @@ lowest n (refused k) = lowerOf n k
 
 unfoldable pub noLess : ℕ → Made → Made
 noLess n m = pick (eqb n 0) m (refused (lowest n m))
-
--- ---- the flat form of what a writer answers
-unfoldable pub flatWritten : Written → FlatWritten
-flatWritten (Written.Wrote n) = record { refusal = 0; length = n }
-flatWritten (Written.Refused n) = record { refusal = n; length = 0 }

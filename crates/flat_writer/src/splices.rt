@@ -1,7 +1,8 @@
 // The components of an insert: places of three words, after the refusal and the count of their struct.
 ghost use mathlib.Core.Path.{_≡_};
 ghost use Prim.Native.Nat.{_≤_};
-ghost use Rattle.flat_writer.specs.CommandWords.{timeFrom, componentFrom, componentsFrom, ownComponent, componentWidths, splicesWithin, ownSplices};
+ghost use Rattle.flat_writer.specs.CommandGiven.{timeFrom, componentFrom, componentsFrom, ownComponent, splicesWithin, ownSplices};
+ghost use Rattle.flat_writer.specs.CommandWords.{componentWidths};
 ghost use Rattle.flat_writer.specs.Words.{within};
 use crate::are_within;
 use crate::word_at;

@@ -18,5 +18,5 @@ flatAnswer number (gives x) = record { refusal = 0; class = named; number = numb
 flatAnswer number (refuses refusal values) = record { refusal = refusal; class = 0; number = 0 }
 
 -- a time of kind 3; any other kind is no time, but "a number .. handed in" has to fit its field all the same: as a time it is refused
-abbrev pub timeFrom : ℕ → ℕ → SpliceTime
-timeFrom kind ticks = pick (eqb kind 3) (At ticks) (pick (ltb ticks (2 ^ 33)) Unspecified (At ticks))
+abbrev pub timeHanded : ℕ → ℕ → SpliceTime
+timeHanded kind ticks = pick (eqb kind 3) (At ticks) (pick (ltb ticks (2 ^ 33)) Unspecified (At ticks))

@@ -14,7 +14,7 @@ ghost use Rattle.header.specs.Time.{adjustedOf};
 ghost use Rattle.items.specs.Items.{stepOf, readingOf};
 ghost use Rattle.section.specs.Section.{sectionOf};
 ghost use Rattle.upid.specs.Upid.{upidOf};
-ghost use Rattle.scte35.specs.FlatNumber.{timeFrom};
+ghost use Rattle.scte35.specs.FlatNumber.{timeHanded};
 use command::CommandRead;
 use command::SpliceCommand;
 use command::components::read_components;
@@ -167,7 +167,7 @@ pub extern "C" fn scte35_crc(s: &[u8], at: usize) -> u32
 
 // The time that is handed in. Ticks over 33 bits are kept whatever the kind, so that they are refused.
 fn time_from(kind: u64, ticks: u64) -> SpliceTime
-    ensures { λ r. ⌜ r ≡ timeFrom kind ticks ⌝ }
+    ensures { λ r. ⌜ r ≡ timeHanded kind ticks ⌝ }
 {
     if kind == 3 {
         return SpliceTime::At(ticks);
@@ -181,7 +181,7 @@ fn time_from(kind: u64, ticks: u64) -> SpliceTime
 // A time of kind 3 with its adjustment; any other kind is no time.
 #[no_mangle]
 pub extern "C" fn scte35_adjusted_time(kind: u64, ticks: u64, pts_adjustment: u64) -> FlatAdjusted
-    ensures { λ r. ⌜ r ≡ flatAdjusted (adjustedOf (timeFrom kind ticks) «pts_adjustment») ⌝ }
+    ensures { λ r. ⌜ r ≡ flatAdjusted (adjustedOf (timeHanded kind ticks) «pts_adjustment») ⌝ }
 {
     flat_adjusted(adjusted_time(time_from(kind, ticks), pts_adjustment))
 }

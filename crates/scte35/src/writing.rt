@@ -1,8 +1,8 @@
 // The writers. They take words, those of the C structs in their order: a word past the end counts as 0, and words past the struct's end are not looked at.
 ghost use mathlib.Core.Path.{_≡_};
 ghost use Rattle.flat_item_writer.specs.ItemGiven.{descriptorWordsMade};
-ghost use Rattle.flat_section_writer.specs.SectionWords.{sectionWordsMade};
-ghost use Rattle.flat_writer.specs.CommandWords.{commandWordsMade};
+ghost use Rattle.flat_section_writer.specs.SectionGiven.{sectionWordsMade};
+ghost use Rattle.flat_writer.specs.CommandGiven.{commandWordsMade};
 ghost use Rattle.flat_writer.specs.Words.{flatWritten};
 ghost use Rattle.pen.specs.Written.{answerOf, laterOf};
 use flat_item_writer::write_descriptor_words;

@@ -1,127 +1,55 @@
 -- A canonical section is what is written over C of what is read over C. Assumes nothing.
-use Prim.Native.Nat.{ℕ, _+_, _-_, _^_, _<_, _≤_}
+use Prim.Native.Nat.{ℕ, _+_, _-_, _≤_}
 use mathlib.Core.Logic.{_⊎_, inl, inr, ⊎-elim}
-use mathlib.Core.Bool.{Bool, true, false}
-use mathlib.Core.List.{List, [], _∷_, _++_}
+use mathlib.Core.Bool.{Bool, true, false, _&&_}
+use mathlib.Core.List.{List, _++_}
 use mathlib.Core.Path.{_≡_, refl, ap, sym, _∙_}
 use native.Mathlib.Omega.{arith}
-use lib.Dec.{ltb, eqb}
+use lib.Dec.{eqb}
 use lib.ListN.{length, take, drop, replicate, length-append}
 use lib.Seq.{length-take-le, take-add, drop-at}
-use borrow.Author.Tests.{ltb-true, eqb-true}
+use borrow.Author.Tests.{eqb-true}
 use Rattle.command.specs.Command.{private, read, empty, commandOf, array, componentsOf, countIn}
-use Rattle.command.specs.Fair.{fairInsert}
-use Rattle.command.specs.Insert.{WithComponents, blank, count, insert, insertOf, byProgram, lasting, outOfNetwork}
+use Rattle.command.specs.Insert.{WithComponents, blank, count, insert, insertOf}
 use Rattle.command.specs.declared.CommandRead.{CommandRead}
 use Rattle.command.specs.declared.SpliceCommand.{SpliceCommand}
 use Rattle.command.specs.declared.components.ComponentSplice.{ComponentSplice}
-use Rattle.command.specs.declared.insert.Insert.{Insert}
 use Rattle.command.specs.declared.insert.Insertion.{Insertion}
 use Rattle.command.specs.declared.insert.SpliceInsert.{SpliceInsert}
-use Rattle.command.specs.declared.insert.SpliceMode.{SpliceMode}
-use Rattle.command_measure.proofs.Making.{private-fields}
-use Rattle.command_measure.proofs.Ties.{insert-fields}
-use Rattle.command_measure.specs.Fields.{unlessFields, listFields, modeFields, breakFields, tailFields, endFields, immediateIn, insertFields}
-use Rattle.command_measure.specs.Made.{counted, commandMade}
-use Rattle.command_measure.specs.Survey.{Tags}
-use Rattle.command_writer.proofs.Theorems.{insert-made}
-use Rattle.descriptor_form.proofs.Refusals.{within-append}
+use Rattle.command_measure.specs.Made.{commandMade}
 use Rattle.descriptor_form.specs.Canonical.{canonicalLoop}
 use Rattle.flat.specs.Flat.{flatHeader}
 use Rattle.flat.specs.FlatCommand.{flatCommand, flatSplices}
 use Rattle.flat.specs.FlatSection.{flatSectionRead}
-use Rattle.flat_section_writer.specs.Typed as header
-use Rattle.flat_section_writer.specs.SectionWords.{headerWords, sectionWordsMade}
+use Rattle.flat_section_writer.proofs.Answers as section
+use Rattle.flat_section_writer.specs.SectionGiven.{sectionWordsMade}
+use Rattle.flat_section_writer.specs.SectionWords.{headerWords, headerWidths, sectionFits}
 use Rattle.flat.specs.declared.commands.FlatCommand.{FlatCommand}
-use Rattle.flat_writer.proofs.Back as flat
-use Rattle.flat_writer.specs.CommandWords.{commandWords, componentsFrom, splicesWithin, ownSplices, commandRefusal, commandGiven}
-use Rattle.flat_writer.specs.Typed.{TypedMode, TypedDetail, Typed}
-use Rattle.flat_writer.specs.Words.{placesOf, eachPlace}
+use Rattle.flat_writer.specs.CommandGiven.{componentsFrom, splicesWithin, ownSplices, commandRefusal, commandGiven}
+use Rattle.flat_writer.specs.CommandWords.{commandWords, commandWidths, placesIn, commandSeen, commandFits}
+use Rattle.flat_writer.proofs.Fits.{own-count}
+use Rattle.flat_writer.proofs.Given.{given-count}
+use Rattle.flat_writer.specs.Words.{within, placesOf, eachPlace}
 use Rattle.header.specs.Time.{spliceTime}
 use Rattle.header.specs.declared.header.SpliceInfoHeader.{SpliceInfoHeader}
 use Rattle.section.specs.Section.{commandLength, commandType, commandBytes, moved, sectionOf}
 use Rattle.section.specs.declared.Section.{Section}
 use Rattle.section.specs.declared.SectionRead.{SectionRead}
-use Rattle.section_writer.proofs.Heads.{fitting, clear}
+use Rattle.section_writer.proofs.Heads.{clear}
 use Rattle.section_writer.proofs.Parts.{parts-of}
 use Rattle.section_writer.proofs.Trips.{section-wrote}
 use Rattle.section_writer.specs.Canonical.{canonicalSection}
-use Rattle.section_writer.specs.Frame.{numbersFit, fairHead}
+use Rattle.section_writer.specs.Frame.{fairHead}
 use Rattle.section_writer.specs.Writing.{kindOf, sectionMade}
-use Rattle.table.proofs.Lists.{zero-one, and-true}
-use Rattle.table.proofs.Structure.{wrote}
+use Rattle.table.proofs.Lists.{zero-one}
 use Rattle.table.specs.Bits.{pick, bitsOf, AllBytes}
 use Rattle.table.specs.Lent.{viewed}
-use Rattle.table.specs.Table.{flagNumber, Answer, got, short, parse}
-use Rattle.table.specs.Writing.{walk, within, Made, made}
+use Rattle.table.specs.Table.{Answer, got, short, parse}
+use Rattle.table.specs.Writing.{Made, made}
 use Rattle.theorems.specs.OverC.{splicesWords, componentsAnswered}
 use Rattle.theorems.proofs.InsertsRead.{insert-has}
-use Rattle.theorems.proofs.OverC.{section-taken}
-use Rattle.theorems.proofs.WrittenBack.{command-back, command-canonical, payload-bytes, section-back}
-
--- ---- what is written is of its types: each number was within its field
-list-tags : (b : Bool) (cs : List ComponentSplice) → within (listFields b cs) ≡ true → Tags cs
-list-tags b [] w = tt
-list-tags b (c ∷ cs) w =
-    let a = and-true (ltb (c .«component_tag») (2 ^ 8)) _ w in
-    let r = and-true (within (unlessFields b (c .«splice_time»))) _ (sym (within-append (unlessFields b (c .«splice_time»)) (listFields b cs)) ∙ a .1) in
-    (ltb-true _ _ (a .0), list-tags b cs (r .1))
-
-mode-typed : (b : Bool) (k : SpliceMode) (cs : List ComponentSplice) → length cs ≡ count k → within (modeFields b k cs) ≡ true → TypedMode k × Tags cs
-mode-typed b (SpliceMode.Program t) [] e w = (tt, tt)
-mode-typed b (SpliceMode.Program t) (c ∷ cs) e w = absurd (omega arith)
-mode-typed b (SpliceMode.Components n) cs e w =
-    let a = and-true (ltb n (2 ^ 8)) _ w in
-    (ltb-true _ _ (a .0), list-tags b cs (a .1))
-
-active-typed : (i : Insert) (cs : List ComponentSplice) → length cs ≡ count (i .«splice_mode») → within (modeFields (immediateIn i cs) (i .«splice_mode») cs ++ endFields i) ≡ true → TypedDetail (SpliceInsert.Insert i) × Tags cs
-active-typed i cs e w =
-    let m = modeFields (immediateIn i cs) (i .«splice_mode») cs in
-    let d = breakFields (i .duration) in
-    let t = tailFields (i .«unique_program_id») (i .«avail_num») (i .«avails_expected») in
-    let a = and-true (within m) _ (sym (within-append m (endFields i)) ∙ w) in
-    let r = and-true (within d) _ (sym (within-append d t) ∙ a .1) in
-    let p = and-true (ltb (i .«unique_program_id») (2 ^ 16)) _ (r .1) in
-    let q = and-true (ltb (i .«avail_num») (2 ^ 8)) _ (p .1) in
-    let s = and-true (ltb (i .«avails_expected») (2 ^ 8)) _ (q .1) in
-    let k = mode-typed (immediateIn i cs) (i .«splice_mode») cs e (a .0) in
-    ((ltb-true _ _ (p .0), ltb-true _ _ (q .0), ltb-true _ _ (s .0), k .0), k .1)
-
-insert-typed : (event kept : ℕ) (d : SpliceInsert) (cs : List ComponentSplice) → length cs ≡ count (insertOf d .«splice_mode»)
-    → within (insertFields (record { value = record { «splice_event_id» = event; reserved = kept; «splice_detail» = d }; components = cs })) ≡ true
-    → ((event < 2 ^ 32) × (kept < 256) × TypedDetail d) × Tags cs
-insert-typed event kept SpliceInsert.Cancel [] e w =
-    let a = and-true (ltb event (2 ^ 32)) _ w in
-    let c = and-true (ltb kept (2 ^ 7)) _ (a .1) in
-    let k = ltb-true kept (2 ^ 7) (c .0) in
-    ((ltb-true _ _ (a .0), omega (arith, k), tt), tt)
-insert-typed event kept SpliceInsert.Cancel (c ∷ cs) e w = absurd (omega arith)
-insert-typed event kept (SpliceInsert.Insert i) cs e w =
-    let a = and-true (ltb event (2 ^ 32)) _ w in
-    let c = and-true (ltb kept (2 ^ 7)) _ (a .1) in
-    let k = ltb-true kept (2 ^ 7) (c .0) in
-    let f₁ = and-true (ltb (flagNumber (outOfNetwork (i .«network_indicator»))) 2) _ (c .1) in
-    let f₂ = and-true (ltb (flagNumber (byProgram (i .«splice_mode»))) 2) _ (f₁ .1) in
-    let f₃ = and-true (ltb (flagNumber (lasting (i .duration))) 2) _ (f₂ .1) in
-    let f₄ = and-true (ltb (flagNumber (immediateIn i cs)) 2) _ (f₃ .1) in
-    let t = active-typed i cs e (f₄ .1) in
-    ((ltb-true _ _ (a .0), omega (arith, k), t .0), t .1)
-
-pub typed-made : (c : SpliceCommand) (places : List ComponentSplice) (lent b : List ℕ) → countIn c ≤ length places → commandMade c places lent ≡ made b → Typed c × Tags (take (countIn c) places)
-unfolding commandMade
-typed-made SpliceCommand.SpliceNull places lent b h e = (tt, tt)
-typed-made (SpliceCommand.SpliceInsert x) places lent b h e =
-    let n = count (insertOf (x .«splice_detail») .«splice_mode») in
-    let cs = take n places in
-    let l : length cs ≡ n = length-take-le n places h in
-    let w = wrote (fairInsert (counted x places)) [] (walk insert (counted x places) 0 .fields) b (insert-made (counted x places) b e .1) in
-    insert-typed (x .«splice_event_id») (x .reserved) (x .«splice_detail») cs l
-    (sym (ap within (insert-fields (x .«splice_event_id») (x .reserved) (x .«splice_detail») cs l)) ∙ w .widths)
-typed-made (SpliceCommand.TimeSignal t) places lent b h e = (tt, tt)
-typed-made SpliceCommand.BandwidthReservation places lent b h e = (tt, tt)
-typed-made (SpliceCommand.PrivateCommand p) places lent b h e =
-    let w = wrote true lent (walk private p 0 .fields) b e in
-    (ltb-true _ _ (and-true (ltb (p .identifier) (2 ^ 32)) _ (sym (ap within (private-fields p lent)) ∙ w .widths) .0), tt)
+use Rattle.theorems.proofs.OverC.{same-self, section-taken}
+use Rattle.theorems.proofs.WrittenBack.{section-back}
 
 -- ---- of a payload that is read, the components that the command counts are there
 insert-there : (p : List ℕ) (x : WithComponents Insertion) (m : ℕ) → parse insert (bitsOf p) 0 ≡ got x m → count (insertOf (x .value .«splice_detail») .«splice_mode») ≤ length (componentsOf p)
@@ -175,14 +103,6 @@ moved-count (SpliceCommand.TimeSignal t) = refl
 moved-count SpliceCommand.BandwidthReservation = refl
 moved-count (SpliceCommand.PrivateCommand p) = refl
 
-moved-typed : (c : SpliceCommand) → Typed c → Typed (moved 14 c)
-unfolding moved
-moved-typed SpliceCommand.SpliceNull h = h
-moved-typed (SpliceCommand.SpliceInsert x) h = h
-moved-typed (SpliceCommand.TimeSignal t) h = h
-moved-typed SpliceCommand.BandwidthReservation h = h
-moved-typed (SpliceCommand.PrivateCommand p) h = h
-
 moved-splices : (c : SpliceCommand) (cs : List ComponentSplice) → flatSplices (CommandRead.Is c) cs ≡ flatSplices (CommandRead.Is (moved 14 c)) cs
 unfolding moved flatSplices flatCommand
 moved-splices SpliceCommand.SpliceNull cs = refl
@@ -192,12 +112,9 @@ moved-splices SpliceCommand.BandwidthReservation cs = refl
 moved-splices (SpliceCommand.PrivateCommand p) cs = refl
 
 -- ---- the section
-header-typed : (h : SpliceInfoHeader) → numbersFit h ≡ true → header.Typed h
-header-typed h e = let f = fitting h e in (f .version, omega (arith, f .algorithm), f .index, omega (arith, f .tiers))
-
-section-made : (h : SpliceInfoHeader) (m : Made) (kind : ℕ) (loop b : List ℕ) → sectionMade h m kind loop ≡ made b → (numbersFit h ≡ true) × (fairHead h ≡ true)
+section-made : (h : SpliceInfoHeader) (m : Made) (kind : ℕ) (loop b : List ℕ) → sectionMade h m kind loop ≡ made b → fairHead h ≡ true
 unfolding sectionMade
-section-made h m kind loop b e = let w = section-wrote (canonicalLoop loop) h m kind loop b e in (w .fits, w .fair)
+section-made h m kind loop b e = section-wrote (canonicalLoop loop) h m kind loop b e .fair
 
 -- what is read over C of a section, and of its command's components
 flat-header : (s : List ℕ) (x : Section) → sectionOf s ≡ SectionRead.Is x → flatSectionRead (sectionOf s) .header ≡ flatHeader (x .header)
@@ -220,21 +137,34 @@ by-payload s x a e c =
     let payload = commandBytes s in
     let places = componentsOf payload in
     let there : countIn own ≤ length places = count-there (commandType s) payload own (p .command) in
-    let b = command-back (commandType s) payload (payload-bytes s a) own (command-canonical s c) (p .command) in
-    let t = typed-made own places payload payload there (b .1) in
     let m = section-back s x a e c in
     let h = section-made (x .header) (commandMade (x .command) places s) (kindOf (x .command)) (viewed s (x .descriptors)) s m in
-    let typed : Typed (x .command) = rw (p .moves) (moved-typed own (t .0)) in
     let k : countIn (x .command) ≡ countIn own = ap countIn (p .moves) ∙ moved-count own in
     let splices : flatSplices (commandOf (commandType s) payload) places ≡ flatSplices (CommandRead.Is (x .command)) places =
     ap (λ (r : CommandRead). flatSplices r places) (p .command) ∙ moved-splices own places ∙ sym (ap (λ (d : SpliceCommand). flatSplices (CommandRead.Is d) places) (p .moves)) in
     same-words s (viewed s (x .descriptors)) (ap headerWords (flat-header s x e)) (ap commandWords (flat-command s x e)) (ap splicesWords splices)
-    ∙ section-taken places s (omega (arith, p .short)) (x .command) typed (omega (arith, there, k)) (rw k (t .1)) (x .header) (header-typed (x .header) (h .0)) (clear (x .header) (h .1) .1) (viewed s (x .descriptors)) ∙ m
+    ∙ section-taken places s (omega (arith, p .short)) (x .command) (omega (arith, there, k)) (x .header) (clear (x .header) h .1) (viewed s (x .descriptors)) ∙ m
 
 -- ---- words of components that a command does not count
-pub uncounted : (header command v w lent loop : List ℕ) → countIn (commandGiven command) ≡ 0 → sectionWordsMade header command v lent loop ≡ sectionWordsMade header command w lent loop
+and-false : (b : Bool) → b && false ≡ false
+and-false true = refl
+and-false false = refl
+
+uncounted-given : (header command v w lent loop : List ℕ) → countIn (commandGiven command) ≡ 0 → sectionWordsMade header command v lent loop ≡ sectionWordsMade header command w lent loop
 unfolding sectionWordsMade commandRefusal splicesWithin ownSplices componentsFrom eachPlace placesOf
-uncounted header command v w lent loop e = rw e
+uncounted-given header command v w lent loop e = rw e
+
+pub uncounted : (header command v w lent loop : List ℕ) → placesIn command ≡ 0 → sectionWordsMade header command v lent loop ≡ sectionWordsMade header command w lent loop
+unfolding sectionFits commandFits
+uncounted header command v w lent loop e = go (within commandWidths command) refl (commandSeen command lent) refl
+  where
+    over : within commandWidths command ≡ false → (v : List ℕ) → sectionFits header command v ≡ false
+    over f v = rw f (and-false (within headerWidths header))
+
+    go : (b : Bool) → within commandWidths command ≡ b → (s : Bool) → commandSeen command lent ≡ s → sectionWordsMade header command v lent loop ≡ sectionWordsMade header command w lent loop
+    go true f s g = uncounted-given header command v w lent loop (given-count command f ∙ e)
+    go false f false g = section.made-outside header command v lent loop g ∙ sym (section.made-outside header command w lent loop g)
+    go false f true g = section.made-over header command v lent loop g (over f v) ∙ sym (section.made-over header command w lent loop g (over f w))
 
 -- ---- over C the components are read of the section's bytes up to its command's end
 payload-is : (s : List ℕ) → 14 ≤ length s → drop 14 (take (14 + commandLength s) s) ≡ commandBytes s
@@ -257,13 +187,6 @@ counts-by-type kind p c f = go (eqb kind 0x00) (eqb kind 0x05) refl (eqb kind 0x
     go false false i false false true e = inr (read-count SpliceCommand.PrivateCommand (parse private (bitsOf p) 0) c (λ x. refl) e)
     go false false i false false false e = zero-one cc
 
-typed-here : (s : List ℕ) (x : Section) → AllBytes s → sectionOf s ≡ SectionRead.Is x → canonicalSection s ≡ true → Typed (x .command)
-typed-here s x a e c =
-    let p = parts-of s x e in
-    let b = command-back (commandType s) (commandBytes s) (payload-bytes s a) (p .own) (command-canonical s c) (p .command) in
-    let there = count-there (commandType s) (commandBytes s) (p .own) (p .command) in
-    rw (p .moves) (moved-typed (p .own) (typed-made (p .own) (componentsOf (commandBytes s)) (commandBytes s) (commandBytes s) there (b .1) .0))
-
 pub section-again : (s : List ℕ) (x : Section) → AllBytes s → sectionOf s ≡ SectionRead.Is x → canonicalSection s ≡ true
     → sectionWordsMade (headerWords (flatSectionRead (sectionOf s) .header)) (commandWords (flatSectionRead (sectionOf s) .command)) (splicesWords (componentsAnswered s)) s (viewed s (x .descriptors)) ≡ made s
 section-again s x a e c =
@@ -277,6 +200,7 @@ section-again s x a e c =
     (ap (λ (q : List ℕ). answer (commandOf 0x05 q) q) payload ∙ sym (ap (λ (n : ℕ). answer (commandOf n (commandBytes s)) (commandBytes s)) k)) ∙ by-payload s x a e c in
     let other : countIn (p .own) ≡ 0 → sectionWordsMade header command (splicesWords (componentsAnswered s)) s (viewed s (x .descriptors)) ≡ made s =
     λ z. uncounted header command _ _ s (viewed s (x .descriptors))
-    (ap countIn (ap (λ (f : FlatCommand). commandGiven (commandWords f)) (flat-command s x e) ∙ flat.command-back (x .command) (typed-here s x a e c) ∙ p .moves) ∙ moved-count (p .own) ∙ z)
+    (ap (λ (f : FlatCommand). placesIn (commandWords f)) (flat-command s x e) ∙ own-count (x .command) (commandWords (flatCommand (x .command))) (same-self (commandWords (flatCommand (x .command))))
+    ∙ ap countIn (p .moves) ∙ moved-count (p .own) ∙ z)
     ∙ by-payload s x a e c in
     ⊎-elim insert other (counts-by-type (commandType s) (commandBytes s) (p .own) (p .command))

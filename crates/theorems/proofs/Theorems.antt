@@ -7,14 +7,14 @@ use mathlib.Core.Bool.{true, false, not}
 use mathlib.Core.List.{List, [], _∷_, _++_, map}
 use mathlib.Core.Path.{_≡_}
 use lib.ListN.{length, drop}
-use Rattle.command.specs.Command.{private, commandOf, array, componentsOf, countIn}
+use Rattle.command.specs.Command.{private, commandOf, array, componentsOf}
 use Rattle.command.specs.declared.CommandRead.{CommandRead}
 use Rattle.command.specs.declared.Private.{Private}
 use Rattle.command.specs.declared.SpliceCommand.{SpliceCommand}
 use Rattle.command.specs.declared.components.ComponentSplice.{ComponentSplice}
 use Rattle.command.specs.declared.insert.Insertion.{Insertion}
 use Rattle.command_measure.specs.Made.{counted, commandMade}
-use Rattle.command_measure.specs.Survey.{Countable, Tags}
+use Rattle.command_measure.specs.Survey.{Countable}
 use Rattle.crc.specs.Crc.{crcOf}
 use Rattle.descriptor.proofs.Longer as longer
 use Rattle.descriptor.specs.Descriptor.{availOf, dtmfOf, timeOf, cuei, descriptorOf}
@@ -25,16 +25,16 @@ use Rattle.descriptor.specs.declared.segmentation.SegmentationDetail.{Segmentat
 use Rattle.descriptor.specs.declared.segmentation.SegmentationInsert.{SegmentationInsert}
 use Rattle.descriptor.specs.declared.segmentation.SubSegment.{SubSegment}
 use Rattle.descriptor.specs.declared.segmentation.SubSegments.{SubSegments}
-use Rattle.flat.specs.Flat.{flatHeader}
-use Rattle.flat.specs.FlatCommand.{flatCommand, flatSplices}
 use Rattle.flat.specs.FlatSection.{flatSectionRead}
 use Rattle.flat_item_writer.proofs.Answered as answered
 use Rattle.flat_item_writer.specs.ItemGiven.{descriptorWordsMade}
 use Rattle.flat_item_writer.specs.ItemWords.{DescriptorAnswer}
-use Rattle.flat_section_writer.specs.Typed as header
-use Rattle.flat_section_writer.specs.SectionWords.{headerWords, sectionWordsMade}
-use Rattle.flat_writer.specs.Typed as command
-use Rattle.flat_writer.specs.CommandWords.{commandWords, commandGiven, commandWordsMade}
+use Rattle.flat_section_writer.proofs.Answers as section-answers
+use Rattle.flat_section_writer.specs.SectionGiven.{sectionWordsMade}
+use Rattle.flat_section_writer.specs.SectionWords.{headerWords, SectionAnswer}
+use Rattle.flat_writer.proofs.Answers as command-answers
+use Rattle.flat_writer.specs.CommandGiven.{commandWordsMade}
+use Rattle.flat_writer.specs.CommandWords.{commandWords, placesIn, CommandAnswer}
 use Rattle.header.specs.Time.{adjustedOf}
 use Rattle.header.specs.declared.header.SpliceInfoHeader.{SpliceInfoHeader}
 use Rattle.header.specs.declared.time.AdjustedTime.{AdjustedTime}
@@ -44,7 +44,6 @@ use Rattle.items.specs.Items.{stepOf, itemsOf}
 use Rattle.loop_laws.specs.Loops.{joinedMade, loopMade, Given, givenMade, GivenTypes, ItemsBack}
 use Rattle.pen.specs.Written.{answerOf, laterOf}
 use Rattle.pen.specs.declared.Written.{Written}
-use Rattle.names.specs.Algorithm.{fairAlgorithm}
 use Rattle.section.proofs.Acceptance as acceptance
 use Rattle.section.specs.Section.{commandType, commandBytes, loopLength, loopPlace, unknownCommand, conditions, first, sectionOf, numberOf, None}
 use Rattle.section.specs.Whole.{wholeSectionOf}
@@ -68,7 +67,6 @@ use Rattle.theorems.proofs.Answers as answers
 use Rattle.theorems.proofs.CommandTypes as command-types
 use Rattle.theorems.proofs.ItemsWritten as items-written
 use Rattle.theorems.proofs.LoopsOverC as loops-over-c
-use Rattle.theorems.proofs.OverC as over-c
 use Rattle.theorems.proofs.RowsHold as rows-hold
 use Rattle.theorems.proofs.Sections as sections
 use Rattle.theorems.proofs.Targets as targets
@@ -196,19 +194,21 @@ eight-and-twelve-bytes-are-read-whole = worked.both-whole
 
 -- ---- over the C boundary
 
--- What a reader over C answers is what a writer over C takes. The words of a command's flat form, and those of its components, are written as the command with its
--- components is written, or refused with the same number: the tests of words refuse nothing that the writer of the value does not. (What the types say of a command's numbers: `command.Typed`; of the tags: `Tags`. A
--- count's places are there: the array has 255.)
-pub command-words-are-the-command : (c : SpliceCommand) (places : List ComponentSplice) (lent : List ℕ) → command.Typed c → Tags places → countIn c ≤ length places → length lent < 2 ^ 64
-    → commandWordsMade (commandWords (flatCommand c)) (splicesWords (flatSplices (CommandRead.Is c) places)) lent ≡ commandMade c places lent
-command-words-are-the-command c places lent typed tags there short = over-c.command-taken places lent short c typed there (over-c.tags-take (countIn c) places tags)
+-- What the writers over C answer, of whatever words: what `CommandAnswer` and `SectionAnswer` say (flat_writer/specs/CommandWords.antt,
+-- flat_section_writer/specs/SectionWords.antt), and no other answer is such. So what a reader over C answers is what a writer over C takes: the words of a value's flat
+-- form are written as the value is written, or refused with the same number. (A slice has fewer than 2 ^ 64 bytes.)
+pub command-words-are-answered : (words components lent : List ℕ) → CommandAnswer words components lent (commandWordsMade words components lent)
+command-words-are-answered = command-answers.answered
 
--- So are those of a header, a command and a loop as the section. (A reserved algorithm whose number has a name has the words of that name.)
-pub section-words-are-the-section : (h : SpliceInfoHeader) (c : SpliceCommand) (places : List ComponentSplice) (lent loop : List ℕ) → header.Typed h
-    → fairAlgorithm (h .«encryption_algorithm») ≡ true → command.Typed c → Tags places → countIn c ≤ length places → length lent < 2 ^ 64
-    → sectionWordsMade (headerWords (flatHeader h)) (commandWords (flatCommand c)) (splicesWords (flatSplices (CommandRead.Is c) places)) lent loop
-    ≡ sectionMade h (commandMade c places lent) (kindOf c) loop
-section-words-are-the-section h c places lent loop h-typed fair typed tags there short = over-c.section-taken places lent short c typed there (over-c.tags-take (countIn c) places tags) h h-typed fair loop
+pub command-answers-are-one : (words components lent : List ℕ) → length lent < 2 ^ 64 → (m n : Made) → CommandAnswer words components lent m → CommandAnswer words components lent n → m ≡ n
+command-answers-are-one = command-answers.one-answer
+
+pub section-words-are-answered : (header command components lent loop : List ℕ) → SectionAnswer header command components lent loop (sectionWordsMade header command components lent loop)
+section-words-are-answered = section-answers.answered
+
+pub section-answers-are-one : (header command components lent loop : List ℕ) → length lent < 2 ^ 64 → (m n : Made)
+    → SectionAnswer header command components lent loop m → SectionAnswer header command components lent loop n → m ≡ n
+section-answers-are-one = section-answers.one-answer
 
 -- Demand 2 over C: writing the words that are read of a canonical section gives its bytes: its header's and its command's, as `scte35_section` answers them, those of its
 -- components, as `scte35_insert_components` answers them, and its loop as it stands in the section
@@ -218,7 +218,7 @@ pub a-canonical-section-is-what-is-written-of-its-words : (s : List ℕ) (x : Se
 a-canonical-section-is-what-is-written-of-its-words = sections-over-c.section-again
 
 -- (The words of components matter for a command that counts some, an insert by components.)
-pub uncounted-components-are-not-looked-at : (header command v w lent loop : List ℕ) → countIn (commandGiven command) ≡ 0
+pub uncounted-components-are-not-looked-at : (header command v w lent loop : List ℕ) → placesIn command ≡ 0
     → sectionWordsMade header command v lent loop ≡ sectionWordsMade header command w lent loop
 uncounted-components-are-not-looked-at = sections-over-c.uncounted
 

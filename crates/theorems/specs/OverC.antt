@@ -4,7 +4,6 @@ use mathlib.Core.List.{List, [], _∷_, _++_}
 use lib.ListN.{take, drop}
 use Rattle.command.specs.Command.{commandOf, componentsOf}
 use Rattle.flat.specs.FlatCommand.{flatSplices}
-use Rattle.flat.specs.declared.components.FlatComponentSplice.{FlatComponentSplice}
 use Rattle.flat.specs.declared.components.FlatSplices.{FlatSplices}
 use Rattle.flat_item_writer.specs.ItemGiven.{descriptorWordsMade}
 use Rattle.flat_item_writer.specs.ItemWords.{itemWords}
@@ -12,16 +11,13 @@ use Rattle.flat_items.specs.FlatItem.{flatStep, flatBeside}
 use Rattle.flat_items.specs.declared.beside.FlatBeside.{FlatBeside}
 use Rattle.flat_items.specs.declared.beside.FlatComponent.{FlatComponent}
 use Rattle.flat_items.specs.declared.steps.FlatStep.{FlatStep}
-use Rattle.flat_writer.specs.CommandWords.{componentWords}
+use Rattle.flat_writer.specs.CommandWords.{placesWords}
 use Rattle.items.specs.Items.{readingOf, Listed}
 use Rattle.section.specs.Section.{commandLength}
 use Rattle.table.specs.Writing.{Made}
 use Rattle.theorems.specs.Identifiers.{each}
 
 -- struct scte35_insert_components: refusal, count, and three words of each component
-abbrev pub placesWords : List FlatComponentSplice → List ℕ
-placesWords cs = each componentWords cs
-
 abbrev pub splicesWords : FlatSplices → List ℕ
 splicesWords s = s .refusal ∷ s .count ∷ placesWords (s .components)
 

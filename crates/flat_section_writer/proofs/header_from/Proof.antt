@@ -1,6 +1,6 @@
 -- `flat_section_writer::header_from` meets its contract. Assumes nothing.
 use borrow.Author.Needs.{needs}
-use Rattle.flat_section_writer.specs.SectionWords.{headerFrom}
+use Rattle.flat_section_writer.specs.SectionGiven.{headerFrom}
 use Rattle.flat_section_writer.proofs.header_from.Statement.{statement}
 use Rattle.flat_section_writer.proofs.header_from.Tie as tie
 

@@ -4,7 +4,8 @@ use mathlib.Core.Path.{_≡_, ap, sym, _∙_}
 use borrow.Author.Tests.{not-true, not-false}
 use Rattle.flat.specs.Flat.{flatHeader, flatHeaderRead}
 use Rattle.flat_writer.specs.Words.{within, same}
-use Rattle.flat_section_writer.specs.SectionWords.{headerFrom, headerWords, headerWidths, headerRefusal}
+use Rattle.flat_section_writer.specs.SectionGiven.{headerFrom, headerRefusal}
+use Rattle.flat_section_writer.specs.SectionWords.{headerWords, headerWidths}
 use mathlib.Core.List.{List}
 use Prim.Native.Nat.{ℕ}
 use Rattle.flat_section_writer.proofs.header_refusal.Statement.{statement}

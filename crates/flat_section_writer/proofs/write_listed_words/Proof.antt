@@ -9,7 +9,7 @@ use Rattle.command_measure.specs.Made.{commandMade}
 use Rattle.section_writer.specs.Writing.{sectionMade, kindOf}
 use Rattle.flat_writer.specs.Words.{noLess}
 use Rattle.command.specs.Command.{countIn}
-use Rattle.flat_writer.specs.CommandWords.{componentsFrom}
+use Rattle.flat_writer.specs.CommandGiven.{componentsFrom}
 use Rattle.flat_writer.proofs.Words.{words-refused, words-taken, later-nil}
 use Rattle.flat_section_writer.proofs.write_listed_words.Statement.{statement}
 use Rattle.flat_section_writer.proofs.write_listed_words.Tie as tie

@@ -13,8 +13,8 @@ use Rattle.pen.specs.Written.{answerOf, laterOf}
 use Rattle.section_writer.specs.Writing.{sectionMade, kindOf}
 use Rattle.table.specs.Writing.{Made}
 use Rattle.flat_writer.specs.Words.{noLess, flatWritten}
-use Rattle.flat_writer.specs.CommandWords.{commandGiven, componentsFrom, commandRefusal}
-use Rattle.flat_section_writer.specs.SectionWords.{headerFrom, headerRefusal, either, sectionWordsMade}
+use Rattle.flat_writer.specs.CommandGiven.{commandGiven, componentsFrom, commandRefusal}
+use Rattle.flat_section_writer.specs.SectionGiven.{headerFrom, headerRefusal, either, sectionWordsMade}
 use Rattle.flat_writer.proofs.Components.{no-places}
 use Rattle.flat_writer.proofs.Refusals.{command-small}
 use Rattle.flat_section_writer.proofs.Refusals.{header-small, either-small}

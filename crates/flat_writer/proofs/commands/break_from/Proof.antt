@@ -1,6 +1,6 @@
 -- `flat_writer::commands::break_from`, by the flags. Assumes nothing.
 use borrow.Author.Tests.{eq-eqb, ne-eqb}
-use Rattle.flat_writer.specs.CommandWords.{breakFrom}
+use Rattle.flat_writer.specs.CommandGiven.{breakFrom}
 use Rattle.flat_writer.proofs.commands.break_from.Statement.{statement}
 use Rattle.flat_writer.proofs.commands.break_from.Tie as tie
 

@@ -1,6 +1,6 @@
 -- `flat_writer::commands::break_in` meets its contract. Assumes nothing.
 use borrow.Author.Needs.{needs}
-use Rattle.flat_writer.specs.CommandWords.{breakIn}
+use Rattle.flat_writer.specs.CommandGiven.{breakIn}
 use Rattle.flat_writer.proofs.commands.break_in.Statement.{statement}
 use Rattle.flat_writer.proofs.commands.break_in.Tie as tie
 

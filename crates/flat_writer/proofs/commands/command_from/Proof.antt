@@ -2,7 +2,7 @@
 use borrow.Author.Needs.{needs}
 use native.Mathlib.Omega.{arith}
 use borrow.Author.Tests.{ne-eqb}
-use Rattle.flat_writer.specs.CommandWords.{commandFrom}
+use Rattle.flat_writer.specs.CommandGiven.{commandFrom}
 use Rattle.flat_writer.proofs.commands.command_from.Statement.{statement}
 use Rattle.flat_writer.proofs.commands.command_from.Tie as tie
 

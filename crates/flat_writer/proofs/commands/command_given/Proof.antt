@@ -1,7 +1,7 @@
 -- `flat_writer::commands::command_given` meets its contract. Assumes nothing.
 use borrow.Author.Needs.{needs}
 use mathlib.Core.Path.{ap, _∙_}
-use Rattle.flat_writer.specs.CommandWords.{commandFrom}
+use Rattle.flat_writer.specs.CommandGiven.{commandFrom}
 use Rattle.flat_writer.proofs.commands.command_given.Statement.{statement}
 use Rattle.flat_writer.proofs.commands.command_given.Tie as tie
 

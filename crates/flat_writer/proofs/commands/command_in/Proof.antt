@@ -1,6 +1,6 @@
 -- `flat_writer::commands::command_in` meets its contract. Assumes nothing.
 use borrow.Author.Needs.{needs}
-use Rattle.flat_writer.specs.CommandWords.{commandIn}
+use Rattle.flat_writer.specs.CommandGiven.{commandIn}
 use Rattle.flat_writer.proofs.commands.command_in.Statement.{statement}
 use Rattle.flat_writer.proofs.commands.command_in.Tie as tie
 

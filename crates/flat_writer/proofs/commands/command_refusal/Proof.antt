@@ -8,7 +8,8 @@ use Rattle.flat.specs.FlatCommand.{flatCommand, flatCommandRead}
 use Rattle.flat.specs.declared.commands.FlatCommand.{FlatCommand}
 use Rattle.flat_writer.specs.Words.{within, same}
 use Rattle.command.specs.Command.{countIn}
-use Rattle.flat_writer.specs.CommandWords.{commandWords, commandWidths, splicesWithin, ownSplices, commandRefusal}
+use Rattle.flat_writer.specs.CommandGiven.{splicesWithin, ownSplices, commandRefusal}
+use Rattle.flat_writer.specs.CommandWords.{commandWords, commandWidths}
 use Rattle.flat_writer.proofs.Words.{first-wide, second-wide, first-other, second-other, no-refusal}
 use Rattle.flat_writer.proofs.commands.command_refusal.Statement.{statement}
 use Rattle.flat_writer.proofs.commands.command_refusal.Tie as tie

@@ -2,7 +2,7 @@
 use borrow.Author.Needs.{needs}
 use Prim.Native.Nat.{ℕ}
 use mathlib.Core.Path.{ap, _∙_}
-use Rattle.flat_writer.specs.CommandWords.{componentsFrom}
+use Rattle.flat_writer.specs.CommandGiven.{componentsFrom}
 use Rattle.flat_writer.proofs.commands.components_given.Statement.{statement}
 use Rattle.flat_writer.proofs.commands.components_given.Tie as tie
 

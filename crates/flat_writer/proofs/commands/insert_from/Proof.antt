@@ -6,7 +6,7 @@ use lib.Dec.{eqb}
 use borrow.Author.Tests.{eq-eqb, ne-eqb}
 use Rattle.names.specs.declared.flags.NetworkIndicator.{NetworkIndicator}
 use Rattle.table.specs.Bits.{pick}
-use Rattle.flat_writer.specs.CommandWords.{insertFrom}
+use Rattle.flat_writer.specs.CommandGiven.{insertFrom}
 use Rattle.flat_writer.proofs.commands.insert_from.Statement.{statement}
 use Rattle.flat_writer.proofs.commands.insert_from.Tie as tie
 

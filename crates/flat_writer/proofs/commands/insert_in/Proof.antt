@@ -1,6 +1,6 @@
 -- `flat_writer::commands::insert_in` meets its contract. Assumes nothing.
 use borrow.Author.Needs.{needs}
-use Rattle.flat_writer.specs.CommandWords.{insertIn}
+use Rattle.flat_writer.specs.CommandGiven.{insertIn}
 use Rattle.flat_writer.proofs.commands.insert_in.Statement.{statement}
 use Rattle.flat_writer.proofs.commands.insert_in.Tie as tie
 

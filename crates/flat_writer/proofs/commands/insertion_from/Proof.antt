@@ -6,7 +6,7 @@ use lib.Dec.{eqb}
 use borrow.Author.Tests.{eq-eqb, ne-eqb}
 use Rattle.command.specs.declared.insert.SpliceInsert.{SpliceInsert}
 use Rattle.table.specs.Bits.{pick}
-use Rattle.flat_writer.specs.CommandWords.{insertFrom, insertionFrom}
+use Rattle.flat_writer.specs.CommandGiven.{insertFrom, insertionFrom}
 use Rattle.flat_writer.proofs.commands.insertion_from.Statement.{statement}
 use Rattle.flat_writer.proofs.commands.insertion_from.Tie as tie
 

@@ -1,7 +1,7 @@
 -- `flat_writer::commands::mode_from`, by the flag. Assumes nothing.
 use borrow.Author.Needs.{needs}
 use borrow.Author.Tests.{eq-eqb, ne-eqb}
-use Rattle.flat_writer.specs.CommandWords.{modeFrom}
+use Rattle.flat_writer.specs.CommandGiven.{modeFrom}
 use Rattle.flat_writer.proofs.commands.mode_from.Statement.{statement}
 use Rattle.flat_writer.proofs.commands.mode_from.Tie as tie
 

@@ -1,6 +1,6 @@
 -- `flat_writer::commands::mode_in` meets its contract. Assumes nothing.
 use borrow.Author.Needs.{needs}
-use Rattle.flat_writer.specs.CommandWords.{modeIn}
+use Rattle.flat_writer.specs.CommandGiven.{modeIn}
 use Rattle.flat_writer.proofs.commands.mode_in.Statement.{statement}
 use Rattle.flat_writer.proofs.commands.mode_in.Tie as tie
 

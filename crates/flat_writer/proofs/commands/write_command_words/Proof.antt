@@ -11,7 +11,7 @@ use Rattle.command_measure.specs.Made.{commandMade}
 use Rattle.pen.specs.Written.{answerOf, laterOf}
 use Rattle.table.specs.Writing.{Made}
 use Rattle.flat_writer.specs.Words.{noLess, flatWritten}
-use Rattle.flat_writer.specs.CommandWords.{commandGiven, componentsFrom, commandRefusal, commandWordsMade}
+use Rattle.flat_writer.specs.CommandGiven.{commandGiven, componentsFrom, commandRefusal, commandWordsMade}
 use Rattle.flat_writer.proofs.Components.{no-places}
 use Rattle.flat_writer.proofs.Refusals.{command-small}
 use Rattle.flat_writer.proofs.commands.write_command_words.Statement.{statement}

@@ -8,7 +8,7 @@ use Rattle.command.specs.declared.components.ComponentSplice.{ComponentSplice}
 use Rattle.command_measure.specs.Made.{commandMade}
 use Rattle.flat_writer.specs.Words.{noLess}
 use Rattle.command.specs.Command.{countIn}
-use Rattle.flat_writer.specs.CommandWords.{componentsFrom}
+use Rattle.flat_writer.specs.CommandGiven.{componentsFrom}
 use Rattle.flat_writer.proofs.Words.{words-refused, words-taken, later-nil}
 use Rattle.flat_writer.proofs.commands.write_listed_words.Statement.{statement}
 use Rattle.flat_writer.proofs.commands.write_listed_words.Tie as tie

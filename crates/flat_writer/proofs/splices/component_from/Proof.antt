@@ -1,6 +1,6 @@
 -- `flat_writer::splices::component_from` meets its contract. Assumes nothing.
 use borrow.Author.Needs.{needs}
-use Rattle.flat_writer.specs.CommandWords.{componentFrom}
+use Rattle.flat_writer.specs.CommandGiven.{componentFrom}
 use Rattle.flat_writer.proofs.splices.component_from.Statement.{statement}
 use Rattle.flat_writer.proofs.splices.component_from.Tie as tie
 

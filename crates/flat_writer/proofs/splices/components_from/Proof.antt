@@ -10,7 +10,8 @@ use Rattle.command.specs.Insert.{blank}
 use Rattle.command.proofs.Filling.{blank-length}
 use Rattle.flat.proofs.Arrays.{filled-turn}
 use Rattle.flat_writer.specs.Words.{placesOf}
-use Rattle.flat_writer.specs.CommandWords.{splicesIn, componentFrom, componentsFrom}
+use Rattle.flat_writer.specs.CommandGiven.{componentFrom, componentsFrom}
+use Rattle.flat_writer.specs.CommandWords.{splicesIn}
 use Rattle.flat_writer.proofs.Words.{places-length, places-at}
 use Rattle.flat_writer.proofs.Components.{filled-array}
 use Rattle.flat_writer.proofs.splices.components_from.Statement.{statement}

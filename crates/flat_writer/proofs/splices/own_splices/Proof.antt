@@ -6,7 +6,8 @@ use lib.ListN.{drop}
 use lib.Seq.{drop-drop}
 use borrow.Author.Tests.{not-true, not-false}
 use Rattle.flat_writer.specs.Words.{eachPlace}
-use Rattle.flat_writer.specs.CommandWords.{splicesIn, componentWidths, ownComponent, ownSplices}
+use Rattle.flat_writer.specs.CommandGiven.{ownComponent, ownSplices}
+use Rattle.flat_writer.specs.CommandWords.{splicesIn, componentWidths}
 use Rattle.flat_writer.proofs.Words.{turn, stop, each-step, each-end}
 use Rattle.flat_writer.proofs.splices.own_splices.Statement.{statement}
 use Rattle.flat_writer.proofs.splices.own_splices.Tie as tie

@@ -6,7 +6,8 @@ use lib.ListN.{drop}
 use lib.Seq.{drop-drop}
 use borrow.Author.Tests.{not-true, not-false}
 use Rattle.flat_writer.specs.Words.{within, eachPlace}
-use Rattle.flat_writer.specs.CommandWords.{splicesIn, componentWidths, splicesWithin}
+use Rattle.flat_writer.specs.CommandGiven.{splicesWithin}
+use Rattle.flat_writer.specs.CommandWords.{splicesIn, componentWidths}
 use Rattle.flat_writer.proofs.Words.{turn, stop, each-step, each-end}
 use Rattle.flat_writer.proofs.splices.splices_within.Statement.{statement}
 use Rattle.flat_writer.proofs.splices.splices_within.Tie as tie

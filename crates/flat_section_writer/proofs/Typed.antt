@@ -1,4 +1,4 @@
--- What the types say of the numbers of a header. These are definitions.
+-- What the types say of the numbers of a header.
 use Prim.Native.Nat.{_<_}
 use Rattle.header.specs.declared.header.SpliceInfoHeader.{SpliceInfoHeader}
 use Rattle.names.specs.Algorithm.{algorithmNumber}

@@ -1,4 +1,4 @@
--- What the types say of the numbers of a command. These are definitions.
+-- What the types say of the numbers of a command.
 use Prim.Native.Nat.{_^_, _<_}
 use Rattle.command.specs.declared.SpliceCommand.{SpliceCommand}
 use Rattle.command.specs.declared.insert.SpliceInsert.{SpliceInsert}
