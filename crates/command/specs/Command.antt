@@ -1,10 +1,10 @@
 -- The payloads of the commands by their type. 01, "Commands".
 use Prim.Native.Nat.{ℕ}
-use mathlib.Core.List.{List, []}
+use mathlib.Core.List.{List, [], map}
 use lib.Dec.{eqb}
 use lib.ListN.{length}
 use Rattle.header.specs.Time.{spliceTime}
-use Rattle.table.specs.Bits.{pick, bitsOf}
+use Rattle.table.specs.Bits.{pick, bitsOf, AllBytes}
 use Rattle.table.specs.Lent.{filledTo}
 use Rattle.table.specs.Table.{Table, done, inside, uimsbf, remaining, part, Answer, got, short, parse}
 use Rattle.table.specs.declared.View.{View}
@@ -74,6 +74,10 @@ withView f c = ofPrivate (λ p. SpliceCommand.PrivateCommand (record { identifie
 -- ---- "arrays with a count, 255 components, blank .. past it"
 unfoldable pub array : List ComponentSplice → List ComponentSplice
 array cs = filledTo 255 blank cs
+
+-- each tag is a byte
+abbrev pub Tags : List ComponentSplice → Type 0
+Tags cs = AllBytes (map (λ c. c .«component_tag») cs)
 
 -- the components of an insert's payload, none where it is malformed
 abbrev pub componentsIn : Answer (WithComponents Insertion) → List ComponentSplice

@@ -9,7 +9,7 @@ use lib.Dec.{ltb, eqb}
 use lib.ListN.{length, take, drop, replicate}
 use lib.Seq.{take-at}
 use borrow.Author.Tests.{lt-ltb, ltb-true, ltb-false, eq-eqb}
-use Rattle.command.specs.Command.{array, countIn}
+use Rattle.command.specs.Command.{array, countIn, Tags}
 use Rattle.command.specs.Insert as insert
 use Rattle.command.specs.Insert.{count, programTime, blank, immediate, insertOf}
 use Rattle.command.specs.declared.CommandRead.{CommandRead}
@@ -24,7 +24,7 @@ use Rattle.command.specs.declared.insert.SpliceMode.{SpliceMode}
 use Rattle.command_measure.proofs.Making.{measured-time, measured-parts, private-outside, insert-cancelled, insert-active, command-insert, command-time, command-private}
 use Rattle.command_measure.specs.Fields.{immediateIn}
 use Rattle.command_measure.specs.Made.{counted, timesFit, insertMade, commandMade, measuredOf}
-use Rattle.command_measure.specs.Survey.{Tags, surveyed, modeBytes, breakBytes, measured, activeMeasured, timeBytes}
+use Rattle.command_measure.specs.Survey.{surveyed, modeBytes, breakBytes, measured, activeMeasured, timeBytes}
 use Rattle.descriptor_form.specs.Canonical.{canonicalLoop}
 use Rattle.flat.specs.Flat.{flatTime, noTime, noView, flatHeader}
 use Rattle.flat.specs.FlatCommand.{flatMode, flatBreak, wholeInsert, bareInsert, flatInsertion, commandWith, noCommand, flatCommand, flatComponent, flatSplices}

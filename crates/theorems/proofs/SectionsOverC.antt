@@ -9,7 +9,7 @@ use lib.Dec.{ltb, eqb}
 use lib.ListN.{length, take, drop, replicate, length-append}
 use lib.Seq.{length-take-le, take-add, drop-at}
 use borrow.Author.Tests.{ltb-true, eqb-true}
-use Rattle.command.specs.Command.{private, read, empty, commandOf, array, componentsOf, countIn}
+use Rattle.command.specs.Command.{private, read, empty, commandOf, array, componentsOf, countIn, Tags}
 use Rattle.command.specs.Fair.{fairInsert}
 use Rattle.command.specs.Insert.{WithComponents, blank, count, insert, insertOf, byProgram, lasting, outOfNetwork}
 use Rattle.command.specs.declared.CommandRead.{CommandRead}
@@ -23,7 +23,6 @@ use Rattle.command_measure.proofs.Making.{private-fields}
 use Rattle.command_measure.proofs.Ties.{insert-fields}
 use Rattle.command_measure.specs.Fields.{unlessFields, listFields, modeFields, breakFields, tailFields, endFields, immediateIn, insertFields}
 use Rattle.command_measure.specs.Made.{counted, commandMade}
-use Rattle.command_measure.specs.Survey.{Tags}
 use Rattle.command_writer.proofs.Theorems.{insert-made}
 use Rattle.descriptor_form.proofs.Refusals.{within-append}
 use Rattle.descriptor_form.specs.Canonical.{canonicalLoop}

@@ -10,14 +10,13 @@ use lib.Seq.{take-at, length-take-le}
 use borrow.Author.Tests.{eqb-true, le-leb, leb-true}
 use Rattle.canonical_command.specs.Canonical.{canonicalCommand}
 use Rattle.command.proofs.InsertLeads.{Counted}
-use Rattle.command.specs.Command.{private, read, empty, commandOf, array, componentsIn, componentsOf}
+use Rattle.command.specs.Command.{private, read, empty, commandOf, countIn, array, componentsIn, componentsOf}
 use Rattle.command.specs.Insert.{WithComponents, insert, blank, count, insertOf}
 use Rattle.command.specs.declared.CommandRead.{CommandRead}
 use Rattle.command.specs.declared.SpliceCommand.{SpliceCommand}
 use Rattle.command.specs.declared.components.ComponentSplice.{ComponentSplice}
 use Rattle.command.specs.declared.insert.Insertion.{Insertion}
 use Rattle.command_measure.specs.Made.{counted, insertMade, commandMade}
-use Rattle.command_measure.specs.Survey.{Countable}
 use Rattle.command_writer.proofs.Theorems.{insert-trip, time-back, private-back, insert-back}
 use Rattle.descriptor_form.specs.Canonical.{canonicalLoop}
 use Rattle.header.specs.Time.{spliceTime}
@@ -189,19 +188,19 @@ section-back s x a e c =
     same-made (x .header) s (b .1) (b .0) (ap (viewed s) (parts-of s x e .loop)) (section-is-written-back s x a e c)
 
 -- ---- written, then read: an array of 255 places holds as many components as a count of one byte says
-held : (c : SpliceCommand) (places : List ComponentSplice) → length places ≡ 255 → Countable c → Held c places
+held : (c : SpliceCommand) (places : List ComponentSplice) → length places ≡ 255 → countIn c ≤ 255 → Held c places
 held SpliceCommand.SpliceNull places n k = tt
 held (SpliceCommand.SpliceInsert i) places n k = length-take-le (count (insertOf (i .«splice_detail») .«splice_mode»)) places (omega (arith, n, k))
 held (SpliceCommand.TimeSignal t) places n k = tt
 held SpliceCommand.BandwidthReservation places n k = tt
 held (SpliceCommand.PrivateCommand p) places n k = tt
 
-pub section-reads : (h : SpliceInfoHeader) (c : SpliceCommand) (places : List ComponentSplice) (lent loop b : List ℕ) → length places ≡ 255 → Countable c
+pub section-reads : (h : SpliceInfoHeader) (c : SpliceCommand) (places : List ComponentSplice) (lent loop b : List ℕ) → length places ≡ 255 → countIn c ≤ 255
     → sectionMade h (commandMade c places lent) (kindOf c) loop ≡ made b → ReadsBack h c places lent loop b
 section-reads h c places lent loop b n k e = whole-reads-back h c places lent loop b (held c places n k) e
 
 -- an insert's components, in the array that is read of its payload
-pub components-read : (i : Insertion) (places : List ComponentSplice) (lent b : List ℕ) → length places ≡ 255 → Countable (SpliceCommand.SpliceInsert i)
+pub components-read : (i : Insertion) (places : List ComponentSplice) (lent b : List ℕ) → length places ≡ 255 → countIn (SpliceCommand.SpliceInsert i) ≤ 255
     → commandMade (SpliceCommand.SpliceInsert i) places lent ≡ made b → componentsOf b ≡ array (counted i places .components)
 components-read i places lent b n k e =
     components-are b (counted i places) (length b * 8) (insert-trip i places lent b (held (SpliceCommand.SpliceInsert i) places n k) e .1)
@@ -214,7 +213,7 @@ payload-there h kind payload loop b byte e =
     ap commandBytes (w .bytes) ∙ frame-command-bytes h kind payload loop (w .fits) (w .fair) byte (w .short)
 
 -- an insert's components, in the array beside the section that is read
-pub section-components : (h : SpliceInfoHeader) (i : Insertion) (places : List ComponentSplice) (lent loop b : List ℕ) → length places ≡ 255 → Countable (SpliceCommand.SpliceInsert i)
+pub section-components : (h : SpliceInfoHeader) (i : Insertion) (places : List ComponentSplice) (lent loop b : List ℕ) → length places ≡ 255 → countIn (SpliceCommand.SpliceInsert i) ≤ 255
     → sectionMade h (commandMade (SpliceCommand.SpliceInsert i) places lent) (kindOf (SpliceCommand.SpliceInsert i)) loop ≡ made b → wholeSectionOf b .components ≡ array (counted i places .components)
 unfolding wholeSectionOf moved kindOf
 section-components h i places lent loop b n k e =
