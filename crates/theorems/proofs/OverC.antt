@@ -26,7 +26,7 @@ use Rattle.command_measure.specs.Fields.{immediateIn}
 use Rattle.command_measure.specs.Made.{counted, timesFit, insertMade, commandMade, measuredOf}
 use Rattle.command_measure.specs.Survey.{surveyed, modeBytes, breakBytes, measured, activeMeasured, timeBytes}
 use Rattle.descriptor_form.specs.Canonical.{canonicalLoop}
-use Rattle.flat.specs.Flat.{flatTime, noTime, noView, flatHeader}
+use Rattle.flat.specs.Flat.{flatTime, noTime, flatView, flatHeader}
 use Rattle.flat.specs.FlatCommand.{flatMode, flatBreak, wholeInsert, bareInsert, flatInsertion, commandWith, noCommand, flatCommand, flatComponent, flatSplices}
 use Rattle.flat_section_writer.specs.Typed as header
 use Rattle.flat_section_writer.proofs.Back.{header-back}
@@ -49,9 +49,10 @@ use Rattle.section_writer.proofs.Heads.{fitting}
 use Rattle.section_writer.proofs.Refusals.{outside}
 use Rattle.section_writer.proofs.Refusals as refusals
 use Rattle.section_writer.specs.Frame.{sectionLength, headed, head, body, frame, numbersFit, fairHead}
-use Rattle.section_writer.specs.Writing.{conditions, unless, madeIf, sectionMade, kindOf}
+use Rattle.section_writer.specs.Writing.{conditions, unless, sectionMade, kindOf}
 use Rattle.table.proofs.Lists.{zero-one, and-true}
 use Rattle.table.specs.Bits.{pick}
+use Rattle.table.specs.Lent.{noView}
 use Rattle.table.specs.Table.{flagNumber}
 use Rattle.table.specs.Writing.{Made, made, refused}
 use Rattle.theorems.specs.OverC.{placesWords, splicesWords}
@@ -100,19 +101,19 @@ measured-wide fits fair size m e f =
     wide-number m (omega (arith, p .0)) (omega (arith, p .0))
 
 -- ---- a command's words are within their widths where its writer says that its numbers are
-time-within : (t : SpliceTime) → within commandWidths (commandWords (commandWith 0 0x06 (bareInsert 0 0 0) (flatTime t) 0 noView)) ≡ ltb (ticks t) (2 ^ 33)
-unfolding within commandWidths commandWords bareInsert flatBreak
+time-within : (t : SpliceTime) → within commandWidths (commandWords (commandWith 0 0x06 (bareInsert 0 0 0) (flatTime t) 0 (flatView noView))) ≡ ltb (ticks t) (2 ^ 33)
+unfolding within commandWidths commandWords bareInsert wholeInsert flatMode flatBreak
 time-within SpliceTime.Immediate = refl
 time-within SpliceTime.Unspecified = refl
 time-within (SpliceTime.At t) = sym (and-unit (ltb t (2 ^ 33)))
 
 private-within : (p : Private) → p .identifier < 2 ^ 32 → p .«private_bytes» .at < 2 ^ 64 → p .«private_bytes» .len < 2 ^ 64
     → within commandWidths (commandWords (flatCommand (SpliceCommand.PrivateCommand p))) ≡ true
-unfolding within commandWidths commandWords flatCommand bareInsert flatBreak
+unfolding within commandWidths commandWords flatCommand bareInsert wholeInsert flatMode flatBreak
 private-within p i a l = rw (lt-ltb (p .identifier) (2 ^ 32) i, lt-ltb (p .«private_bytes» .at) (2 ^ 64) a, lt-ltb (p .«private_bytes» .len) (2 ^ 64) l)
 
-cancel-within : (event kept : ℕ) → event < 2 ^ 32 → within commandWidths (commandWords (commandWith 0 0x05 (bareInsert event 1 kept) noTime 0 noView)) ≡ ltb kept 128
-unfolding within commandWidths commandWords bareInsert flatBreak
+cancel-within : (event kept : ℕ) → event < 2 ^ 32 → within commandWidths (commandWords (commandWith 0 0x05 (bareInsert event 1 kept) noTime 0 (flatView noView))) ≡ ltb kept 128
+unfolding within commandWidths commandWords bareInsert wholeInsert flatMode flatBreak
 cancel-within event kept h = rw (lt-ltb event (2 ^ 32) h) (sym (and-unit (ltb kept 128)))
 
 -- an insert that is not cancelled: its mode, its break, and the whole
@@ -139,7 +140,7 @@ break-within Break.Absent e = (refl, refl, refl)
 break-within (Break.Lasts d) e = (refl, return-within (d .«return_mode»), e)
 
 active-within : (event kept : ℕ) (i : Insert) → event < 2 ^ 32 → TypedDetail (SpliceInsert.Insert i) → ltb kept 128 ≡ true → ltb (ticks (programTime (i .«splice_mode»))) (2 ^ 33) ≡ true
-    → ltb (insert.ticks (i .duration)) (2 ^ 33) ≡ true → within commandWidths (commandWords (commandWith 0 0x05 (wholeInsert event kept i) noTime 0 noView)) ≡ true
+    → ltb (insert.ticks (i .duration)) (2 ^ 33) ≡ true → within commandWidths (commandWords (commandWith 0 0x05 (wholeInsert event 0 kept i) noTime 0 (flatView noView))) ≡ true
 unfolding within commandWidths commandWords wholeInsert
 active-within event kept i v h k t d =
     let m = mode-within (i .«splice_mode») (h .3) t in
@@ -239,7 +240,7 @@ or-true false = refl
 
 module _ (h : SpliceInfoHeader) (m : Made) (kind : ℕ) (loop : List ℕ) where
   section-wide-header : numbersFit h ≡ false → Wide (sectionMade h m kind loop)
-  unfolding sectionMade madeIf
+  unfolding sectionMade
   section-wide-header e =
       let r = refusalIn m in
       let n = length (bytesIn m) in
@@ -248,7 +249,7 @@ module _ (h : SpliceInfoHeader) (m : Made) (kind : ℕ) (loop : List ℕ) where
       unless-wide (first 31 (conditions h r n (length loop) (canonicalLoop loop))) (frame h kind (bytesIn m) loop) (f .0) (f .1)
 
   section-wide-command : Wide m → Wide (sectionMade h m kind loop)
-  unfolding sectionMade madeIf
+  unfolding sectionMade
   section-wide-command w = go (ltb (refusalIn m) 32) refl
     where
       k : ℕ
@@ -258,7 +259,7 @@ module _ (h : SpliceInfoHeader) (m : Made) (kind : ℕ) (loop : List ℕ) where
       number (made b) w = absurd w
       number (refused n) w = w
 
-      go : (b : Bool) → ltb (refusalIn m) 32 ≡ b → Wide (madeIf (canonicalLoop loop) h m kind loop)
+      go : (b : Bool) → ltb (refusalIn m) 32 ≡ b → Wide (sectionMade h m kind loop)
       go true e =
           let f : 31 ≡ k = outside h (refusalIn m) (length (bytesIn m)) (length loop) (canonicalLoop loop) (omega (arith, number m w .0, ltb-true (refusalIn m) 32 e)) in
           unless-wide k (frame h kind (bytesIn m) loop) (omega (arith, f)) (omega (arith, f))
@@ -268,7 +269,7 @@ module _ (h : SpliceInfoHeader) (m : Made) (kind : ℕ) (loop : List ℕ) where
 
   -- the command's length and type, which a header says, are not looked at
   headless : sectionMade (headed h 0 0) m kind loop ≡ sectionMade h m kind loop
-  unfolding sectionMade madeIf frame body head headed numbersFit fairHead
+  unfolding sectionMade frame body head headed numbersFit fairHead
   headless = refl
 
 pub flag-within : (b : Bool) → ltb (flagNumber b) 2 ≡ true
@@ -302,11 +303,11 @@ module _ (places : List ComponentSplice) (lent : List ℕ) (short : length lent 
   Refuses c = within commandWidths (commandWords (flatCommand c)) ≡ false → Wide (commandMade c places lent)
 
   null-wide : Refuses SpliceCommand.SpliceNull
-  unfolding within commandWidths commandWords flatCommand noCommand bareInsert flatBreak
+  unfolding within commandWidths commandWords flatCommand noCommand bareInsert wholeInsert flatMode flatBreak
   null-wide e = zero-one cc
 
   bandwidth-wide : Refuses SpliceCommand.BandwidthReservation
-  unfolding within commandWidths commandWords flatCommand noCommand bareInsert flatBreak
+  unfolding within commandWidths commandWords flatCommand noCommand bareInsert wholeInsert flatMode flatBreak
   bandwidth-wide e = zero-one cc
 
   time-wide : (t : SpliceTime) → Refuses (SpliceCommand.TimeSignal t)

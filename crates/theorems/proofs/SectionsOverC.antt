@@ -25,7 +25,6 @@ use Rattle.command_measure.specs.Fields.{unlessFields, listFields, modeFields, 
 use Rattle.command_measure.specs.Made.{counted, commandMade}
 use Rattle.command_writer.proofs.Theorems.{insert-made}
 use Rattle.descriptor_form.proofs.Refusals.{within-append}
-use Rattle.descriptor_form.specs.Canonical.{canonicalLoop}
 use Rattle.flat.specs.Flat.{flatHeader}
 use Rattle.flat.specs.FlatCommand.{flatCommand, flatSplices}
 use Rattle.flat.specs.FlatSection.{flatSectionRead}
@@ -43,6 +42,7 @@ use Rattle.section.specs.declared.Section.{Section}
 use Rattle.section.specs.declared.SectionRead.{SectionRead}
 use Rattle.section_writer.proofs.Heads.{fitting, clear}
 use Rattle.section_writer.proofs.Parts.{parts-of}
+use Rattle.section_writer.proofs.Theorems.{canonical-parts}
 use Rattle.section_writer.proofs.Trips.{section-wrote}
 use Rattle.section_writer.specs.Canonical.{canonicalSection}
 use Rattle.section_writer.specs.Frame.{numbersFit, fairHead}
@@ -56,7 +56,7 @@ use Rattle.table.specs.Writing.{walk, within, Made, made}
 use Rattle.theorems.specs.OverC.{splicesWords, componentsAnswered}
 use Rattle.theorems.proofs.InsertsRead.{insert-has}
 use Rattle.theorems.proofs.OverC.{section-taken}
-use Rattle.theorems.proofs.WrittenBack.{command-back, command-canonical, payload-bytes, section-back}
+use Rattle.theorems.proofs.WrittenBack.{command-back, payload-bytes, section-back}
 
 -- ---- what is written is of its types: each number was within its field
 list-tags : (b : Bool) (cs : List ComponentSplice) → within (listFields b cs) ≡ true → Tags cs
@@ -195,8 +195,7 @@ header-typed : (h : SpliceInfoHeader) → numbersFit h ≡ true → header.Typed
 header-typed h e = let f = fitting h e in (f .version, omega (arith, f .algorithm), f .index, omega (arith, f .tiers))
 
 section-made : (h : SpliceInfoHeader) (m : Made) (kind : ℕ) (loop b : List ℕ) → sectionMade h m kind loop ≡ made b → (numbersFit h ≡ true) × (fairHead h ≡ true)
-unfolding sectionMade
-section-made h m kind loop b e = let w = section-wrote (canonicalLoop loop) h m kind loop b e in (w .fits, w .fair)
+section-made h m kind loop b e = let w = section-wrote h m kind loop b e in (w .fits, w .fair)
 
 -- what is read over C of a section, and of its command's components
 flat-header : (s : List ℕ) (x : Section) → sectionOf s ≡ SectionRead.Is x → flatSectionRead (sectionOf s) .header ≡ flatHeader (x .header)
@@ -219,7 +218,7 @@ by-payload s x a e c =
     let payload = commandBytes s in
     let places = componentsOf payload in
     let there : countIn own ≤ length places = count-there (commandType s) payload own (p .command) in
-    let b = command-back (commandType s) payload (payload-bytes s a) own (command-canonical s c) (p .command) in
+    let b = command-back (commandType s) payload (payload-bytes s a) own (canonical-parts s c .command) (p .command) in
     let t = typed-made own places payload payload there (b .1) in
     let m = section-back s x a e c in
     let h = section-made (x .header) (commandMade (x .command) places s) (kindOf (x .command)) (viewed s (x .descriptors)) s m in
@@ -259,7 +258,7 @@ counts-by-type kind p c f = go (eqb kind 0x00) (eqb kind 0x05) refl (eqb kind 0x
 typed-here : (s : List ℕ) (x : Section) → AllBytes s → sectionOf s ≡ SectionRead.Is x → canonicalSection s ≡ true → Typed (x .command)
 typed-here s x a e c =
     let p = parts-of s x e in
-    let b = command-back (commandType s) (commandBytes s) (payload-bytes s a) (p .own) (command-canonical s c) (p .command) in
+    let b = command-back (commandType s) (commandBytes s) (payload-bytes s a) (p .own) (canonical-parts s c .command) (p .command) in
     let there = count-there (commandType s) (commandBytes s) (p .own) (p .command) in
     rw (p .moves) (moved-typed (p .own) (typed-made (p .own) (componentsOf (commandBytes s)) (commandBytes s) (commandBytes s) there (b .1) .0))
 

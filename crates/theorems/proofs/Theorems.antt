@@ -43,7 +43,7 @@ use Rattle.items.specs.declared.Item.{Item}
 use Rattle.items.specs.declared.Step.{Step}
 use Rattle.names.specs.Algorithm.{fairAlgorithm}
 use Rattle.section.proofs.Acceptance as acceptance
-use Rattle.section.specs.Section.{commandType, commandBytes, loopLength, loopPlace, unknownCommand, conditions, first, sectionOf, numberOf, None}
+use Rattle.section.specs.Section.{commandType, commandBytes, loopLength, loopBytes, unknownCommand, conditions, first, sectionOf, numberOf, None}
 use Rattle.section.specs.Whole.{wholeSectionOf}
 use Rattle.section.specs.declared.Section.{Section}
 use Rattle.section.specs.declared.SectionRead.{SectionRead}
@@ -266,7 +266,7 @@ what-is-written-reads-back = written-back.section-reads
 -- the types say of each: `GivenTypes`.)
 pub what-is-written-of-descriptors-reads-back : (gs : List Given) (h : SpliceInfoHeader) (c : SpliceCommand) (places : List ComponentSplice) (lent loop b : List ℕ) → length places ≡ 255 → countIn c ≤ 255
     → All GivenTypes gs → joinedMade (map givenMade gs) ≡ made loop → sectionMade h (commandMade c places lent) (kindOf c) loop ≡ made b
-    → ReadsBack h c places lent loop b × ItemsBack (viewed b (loopPlace b)) (itemsOf (viewed b (loopPlace b))) gs
+    → ReadsBack h c places lent loop b × ItemsBack (loopBytes b) (itemsOf (loopBytes b)) gs
 what-is-written-of-descriptors-reads-back gs h c places lent loop b n k types m e =
     let r = written-back.section-reads h c places lent loop b n k e in
     (r, items-written.items-read gs h c places lent loop b types m r)
