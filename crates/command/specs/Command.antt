@@ -1,10 +1,10 @@
 -- The payloads of the commands by their type. 01, "Commands".
 use Prim.Native.Nat.{ℕ}
-use mathlib.Core.List.{List, []}
+use mathlib.Core.List.{List, [], map}
 use lib.Dec.{eqb}
 use lib.ListN.{length}
 use Rattle.header.specs.Time.{spliceTime}
-use Rattle.table.specs.Bits.{pick, bitsOf}
+use Rattle.table.specs.Bits.{pick, bitsOf, AllBytes}
 use Rattle.table.specs.Lent.{filledTo}
 use Rattle.table.specs.Table.{Table, done, inside, uimsbf, remaining, part, Answer, got, short, parse}
 use Rattle.table.specs.declared.View.{View}
@@ -32,15 +32,34 @@ read f (short expected actual) = CommandRead.Malformed
 abbrev pub empty : SpliceCommand → List ℕ → CommandRead
 empty command payload = pick (eqb (length payload) 0) (CommandRead.Is command) CommandRead.Malformed
 
--- refusal 10: "command type is none of 0x00, 0x05, 0x06, 0x07, 0xFF"; refusal 11: "command payload malformed"
+-- by a command's type: "none of 0x00, 0x05, 0x06, 0x07, 0xFF" is another
+abbrev pub byType {ℓ} : {A : Type ℓ} → ℕ → A → A → A → A → A → A → A
+byType kind null insert time bandwidth private another =
+    pick (eqb kind 0x00) null
+    (pick (eqb kind 0x05) insert
+    (pick (eqb kind 0x06) time
+    (pick (eqb kind 0x07) bandwidth
+    (pick (eqb kind 0xff) private
+    another))))
+
+-- the type that a command has
+abbrev pub kindOf : SpliceCommand → ℕ
+kindOf SpliceCommand.SpliceNull = 0x00
+kindOf (SpliceCommand.SpliceInsert i) = 0x05
+kindOf (SpliceCommand.TimeSignal t) = 0x06
+kindOf SpliceCommand.BandwidthReservation = 0x07
+kindOf (SpliceCommand.PrivateCommand p) = 0xff
+
+-- refusal 10: "command type is none of ..", the last; refusal 11: "command payload malformed"
 unfoldable pub commandOf : ℕ → List ℕ → CommandRead
 commandOf kind payload =
-    pick (eqb kind 0x00) (empty SpliceCommand.SpliceNull payload)
-    (pick (eqb kind 0x05) (read (λ x. SpliceCommand.SpliceInsert (x .value)) (parse insert (bitsOf payload) 0))
-    (pick (eqb kind 0x06) (read SpliceCommand.TimeSignal (parse spliceTime (bitsOf payload) 0))
-    (pick (eqb kind 0x07) (empty SpliceCommand.BandwidthReservation payload)
-    (pick (eqb kind 0xff) (read SpliceCommand.PrivateCommand (parse private (bitsOf payload) 0))
-    CommandRead.UnknownType))))
+    byType kind
+    (empty SpliceCommand.SpliceNull payload)
+    (read (λ x. SpliceCommand.SpliceInsert (x .value)) (parse insert (bitsOf payload) 0))
+    (read SpliceCommand.TimeSignal (parse spliceTime (bitsOf payload) 0))
+    (empty SpliceCommand.BandwidthReservation payload)
+    (read SpliceCommand.PrivateCommand (parse private (bitsOf payload) 0))
+    CommandRead.UnknownType
 
 -- 01's number of each refusal; none has values
 abbrev pub numberOf : CommandRead → ℕ
@@ -74,6 +93,10 @@ withView f c = ofPrivate (λ p. SpliceCommand.PrivateCommand (record { identifie
 -- ---- "arrays with a count, 255 components, blank .. past it"
 unfoldable pub array : List ComponentSplice → List ComponentSplice
 array cs = filledTo 255 blank cs
+
+-- each tag is a byte
+abbrev pub Tags : List ComponentSplice → Type 0
+Tags cs = AllBytes (map (λ c. c .«component_tag») cs)
 
 -- the components of an insert's payload, none where it is malformed
 abbrev pub componentsIn : Answer (WithComponents Insertion) → List ComponentSplice

@@ -12,7 +12,7 @@ use lib.Seq.{length-take-le, getD-take}
 use denote.Enum.Declared.{tagOf}
 use types.Run.{OneOf}
 use borrow.Author.Tests.{lt-ltb, le-leb, lt-leb}
-use Rattle.command.specs.Command.{array, private}
+use Rattle.command.specs.Command.{array, countIn, private, Tags}
 use Rattle.command.specs.Fair.{alike, unmixed, fairInsert}
 use Rattle.command.specs.Insert as insert
 use Rattle.command.specs.Insert.{WithComponents, immediate, blank, byProgram, programTime, count, lasting, outOfNetwork, insertOf}
@@ -39,7 +39,7 @@ use Rattle.table.proofs.Lists.{and-assoc, and-true}
 use Rattle.table.proofs.Walks.{past, past-append, print-length}
 use Rattle.command_measure.specs.Fields.{ink, timeFields, unlessFields, componentFields, listFields, modeFields, breakFields, automatic, tailFields, endFields, immediateIn, flagFields, insertFlags, activeFields, insertFields}
 use Rattle.command_measure.specs.Made.{counted, timesFit, insertMade, commandMade, measuredOf}
-use Rattle.command_measure.specs.Survey.{Countable, timeBytes, adding, surveyed, Tags, blanksOf, modeBytes, breakBytes, measured, activeMeasured}
+use Rattle.command_measure.specs.Survey.{timeBytes, adding, surveyed, blanksOf, modeBytes, breakBytes, measured, activeMeasured}
 use Rattle.command_measure.specs.declared.Measured.{Measured}
 use Rattle.command_measure.specs.declared.measure.Survey.{Survey}
 use Rattle.command_measure.proofs.Surveys.{survey-fits, survey-alike, survey-blanks}
@@ -327,7 +327,7 @@ pub measured-parts : (r : Measured) (m : Made) → r ≡ measuredOf m → (r .re
 unfolding measuredOf
 measured-parts r m e = rw e (refl, refl)
 
-pub countable : (c d : SpliceCommand) → c ≡ d → Countable d → Countable c
+pub countable : (c d : SpliceCommand) → c ≡ d → countIn d ≤ 255 → countIn c ≤ 255
 countable c d e h = rw e h
 
 pub insert-cancelled : (i : Insertion) (places : List ComponentSplice) → i .«splice_detail» ≡ SpliceInsert.Cancel → i .«splice_event_id» < 2 ^ 32

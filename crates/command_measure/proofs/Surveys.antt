@@ -7,6 +7,7 @@ use native.Mathlib.Omega.{arith}
 use lib.Dec.{ltb}
 use lib.ListN.{length, take, drop, getD, replicate}
 use lib.Seq.{drop-cons}
+use Rattle.command.specs.Command.{Tags}
 use Rattle.command.specs.Fair.{alike}
 use Rattle.command.specs.Insert.{immediate, blank}
 use Rattle.command.specs.declared.components.ComponentSplice.{ComponentSplice}
@@ -15,7 +16,7 @@ use Rattle.header.specs.declared.time.SpliceTime.{SpliceTime}
 use Rattle.header.specs.declared.time.SpliceTime.the-variants.{Immediate, Unspecified, At}
 use Rattle.table.specs.Bits.{pick}
 use Rattle.command_measure.specs.Made.{timesFit}
-use Rattle.command_measure.specs.Survey.{timeBytes, adding, surveyed, Tags}
+use Rattle.command_measure.specs.Survey.{timeBytes, adding, surveyed}
 use Rattle.command_measure.specs.declared.measure.Survey.{Survey}
 
 -- one component more

@@ -4,9 +4,9 @@ use mathlib.Core.Bool.{Bool, true, _&&_}
 use mathlib.Core.List.{List, [], _∷_}
 use lib.Dec.{ltb}
 use lib.ListN.{length, take}
-use Rattle.command.specs.Command.{private}
+use Rattle.command.specs.Command.{private, countIn}
 use Rattle.command.specs.Fair.{fairInsert}
-use Rattle.command.specs.Insert.{WithComponents, count, insertOf, insert}
+use Rattle.command.specs.Insert.{WithComponents, insert}
 use Rattle.command.specs.declared.SpliceCommand.{SpliceCommand}
 use Rattle.command.specs.declared.components.ComponentSplice.{ComponentSplice}
 use Rattle.command.specs.declared.insert.Insertion.{Insertion}
@@ -18,7 +18,7 @@ use Rattle.command_measure.specs.declared.Measured.{Measured}
 
 -- an insert with its components: the first places of the array, as many as the mode says. No other place is looked at
 abbrev pub counted : Insertion → List ComponentSplice → WithComponents Insertion
-counted i places = record { value = i; components = take (count (insertOf (i .«splice_detail») .«splice_mode»)) places }
+counted i places = record { value = i; components = take (countIn (SpliceCommand.SpliceInsert i)) places }
 
 -- refusal 32, "a number .. exceeds its field", of each component's time: the table does not come to one that stands beside an immediate first
 abbrev pub timesFit : List ComponentSplice → Bool

@@ -1,11 +1,10 @@
--- What a writer asks of an insert's components in one pass. Of this a public contract cites `Countable` only, beside its equation.
-use Prim.Native.Nat.{ℕ, _+_, _*_, _^_, _<_, _≤_}
-use mathlib.Core.Bool.{Bool, true, false, not, _&&_}
+-- What a writer asks of an insert's components in one pass. No public contract cites this.
+use Prim.Native.Nat.{ℕ, _+_, _*_, _^_}
+use mathlib.Core.Bool.{Bool, true, not, _&&_}
 use mathlib.Core.List.{List, [], _∷_}
 use lib.Dec.{ltb, eqb}
 use Rattle.command.specs.Insert as insert
 use Rattle.command.specs.Insert.{immediate, programTime}
-use Rattle.command.specs.declared.SpliceCommand.{SpliceCommand}
 use Rattle.command.specs.declared.components.ComponentSplice.{ComponentSplice}
 use Rattle.command.specs.declared.insert.Break.{Break}
 use Rattle.command.specs.declared.insert.SpliceMode.{SpliceMode}
@@ -30,11 +29,6 @@ adding b t s = record {
 unfoldable pub surveyed : Bool → List ComponentSplice → Survey
 surveyed b [] = record { fits = true; alike = true; bytes = 0 }
 surveyed b (c ∷ cs) = adding b (c .«splice_time») (surveyed b cs)
-
--- each tag is a byte
-abbrev pub Tags : List ComponentSplice → Type 0
-Tags [] = Unit {0}
-Tags (c ∷ cs) = (c .«component_tag» < 256) × Tags cs
 
 -- of components that are all blank, as many as the mode says: their times are unspecified
 unfoldable pub blanksOf : SpliceMode → Survey
@@ -64,11 +58,3 @@ unfoldable pub activeMeasured : ℕ → SpliceMode → Break → Survey → Meas
 activeMeasured reserved mode duration s =
     measured (s .fits && (ltb reserved 128 && (ltb (ticks (programTime mode)) (2 ^ 33) && ltb (insert.ticks duration) (2 ^ 33)))) (eqb reserved 127 && s .alike)
     (10 + modeBytes mode (s .bytes) + breakBytes duration)
-
--- a count is a byte
-abbrev pub Countable : SpliceCommand → Type 0
-Countable SpliceCommand.SpliceNull = Unit {0}
-Countable (SpliceCommand.SpliceInsert i) = insert.count (insert.insertOf (i .«splice_detail») .«splice_mode») ≤ 255
-Countable (SpliceCommand.TimeSignal t) = Unit {0}
-Countable SpliceCommand.BandwidthReservation = Unit {0}
-Countable (SpliceCommand.PrivateCommand p) = Unit {0}

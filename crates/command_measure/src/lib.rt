@@ -1,10 +1,10 @@
 // Measuring a command before it is written: which refusal it has, and how many bytes its payload has. One without components, or with blank ones, needs no array.
+ghost use Prim.Native.Nat.{_≤_};
 ghost use mathlib.Core.Path.{_≡_};
 ghost use mathlib.Core.Bool.{true};
 ghost use mathlib.Core.List.{[]};
-ghost use Rattle.command.specs.Command.{array, private};
+ghost use Rattle.command.specs.Command.{array, countIn, private};
 ghost use Rattle.command_measure.specs.Made.{commandMade, measuredOf};
-ghost use Rattle.command_measure.specs.Survey.{Countable};
 ghost use Rattle.table.specs.Writing.{make};
 use crate::measure::measure_bare_insert;
 use crate::measure::measure_insert;
@@ -47,7 +47,7 @@ fn measure_private(p: Private, lent: &[u8]) -> Measured
 
 // Of a command whose components are all blank, if it has any: which refusal it has, 31 to 33, and how many bytes its payload has.
 pub fn measure_bare(command: SpliceCommand, lent: &[u8]) -> Measured
-    ensures { λ r. ⌜ (r ≡ measuredOf (commandMade command (array []) (now (lent .entry)))) × Countable command ⌝ }
+    ensures { λ r. ⌜ (r ≡ measuredOf (commandMade command (array []) (now (lent .entry)))) × (countIn command ≤ 255) ⌝ }
 {
     match command {
         SpliceCommand::SpliceNull => Measured {
@@ -70,7 +70,7 @@ pub fn measure_command(
     components: [ComponentSplice; 255],
     lent: &[u8],
 ) -> Measured
-    ensures { λ r. ⌜ (r ≡ measuredOf (commandMade command components (now (lent .entry)))) × Countable command ⌝ }
+    ensures { λ r. ⌜ (r ≡ measuredOf (commandMade command components (now (lent .entry)))) × (countIn command ≤ 255) ⌝ }
 {
     match command {
         SpliceCommand::SpliceInsert(i) => measure_insert(i, components),

@@ -9,7 +9,7 @@ use lib.Dec.{leb, eqb}
 use lib.ListN.{length, take, drop, length-append}
 use lib.Seq.{length-take-le}
 use borrow.Author.Tests.{leb-true, leb-false, eqb-true, ne-eqb, le-leb}
-use Rattle.command.specs.Command.{private}
+use Rattle.command.specs.Command.{private, countIn}
 use Rattle.command.specs.Fair.{fairInsert}
 use Rattle.command.specs.Insert.{WithComponents, count, insertOf, insert}
 use Rattle.command.specs.declared.Private.{Private}
@@ -40,7 +40,6 @@ use Rattle.table.proofs.Stores.{stored-nil, stored-none}
 use Rattle.table.proofs.Walks.{print-bits, print-length}
 use Rattle.command_measure.specs.Fields.{ink, timeFields, insertFields, privateInk}
 use Rattle.command_measure.specs.Made.{counted, timesFit, insertMade, commandMade, measuredOf}
-use Rattle.command_measure.specs.Survey.{Countable}
 use Rattle.command_measure.specs.declared.Measured.{Measured}
 use Rattle.command_writer.specs.Walk.{hasRoom, answerTo}
 use Rattle.command_measure.proofs.Making.{measured-parts, time-whole, insert-whole, private-fields}
@@ -211,7 +210,7 @@ pub other-made : (m n : Made) (t u : List ℕ) (r : Written) → m ≡ n → (r 
 other-made m n t u r e h = rw (← e) h
 
 -- a command that is not refused is made
-pub command-made : (c : SpliceCommand) (places : List ComponentSplice) (lent : List ℕ) → length places ≡ 255 → Countable c → refusalIn (commandMade c places lent) ≡ 0
+pub command-made : (c : SpliceCommand) (places : List ComponentSplice) (lent : List ℕ) → length places ≡ 255 → countIn c ≤ 255 → refusalIn (commandMade c places lent) ≡ 0
     → commandMade c places lent ≡ made (bytesIn (commandMade c places lent))
 unfolding commandMade bytesIn
 command-made SpliceCommand.SpliceNull places lent n k z = refl

@@ -4,9 +4,8 @@ ghost use mathlib.Core.List.{[]};
 ghost use Prim.Native.Nat.{_+_, _≤_};
 ghost use lib.ListN.{length};
 ghost use Rattle.command_measure.specs.Made.{counted, insertMade, commandMade};
-ghost use Rattle.command.specs.Command.{array};
+ghost use Rattle.command.specs.Command.{array, countIn};
 ghost use Rattle.command_measure.specs.Fields.{privateInk};
-ghost use Rattle.command_measure.specs.Survey.{Countable};
 ghost use Rattle.command_writer.specs.Walk.{hasRoom, answerTo};
 ghost use Rattle.pen.specs.Pen.{Pens};
 ghost use Rattle.pen.specs.Walk.{Fits};
@@ -43,7 +42,7 @@ fn store_private(out: &mut [u8], c: Cursor, p: Private, lent: &[u8]) -> Cursor
 
 // A payload for which there is room, and no refusal.
 fn store_bare(out: &mut [u8], at: usize, command: SpliceCommand, lent: &[u8])
-    requires { ⌜ AllBytes (now out) × (refusalIn (commandMade command (array []) (now lent)) ≡ 0) × (at + length (bytesIn (commandMade command (array []) (now lent))) ≤ length (now out)) × Countable command ⌝ }
+    requires { ⌜ AllBytes (now out) × (refusalIn (commandMade command (array []) (now lent)) ≡ 0) × (at + length (bytesIn (commandMade command (array []) (now lent))) ≤ length (now out)) × (countIn command ≤ 255) ⌝ }
     ensures { λ _. ⌜ now (out .exit) ≡ stored (now (out .entry)) at (bytesIn (commandMade command (array []) (now (lent .entry)))) ⌝ }
 {
     let c = Cursor { byte: at, bit: 0 };

@@ -8,7 +8,7 @@ use lib.ListN.{length, getD}
 use Rattle.header.specs.Header.{headerRead, headerOf}
 use Rattle.header.proofs.Headers.{header-got, header-refused}
 use Rattle.names.specs.Algorithm.{algorithmNumber, algorithmOf}
-use Rattle.names.specs.Command.{commandNumber, commandOf}
+use Rattle.names.specs.Command.{commandNumber, commandTypeOf}
 use Rattle.names.proofs.Algorithms.{algorithm-laws}
 use Rattle.names.proofs.Commands.{command-laws}
 use Rattle.table.specs.Bits.{bitsOf, field}
@@ -48,6 +48,6 @@ module _ (s : List ℕ) where
   unfolding headerOf headerRead flatHeaderRead flatHeader
   flat-header-is v₁ v₂ v₃ v₄ v₅ v₆ v₇ v₈ h e₁ e₂ e₃ e₄ e₅ e₆ e₇ e₈ =
       let a : algorithmNumber (algorithmOf (field (bitsOf s) 9 6)) ≡ field (bitsOf s) 9 6 = algorithm-laws .there (field (bitsOf s) 9 6) in
-      let k : commandNumber (commandOf (field (bitsOf s) 80 8)) ≡ field (bitsOf s) 80 8 = command-laws .there (field (bitsOf s) 80 8) in
+      let k : commandNumber (commandTypeOf (field (bitsOf s) 80 8)) ≡ field (bitsOf s) 80 8 = command-laws .there (field (bitsOf s) 80 8) in
       let b : flagNumber (eqb (field (bitsOf s) 8 1) 1) ≡ field (bitsOf s) 8 1 = flag-of-bit (field (bitsOf s) 8 1) (field-lt s 8 1) in
       rw (header-got s h, a, k, b, e₁, e₂, e₃, e₄, e₅, e₆, e₇, e₈)

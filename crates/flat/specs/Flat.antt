@@ -19,9 +19,6 @@ use Rattle.flat.specs.declared.headers.FlatHeader.{FlatHeader}
 abbrev pub flatView : View → FlatView
 flatView v = record { at = v .at; len = v .len }
 
-abbrev pub noView : FlatView
-noView = record { at = 0; len = 0 }
-
 -- a time: 0 none, 1 immediate, 2 unspecified, 3 at so many ticks
 abbrev pub flatTime : SpliceTime → FlatTime
 flatTime Immediate = record { kind = 1; ticks = 0 }

@@ -2,7 +2,8 @@
 use Prim.Native.Nat.{ℕ}
 use mathlib.Core.List.{List, map}
 use lib.ListN.{replicate}
-use Rattle.command.specs.Command.{numberOf}
+use Rattle.command.specs.Command.{numberOf, kindOf, countIn}
+use Rattle.command.specs.Insert.{insertOf}
 use Rattle.command.specs.declared.CommandRead.{CommandRead}
 use Rattle.command.specs.declared.CommandRead.the-variants.{Is, UnknownType, Malformed}
 use Rattle.command.specs.declared.SpliceCommand.{SpliceCommand}
@@ -17,7 +18,8 @@ use Rattle.command.specs.declared.insert.SpliceInsert.the-variants as insert
 use Rattle.command.specs.declared.insert.SpliceMode.{SpliceMode}
 use Rattle.command.specs.declared.insert.SpliceMode.the-variants.{Program, Components}
 use Rattle.names.specs.Flags.{networkFlag, returnFlag}
-use Rattle.flat.specs.Flat.{flatTime, noTime, flatView, noView}
+use Rattle.table.specs.Lent.{noView}
+use Rattle.flat.specs.Flat.{flatTime, noTime, flatView}
 use Rattle.flat.specs.declared.FlatTime.{FlatTime}
 use Rattle.flat.specs.declared.FlatView.{FlatView}
 use Rattle.flat.specs.declared.commands.FlatBreak.{FlatBreak}
@@ -36,11 +38,12 @@ unfoldable pub flatBreak : Break → FlatBreak
 flatBreak Absent = record { «duration_flag» = 0; «auto_return» = 0; duration = 0 }
 flatBreak (Lasts d) = record { «duration_flag» = 1; «auto_return» = returnFlag (d .«return_mode»); duration = d .duration }
 
-unfoldable pub wholeInsert : ℕ → ℕ → Insert → FlatInsert
-wholeInsert event reserved i =
+-- with the event's id, whether it is cancelled, and the reserved bits
+unfoldable pub wholeInsert : ℕ → ℕ → ℕ → Insert → FlatInsert
+wholeInsert event cancel reserved i =
     record {
       «splice_event_id» = event;
-      «splice_event_cancel_indicator» = 0;
+      «splice_event_cancel_indicator» = cancel;
       reserved = reserved;
       «out_of_network_indicator» = networkFlag (i .«network_indicator»);
       mode = flatMode (i .«splice_mode»);
@@ -52,22 +55,11 @@ wholeInsert event reserved i =
 
 -- without what follows the reserved bits
 unfoldable pub bareInsert : ℕ → ℕ → ℕ → FlatInsert
-bareInsert event cancel reserved =
-    record {
-      «splice_event_id» = event;
-      «splice_event_cancel_indicator» = cancel;
-      reserved = reserved;
-      «out_of_network_indicator» = 0;
-      mode = record { «program_splice_flag» = 0; «splice_time» = noTime; «component_count» = 0 };
-      «break_duration» = flatBreak Absent;
-      «unique_program_id» = 0;
-      «avail_num» = 0;
-      «avails_expected» = 0;
-    }
+bareInsert event cancel reserved = wholeInsert event cancel reserved (insertOf insert.Cancel)
 
 abbrev pub flatDetail : ℕ → ℕ → SpliceInsert → FlatInsert
 flatDetail event reserved insert.Cancel = bareInsert event 1 reserved
-flatDetail event reserved (insert.Insert i) = wholeInsert event reserved i
+flatDetail event reserved (insert.Insert i) = wholeInsert event 0 reserved i
 
 unfoldable pub flatInsertion : Insertion → FlatInsert
 flatInsertion x = flatDetail (x .«splice_event_id») (x .reserved) (x .«splice_detail»)
@@ -85,14 +77,14 @@ commandWith refusal kind insert time identifier bytes =
     }
 
 unfoldable pub noCommand : ℕ → ℕ → FlatCommand
-noCommand refusal kind = commandWith refusal kind (bareInsert 0 0 0) noTime 0 noView
+noCommand refusal kind = commandWith refusal kind (bareInsert 0 0 0) noTime 0 (flatView noView)
 
 unfoldable pub flatCommand : SpliceCommand → FlatCommand
-flatCommand command.SpliceNull = noCommand 0 0x00
-flatCommand (command.SpliceInsert x) = commandWith 0 0x05 (flatInsertion x) noTime 0 noView
-flatCommand (command.TimeSignal t) = commandWith 0 0x06 (bareInsert 0 0 0) (flatTime t) 0 noView
-flatCommand command.BandwidthReservation = noCommand 0 0x07
-flatCommand (command.PrivateCommand p) = commandWith 0 0xff (bareInsert 0 0 0) noTime (p .identifier) (flatView (p .«private_bytes»))
+flatCommand command.SpliceNull = noCommand 0 (kindOf command.SpliceNull)
+flatCommand (command.SpliceInsert x) = commandWith 0 (kindOf (command.SpliceInsert x)) (flatInsertion x) noTime 0 (flatView noView)
+flatCommand (command.TimeSignal t) = commandWith 0 (kindOf (command.TimeSignal t)) (bareInsert 0 0 0) (flatTime t) 0 (flatView noView)
+flatCommand command.BandwidthReservation = noCommand 0 (kindOf command.BandwidthReservation)
+flatCommand (command.PrivateCommand p) = commandWith 0 (kindOf (command.PrivateCommand p)) (bareInsert 0 0 0) noTime (p .identifier) (flatView (p .«private_bytes»))
 
 unfoldable pub flatCommandRead : CommandRead → FlatCommand
 flatCommandRead (Is c) = flatCommand c
@@ -107,6 +99,6 @@ unfoldable pub noComponents : List FlatComponentSplice
 noComponents = replicate 255 (record { «component_tag» = 0; «splice_time» = noTime })
 
 unfoldable pub flatSplices : CommandRead → List ComponentSplice → FlatSplices
-flatSplices (Is c) cs = record { refusal = 0; count = flatCommand c .insert .mode .«component_count»; components = map flatComponent cs }
+flatSplices (Is c) cs = record { refusal = 0; count = countIn c; components = map flatComponent cs }
 flatSplices UnknownType cs = record { refusal = numberOf UnknownType; count = 0; components = noComponents }
 flatSplices Malformed cs = record { refusal = numberOf Malformed; count = 0; components = noComponents }

@@ -1,10 +1,11 @@
 -- The flat form of a section. These are definitions.
 use Rattle.command.specs.declared.SpliceCommand.{SpliceCommand}
 use Rattle.table.specs.declared.View.{View}
+use Rattle.table.specs.Lent.{noView}
 use Rattle.section.specs.Section.{numberOf}
 use Rattle.section.specs.declared.SectionRead.{SectionRead}
 use Rattle.section.specs.declared.SectionRead.the-variants.{Is, Refused}
-use Rattle.flat.specs.Flat.{flatHeader, noHeader, flatView, noView}
+use Rattle.flat.specs.Flat.{flatHeader, noHeader, flatView}
 use Rattle.flat.specs.FlatCommand.{flatCommand, noCommand}
 use Rattle.flat.specs.declared.headers.FlatHeader.{FlatHeader}
 use Rattle.flat.specs.declared.sections.FlatSection.{FlatSection}
@@ -15,4 +16,4 @@ flatParts h c v = record { refusal = 0; header = h; command = flatCommand c; des
 
 unfoldable pub flatSectionRead : SectionRead → FlatSection
 flatSectionRead (Is x) = flatParts (flatHeader (x .header)) (x .command) (x .descriptors)
-flatSectionRead (Refused r) = record { refusal = numberOf (Refused r); header = noHeader 0; command = noCommand 0 0; descriptors = noView }
+flatSectionRead (Refused r) = record { refusal = numberOf (Refused r); header = noHeader 0; command = noCommand 0 0; descriptors = flatView noView }

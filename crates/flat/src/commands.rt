@@ -112,7 +112,7 @@ fn bare_insert(event: u64, cancel: u64, reserved: u64) -> FlatInsert
 }
 
 fn whole_insert(event: u64, reserved: u64, i: Insert) -> FlatInsert
-    ensures { λ r. ⌜ r ≡ wholeInsert event reserved i ⌝ }
+    ensures { λ r. ⌜ r ≡ wholeInsert event 0 reserved i ⌝ }
 {
     let network = i.network_indicator;
     let mode = i.splice_mode;

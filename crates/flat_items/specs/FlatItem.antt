@@ -14,13 +14,14 @@ use Rattle.descriptor.specs.declared.segmentation.SegmentationDetail.{Segmentat
 use Rattle.descriptor.specs.declared.segmentation.SegmentationDetail.the-variants.{Cancel, Insert}
 use Rattle.descriptor.specs.declared.segmentation.SegmentationInsert.{SegmentationInsert}
 use Rattle.descriptor.specs.declared.segmentation.SubSegments.{SubSegments}
-use Rattle.flat.specs.Flat.{flatView, noView}
+use Rattle.flat.specs.Flat.{flatView}
 use Rattle.flat.specs.declared.FlatView.{FlatView}
 use Rattle.items.specs.Items.{numberOf, valuesOf}
 use Rattle.items.specs.declared.Item.{Item}
 use Rattle.items.specs.declared.Item.the-variants.{End, Refused, Is}
 use Rattle.items.specs.declared.Step.{Step}
 use Rattle.items.specs.declared.reading.Reading.{Reading}
+use Rattle.table.specs.Lent.{noView}
 use Rattle.table.specs.Table.{flagNumber}
 use Rattle.flat_items.specs.FlatUpid.{three}
 use Rattle.flat_items.specs.declared.beside.FlatBeside.{FlatBeside}
@@ -106,18 +107,18 @@ itemWith kind avail preroll segmentation times tag bytes =
     }
 
 unfoldable pub segmentationItem : ℕ → SegmentationDetail → FlatItem
-segmentationItem event Cancel = itemWith 3 0 0 (bareSegmentation event 1) noTimes 0 noView
+segmentationItem event Cancel = itemWith 3 0 0 (bareSegmentation event 1) noTimes 0 (flatView noView)
 segmentationItem event (Insert i) = itemWith 4 0 0 (wholeSegmentation event i) noTimes 0 (flatView (i .«segmentation_upid» .bytes))
 
 unfoldable pub flatDescriptor : Descriptor → FlatItem
-flatDescriptor (Avail x) = itemWith 1 (x .«provider_avail_id») 0 (bareSegmentation 0 0) noTimes 0 noView
+flatDescriptor (Avail x) = itemWith 1 (x .«provider_avail_id») 0 (bareSegmentation 0 0) noTimes 0 (flatView noView)
 flatDescriptor (Dtmf x) = itemWith 2 0 (x .preroll) (bareSegmentation 0 0) noTimes 0 (flatView (x .«dtmf_chars»))
 flatDescriptor (Segmentation x) = segmentationItem (x .«segmentation_event_id») (x .«descriptor_detail»)
-flatDescriptor (Time x) = itemWith 5 0 0 (bareSegmentation 0 0) (flatTimeDescriptor x) 0 noView
+flatDescriptor (Time x) = itemWith 5 0 0 (bareSegmentation 0 0) (flatTimeDescriptor x) 0 (flatView noView)
 flatDescriptor (Reserved tag bytes) = itemWith 6 0 0 (bareSegmentation 0 0) noTimes tag (flatView bytes)
 
 unfoldable pub bareItem : ℕ → FlatItem
-bareItem kind = itemWith kind 0 0 (bareSegmentation 0 0) noTimes 0 noView
+bareItem kind = itemWith kind 0 0 (bareSegmentation 0 0) noTimes 0 (flatView noView)
 
 unfoldable pub flatItem : Item → FlatItem
 flatItem End = bareItem 0

@@ -27,7 +27,7 @@ use Rattle.pen.specs.Written.{refusalIn, bytesIn}
 use Rattle.section.specs.Section.{first}
 use Rattle.section_writer.proofs.Heads.{fitting, fits-within}
 use Rattle.section_writer.specs.Frame.{headed, head, body, frame, numbersFit, fairHead, sectionLength}
-use Rattle.section_writer.specs.Writing.{unless, madeIf, sectionMade, kindOf}
+use Rattle.section_writer.specs.Writing.{unless, sectionMade, kindOf, madeIf}
 use Rattle.table.proofs.Lists.{zero-one, and-true}
 use Rattle.table.specs.Writing.{Made, made, refused}
 use Rattle.flat_section_writer.specs.SectionGiven.{headerFrom, headerRefusal, either, sectionWordsMade}

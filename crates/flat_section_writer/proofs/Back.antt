@@ -6,7 +6,7 @@ use lib.Dec.{eqb}
 use Rattle.flat.specs.Flat.{flatHeader}
 use Rattle.header.specs.declared.header.SpliceInfoHeader.{SpliceInfoHeader}
 use Rattle.names.specs.Algorithm.{fairAlgorithm}
-use Rattle.names.specs.Command.{commandOf}
+use Rattle.names.specs.Command.{commandTypeOf}
 use Rattle.names.proofs.Algorithms.{algorithm-laws}
 use Rattle.section_writer.specs.Frame.{headed}
 use Rattle.table.specs.Table.{flagNumber}
@@ -19,6 +19,6 @@ flag-back true = refl
 flag-back false = refl
 
 pub header-back : (h : SpliceInfoHeader) → Typed h → fairAlgorithm (h .«encryption_algorithm») ≡ true → headerFrom (headerWords (flatHeader h)) ≡ headed h 0 0
-unfolding headerFrom headerWords flatHeader headed commandOf
+unfolding headerFrom headerWords flatHeader headed commandTypeOf
 header-back h t f =
     rw (mod-eq-of-lt (t .0), flag-back (h .«encrypted_packet»), mod-eq-of-lt (t .1), algorithm-laws .back (h .«encryption_algorithm») f, mod-eq-of-lt (t .2), mod-eq-of-lt (t .3))

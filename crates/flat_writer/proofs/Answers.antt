@@ -21,7 +21,8 @@ use Rattle.command_measure.proofs.Making.{measured-time, measured-parts, privat
 use Rattle.command_measure.proofs.Surveys.{survey-fits}
 use Rattle.command_measure.specs.Fields.{immediateIn}
 use Rattle.command_measure.specs.Made.{timesFit, commandMade, measuredOf}
-use Rattle.command_measure.specs.Survey.{Tags, surveyed, modeBytes, breakBytes, measured, activeMeasured, timeBytes}
+use Rattle.command_measure.specs.Survey.{surveyed, modeBytes, breakBytes, measured, activeMeasured, timeBytes}
+use Rattle.command.specs.Command.{Tags}
 use Rattle.flat.specs.FlatCommand.{flatCommand}
 use Rattle.header.specs.Time.{ticks}
 use Rattle.header.specs.declared.time.SpliceTime.{SpliceTime}

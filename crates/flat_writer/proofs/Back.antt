@@ -49,7 +49,7 @@ unfolding breakFrom flatBreak
 break-back Break.Absent = refl
 break-back (Break.Lasts d) = rw (return-back (d .«return_mode»))
 
-insert-back : (event reserved : ℕ) (i : Insert) → TypedDetail (SpliceInsert.Insert i) → insertFrom (wholeInsert event reserved i) ≡ i
+insert-back : (event reserved : ℕ) (i : Insert) → TypedDetail (SpliceInsert.Insert i) → insertFrom (wholeInsert event 0 reserved i) ≡ i
 unfolding insertFrom wholeInsert
 insert-back event reserved i h =
     rw (network-back (i .«network_indicator»), mode-back (i .«splice_mode») (h .3), break-back (i .duration), mod-eq-of-lt (h .0), mod-eq-of-lt (h .1), mod-eq-of-lt (h .2))

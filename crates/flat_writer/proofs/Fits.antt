@@ -23,7 +23,8 @@ use Rattle.command_measure.proofs.Making.{measured-time, measured-parts, privat
 use Rattle.command_measure.proofs.Ties.{insert-fields}
 use Rattle.command_measure.specs.Fields.{unlessFields, listFields, modeFields, breakFields, tailFields, endFields, immediateIn, insertFields}
 use Rattle.command_measure.specs.Made.{timesFit, insertMade, commandMade, measuredOf}
-use Rattle.command_measure.specs.Survey.{Tags, measured, timeBytes}
+use Rattle.command_measure.specs.Survey.{measured, timeBytes}
+use Rattle.command.specs.Command.{Tags}
 use Rattle.flat.specs.Flat.{flatTime}
 use Rattle.flat.specs.FlatCommand.{flatMode, flatBreak, wholeInsert, bareInsert, flatInsertion, noCommand, flatCommand, flatComponent}
 use Rattle.header.specs.Time.{ticks}

@@ -19,7 +19,7 @@ use Rattle.command.specs.declared.insert.Insert.{Insert}
 use Rattle.command.specs.declared.insert.SpliceInsert.{SpliceInsert}
 use Rattle.command.specs.declared.insert.SpliceMode.{SpliceMode}
 use Rattle.command_measure.specs.Made.{timesFit}
-use Rattle.command_measure.specs.Survey.{Tags}
+use Rattle.command.specs.Command.{Tags}
 use Rattle.flat.specs.FlatCommand.{flatMode, wholeInsert, bareInsert, flatInsertion, noCommand, flatCommand, flatComponent}
 use Rattle.flat.specs.declared.FlatTime.{FlatTime}
 use Rattle.flat.specs.declared.commands.FlatCommand.{FlatCommand}

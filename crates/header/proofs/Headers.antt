@@ -9,7 +9,7 @@ use lib.Dec.{eqb}
 use lib.ListN.{length, getD}
 use lib.Pow.{high, low}
 use Rattle.names.specs.Algorithm.{algorithmNumber, algorithmOf, fairAlgorithm}
-use Rattle.names.specs.Command.{commandNumber, commandOf}
+use Rattle.names.specs.Command.{commandNumber, commandTypeOf, fairCommand}
 use Rattle.names.specs.declared.algorithm.EncryptionAlgorithm.{EncryptionAlgorithm}
 use Rattle.names.specs.declared.command.SpliceCommandType.{SpliceCommandType}
 use Rattle.names.proofs.Algorithms.{algorithm-laws}
@@ -26,7 +26,7 @@ use Rattle.table.proofs.Reading.{field-exact, field-lt}
 use Rattle.table.proofs.Steps.{takes-number, takes-flag, reads-number, reads-flag}
 use Rattle.table.proofs.Structure as laws
 use Rattle.table.proofs.Telling.{tells-number, tells-flag}
-use Rattle.header.specs.Header.{spliceHeader, fairHeader, headerRead, headerOf}
+use Rattle.header.specs.Header.{spliceHeader, headerRead, headerOf}
 use Rattle.header.specs.declared.header.HeaderRead.{HeaderRead}
 use Rattle.header.specs.declared.header.HeaderRead.the-variants.{Header, TooShort}
 use Rattle.header.specs.declared.header.SpliceInfoHeader.{SpliceInfoHeader}
@@ -40,7 +40,7 @@ pub header-got : (s : List ℕ) → 11 ≤ length s → parse spliceHeader (bits
   «cw_index» = field (bitsOf s) 48 8;
   tier = field (bitsOf s) 56 12;
   «splice_command_length» = field (bitsOf s) 68 12;
-  «splice_command_type» = commandOf (field (bitsOf s) 80 8);
+  «splice_command_type» = commandTypeOf (field (bitsOf s) 80 8);
 }) 88
 unfolding spliceHeader
 header-got s h =
@@ -49,6 +49,10 @@ header-got s h =
     ∙ takes-number s 68 12 _ _ _ (omega arith) refl ∙ takes-number s 80 8 _ _ _ (omega arith) refl
 
 -- ---- the structure
+-- a header whose numbers stand for its values
+unfoldable pub fairHeader : SpliceInfoHeader → Bool
+fairHeader h = fairAlgorithm (h .«encryption_algorithm») && fairCommand (h .«splice_command_type»)
+
 tells : Tells spliceHeader 0 (λ a y. (a % 8 ≡ 0) × (fairHeader y ≡ true))
 unfolding spliceHeader fairHeader
 tells =
@@ -71,7 +75,7 @@ again : (x : SpliceInfoHeader) → fairHeader x ≡ true → record {
   «cw_index» = x .«cw_index»;
   tier = x .tier;
   «splice_command_length» = x .«splice_command_length»;
-  «splice_command_type» = commandOf (commandNumber (x .«splice_command_type»));
+  «splice_command_type» = commandTypeOf (commandNumber (x .«splice_command_type»));
 } ≡ x
 unfolding fairHeader
 again x f =
@@ -161,7 +165,7 @@ module _ (s : List ℕ) (at m k v : ℕ) (small : m + k ≤ 64) (there : at + m 
 -- what the reader's numbers say
 module _ (s : List ℕ) (v₁ v₂ v₃ v₄ v₅ v₆ v₇ v₈ : ℕ) (a : EncryptionAlgorithm) (t : SpliceCommandType) where
   pub header-is : 11 ≤ length s → v₁ ≡ field (bitsOf s) 0 8 → v₂ ≡ field (bitsOf s) 8 1 → v₃ ≡ field (bitsOf s) 9 6 → v₄ ≡ field (bitsOf s) 15 33 → v₅ ≡ field (bitsOf s) 48 8
-      → v₆ ≡ field (bitsOf s) 56 12 → v₇ ≡ field (bitsOf s) 68 12 → v₈ ≡ field (bitsOf s) 80 8 → a ≡ algorithmOf v₃ → t ≡ commandOf v₈
+      → v₆ ≡ field (bitsOf s) 56 12 → v₇ ≡ field (bitsOf s) 68 12 → v₈ ≡ field (bitsOf s) 80 8 → a ≡ algorithmOf v₃ → t ≡ commandTypeOf v₈
       → Header (record {
         «protocol_version» = v₁;
         «encrypted_packet» = eqb v₂ 1;

@@ -3,7 +3,7 @@ use mathlib.Core.Bool.{false}
 use mathlib.Core.List.{List, [], _∷_}
 use mathlib.Core.Path.{_≡_, refl}
 use Rattle.names.specs.Algorithm.{algorithmOf}
-use Rattle.names.specs.Command.{commandOf}
+use Rattle.names.specs.Command.{commandTypeOf}
 use Rattle.table.specs.Bits.{bitsOf}
 use Rattle.table.specs.Table.{number, bit, reserved, got, parse}
 use Rattle.table.specs.Writing.{refused, make}
@@ -29,7 +29,7 @@ pub sample : headerOf (0 ∷ 0 ∷ 0 ∷ 0 ∷ 0 ∷ 0 ∷ 0xff ∷ 0xff ∷ 0xf
   «cw_index» = 255;
   tier = 4095;
   «splice_command_length» = 5;
-  «splice_command_type» = commandOf 6;
+  «splice_command_type» = commandTypeOf 6;
 })
 unfolding headerOf headerRead spliceHeader number bit
 sample = refl

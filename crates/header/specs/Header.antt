@@ -1,9 +1,8 @@
 -- The splice header. 01, "Section".
 use Prim.Native.Nat.{ℕ}
-use mathlib.Core.Bool.{Bool, _&&_}
-use mathlib.Core.List.{List, []}
-use Rattle.names.specs.Algorithm.{algorithmNumber, algorithmOf, fairAlgorithm}
-use Rattle.names.specs.Command.{commandNumber, commandOf, fairCommand}
+use mathlib.Core.List.{List}
+use Rattle.names.specs.Algorithm.{algorithmNumber, algorithmOf}
+use Rattle.names.specs.Command.{commandNumber, commandTypeOf}
 use Rattle.table.specs.Bits.{bitsOf}
 use Rattle.table.specs.Table.{Table, done, uimsbf, flag, Answer, got, short, parse}
 use Rattle.header.specs.declared.header.HeaderRead.{HeaderRead}
@@ -29,12 +28,8 @@ spliceHeader =
       «cw_index» = cw-index;
       tier = tier;
       «splice_command_length» = splice-command-length;
-      «splice_command_type» = commandOf splice-command-type;
+      «splice_command_type» = commandTypeOf splice-command-type;
     })
-
--- refusal 33, as far as a header goes: "a reserved number that has a name or lies in another range"
-unfoldable pub fairHeader : SpliceInfoHeader → Bool
-fairHeader h = fairAlgorithm (h .«encryption_algorithm») && fairCommand (h .«splice_command_type»)
 
 -- what a reader answers: the header, or refusal 5
 unfoldable pub headerRead : Answer SpliceInfoHeader → HeaderRead

@@ -10,7 +10,7 @@ use Rattle.names.specs.declared.flags.NetworkIndicator.{NetworkIndicator
 use Rattle.names.specs.declared.flags.ReturnMode.{ReturnMode}
 use Rattle.names.specs.declared.flags.DeviceRestrictions.{DeviceRestrictions}
 use Rattle.names.specs.Algorithm.{algorithmOf, fairAlgorithm}
-use Rattle.names.specs.Command.{commandOf, fairCommand}
+use Rattle.names.specs.Command.{commandTypeOf, fairCommand}
 use Rattle.names.specs.Upid.{upidTypeOf, fairUpidType}
 use Rattle.names.specs.Segmentation.{segmentationOf, fairSegmentation}
 use Rattle.names.specs.Flags.{gives, refuses, networkOf, returnOf, restrictionsOf}
@@ -31,11 +31,11 @@ unfolding fairAlgorithm
 fair-algorithm-rows = refl
 
 command-rows :
-    map commandOf (0x00 ∷ 0x01 ∷ 0x04 ∷ 0x05 ∷ 0x06 ∷ 0x07 ∷ 0x08 ∷ 0xfe ∷ 0xff ∷ [])
+    map commandTypeOf (0x00 ∷ 0x01 ∷ 0x04 ∷ 0x05 ∷ 0x06 ∷ 0x07 ∷ 0x08 ∷ 0xfe ∷ 0xff ∷ [])
     ≡ SpliceCommandType.SpliceNull ∷ SpliceCommandType.Reserved 0x01 ∷ SpliceCommandType.SpliceSchedule ∷ SpliceCommandType.SpliceInsert
     ∷ SpliceCommandType.TimeSignal ∷ SpliceCommandType.BandwidthReservation ∷ SpliceCommandType.Reserved 0x08
     ∷ SpliceCommandType.Reserved 0xfe ∷ SpliceCommandType.PrivateCommand ∷ []
-unfolding commandOf
+unfolding commandTypeOf
 command-rows = refl
 
 upid-type-rows :

@@ -12,7 +12,7 @@ use Rattle.names.specs.declared.algorithm.EncryptionAlgorithm.the-varian
   Reserved,
   Private,
 }
-use Rattle.names.specs.Numbering.{Class, Entry, named, reserved, private, Table, valueOf, fair}
+use Rattle.names.specs.Numbering.{Entry, named, reserved, private, Table, valueOf, fair}
 
 -- The table: the number and the class of each value, the names in the order of their numbers.
 abbrev pub algorithmEntry : EncryptionAlgorithm → Entry
@@ -26,17 +26,13 @@ algorithmEntry (Private n) = (n, private)
 abbrev pub algorithmNumber : EncryptionAlgorithm → ℕ
 algorithmNumber x = algorithmEntry x .0
 
-abbrev pub algorithmClass : EncryptionAlgorithm → Class
-algorithmClass x = algorithmEntry x .1
-
 -- 01: 4 to 31 reserved, 32 to 63 private; as a bare number, 64 to 255 too
 abbrev pub otherAlgorithm : ℕ → EncryptionAlgorithm
 otherAlgorithm n = cond (ltb n 32) (Reserved n) (Private n)
 
 abbrev pub algorithms : Table EncryptionAlgorithm
 algorithms = record {
-  number = algorithmNumber;
-  class = algorithmClass;
+  entry = algorithmEntry;
   names = None ∷ DesEcb ∷ DesCbc ∷ TripleDesEde3Ecb ∷ [];
   others = otherAlgorithm;
 }

@@ -12,7 +12,7 @@ use Rattle.names.specs.declared.command.SpliceCommandType.the-variants.{
   PrivateCommand,
   Reserved,
 }
-use Rattle.names.specs.Numbering.{Class, Entry, named, reserved, Table, valueOf, fair}
+use Rattle.names.specs.Numbering.{Entry, named, reserved, Table, valueOf, fair}
 
 -- The table: the number and the class of each value, the names in the order of their numbers. 0x04 has a name here, as in 000, though a section with it is refused (01, refusal 10).
 abbrev pub commandEntry : SpliceCommandType → Entry
@@ -27,20 +27,16 @@ commandEntry (Reserved n) = (n, reserved)
 abbrev pub commandNumber : SpliceCommandType → ℕ
 commandNumber x = commandEntry x .0
 
-abbrev pub commandClass : SpliceCommandType → Class
-commandClass x = commandEntry x .1
-
 abbrev pub commands : Table SpliceCommandType
 commands = record {
-  number = commandNumber;
-  class = commandClass;
+  entry = commandEntry;
   names = SpliceNull ∷ SpliceSchedule ∷ SpliceInsert ∷ TimeSignal ∷ BandwidthReservation ∷ PrivateCommand ∷ [];
   others = Reserved;
 }
 
 -- the value that a number stands for
-unfoldable pub commandOf : ℕ → SpliceCommandType
-commandOf n = valueOf commands n
+unfoldable pub commandTypeOf : ℕ → SpliceCommandType
+commandTypeOf n = valueOf commands n
 
 -- whether a value is what its own number stands for
 unfoldable pub fairCommand : SpliceCommandType → Bool

@@ -33,7 +33,7 @@ networkOf n = or-12 (nameOf networkFlag networks n)
 
 abbrev pub networkAnswer : NetworkRead → Answer NetworkIndicator
 networkAnswer (NetworkRead.Is x) = gives x
-networkAnswer NetworkRead.Refused = refuses 12 []
+networkAnswer NetworkRead.Refused = or-12 none
 
 -- auto_return
 abbrev pub returnFlag : ReturnMode → ℕ
@@ -48,7 +48,7 @@ returnOf n = or-12 (nameOf returnFlag returnModes n)
 
 abbrev pub returnAnswer : ReturnRead → Answer ReturnMode
 returnAnswer (ReturnRead.Is x) = gives x
-returnAnswer ReturnRead.Refused = refuses 12 []
+returnAnswer ReturnRead.Refused = or-12 none
 
 -- device_restrictions
 abbrev pub restrictionsBits : DeviceRestrictions → ℕ
@@ -66,4 +66,4 @@ restrictionsOf n = or-12 (nameOf restrictionsBits restrictions n)
 
 abbrev pub restrictionsAnswer : RestrictionsRead → Answer DeviceRestrictions
 restrictionsAnswer (RestrictionsRead.Is x) = gives x
-restrictionsAnswer RestrictionsRead.Refused = refuses 12 []
+restrictionsAnswer RestrictionsRead.Refused = or-12 none

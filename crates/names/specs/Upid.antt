@@ -22,7 +22,7 @@ use Rattle.names.specs.declared.upid.SegmentationUpidType.the-variants.{
   URI,
   Reserved,
 }
-use Rattle.names.specs.Numbering.{Class, Entry, named, reserved, Table, valueOf, fair}
+use Rattle.names.specs.Numbering.{Entry, named, reserved, Table, valueOf, fair}
 
 -- The table: the number and the class of each value, the names in the order of their numbers. 16 and up have no name.
 abbrev pub upidTypeEntry : SegmentationUpidType → Entry
@@ -47,13 +47,9 @@ upidTypeEntry (Reserved n) = (n, reserved)
 abbrev pub upidTypeNumber : SegmentationUpidType → ℕ
 upidTypeNumber x = upidTypeEntry x .0
 
-abbrev pub upidTypeClass : SegmentationUpidType → Class
-upidTypeClass x = upidTypeEntry x .1
-
 abbrev pub upidTypes : Table SegmentationUpidType
 upidTypes = record {
-  number = upidTypeNumber;
-  class = upidTypeClass;
+  entry = upidTypeEntry;
   names = NotUsed ∷ UserDefinedDeprecated ∷ ISCIDeprecated ∷ AdID ∷ UMID ∷ ISANDeprecated ∷ ISAN ∷ TID ∷ TI ∷ ADI ∷ EIDR ∷ ATSC
       ∷ MPU ∷ MID ∷ ADS ∷ URI ∷ [];
   others = Reserved;

@@ -1,6 +1,6 @@
 // splice_command_type, the last byte of the splice header.
 ghost use mathlib.Core.Path.{_≡_};
-ghost use Rattle.names.specs.Command.{commandOf, commandNumber, fairCommand};
+ghost use Rattle.names.specs.Command.{commandTypeOf, commandNumber, fairCommand};
 
 pub enum SpliceCommandType {
     SpliceNull,
@@ -15,7 +15,7 @@ pub enum SpliceCommandType {
 impl SpliceCommandType {
     // The value that a number stands for.
     pub fn from_id(id: u8) -> SpliceCommandType
-        ensures { λ r. ⌜ r ≡ commandOf id ⌝ }
+        ensures { λ r. ⌜ r ≡ commandTypeOf id ⌝ }
     {
         match id {
             0x00 => SpliceCommandType::SpliceNull,

@@ -6,7 +6,7 @@ use lib.ListN.{length}
 use borrow.Author.Tests.{eqb-true}
 use types.Run.{OneOf}
 use Rattle.names.specs.Flags.{Answer, gives, refuses}
-use Rattle.names.specs.Numbering.{Table, named, valueOf, fair}
+use Rattle.names.specs.Numbering.{Table, number, class, named, valueOf, fair}
 use Rattle.names.proofs.Laws.{Sound, inverse, own-name, upto}
 use Rattle.scte35.specs.FlatNumber.{flatName, flatAnswer}
 use Rattle.scte35.specs.declared.numbers.FlatNumber.{FlatNumber}
@@ -16,17 +16,17 @@ abbrev pub flat : ℕ → ℕ → FlatNumber
 flat class number = record { refusal = 0; class = class; number = number }
 
 module _ {A : Type 0} (T : Table A) (tag : A → ℕ) (s : Sound T tag) (n : ℕ) (x : A) (e : x ≡ valueOf T n) where
-  is-named : OneOf (upto 0 (length (T .names))) (tag x) → T .class x ≡ named
+  is-named : OneOf (upto 0 (length (T .names))) (tag x) → class T x ≡ named
   is-named o =
-      let m : T .number x ≡ n = ap (T .number) e ∙ inverse T tag s .there n in
-      sym (eqb-true named (T .class x) (own-name T tag s x x (e ∙ ap (valueOf T) (sym m)) o ∙ ap (fair T) e ∙ inverse T tag s .is-fair n))
+      let m : number T x ≡ n = ap (number T) e ∙ inverse T tag s .there n in
+      sym (eqb-true named (class T x) (own-name T tag s x x (e ∙ ap (valueOf T) (sym m)) o ∙ ap (fair T) e ∙ inverse T tag s .is-fair n))
 
   -- a name
-  pub of-name : OneOf (upto 0 (length (T .names))) (tag x) → (k : ℕ) → k ≡ T .number x → flat named k ≡ flatName T (valueOf T n)
-  of-name o k h = ap (flat named) h ∙ ap (λ j. flat j (T .number x)) (sym (is-named o)) ∙ ap (flatName T) e
+  pub of-name : OneOf (upto 0 (length (T .names))) (tag x) → (k : ℕ) → k ≡ number T x → flat named k ≡ flatName T (valueOf T n)
+  of-name o k h = ap (flat named) h ∙ ap (λ j. flat j (number T x)) (sym (is-named o)) ∙ ap (flatName T) e
 
 -- a value that carries its number
-pub of-number : {A : Type 0} (T : Table A) (n : ℕ) (x v : A) → x ≡ valueOf T n → x ≡ v → flat (T .class v) (T .number v) ≡ flatName T (valueOf T n)
+pub of-number : {A : Type 0} (T : Table A) (n : ℕ) (x v : A) → x ≡ valueOf T n → x ≡ v → flat (class T v) (number T v) ≡ flatName T (valueOf T n)
 of-number T n x v e h = ap (flatName T) (sym h ∙ e)
 
 -- a value, or refusal 12

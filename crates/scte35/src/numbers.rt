@@ -1,7 +1,7 @@
 // The named numbers: whether a number has a name (class 0), is reserved (1) or private (2); or refusal 12.
 ghost use mathlib.Core.Path.{_≡_};
 ghost use Rattle.names.specs.Algorithm.{algorithms, algorithmOf};
-ghost use Rattle.names.specs.Command.{commands, commandOf};
+ghost use Rattle.names.specs.Command.{commands, commandTypeOf};
 ghost use Rattle.names.specs.Flags.{networkFlag, networkOf, returnFlag, returnOf, restrictionsBits, restrictionsOf};
 ghost use Rattle.names.specs.Segmentation.{segmentations, segmentationOf};
 ghost use Rattle.names.specs.Upid.{upidTypes, upidTypeOf};
@@ -58,7 +58,7 @@ pub extern "C" fn scte35_algorithm(n: u8) -> FlatNumber
 
 #[no_mangle]
 pub extern "C" fn scte35_command_type(n: u8) -> FlatNumber
-    ensures { λ r. ⌜ r ≡ flatName commands (commandOf n) ⌝ }
+    ensures { λ r. ⌜ r ≡ flatName commands (commandTypeOf n) ⌝ }
 {
     let x = SpliceCommandType::from_id(n);
     match x {

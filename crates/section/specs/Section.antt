@@ -13,7 +13,7 @@ use Rattle.crc.specs.Crc.{crcOf}
 use Rattle.header.specs.Header.{headerOf}
 use Rattle.header.specs.declared.header.HeaderRead.{HeaderRead}
 use Rattle.table.specs.Bits.{pick, bitsOf, field}
-use Rattle.table.specs.Lent.{noView, shifted}
+use Rattle.table.specs.Lent.{noView, shifted, viewed}
 use Rattle.table.specs.declared.View.{View}
 use Rattle.section.specs.declared.FrameRead.{FrameRead}
 use Rattle.section.specs.declared.Refusal.{Refusal}
@@ -40,6 +40,10 @@ loopLength s = field (bitsOf s) ((14 + commandLength s) * 8) 16
 
 unfoldable pub loopPlace : List ℕ → View
 loopPlace s = record { at = 16 + commandLength s; len = loopLength s }
+
+-- the bytes of the loop
+abbrev pub loopBytes : List ℕ → List ℕ
+loopBytes s = viewed s (loopPlace s)
 
 -- ---- the conditions of refusals 1 to 11
 -- 1: "section under 3 bytes"

@@ -27,7 +27,7 @@ use Rattle.table.proofs.Lists.{zero-one}
 use Rattle.table.proofs.Stores.{length-stored}
 use Rattle.section_writer.specs.Frame.{sectionLength, head, frame, numbersFit, fairHead}
 use Rattle.section_writer.specs.Walk.{tail, answerFor}
-use Rattle.section_writer.specs.Writing.{conditions, unless, madeIf, sectionMade, kindOf}
+use Rattle.section_writer.specs.Writing.{conditions, unless, sectionMade, kindOf}
 use Rattle.section_writer.proofs.Frames.{length-frame}
 use Rattle.section_writer.proofs.Stored.{section-stored}
 use Rattle.section_writer.proofs.Trips.{tests-passed}
@@ -74,11 +74,11 @@ module _ (h : SpliceInfoHeader) (c : SpliceCommand) (cs : List ComponentSplice) 
   tests = rw em
 
   is-refused : 0 < n → section ≡ refused n
-  unfolding sectionMade madeIf
+  unfolding sectionMade
   is-refused z = rw (← tests) (unless-refused n (frame h (kindOf c) payload loop) z)
 
   is-made : n ≡ 0 → section ≡ made (frame h (kindOf c) payload loop)
-  unfolding sectionMade madeIf
+  unfolding sectionMade
   is-made e = rw (← tests, e)
 
   long : length (frame h (kindOf c) payload loop) ≡ sectionLength (m .size) (length loop)

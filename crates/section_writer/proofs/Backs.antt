@@ -10,12 +10,12 @@ use lib.ListN.{length, getD, take, drop, length-drop}
 use lib.Seq.{take-add, drop-drop, length-take-le, getD-drop, drop-cons}
 use Rattle.crc.specs.Crc.{crcOf, crcBytesOf}
 use Rattle.crc.proofs.Laws.{crc-last}
-use Rattle.header.specs.Header.{spliceHeader, fairHeader, headerOf, headerRead}
+use Rattle.header.specs.Header.{spliceHeader, headerOf, headerRead}
 use Rattle.header.specs.declared.header.HeaderRead.{HeaderRead}
 use Rattle.header.specs.declared.header.SpliceInfoHeader.{SpliceInfoHeader}
-use Rattle.header.proofs.Headers.{header-got, header-read-write}
+use Rattle.header.proofs.Headers.{fairHeader, header-got, header-read-write}
 use Rattle.names.specs.Algorithm.{algorithmOf}
-use Rattle.names.specs.Command.{commandOf}
+use Rattle.names.specs.Command.{commandTypeOf}
 use Rattle.section.specs.Section.{commandLength, commandType, commandBytes, loopLength}
 use Rattle.table.specs.Bits.{bitsOfNum, bitsOf, field, bytesN, bytesOf, bigEndian, AllBytes}
 use Rattle.table.specs.Table.{number, bit}
@@ -23,7 +23,7 @@ use Rattle.table.specs.Writing.{walk, contents, print}
 use Rattle.table.proofs.Bits.{bits-join, bytes-num, length-bits}
 use Rattle.table.proofs.Fields.{field-add, field-byte}
 use Rattle.table.proofs.Structure.{wrote}
-use Rattle.section_writer.specs.Frame.{headed, headerBytes, opening, sectionLength, head, measured, body, frame}
+use Rattle.section_writer.specs.Frame.{headed, headerBytes, opening, sectionLength, head, withLength, body, frame}
 use Rattle.section_writer.proofs.Numbers.{number-bytes, bytes-take, bytes-drop, byte-in, field-behind, field-front}
 
 -- ---- the first three bytes
@@ -82,7 +82,7 @@ module _ (s : List ℕ) (a : AllBytes s) (long : 18 ≤ length s) (x : SpliceInf
     «cw_index» = field (bitsOf tail) 48 8;
     tier = field (bitsOf tail) 56 12;
     «splice_command_length» = field (bitsOf tail) 68 12;
-    «splice_command_type» = commandOf (field (bitsOf tail) 80 8);
+    «splice_command_type» = commandTypeOf (field (bitsOf tail) 80 8);
   }
 
   pub own-is : own ≡ x
@@ -134,7 +134,7 @@ module _ (s : List ℕ) (a : AllBytes s) (long : 18 ≤ length s) (short : lengt
 
   pub frame-again : (x : SpliceInfoHeader) → getD s 0 0 ≡ 0xfc → crcOf s ≡ 0 → field (bitsOf s) 8 4 ≡ 3 → field (bitsOf s) 12 12 ≡ length s - 3
       → headerOf (drop 3 s) ≡ HeaderRead.Header x → s ≡ frame x (commandType s) (commandBytes s) loop
-  unfolding frame body head measured
+  unfolding frame body head withLength
   frame-again x first crc high low is =
       let n = commandLength s in
       let m = loopLength s in

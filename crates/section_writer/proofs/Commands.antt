@@ -89,7 +89,7 @@ one-command kind p q a b c d h = go (eqb kind 0x00) (eqb kind 0x05) (eqb kind 0x
     go : (b₀ b₅ b₆ b₇ b₈ : Bool)
         → pick b₀ (eqb (length p) 0) (pick b₅ (canonicalBy insert p) (pick b₆ (canonicalBy spliceTime p) (pick b₇ (eqb (length p) 0) (pick b₈ (canonicalBy private p) false)))) ≡ true
         → pick b₀ (eqb (length q) 0) (pick b₅ (canonicalBy insert q) (pick b₆ (canonicalBy spliceTime q) (pick b₇ (eqb (length q) 0) (pick b₈ (canonicalBy private q) false)))) ≡ true
-        → pick b₅ (SameBy insert p q) (pick b₆ (SameBy spliceTime p q) (pick b₈ (SameBy private p q) (Unit {0}))) → p ≡ q
+        → pick b₀ (Unit {0}) (pick b₅ (SameBy insert p q) (pick b₆ (SameBy spliceTime p q) (pick b₇ (Unit {0}) (pick b₈ (SameBy private p q) (Unit {0}))))) → p ≡ q
     go true b₅ b₆ b₇ b₈ c d h = none p q c d
     go false true b₆ b₇ b₈ c d h =
         let x = read-by insert p c in

@@ -22,9 +22,9 @@ use Rattle.header.specs.declared.header.HeaderRead.{HeaderRead}
 use Rattle.header.specs.declared.header.SpliceInfoHeader.{SpliceInfoHeader}
 use Rattle.header.proofs.Headers.{header-got, header-write-read}
 use Rattle.names.specs.Algorithm.{algorithmOf}
-use Rattle.names.specs.Command.{commandNumber, commandOf}
+use Rattle.names.specs.Command.{commandNumber, commandTypeOf}
 use Rattle.names.proofs.Commands.{command-laws}
-use Rattle.section.specs.Section.{commandLength, commandType, commandBytes, loopLength, loopPlace, moved, sectionOf}
+use Rattle.section.specs.Section.{commandLength, commandType, commandBytes, loopLength, loopPlace, loopBytes, moved, sectionOf}
 use Rattle.section.specs.declared.SectionRead.{SectionRead}
 use Rattle.section.proofs.Frame.{is-framed, has-parts, is-accepted, is-section}
 use Rattle.table.specs.Bits.{bitsOf, field, bytesOf, bigEndian, AllBytes}
@@ -37,7 +37,7 @@ use Rattle.table.proofs.Fields.{field-byte}
 use Rattle.table.proofs.Lists.{zero-one}
 use Rattle.table.proofs.Reading.{field-exact}
 use Rattle.table.proofs.Walks.{print-bits}
-use Rattle.section_writer.specs.Frame.{headed, headerBytes, opening, sectionLength, head, measured, body, frame, numbersFit, fairHead}
+use Rattle.section_writer.specs.Frame.{headed, headerBytes, opening, sectionLength, head, withLength, body, frame, numbersFit, fairHead}
 use Rattle.section_writer.proofs.Heads.{Fitting, fitting, clear, header-is-made, length-header, length-opening, length-head}
 use Rattle.section_writer.proofs.Numbers.{number-at, byte-in, field-behind}
 
@@ -47,16 +47,16 @@ header-bytes x =
     let p = print (contents [] (walk spliceHeader x 0 .fields)) in
     all-bytesN (length p / 8) p (print-bits (contents [] (walk spliceHeader x 0 .fields)))
 
-pub length-measured : (loop : List ℕ) → length (measured loop) ≡ 2 + length loop
-unfolding measured
-length-measured loop = omega arith
+pub length-with-length : (loop : List ℕ) → length (withLength loop) ≡ 2 + length loop
+unfolding withLength
+length-with-length loop = omega arith
 
 module _ (h : SpliceInfoHeader) (kind : ℕ) (payload loop : List ℕ) where
   pub length-body : length (body h kind payload loop) ≡ 16 + length payload + length loop
   unfolding body
   length-body =
       let t = head h kind (length payload) (length loop) in
-      length-append (t ++ payload) (measured loop) ∙ omega (arith, length-append t payload, length-head h kind (length payload) (length loop), length-measured loop)
+      length-append (t ++ payload) (withLength loop) ∙ omega (arith, length-append t payload, length-head h kind (length payload) (length loop), length-with-length loop)
 
   pub length-frame : length (frame h kind payload loop) ≡ sectionLength (length payload) (length loop)
   unfolding frame
@@ -70,27 +70,27 @@ module _ (h : SpliceInfoHeader) (kind : ℕ) (payload loop : List ℕ) where
   abbrev pub crc : List ℕ
   crc = crcBytesOf (body h kind payload loop)
 
-  pub behind-three : frame h kind payload loop ≡ opening (sectionLength (length payload) (length loop)) ++ (headerBytes (headed h (length payload) kind) ++ (payload ++ (measured loop ++ crc)))
+  pub behind-three : frame h kind payload loop ≡ opening (sectionLength (length payload) (length loop)) ++ (headerBytes (headed h (length payload) kind) ++ (payload ++ (withLength loop ++ crc)))
   unfolding frame body head
   behind-three = simp append-assoc
 
-  pub behind-head : frame h kind payload loop ≡ head h kind (length payload) (length loop) ++ (payload ++ (measured loop ++ crc))
+  pub behind-head : frame h kind payload loop ≡ head h kind (length payload) (length loop) ++ (payload ++ (withLength loop ++ crc))
   unfolding frame body
   behind-head = simp append-assoc
 
   behind-command : frame h kind payload loop ≡ head h kind (length payload) (length loop) ++ payload ++ (bigEndian 2 (length loop) ++ (loop ++ crc))
-  unfolding frame body measured
+  unfolding frame body withLength
   behind-command = simp append-assoc
 
   before-crc : frame h kind payload loop ≡ head h kind (length payload) (length loop) ++ payload ++ bigEndian 2 (length loop) ++ (loop ++ crc)
-  unfolding frame body measured
+  unfolding frame body withLength
   before-crc = simp append-assoc
 
   pub frame-first : getD (frame h kind payload loop) 0 0 ≡ 0xfc
   unfolding opening
   frame-first = rw behind-three
 
-  after-three : drop 3 (frame h kind payload loop) ≡ headerBytes (headed h (length payload) kind) ++ (payload ++ (measured loop ++ crc))
+  after-three : drop 3 (frame h kind payload loop) ≡ headerBytes (headed h (length payload) kind) ++ (payload ++ (withLength loop ++ crc))
   after-three = ap (drop 3) behind-three ∙ drop-at (opening (sectionLength (length payload) (length loop))) _ 3 (length-opening (sectionLength (length payload) (length loop)))
 
   module _ (fits : numbersFit h ≡ true) (fair : fairHead h ≡ true) (byte : kind < 2 ^ 8) (small : sectionLength (length payload) (length loop) ≤ 4096) where
@@ -98,7 +98,7 @@ module _ (h : SpliceInfoHeader) (kind : ℕ) (payload loop : List ℕ) where
     header-parsed =
         let x = headed h (length payload) kind in
         let m = header-is-made h (length payload) kind (fitting h fits) (clear h fair .1) (omega arith) byte in
-        rw after-three (header-write-read [] x (headerBytes x) (payload ++ (measured loop ++ crc)) m ∙ ap (λ (n : ℕ). got x (n * 8)) (length-header x))
+        rw after-three (header-write-read [] x (headerBytes x) (payload ++ (withLength loop ++ crc)) m ∙ ap (λ (n : ℕ). got x (n * 8)) (length-header x))
 
     pub frame-header : headerOf (drop 3 (frame h kind payload loop)) ≡ HeaderRead.Header (headed h (length payload) kind)
     unfolding headerOf headerRead
@@ -118,7 +118,7 @@ module _ (h : SpliceInfoHeader) (kind : ℕ) (payload loop : List ℕ) where
       «cw_index» = field (bitsOf tail) 48 8;
       tier = field (bitsOf tail) 56 12;
       «splice_command_length» = field (bitsOf tail) 68 12;
-      «splice_command_type» = commandOf (field (bitsOf tail) 80 8);
+      «splice_command_type» = commandTypeOf (field (bitsOf tail) 80 8);
     } ≡ headed h (length payload) kind
     header-numbers =
         let e = sym (header-got tail room) ∙ header-parsed in
@@ -152,8 +152,8 @@ module _ (h : SpliceInfoHeader) (kind : ℕ) (payload loop : List ℕ) where
     unfolding commandBytes
     frame-command-bytes =
         let t = head h kind (length payload) (length loop) in
-        let d : drop 14 (frame h kind payload loop) ≡ payload ++ (measured loop ++ crc) = ap (drop 14) behind-head ∙ drop-at t _ 14 (length-head h kind (length payload) (length loop)) in
-        rw (frame-command-length, d) (take-at payload (measured loop ++ crc) (length payload) refl)
+        let d : drop 14 (frame h kind payload loop) ≡ payload ++ (withLength loop ++ crc) = ap (drop 14) behind-head ∙ drop-at t _ 14 (length-head h kind (length payload) (length loop)) in
+        rw (frame-command-length, d) (take-at payload (withLength loop ++ crc) (length payload) refl)
 
     front : length (head h kind (length payload) (length loop) ++ payload) ≡ 14 + length payload
     front = length-append (head h kind (length payload) (length loop)) payload ∙ omega (arith, length-head h kind (length payload) (length loop))
@@ -170,7 +170,7 @@ module _ (h : SpliceInfoHeader) (kind : ℕ) (payload loop : List ℕ) where
     frame-loop-place = rw (frame-command-length, frame-loop-length)
 
     -- the loop's bytes are those that were lent
-    pub frame-loop : viewed (frame h kind payload loop) (loopPlace (frame h kind payload loop)) ≡ loop
+    pub frame-loop : loopBytes (frame h kind payload loop) ≡ loop
     unfolding viewed
     frame-loop =
         let p = head h kind (length payload) (length loop) ++ payload ++ bigEndian 2 (length loop) in

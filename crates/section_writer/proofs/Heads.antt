@@ -10,10 +10,11 @@ use native.Mathlib.Omega.{arith}
 use lib.Dec.{ltb}
 use lib.ListN.{length, length-append}
 use borrow.Author.Tests.{ltb-true, lt-ltb, not-true}
-use Rattle.header.specs.Header.{spliceHeader, fairHeader}
+use Rattle.header.specs.Header.{spliceHeader}
 use Rattle.header.specs.declared.header.SpliceInfoHeader.{SpliceInfoHeader}
+use Rattle.header.proofs.Headers.{fairHeader}
 use Rattle.names.specs.Algorithm.{algorithmNumber, fairAlgorithm}
-use Rattle.names.specs.Command.{commandNumber, commandOf, fairCommand}
+use Rattle.names.specs.Command.{commandNumber, commandTypeOf, fairCommand}
 use Rattle.names.proofs.Commands.{command-laws}
 use Rattle.table.specs.Bits.{bitsOfNum, bytesOf, bigEndian}
 use Rattle.table.specs.Table.{flagNumber, number, bit}

@@ -13,7 +13,7 @@ use Rattle.crc.specs.Crc.{crcOf, crcBytesOf}
 use Rattle.header.specs.Header.{spliceHeader}
 use Rattle.header.specs.declared.header.SpliceInfoHeader.{SpliceInfoHeader}
 use Rattle.names.specs.Algorithm.{algorithmNumber, fairAlgorithm}
-use Rattle.names.specs.Command.{commandNumber, commandOf}
+use Rattle.names.specs.Command.{commandNumber, commandTypeOf}
 use Rattle.names.proofs.Commands.{command-laws}
 use Rattle.table.specs.Bits.{bitsOfNum, bytesOf, bigEndian}
 use Rattle.table.specs.Lent.{stored}
@@ -22,10 +22,10 @@ use Rattle.table.specs.Writing.{walk, contents, print}
 use Rattle.table.proofs.Bits.{bits-join, bytes-num, bytes-append, length-num, length-bigEndian}
 use Rattle.table.proofs.Lists.{append-nil, zero-one}
 use Rattle.table.proofs.Stores.{stored-fits, stored-append}
-use Rattle.section_writer.specs.Frame.{headed, headerBytes, opening, sectionLength, head, measured, body, frame, numbersFit, fairHead}
+use Rattle.section_writer.specs.Frame.{headed, headerBytes, opening, sectionLength, head, withLength, body, frame, numbersFit, fairHead}
 use Rattle.section_writer.specs.Walk.{frontNumber, backNumber, tail}
 use Rattle.section_writer.proofs.Backs.{opening-is}
-use Rattle.section_writer.proofs.Frames.{length-measured}
+use Rattle.section_writer.proofs.Frames.{length-with-length}
 use Rattle.section_writer.proofs.Heads.{Fitting, fitting, fits-within, clear, length-head}
 
 -- ---- refusals 32 and 33
@@ -114,10 +114,10 @@ crc-number c m e = rw (e, div-one (crcOf m))
 
 pub tail-stored : (t u v w loop : List ℕ) (at c : ℕ) → u ≡ stored t at (bigEndian 2 (length loop)) → v ≡ stored u (at + 2) loop → c ≡ crcOf (take (at + 2 + length loop - 0) (drop 0 v))
     → w ≡ stored v (at + 2 + length loop) (bigEndian 4 c) → at + length loop + 6 ≤ length t → w ≡ stored t at (tail (take at t) loop)
-unfolding tail measured
+unfolding tail withLength
 tail-stored t u v w loop at c eu ev ec ew room =
-    let m = measured loop in
-    let n : length m ≡ 2 + length loop = length-measured loop in
+    let m = withLength loop in
+    let n : length m ≡ 2 + length loop = length-with-length loop in
     let e : v ≡ stored t at m = ev ∙ ap (λ (x : List ℕ). stored x (at + 2) loop) eu ∙ stored-append t at (bigEndian 2 (length loop)) loop (omega arith) in
     let l : length (take at t ++ m) ≡ at + 2 + length loop = length-append (take at t) m ∙ omega (arith, length-take-le at t (omega arith)) in
     let z : at + 2 + length loop - 0 ≡ at + 2 + length loop = omega arith in
@@ -135,10 +135,10 @@ unfolding tail frame body
 section-stored t u v w h kind payload loop eu ev ew room =
     let a = head h kind (length payload) (length loop) in
     let b = a ++ payload in
-    let m = measured loop in
+    let m = withLength loop in
     let la : length a ≡ 14 = length-head h kind (length payload) (length loop) in
     let lb : length b ≡ 14 + length payload = length-append a payload ∙ omega arith in
-    let lm : length m ≡ 2 + length loop = length-measured loop in
+    let lm : length m ≡ 2 + length loop = length-with-length loop in
     let e : v ≡ stored t 0 b = ev ∙ ap (λ (x : List ℕ). stored x 14 payload) eu ∙ ap (λ (i : ℕ). stored (stored t 0 a) i payload) (let z : 14 ≡ 0 + length a = omega arith in z) ∙ stored-append t 0 a payload (omega arith) in
     let f : take (14 + length payload) v ≡ b = rw (e, stored-fits t 0 b (omega arith)) (take-at b (drop (0 + length b) t) (14 + length payload) lb) in
     let c = crcBytesOf (b ++ m) in

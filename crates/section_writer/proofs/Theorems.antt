@@ -18,16 +18,16 @@ use Rattle.header.specs.Header.{headerOf}
 use Rattle.header.specs.declared.header.HeaderRead.{HeaderRead}
 use Rattle.header.specs.declared.header.SpliceInfoHeader.{SpliceInfoHeader}
 use Rattle.pen.specs.Written.{bytesIn}
-use Rattle.section.specs.Section.{commandLength, commandType, commandBytes, moved, sectionOf}
+use Rattle.section.specs.Section.{commandLength, commandType, commandBytes, loopBytes, moved, sectionOf}
 use Rattle.section.specs.declared.Section.{Section}
 use Rattle.section.specs.declared.SectionRead.{SectionRead}
-use Rattle.section_writer.specs.Walk.{sameHeaders, SameAround, loopBytes}
+use Rattle.section_writer.specs.Walk.{sameHeaders, SameAround}
 use Rattle.table.specs.Bits.{AllBytes}
 use Rattle.table.specs.Writing.{Made, made}
 use Rattle.table.proofs.Lists.{and-true}
 use Rattle.section_writer.specs.Canonical.{canonicalFrame, canonicalSection}
 use Rattle.section_writer.specs.Frame.{headed, frame}
-use Rattle.section_writer.specs.Writing.{madeIf, sectionMade}
+use Rattle.section_writer.specs.Writing.{sectionMade}
 use Rattle.section_writer.proofs.Commands.{one-command}
 use Rattle.section_writer.proofs.Frames.{frame-command-type, frame-command-bytes}
 use Rattle.section_writer.proofs.Numbers.{bytes-take, bytes-drop}
@@ -39,26 +39,25 @@ module _ (h : SpliceInfoHeader) (payload : List ℕ) (kind : ℕ) (loop b : List
   -- the header with the command's length and type, the command with its views in the section, and the loop's place, where the lent bytes stand
   pub section-reads-back : (sectionOf b ≡ SectionRead.Is (record { header = headed h (length payload) kind; command = moved 14 c; descriptors = record { at = 16 + length payload; len = length loop } }))
       × (loopBytes b ≡ loop)
-  unfolding sectionMade
-  section-reads-back = let w = section-write-read (canonicalLoop loop) h payload kind loop b c byte e k in (w .0, w .1)
+  section-reads-back = let w = section-write-read h payload kind loop b c byte e k in (w .0, w .1)
 
   pub section-is-canonical : canonicalCommand kind payload ≡ true → canonicalSection b ≡ true
-  unfolding sectionMade canonicalSection bytesIn
+  unfolding canonicalSection bytesIn
   section-is-canonical f =
-      let w = section-wrote (canonicalLoop loop) h (made payload) kind loop b e in
-      let t = section-write-read (canonicalLoop loop) h payload kind loop b c byte e k in
+      let w = section-wrote h (made payload) kind loop b e in
+      let t = section-write-read h payload kind loop b c byte e k in
       let l : canonicalLoop (loopBytes b) ≡ true = ap canonicalLoop (t .1) ∙ w .form in
       let n : commandType b ≡ kind = rw (w .bytes) (frame-command-type h kind payload loop (w .fits) (w .fair) byte (w .short)) in
       let p : commandBytes b ≡ payload = rw (w .bytes) (frame-command-bytes h kind payload loop (w .fits) (w .fair) byte (w .short)) in
       rw (t .2, n, p, f, l)
 
 -- ---- a canonical section
-record Canonical (s : List ℕ) : Type 0 where
+pub record Canonical (s : List ℕ) : Type 0 where
   pub around : canonicalFrame s ≡ true
   pub command : canonicalCommand (commandType s) (commandBytes s) ≡ true
   pub loop : canonicalLoop (loopBytes s) ≡ true
 
-canonical-parts : (s : List ℕ) → canonicalSection s ≡ true → Canonical s
+pub canonical-parts : (s : List ℕ) → canonicalSection s ≡ true → Canonical s
 unfolding canonicalSection
 canonical-parts s e =
     let a = and-true (canonicalFrame s) _ e in
@@ -67,10 +66,7 @@ canonical-parts s e =
 
 pub section-is-written-back : (s : List ℕ) (x : Section) → AllBytes s → sectionOf s ≡ SectionRead.Is x → canonicalSection s ≡ true
     → sectionMade (x .header) (made (commandBytes s)) (commandType s) (loopBytes s) ≡ made s
-unfolding sectionMade
-section-is-written-back s x a e c =
-    let p = canonical-parts s c in
-    rw (p .loop) (section-read-write s x a e (p .around))
+section-is-written-back s x a e c = let p = canonical-parts s c in section-read-write s x a e (p .around) (p .loop)
 
 -- ---- equal readings
 command-bytes : (s : List ℕ) → AllBytes s → AllBytes (commandBytes s)
@@ -85,4 +81,4 @@ no-other-section s r x y a b e f c d same l =
     let h : headed (x .header) 0 0 ≡ headed (y .header) 0 0 = rw (parts-of s x e .header, parts-of r y f .header) at (same .headers) in
     let k : canonicalCommand (commandType s) (commandBytes r) ≡ true = rw (same .types) (q .command) in
     let t : commandBytes s ≡ commandBytes r = one-command (commandType s) (commandBytes s) (commandBytes r) (command-bytes s a) (command-bytes r b) (p .command) k (same .commands) in
-    one-section s r x y a b e f (p .around) (q .around) h (same .types) t l
+    one-section s r x y a b e f (p .around) (q .around) (p .loop) (q .loop) h (same .types) t l

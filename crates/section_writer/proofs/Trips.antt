@@ -15,15 +15,15 @@ use borrow.Author.Tests.{ltb-false, le-ltb, eqb-false, eq-eqb, ne-eqb, not-false
 use Rattle.command.specs.Command as command
 use Rattle.command.specs.declared.CommandRead.{CommandRead}
 use Rattle.command.specs.declared.SpliceCommand.{SpliceCommand}
+use Rattle.descriptor_form.specs.Canonical.{canonicalLoop}
 use Rattle.header.specs.declared.header.HeaderRead.{HeaderRead}
 use Rattle.header.specs.declared.header.SpliceInfoHeader.{SpliceInfoHeader}
 use Rattle.names.specs.Algorithm.{algorithmNumber, algorithmOf}
 use Rattle.names.proofs.Algorithms.{algorithm-laws}
 use Rattle.pen.specs.Written.{refusalIn, bytesIn}
-use Rattle.section.specs.Section.{first, commandLength, commandType, commandBytes, loopLength, loopPlace, moved, sectionOf, numberOf}
+use Rattle.section.specs.Section.{first, commandLength, commandType, commandBytes, loopLength, loopPlace, loopBytes, moved, sectionOf, numberOf}
 use Rattle.section.specs.declared.Section.{Section}
 use Rattle.section.specs.declared.SectionRead.{SectionRead}
-use Rattle.section_writer.specs.Walk.{loopBytes}
 use Rattle.table.specs.Bits.{bitsOf, field, bigEndian, AllBytes}
 use Rattle.table.specs.Lent.{viewed}
 use Rattle.table.specs.Writing.{Made, made, refused}
@@ -32,8 +32,8 @@ use Rattle.table.proofs.Fields.{field-add}
 use Rattle.table.proofs.Lists.{zero-one}
 use Rattle.table.proofs.Reading.{field-lt}
 use Rattle.section_writer.specs.Canonical.{canonicalFrame}
-use Rattle.section_writer.specs.Frame.{headed, headerBytes, opening, sectionLength, head, measured, body, frame, numbersFit, fairHead}
-use Rattle.section_writer.specs.Writing.{conditions, unless, madeIf}
+use Rattle.section_writer.specs.Frame.{headed, headerBytes, opening, sectionLength, head, withLength, body, frame, numbersFit, fairHead}
+use Rattle.section_writer.specs.Writing.{conditions, unless, sectionMade}
 use Rattle.section_writer.proofs.Backs.{opening-is, frame-again, own, own-is, headed-own}
 use Rattle.section_writer.proofs.Forms.{Framed, framed}
 use Rattle.section_writer.proofs.Frames.{crc, length-frame, behind-three, frame-loop, frame-accepted, frame-command-length, frame-loop-length}
@@ -67,19 +67,20 @@ unless-made : (n : ℕ) (f b : List ℕ) → unless n f ≡ made b → (n ≡ 0)
 unless-made zero f b e = (refl, cc)
 unless-made (suc n) f b e = zero-one cc
 
-pub record Wrote (canonical : Bool) (h : SpliceInfoHeader) (command : Made) (kind : ℕ) (loop b : List ℕ) : Type 0 where
+pub record Wrote (h : SpliceInfoHeader) (command : Made) (kind : ℕ) (loop b : List ℕ) : Type 0 where
   pub fits : numbersFit h ≡ true
   pub fair : fairHead h ≡ true
   pub short : sectionLength (length (bytesIn command)) (length loop) ≤ 4096
-  pub form : canonical ≡ true
+  pub form : canonicalLoop loop ≡ true
   pub seen : refusalIn command ≡ 31 → ⊥
   pub within : refusalIn command ≡ 32 → ⊥
   pub kept : refusalIn command ≡ 33 → ⊥
   pub bytes : b ≡ frame h kind (bytesIn command) loop
 
-pub section-wrote : (canonical : Bool) (h : SpliceInfoHeader) (command : Made) (kind : ℕ) (loop b : List ℕ) → madeIf canonical h command kind loop ≡ made b → Wrote canonical h command kind loop b
-unfolding madeIf
-section-wrote canonical h command kind loop b e =
+pub section-wrote : (h : SpliceInfoHeader) (command : Made) (kind : ℕ) (loop b : List ℕ) → sectionMade h command kind loop ≡ made b → Wrote h command kind loop b
+unfolding sectionMade
+section-wrote h command kind loop b e =
+    let canonical = canonicalLoop loop in
     let r = refusalIn command in
     let n = sectionLength (length (bytesIn command)) (length loop) in
     let u = unless-made (first 31 (conditions h r (length (bytesIn command)) (length loop) canonical)) (frame h kind (bytesIn command) loop) b e in
@@ -102,7 +103,7 @@ module _ (h : SpliceInfoHeader) (kind : ℕ) (payload loop : List ℕ) (fits : n
   second-and-third : field (bitsOf (frame h kind payload loop)) 8 16 ≡ 0x3000 + (length (frame h kind payload loop) - 3)
   second-and-third =
       let n = sectionLength (length payload) (length loop) in
-      let r = headerBytes (headed h (length payload) kind) ++ (payload ++ (measured loop ++ crc h kind payload loop)) in
+      let r = headerBytes (headed h (length payload) kind) ++ (payload ++ (withLength loop ++ crc h kind payload loop)) in
       let e : frame h kind payload loop ≡ (0xfc ∷ []) ++ (bigEndian 2 (0x3000 + (n - 3)) ++ r) =
       behind-three h kind payload loop ∙ ap (λ (l : List ℕ). l ++ r) (opening-is n (omega arith)) in
       ap (λ (l : List ℕ). field (bitsOf l) 8 16) e ∙ number-at (0xfc ∷ []) r 1 2 (0x3000 + (n - 3)) refl (omega arith)
@@ -126,14 +127,14 @@ module _ (h : SpliceInfoHeader) (kind : ℕ) (payload loop : List ℕ) (fits : n
       )
 
 -- ---- what is written reads as what was handed in: the header with the command's length and type, the command, and the loop's bytes
-pub section-write-read : (canonical : Bool) (h : SpliceInfoHeader) (payload : List ℕ) (kind : ℕ) (loop b : List ℕ) (c : SpliceCommand) → kind < 2 ^ 8
-    → madeIf canonical h (made payload) kind loop ≡ made b → command.commandOf kind payload ≡ CommandRead.Is c
+pub section-write-read : (h : SpliceInfoHeader) (payload : List ℕ) (kind : ℕ) (loop b : List ℕ) (c : SpliceCommand) → kind < 2 ^ 8
+    → sectionMade h (made payload) kind loop ≡ made b → command.commandOf kind payload ≡ CommandRead.Is c
     → (sectionOf b ≡ SectionRead.Is (record { header = headed h (length payload) kind; command = moved 14 c; descriptors = record { at = 16 + length payload; len = length loop } }))
     × (loopBytes b ≡ loop)
     × (canonicalFrame b ≡ true)
 unfolding bytesIn
-section-write-read canonical h payload kind loop b c byte e k =
-    let w = section-wrote canonical h (made payload) kind loop b e in
+section-write-read h payload kind loop b c byte e k =
+    let w = section-wrote h (made payload) kind loop b e in
     rw (w .bytes) (
       frame-accepted h kind payload loop (w .fits) (w .fair) byte (w .short) c k,
       frame-loop h kind payload loop (w .fits) (w .fair) byte (w .short),
@@ -162,10 +163,10 @@ module _ (s : List ℕ) (x : Section) (a : AllBytes s) (p : Parts s x) where
       rw (← e)
       (is-clear (own s a (p .long) (x .header) (p .header)) true (ne-eqb (field (bitsOf tail) 8 1) 1 (λ z. p .clear (field-behind s 3 8 1 ∙ z))) (sym (algorithm-laws .is-fair (field (bitsOf tail) 9 6))))
 
-pub section-read-write : (s : List ℕ) (x : Section) → AllBytes s → sectionOf s ≡ SectionRead.Is x → canonicalFrame s ≡ true
-    → madeIf true (x .header) (made (commandBytes s)) (commandType s) (loopBytes s) ≡ made s
-unfolding madeIf bytesIn viewed loopPlace
-section-read-write s x a e c =
+pub section-read-write : (s : List ℕ) (x : Section) → AllBytes s → sectionOf s ≡ SectionRead.Is x → canonicalFrame s ≡ true → canonicalLoop (loopBytes s) ≡ true
+    → sectionMade (x .header) (made (commandBytes s)) (commandType s) (loopBytes s) ≡ made s
+unfolding sectionMade bytesIn viewed loopPlace
+section-read-write s x a e c o =
     let p = parts-of s x e in
     let w = framed s c in
     let loop = take (loopLength s) (drop (16 + commandLength s) s) in
@@ -174,7 +175,8 @@ section-read-write s x a e c =
     frame-again s a (p .long) (p .short) (w .exact) (x .header) (p .first) (p .crc) (w .high) (w .low) (p .header) in
     let n : sectionLength (length (commandBytes s)) (length loop) ≤ 4096 = omega (arith, ap length f, length-frame (x .header) (commandType s) (commandBytes s) loop, p .short) in
     let z = no-refusal (x .header) 0 (length (commandBytes s)) (length loop) true (λ q. omega arith) (λ q. omega arith) (is-fitting (x .header) (read-fits s x a p)) (λ q. omega arith) (read-fair s x a p) n refl in
-    rw (l, ← z, ← f)
+    let k : canonicalLoop loop ≡ true = sym (ap canonicalLoop l) ∙ o in
+    rw (l, k, ← z, ← f)
 
 -- ---- canonical sections of equal headers, commands and loops are equal
 -- the header's command length and type are left out: they are worked out
@@ -186,9 +188,9 @@ same-frame : (h g : SpliceInfoHeader) (k j : ℕ) (p q l m : List ℕ) → heade
 same-frame h g k j p q l m e₁ e₂ e₃ e₄ = headless h k p l ∙ rw (e₁, e₂, e₃, e₄) (sym (headless g j q m))
 
 pub one-section : (s r : List ℕ) (x y : Section) → AllBytes s → AllBytes r → sectionOf s ≡ SectionRead.Is x → sectionOf r ≡ SectionRead.Is y → canonicalFrame s ≡ true → canonicalFrame r ≡ true
-    → headed (x .header) 0 0 ≡ headed (y .header) 0 0 → commandType s ≡ commandType r → commandBytes s ≡ commandBytes r → loopBytes s ≡ loopBytes r → s ≡ r
+    → canonicalLoop (loopBytes s) ≡ true → canonicalLoop (loopBytes r) ≡ true → headed (x .header) 0 0 ≡ headed (y .header) 0 0 → commandType s ≡ commandType r → commandBytes s ≡ commandBytes r → loopBytes s ≡ loopBytes r → s ≡ r
 unfolding bytesIn
-one-section s r x y a b e f c d h t p l =
-    section-wrote true (x .header) (made (commandBytes s)) (commandType s) (loopBytes s) s (section-read-write s x a e c) .bytes
+one-section s r x y a b e f c d i j h t p l =
+    section-wrote (x .header) (made (commandBytes s)) (commandType s) (loopBytes s) s (section-read-write s x a e c i) .bytes
     ∙ same-frame (x .header) (y .header) (commandType s) (commandType r) (commandBytes s) (commandBytes r) (loopBytes s) (loopBytes r) h t p l
-    ∙ sym (section-wrote true (y .header) (made (commandBytes r)) (commandType r) (loopBytes r) r (section-read-write r y b f d) .bytes)
+    ∙ sym (section-wrote (y .header) (made (commandBytes r)) (commandType r) (loopBytes r) r (section-read-write r y b f d j) .bytes)

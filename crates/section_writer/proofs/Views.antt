@@ -11,7 +11,6 @@ use borrow.Author.Tests.{le-leb, leb-true}
 use Rattle.command.specs.Command.{private}
 use Rattle.command.specs.declared.Private.{Private}
 use Rattle.command.proofs.PrivateTrips.{moved, private-write-same}
-use Rattle.descriptor_form.specs.Canonical.{canonicalLoop}
 use Rattle.header.specs.declared.header.SpliceInfoHeader.{SpliceInfoHeader}
 use Rattle.pen.specs.Written.{bytesIn}
 use Rattle.table.specs.Bits.{bitsOfNum, bitsOf, bytesOf, AllBytes}
@@ -22,8 +21,8 @@ use Rattle.table.specs.Writing as writing
 use Rattle.table.proofs.Bits.{length-num, length-bits, length-bytesN}
 use Rattle.table.proofs.Lists.{and-true, append-nil}
 use Rattle.table.proofs.Structure.{wrote}
-use Rattle.section_writer.specs.Frame.{head, measured, frame}
-use Rattle.section_writer.specs.Writing.{madeIf, sectionMade}
+use Rattle.section_writer.specs.Frame.{head, withLength, frame}
+use Rattle.section_writer.specs.Writing.{sectionMade}
 use Rattle.section_writer.proofs.Frames.{crc, length-frame, behind-head}
 use Rattle.section_writer.proofs.Heads.{length-head}
 use Rattle.section_writer.proofs.Trips.{Wrote, section-wrote}
@@ -57,11 +56,11 @@ module _ (lent : List ℕ) (p : Private) (payload : List ℕ) (e : make private 
   -- and so has the section
   pub private-bytes-back : (h : SpliceInfoHeader) (loop b : List ℕ) → AllBytes lent → sectionMade h (made payload) 0xff loop ≡ made b
       → viewed b (record { at = 18; len = p .«private_bytes» .len }) ≡ viewed lent (p .«private_bytes»)
-  unfolding viewed sectionMade bytesIn
+  unfolding viewed bytesIn
   private-bytes-back h loop b a f =
-      let w = section-wrote (canonicalLoop loop) h (made payload) 0xff loop b f in
+      let w = section-wrote h (made payload) 0xff loop b f in
       let n = p .«private_bytes» .len in
-      let r = measured loop ++ crc h 0xff payload loop in
+      let r = withLength loop ++ crc h 0xff payload loop in
       let t = head h 0xff (length payload) (length loop) in
       let d : drop 14 b ≡ payload ++ r = ap (drop 14) (w .bytes ∙ behind-head h 0xff payload loop) ∙ drop-at t (payload ++ r) 14 (length-head h 0xff (length payload) (length loop)) in
       let g : drop 18 b ≡ drop 4 payload ++ r = sym (drop-drop 4 14 b) ∙ ap (drop 4) d ∙ drop-append-le 4 payload r (omega (arith, size)) in

@@ -20,7 +20,6 @@ use Rattle.command.proofs.InsertTrips.{insert-write-read}
 use Rattle.command.proofs.PrivateTrips.{private-write-read}
 use Rattle.command_measure.specs.Made.{counted, timesFit, insertMade, commandMade}
 use Rattle.command_writer.proofs.Theorems.{insert-made}
-use Rattle.descriptor_form.specs.Canonical.{canonicalLoop}
 use Rattle.header.specs.Time.{spliceTime, notImmediate}
 use Rattle.header.specs.declared.header.SpliceInfoHeader.{SpliceInfoHeader}
 use Rattle.header.proofs.Times.{time-write-read}
@@ -30,7 +29,7 @@ use Rattle.table.specs.Bits.{pick, bitsOf, bytesOf}
 use Rattle.table.specs.Table.{got, parse}
 use Rattle.table.specs.Writing.{Field, seen, within, contents, print, walk, Made, made, refused, makeOf, make}
 use Rattle.table.proofs.Lists.{append-nil, zero-one}
-use Rattle.section_writer.specs.Writing.{kindOf, sectionMade, madeIf}
+use Rattle.section_writer.specs.Writing.{kindOf, sectionMade}
 use Rattle.section_writer.proofs.Commands.{null-canonical, bandwidth-canonical, time-canonical, insert-canonical, private-canonical}
 use Rattle.section_writer.proofs.Theorems.{section-reads-back, section-is-canonical}
 use Rattle.section_writer.proofs.Trips.{Wrote, section-wrote}
@@ -45,7 +44,7 @@ Held (SpliceCommand.PrivateCommand p) cs = Unit {0}
 
 pub command-reads : (c : SpliceCommand) (cs : List ComponentSplice) (lent b : List ℕ) → Held c cs → commandMade c cs lent ≡ made b
     → (commandOf (kindOf c) b ≡ CommandRead.Is (ownOf c)) × (canonicalCommand (kindOf c) b ≡ true)
-unfolding commandMade commandOf kindOf
+unfolding commandMade commandOf
 command-reads SpliceCommand.SpliceNull cs lent b h e =
     let n : [] ≡ b = cc in
     rw (← n) (refl, null-canonical)
@@ -94,12 +93,10 @@ command-refuses (SpliceCommand.PrivateCommand p) cs lent n e o = make-refuses tr
 
 -- and no section is made of one that is
 not-refused : (h : SpliceInfoHeader) (kind : ℕ) (loop b : List ℕ) (n : ℕ) → sectionMade h (refused n) kind loop ≡ made b → Other n
-unfolding sectionMade
-not-refused h kind loop b n e = let w = section-wrote (canonicalLoop loop) h (refused n) kind loop b e in (w .seen, w .within, w .kept)
+not-refused h kind loop b n e = let w = section-wrote h (refused n) kind loop b e in (w .seen, w .within, w .kept)
 
 -- ---- the whole
 kind-byte : (c : SpliceCommand) → kindOf c < 2 ^ 8
-unfolding kindOf
 kind-byte SpliceCommand.SpliceNull = omega arith
 kind-byte (SpliceCommand.SpliceInsert i) = omega arith
 kind-byte (SpliceCommand.TimeSignal t) = omega arith

@@ -6,9 +6,8 @@ use lib.Dec.{eqb}
 use lib.ListN.{length}
 use Rattle.canonical_command.specs.Canonical.{canonicalCommand}
 use Rattle.descriptor_form.specs.Canonical.{canonicalLoop}
-use Rattle.section.specs.Section.{commandLength, commandType, commandBytes, loopLength, loopPlace, sectionOf, numberOf}
+use Rattle.section.specs.Section.{commandLength, commandType, commandBytes, loopLength, loopBytes, sectionOf, numberOf}
 use Rattle.table.specs.Bits.{bitsOf, field}
-use Rattle.table.specs.Lent.{viewed}
 use Rattle.section_writer.specs.Frame.{sectionLength}
 
 -- What the canonical form asks of a section around its command and its loop.
@@ -25,4 +24,4 @@ canonicalFrame s =
 
 -- the whole; of the loop: "no spare byte in .. descriptor ..; no refused item; a UPID empty at top level has type 0"
 unfoldable pub canonicalSection : List ℕ → Bool
-canonicalSection s = canonicalFrame s && (canonicalCommand (commandType s) (commandBytes s) && canonicalLoop (viewed s (loopPlace s)))
+canonicalSection s = canonicalFrame s && (canonicalCommand (commandType s) (commandBytes s) && canonicalLoop (loopBytes s))

@@ -7,7 +7,7 @@ use Rattle.crc.specs.Crc.{crcBytesOf}
 use Rattle.header.specs.Header.{spliceHeader}
 use Rattle.header.specs.declared.header.SpliceInfoHeader.{SpliceInfoHeader}
 use Rattle.names.specs.Algorithm.{fairAlgorithm}
-use Rattle.names.specs.Command.{commandOf}
+use Rattle.names.specs.Command.{commandTypeOf}
 use Rattle.table.specs.Bits.{bitsOfNum, bytesOf, bigEndian}
 use Rattle.table.specs.Writing.{walk, contents, print, within}
 
@@ -21,7 +21,7 @@ headed h size kind = record {
   «cw_index» = h .«cw_index»;
   tier = h .tier;
   «splice_command_length» = size;
-  «splice_command_type» = commandOf kind;
+  «splice_command_type» = commandTypeOf kind;
 }
 
 -- the bytes of a splice header, by its table
@@ -41,12 +41,12 @@ unfoldable pub head : SpliceInfoHeader → ℕ → ℕ → ℕ → List ℕ
 head h kind size extent = opening (sectionLength size extent) ++ headerBytes (headed h size kind)
 
 -- a loop with its length before it
-unfoldable pub measured : List ℕ → List ℕ
-measured loop = bigEndian 2 (length loop) ++ loop
+unfoldable pub withLength : List ℕ → List ℕ
+withLength loop = bigEndian 2 (length loop) ++ loop
 
 -- all before the CRC
 unfoldable pub body : SpliceInfoHeader → ℕ → List ℕ → List ℕ → List ℕ
-body h kind payload loop = head h kind (length payload) (length loop) ++ payload ++ measured loop
+body h kind payload loop = head h kind (length payload) (length loop) ++ payload ++ withLength loop
 
 -- the section: a header, a command's type and payload, and a loop
 unfoldable pub frame : SpliceInfoHeader → ℕ → List ℕ → List ℕ → List ℕ

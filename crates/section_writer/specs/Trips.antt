@@ -9,9 +9,8 @@ use Rattle.command.specs.declared.SpliceCommand.{SpliceCommand}
 use Rattle.command.specs.declared.components.ComponentSplice.{ComponentSplice}
 use Rattle.command_measure.specs.Made.{commandMade}
 use Rattle.header.specs.declared.header.SpliceInfoHeader.{SpliceInfoHeader}
-use Rattle.section.specs.Section.{loopPlace, moved, sectionOf}
+use Rattle.section.specs.Section.{loopBytes, moved, sectionOf}
 use Rattle.section.specs.declared.SectionRead.{SectionRead}
-use Rattle.table.specs.Lent.{viewed}
 use Rattle.table.specs.Writing.{made}
 use Rattle.section_writer.specs.Canonical.{canonicalSection}
 use Rattle.section_writer.specs.Frame.{headed}
@@ -26,5 +25,5 @@ pub record ReadsBack (h : SpliceInfoHeader) (c : SpliceCommand) (cs : List Compo
   pub payload : List ℕ
   pub command : commandMade c cs lent ≡ made payload
   pub reads : sectionOf b ≡ SectionRead.Is (record { header = headed h (length payload) (kindOf c); command = moved 14 (ownOf c); descriptors = record { at = 16 + length payload; len = length loop } })
-  pub loops : viewed b (loopPlace b) ≡ loop
+  pub loops : loopBytes b ≡ loop
   pub form : canonicalSection b ≡ true

@@ -2,9 +2,8 @@
 use Prim.Native.Nat.{ℕ, _+_, _*_, _^_}
 use mathlib.Core.List.{List, _++_}
 use mathlib.Core.Path.{_≡_}
-use lib.Dec.{eqb}
 use lib.ListN.{length, drop}
-use Rattle.command.specs.Command.{private}
+use Rattle.command.specs.Command.{private, byType}
 use Rattle.command.specs.Insert.{insert}
 use Rattle.command_writer.specs.Walk.{answerTo}
 use Rattle.command_measure.specs.declared.Measured.{Measured}
@@ -16,12 +15,11 @@ use Rattle.header.specs.declared.header.HeaderRead.{HeaderRead}
 use Rattle.header.specs.declared.header.SpliceInfoHeader.{SpliceInfoHeader}
 use Rattle.names.specs.Algorithm.{algorithmNumber}
 use Rattle.pen.specs.declared.Written.{Written}
-use Rattle.section.specs.Section.{first, commandType, commandBytes, loopPlace}
-use Rattle.table.specs.Bits.{pick, bitsOf}
-use Rattle.table.specs.Lent.{viewed}
+use Rattle.section.specs.Section.{first, commandType, commandBytes}
+use Rattle.table.specs.Bits.{bitsOf}
 use Rattle.table.specs.Table.{Table, Answer, got, short, parse}
 use Rattle.table.specs.Writing.{Same}
-use Rattle.section_writer.specs.Frame.{headed, measured, sectionLength}
+use Rattle.section_writer.specs.Frame.{headed, withLength, sectionLength}
 use Rattle.section_writer.specs.Writing.{conditions}
 
 -- the numbers in the first six and in the last five bytes of a header that is not encrypted
@@ -33,15 +31,11 @@ backNumber h kind size = ((h .«cw_index» * 4096 + h .tier) * 4096 + size) * 25
 
 -- what follows the command, where `before` stands before it
 unfoldable pub tail : List ℕ → List ℕ → List ℕ
-tail before loop = measured loop ++ crcBytesOf (before ++ measured loop)
+tail before loop = withLength loop ++ crcBytesOf (before ++ withLength loop)
 
 -- What is answered where the target has `room` bytes: of a header, of what the command measures, and of the loop.
 unfoldable pub answerFor : SpliceInfoHeader → Measured → List ℕ → ℕ → Written
 answerFor h m loop room = answerTo (record { refusal = first 31 (conditions h (m .refusal) (m .size) (length loop) (canonicalLoop loop)); size = sectionLength (m .size) (length loop) }) room
-
--- the bytes of a section's loop
-abbrev pub loopBytes : List ℕ → List ℕ
-loopBytes s = viewed s (loopPlace s)
 
 -- ---- equal readings, by the tables. "Equal readings means equal values and equal bytes in the views; the header's command length and type, the views' places and array places past a count are
 -- left out."
@@ -61,11 +55,7 @@ SameBy t p q = sameAnswers t p (parse t (bitsOf p) 0) q (parse t (bitsOf q) 0)
 
 -- of commands of one type; null and bandwidth reservation have nothing to compare
 unfoldable pub SameCommand : ℕ → List ℕ → List ℕ → Type 0
-SameCommand kind p q =
-    pick (eqb kind 0x05) (SameBy insert p q)
-    (pick (eqb kind 0x06) (SameBy spliceTime p q)
-    (pick (eqb kind 0xff) (SameBy private p q)
-    (Unit {0})))
+SameCommand kind p q = byType kind (Unit {0}) (SameBy insert p q) (SameBy spliceTime p q) (Unit {0}) (SameBy private p q) (Unit {0})
 
 -- what two sections say around their loops
 pub record SameAround (s r : List ℕ) : Type 0 where

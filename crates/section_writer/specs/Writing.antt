@@ -4,7 +4,8 @@ use mathlib.Core.Bool.{Bool, not, _||_}
 use mathlib.Core.List.{List, [], _∷_}
 use lib.Dec.{ltb, eqb}
 use lib.ListN.{length}
-use Rattle.command.specs.declared.SpliceCommand.{SpliceCommand}
+-- "works out .. command type"
+pub use Rattle.command.specs.Command.{kindOf}
 use Rattle.descriptor_form.specs.Canonical.{canonicalLoop}
 use Rattle.header.specs.declared.header.SpliceInfoHeader.{SpliceInfoHeader}
 use Rattle.pen.specs.Written.{refusalIn, bytesIn}
@@ -33,21 +34,9 @@ abbrev pub unless : ℕ → List ℕ → Made
 unless zero b = made b
 unless (suc n) b = refused (suc n)
 
--- a header, what the command writer makes of the command, the command's type, and the lent loop, of which is said whether it is canonical
-unfoldable pub madeIf : Bool → SpliceInfoHeader → Made → ℕ → List ℕ → Made
-madeIf canonical header command kind loop =
-    unless
-    (first 31 (conditions header (refusalIn command) (length (bytesIn command)) (length loop) canonical))
-    (frame header kind (bytesIn command) loop)
-
 -- the section: of a header, what the command writer makes of the command, the command's type, and the lent loop
 unfoldable pub sectionMade : SpliceInfoHeader → Made → ℕ → List ℕ → Made
-sectionMade header command kind loop = madeIf (canonicalLoop loop) header command kind loop
-
--- "works out .. command type"
-unfoldable pub kindOf : SpliceCommand → ℕ
-kindOf SpliceCommand.SpliceNull = 0x00
-kindOf (SpliceCommand.SpliceInsert i) = 0x05
-kindOf (SpliceCommand.TimeSignal t) = 0x06
-kindOf SpliceCommand.BandwidthReservation = 0x07
-kindOf (SpliceCommand.PrivateCommand p) = 0xff
+sectionMade header command kind loop =
+    unless
+    (first 31 (conditions header (refusalIn command) (length (bytesIn command)) (length loop) (canonicalLoop loop)))
+    (frame header kind (bytesIn command) loop)

@@ -23,8 +23,9 @@ use Rattle.section.specs.Section.{commandType, commandBytes, privateView, secti
 use Rattle.section.specs.Whole.{besideCommand, besideSection, wholeSectionOf}
 use Rattle.section.specs.declared.Section.{Section}
 use Rattle.section.specs.declared.SectionRead.{SectionRead}
+use Rattle.section_writer.proofs.Theorems.{canonical-parts}
 use Rattle.section_writer.proofs.Trips.{one-section}
-use Rattle.section_writer.specs.Canonical.{canonicalFrame, canonicalSection}
+use Rattle.section_writer.specs.Canonical.{canonicalSection}
 use Rattle.section_writer.specs.Writing.{kindOf}
 use Rattle.table.proofs.Lists.{and-true}
 use Rattle.table.proofs.Structure.{wrote}
@@ -47,7 +48,6 @@ commandPayload SpliceCommand.BandwidthReservation components bytes = []
 commandPayload (SpliceCommand.PrivateCommand p) components bytes = bytesOf (bitsOfNum 32 (p .identifier) ++ (bitsOf bytes ++ []))
 
 kind-of : (c : SpliceCommand) → kindOf c ≡ kindOf (viewless c)
-unfolding kindOf
 kind-of SpliceCommand.SpliceNull = refl
 kind-of (SpliceCommand.SpliceInsert i) = refl
 kind-of (SpliceCommand.TimeSignal t) = refl
@@ -86,17 +86,15 @@ payload-in s x a e c =
 same-payload : {c d : SpliceCommand} {cs ds : List ComponentSplice} {p q : List ℕ} → c ≡ d → cs ≡ ds → p ≡ q → commandPayload c cs p ≡ commandPayload d ds q
 same-payload e f g = rw (e, f, g)
 
-frame-canonical : (s : List ℕ) → canonicalSection s ≡ true → canonicalFrame s ≡ true
-unfolding canonicalSection
-frame-canonical s c = and-true (canonicalFrame s) _ c .0
-
 pub one-answer : (s r : List ℕ) (x y : Section) → AllBytes s → AllBytes r → sectionOf s ≡ SectionRead.Is x → sectionOf r ≡ SectionRead.Is y → canonicalSection s ≡ true → canonicalSection r ≡ true
     → SameSections s x r y → s ≡ r
 one-answer s r x y a b e f c d same =
     let kinds : commandType s ≡ commandType r =
     sym (payload-back s x a e c .0) ∙ kind-of (x .command) ∙ ap kindOf (same .commands) ∙ sym (kind-of (y .command)) ∙ payload-back r y b f d .0 in
     let payloads : commandBytes s ≡ commandBytes r = payload-in s x a e c ∙ same-payload (same .commands) (same .components) (same .bytes) ∙ sym (payload-in r y b f d) in
-    one-section s r x y a b e f (frame-canonical s c) (frame-canonical r d) (same .headers) kinds payloads (one-loop s r x y a b e f c d (same .items))
+    let p = canonical-parts s c in
+    let q = canonical-parts r d in
+    one-section s r x y a b e f (p .around) (q .around) (p .loop) (q .loop) (same .headers) kinds payloads (one-loop s r x y a b e f c d (same .items))
 
 -- ---- its own reading
 own-item : (loop : List ℕ) (offset : ℕ) (t : List ℕ) → At loop offset t → AllBytes t → SameItem loop loop (listed loop offset) (listed loop offset)

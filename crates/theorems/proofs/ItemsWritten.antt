@@ -10,7 +10,6 @@ use mathlib.Core.List.{List, [], _∷_, map}
 use mathlib.Core.Path.{_≡_, refl, ap, ap₂, sym, subst, _∙_}
 use lib.Dec.{leb}
 use lib.ListN.{length, take, drop}
-use Rattle.canonical_command.specs.Canonical.{canonicalCommand}
 use Rattle.command.specs.declared.SpliceCommand.{SpliceCommand}
 use Rattle.command.specs.declared.components.ComponentSplice.{ComponentSplice}
 use Rattle.descriptor.specs.declared.Descriptor.{Descriptor}
@@ -28,15 +27,14 @@ use Rattle.loop_laws.proofs.Pieces.{At, items-cut}
 use Rattle.loop_laws.proofs.Places.{kind-stays}
 use Rattle.loop_laws.proofs.Theorems.{cut, a-canonical-loop-is-what-is-written-of-its-items, canonical-loops-of-the-same-items-are-one, descriptors-written-in-order-are-the-items-of-a-canonical-loop}
 use Rattle.loop_laws.specs.Loops.{joinedMade, loopMade, SameItems, Given, givenMade, GivenTypes, ItemsBack}
-use Rattle.section.specs.Section.{commandType, commandBytes, sectionOf}
+use Rattle.section.specs.Section.{loopBytes, sectionOf}
 use Rattle.section.specs.declared.Section.{Section}
 use Rattle.section.specs.declared.SectionRead.{SectionRead}
 use Rattle.section_writer.proofs.Numbers.{bytes-take, bytes-drop}
-use Rattle.section_writer.proofs.Theorems.{no-other-section}
-use Rattle.section_writer.specs.Canonical.{canonicalFrame, canonicalSection}
+use Rattle.section_writer.proofs.Theorems.{canonical-parts, no-other-section}
+use Rattle.section_writer.specs.Canonical.{canonicalSection}
 use Rattle.section_writer.specs.Trips.{ReadsBack}
-use Rattle.section_writer.specs.Walk.{SameAround, loopBytes}
-use Rattle.table.proofs.Lists.{and-true}
+use Rattle.section_writer.specs.Walk.{SameAround}
 use Rattle.table.specs.Bits.{pick, AllBytes}
 use Rattle.table.specs.Lent.{viewed}
 use Rattle.table.specs.Writing.{made}
@@ -58,17 +56,13 @@ all-viewed s v a = go (leb (v .at + v .len) (length s))
     go true = bytes-take (v .len) (drop (v .at) s) (bytes-drop (v .at) s a)
     go false = tt
 
-loop-canonical : (s : List ℕ) → canonicalSection s ≡ true → canonicalLoop (loopBytes s) ≡ true
-unfolding canonicalSection
-loop-canonical s c = and-true (canonicalCommand (commandType s) (commandBytes s)) _ (and-true (canonicalFrame s) _ c .1) .1
-
 module _ (s : List ℕ) (x : Section) (e : sectionOf s ≡ SectionRead.Is x) where
   loop-here : loopIn s x ≡ loopBytes s
   loop-here = ap (viewed s) (laid s x e .place)
 
   module _ (a : AllBytes s) (c : canonicalSection s ≡ true) where
     pub here-canonical : canonicalLoop (loopIn s x) ≡ true
-    here-canonical = ap canonicalLoop loop-here ∙ loop-canonical s c
+    here-canonical = ap canonicalLoop loop-here ∙ canonical-parts s c .loop
 
     pub loop-written : loopMade (loopIn s x) ≡ made (loopIn s x)
     loop-written = a-canonical-loop-is-what-is-written-of-its-items (loopIn s x) (all-viewed s (x .descriptors) a) (loop-short s x e) here-canonical

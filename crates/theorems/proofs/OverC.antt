@@ -27,6 +27,7 @@ use Rattle.header.specs.declared.header.SpliceInfoHeader.{SpliceInfoHeader}
 use Rattle.names.specs.Algorithm.{fairAlgorithm}
 use Rattle.section_writer.specs.Writing.{sectionMade, kindOf}
 use Rattle.table.specs.Bits.{pick}
+use Rattle.table.specs.Lent.{noView}
 use Rattle.table.specs.Table.{flagNumber}
 use Rattle.table.specs.Writing.{Made, made, refused}
 use Rattle.theorems.specs.OverC.{splicesWords}

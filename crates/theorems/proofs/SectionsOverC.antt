@@ -37,6 +37,7 @@ use Rattle.section.specs.declared.Section.{Section}
 use Rattle.section.specs.declared.SectionRead.{SectionRead}
 use Rattle.section_writer.proofs.Heads.{clear}
 use Rattle.section_writer.proofs.Parts.{parts-of}
+use Rattle.section_writer.proofs.Theorems.{canonical-parts}
 use Rattle.section_writer.proofs.Trips.{section-wrote}
 use Rattle.section_writer.specs.Canonical.{canonicalSection}
 use Rattle.section_writer.specs.Frame.{fairHead}
@@ -113,8 +114,7 @@ moved-splices (SpliceCommand.PrivateCommand p) cs = refl
 
 -- ---- the section
 section-made : (h : SpliceInfoHeader) (m : Made) (kind : ℕ) (loop b : List ℕ) → sectionMade h m kind loop ≡ made b → fairHead h ≡ true
-unfolding sectionMade
-section-made h m kind loop b e = section-wrote (canonicalLoop loop) h m kind loop b e .fair
+section-made h m kind loop b e = section-wrote h m kind loop b e .fair
 
 -- what is read over C of a section, and of its command's components
 flat-header : (s : List ℕ) (x : Section) → sectionOf s ≡ SectionRead.Is x → flatSectionRead (sectionOf s) .header ≡ flatHeader (x .header)

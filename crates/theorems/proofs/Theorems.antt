@@ -7,14 +7,13 @@ use mathlib.Core.Bool.{true, false, not}
 use mathlib.Core.List.{List, [], _∷_, _++_, map}
 use mathlib.Core.Path.{_≡_}
 use lib.ListN.{length, drop}
-use Rattle.command.specs.Command.{private, commandOf, array, componentsOf}
+use Rattle.command.specs.Command.{private, commandOf, array, componentsOf, countIn}
 use Rattle.command.specs.declared.CommandRead.{CommandRead}
 use Rattle.command.specs.declared.Private.{Private}
 use Rattle.command.specs.declared.SpliceCommand.{SpliceCommand}
 use Rattle.command.specs.declared.components.ComponentSplice.{ComponentSplice}
 use Rattle.command.specs.declared.insert.Insertion.{Insertion}
 use Rattle.command_measure.specs.Made.{counted, commandMade}
-use Rattle.command_measure.specs.Survey.{Countable}
 use Rattle.crc.specs.Crc.{crcOf}
 use Rattle.descriptor.proofs.Longer as longer
 use Rattle.descriptor.specs.Descriptor.{availOf, dtmfOf, timeOf, cuei, descriptorOf}
@@ -45,7 +44,7 @@ use Rattle.loop_laws.specs.Loops.{joinedMade, loopMade, Given, givenMade, Given
 use Rattle.pen.specs.Written.{answerOf, laterOf}
 use Rattle.pen.specs.declared.Written.{Written}
 use Rattle.section.proofs.Acceptance as acceptance
-use Rattle.section.specs.Section.{commandType, commandBytes, loopLength, loopPlace, unknownCommand, conditions, first, sectionOf, numberOf, None}
+use Rattle.section.specs.Section.{commandType, commandBytes, loopLength, loopBytes, unknownCommand, conditions, first, sectionOf, numberOf, None}
 use Rattle.section.specs.Whole.{wholeSectionOf}
 use Rattle.section.specs.declared.Section.{Section}
 use Rattle.section.specs.declared.SectionRead.{SectionRead}
@@ -271,26 +270,26 @@ the-section-with-eight-and-twelve-is-canonical = worked.both-canonical
 
 -- "reading what the writer wrote gives what it was handed": the header, with the command's length and type worked out; the command; the loop's bytes; and what is
 -- written is canonical. (An array has 255 places, and a count is a byte.)
-pub what-is-written-reads-back : (h : SpliceInfoHeader) (c : SpliceCommand) (places : List ComponentSplice) (lent loop b : List ℕ) → length places ≡ 255 → Countable c
+pub what-is-written-reads-back : (h : SpliceInfoHeader) (c : SpliceCommand) (places : List ComponentSplice) (lent loop b : List ℕ) → length places ≡ 255 → countIn c ≤ 255
     → sectionMade h (commandMade c places lent) (kindOf c) loop ≡ made b → ReadsBack h c places lent loop b
 what-is-written-reads-back = written-back.section-reads
 
 -- A loop that is the join of what is written of descriptors: these are the items that are read, in order, with equal values and equal bytes in their views. (What
 -- the types say of each: `GivenTypes`.)
-pub what-is-written-of-descriptors-reads-back : (gs : List Given) (h : SpliceInfoHeader) (c : SpliceCommand) (places : List ComponentSplice) (lent loop b : List ℕ) → length places ≡ 255 → Countable c
+pub what-is-written-of-descriptors-reads-back : (gs : List Given) (h : SpliceInfoHeader) (c : SpliceCommand) (places : List ComponentSplice) (lent loop b : List ℕ) → length places ≡ 255 → countIn c ≤ 255
     → All GivenTypes gs → joinedMade (map givenMade gs) ≡ made loop → sectionMade h (commandMade c places lent) (kindOf c) loop ≡ made b
-    → ReadsBack h c places lent loop b × ItemsBack (viewed b (loopPlace b)) (itemsOf (viewed b (loopPlace b))) gs
+    → ReadsBack h c places lent loop b × ItemsBack (loopBytes b) (itemsOf (loopBytes b)) gs
 what-is-written-of-descriptors-reads-back gs h c places lent loop b n k types m e =
     let r = written-back.section-reads h c places lent loop b n k e in
     (r, items-written.items-read gs h c places lent loop b types m r)
 
 -- its insert's components, "arrays with a count, 255 components, blank .. past it", as `read_whole_section` answers them beside the section
-pub an-inserts-components-read-back : (h : SpliceInfoHeader) (i : Insertion) (places : List ComponentSplice) (lent loop b : List ℕ) → length places ≡ 255 → Countable (SpliceCommand.SpliceInsert i)
+pub an-inserts-components-read-back : (h : SpliceInfoHeader) (i : Insertion) (places : List ComponentSplice) (lent loop b : List ℕ) → length places ≡ 255 → countIn (SpliceCommand.SpliceInsert i) ≤ 255
     → sectionMade h (commandMade (SpliceCommand.SpliceInsert i) places lent) (kindOf (SpliceCommand.SpliceInsert i)) loop ≡ made b → wholeSectionOf b .components ≡ array (counted i places .components)
 an-inserts-components-read-back = written-back.section-components
 
 -- the same of its payload alone, as the payload's reader answers them
-pub a-payloads-components-read-back : (i : Insertion) (places : List ComponentSplice) (lent b : List ℕ) → length places ≡ 255 → Countable (SpliceCommand.SpliceInsert i)
+pub a-payloads-components-read-back : (i : Insertion) (places : List ComponentSplice) (lent b : List ℕ) → length places ≡ 255 → countIn (SpliceCommand.SpliceInsert i) ≤ 255
     → commandMade (SpliceCommand.SpliceInsert i) places lent ≡ made b → componentsOf b ≡ array (counted i places .components)
 a-payloads-components-read-back = written-back.components-read
 

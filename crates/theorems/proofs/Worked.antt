@@ -118,7 +118,7 @@ both-whole = record {
       «cw_index» = 255;
       tier = 4095;
       «splice_command_length» = 5;
-      «splice_command_type» = names.commandOf 6;
+      «splice_command_type» = names.commandTypeOf 6;
     };
     command = SpliceCommand.TimeSignal (SpliceTime.At 0);
     descriptors = record { at = 21; len = 41 };

@@ -10,16 +10,14 @@ use lib.Seq.{take-at, length-take-le}
 use borrow.Author.Tests.{eqb-true, le-leb, leb-true}
 use Rattle.canonical_command.specs.Canonical.{canonicalCommand}
 use Rattle.command.proofs.InsertLeads.{Counted}
-use Rattle.command.specs.Command.{private, read, empty, commandOf, array, componentsIn, componentsOf}
+use Rattle.command.specs.Command.{private, read, empty, commandOf, countIn, array, componentsIn, componentsOf}
 use Rattle.command.specs.Insert.{WithComponents, insert, blank, count, insertOf}
 use Rattle.command.specs.declared.CommandRead.{CommandRead}
 use Rattle.command.specs.declared.SpliceCommand.{SpliceCommand}
 use Rattle.command.specs.declared.components.ComponentSplice.{ComponentSplice}
 use Rattle.command.specs.declared.insert.Insertion.{Insertion}
 use Rattle.command_measure.specs.Made.{counted, insertMade, commandMade}
-use Rattle.command_measure.specs.Survey.{Countable}
 use Rattle.command_writer.proofs.Theorems.{insert-trip, time-back, private-back, insert-back}
-use Rattle.descriptor_form.specs.Canonical.{canonicalLoop}
 use Rattle.header.specs.Time.{spliceTime}
 use Rattle.header.specs.declared.header.SpliceInfoHeader.{SpliceInfoHeader}
 use Rattle.loop_laws.proofs.Places.{run-of-run}
@@ -32,10 +30,10 @@ use Rattle.section_writer.proofs.Commands.{Read, read-by}
 use Rattle.section_writer.proofs.Frames.{frame-command-bytes}
 use Rattle.section_writer.proofs.Numbers.{bytes-take, bytes-drop}
 use Rattle.section_writer.proofs.Parts.{parts-of}
-use Rattle.section_writer.proofs.Theorems.{section-is-written-back}
+use Rattle.section_writer.proofs.Theorems.{canonical-parts, section-is-written-back}
 use Rattle.section_writer.proofs.Trips.{section-wrote}
 use Rattle.section_writer.proofs.Whole.{Held, whole-reads-back}
-use Rattle.section_writer.specs.Canonical.{canonicalFrame, canonicalSection}
+use Rattle.section_writer.specs.Canonical.{canonicalSection}
 use Rattle.section_writer.specs.Trips.{ReadsBack}
 use Rattle.section_writer.specs.Writing.{kindOf, sectionMade}
 use Rattle.table.proofs.Lists.{zero-one, and-true}
@@ -78,23 +76,21 @@ module _ (kind : ℕ) (p : List ℕ) (a : AllBytes p) where
   Back c = (kindOf c ≡ kind) × (commandMade c (componentsOf p) p ≡ made p)
 
   null-back : eqb kind 0x00 ≡ true → eqb (length p) 0 ≡ true → Back SpliceCommand.SpliceNull
-  unfolding kindOf commandMade
+  unfolding commandMade
   null-back k e = (sym (eqb-true kind 0x00 k), ap made (sym (none p e)))
 
   bandwidth-back : eqb kind 0x07 ≡ true → eqb (length p) 0 ≡ true → Back SpliceCommand.BandwidthReservation
-  unfolding kindOf commandMade
+  unfolding commandMade
   bandwidth-back k e = (sym (eqb-true kind 0x07 k), ap made (sym (none p e)))
 
   signal-back : eqb kind 0x06 ≡ true → (r : Read spliceTime p) → Back (SpliceCommand.TimeSignal (r .value))
-  unfolding kindOf
   signal-back k r = (sym (eqb-true kind 0x06 k), time-back (r .value) (componentsOf p) p a (r .reads) (r .form))
 
   own-back : eqb kind 0xff ≡ true → (r : Read private p) → Back (SpliceCommand.PrivateCommand (r .value))
-  unfolding kindOf
   own-back k r = (sym (eqb-true kind 0xff k), private-back (r .value) (componentsOf p) p a (r .reads) (r .form))
 
   inserted-back : eqb kind 0x05 ≡ true → (r : Read insert p) → Back (SpliceCommand.SpliceInsert (r .value .value))
-  unfolding kindOf commandMade
+  unfolding commandMade
   inserted-back k r =
       let x = r .value in
       let h = insert-has p x _ (r .reads) in (
@@ -126,7 +122,7 @@ module _ (kind : ℕ) (p : List ℕ) (a : AllBytes p) where
 
 -- ---- in a section, where the payload starts at byte 14
 kind-stays : (c : SpliceCommand) → kindOf (moved 14 c) ≡ kindOf c
-unfolding moved kindOf
+unfolding moved
 kind-stays SpliceCommand.SpliceNull = refl
 kind-stays (SpliceCommand.SpliceInsert i) = refl
 kind-stays (SpliceCommand.TimeSignal t) = refl
@@ -162,10 +158,6 @@ made-there : (c : SpliceCommand) (places : List ComponentSplice) (s : List ℕ) 
 unfolding commandBytes
 made-there c places s h e = made-stays c places s (commandLength s) h e
 
-pub command-canonical : (s : List ℕ) → canonicalSection s ≡ true → canonicalCommand (commandType s) (commandBytes s) ≡ true
-unfolding canonicalSection
-command-canonical s c = and-true (canonicalCommand (commandType s) (commandBytes s)) _ (and-true (canonicalFrame s) _ c .1) .0
-
 pub payload-bytes : (s : List ℕ) → AllBytes s → AllBytes (commandBytes s)
 unfolding commandBytes
 payload-bytes s a = bytes-take (commandLength s) (drop 14 s) (bytes-drop 14 s a)
@@ -178,7 +170,7 @@ pub payload-back : (s : List ℕ) (x : Section) → AllBytes s → sectionOf s �
     → (kindOf (x .command) ≡ commandType s) × (commandMade (x .command) (componentsOf (commandBytes s)) s ≡ made (commandBytes s))
 payload-back s x a e c =
     let p = parts-of s x e in
-    let b = command-back (commandType s) (commandBytes s) (payload-bytes s a) (p .own) (command-canonical s c) (p .command) in
+    let b = command-back (commandType s) (commandBytes s) (payload-bytes s a) (p .own) (canonical-parts s c .command) (p .command) in
     let m : commandMade (moved 14 (p .own)) (componentsOf (commandBytes s)) s ≡ made (commandBytes s) = made-there (p .own) (componentsOf (commandBytes s)) s (omega (arith, p .long)) (b .1) in
     (ap kindOf (p .moves) ∙ kind-stays (p .own) ∙ b .0, ap (λ (c : SpliceCommand). commandMade c (componentsOf (commandBytes s)) s) (p .moves) ∙ m)
 
@@ -189,34 +181,34 @@ section-back s x a e c =
     same-made (x .header) s (b .1) (b .0) (ap (viewed s) (parts-of s x e .loop)) (section-is-written-back s x a e c)
 
 -- ---- written, then read: an array of 255 places holds as many components as a count of one byte says
-held : (c : SpliceCommand) (places : List ComponentSplice) → length places ≡ 255 → Countable c → Held c places
+held : (c : SpliceCommand) (places : List ComponentSplice) → length places ≡ 255 → countIn c ≤ 255 → Held c places
 held SpliceCommand.SpliceNull places n k = tt
 held (SpliceCommand.SpliceInsert i) places n k = length-take-le (count (insertOf (i .«splice_detail») .«splice_mode»)) places (omega (arith, n, k))
 held (SpliceCommand.TimeSignal t) places n k = tt
 held SpliceCommand.BandwidthReservation places n k = tt
 held (SpliceCommand.PrivateCommand p) places n k = tt
 
-pub section-reads : (h : SpliceInfoHeader) (c : SpliceCommand) (places : List ComponentSplice) (lent loop b : List ℕ) → length places ≡ 255 → Countable c
+pub section-reads : (h : SpliceInfoHeader) (c : SpliceCommand) (places : List ComponentSplice) (lent loop b : List ℕ) → length places ≡ 255 → countIn c ≤ 255
     → sectionMade h (commandMade c places lent) (kindOf c) loop ≡ made b → ReadsBack h c places lent loop b
 section-reads h c places lent loop b n k e = whole-reads-back h c places lent loop b (held c places n k) e
 
 -- an insert's components, in the array that is read of its payload
-pub components-read : (i : Insertion) (places : List ComponentSplice) (lent b : List ℕ) → length places ≡ 255 → Countable (SpliceCommand.SpliceInsert i)
+pub components-read : (i : Insertion) (places : List ComponentSplice) (lent b : List ℕ) → length places ≡ 255 → countIn (SpliceCommand.SpliceInsert i) ≤ 255
     → commandMade (SpliceCommand.SpliceInsert i) places lent ≡ made b → componentsOf b ≡ array (counted i places .components)
 components-read i places lent b n k e =
     components-are b (counted i places) (length b * 8) (insert-trip i places lent b (held (SpliceCommand.SpliceInsert i) places n k) e .1)
 
 -- the payload stands in the section that is written
 payload-there : (h : SpliceInfoHeader) (kind : ℕ) (payload loop b : List ℕ) → kind < 2 ^ 8 → sectionMade h (made payload) kind loop ≡ made b → commandBytes b ≡ payload
-unfolding sectionMade bytesIn
+unfolding bytesIn
 payload-there h kind payload loop b byte e =
-    let w = section-wrote (canonicalLoop loop) h (made payload) kind loop b e in
+    let w = section-wrote h (made payload) kind loop b e in
     ap commandBytes (w .bytes) ∙ frame-command-bytes h kind payload loop (w .fits) (w .fair) byte (w .short)
 
 -- an insert's components, in the array beside the section that is read
-pub section-components : (h : SpliceInfoHeader) (i : Insertion) (places : List ComponentSplice) (lent loop b : List ℕ) → length places ≡ 255 → Countable (SpliceCommand.SpliceInsert i)
+pub section-components : (h : SpliceInfoHeader) (i : Insertion) (places : List ComponentSplice) (lent loop b : List ℕ) → length places ≡ 255 → countIn (SpliceCommand.SpliceInsert i) ≤ 255
     → sectionMade h (commandMade (SpliceCommand.SpliceInsert i) places lent) (kindOf (SpliceCommand.SpliceInsert i)) loop ≡ made b → wholeSectionOf b .components ≡ array (counted i places .components)
-unfolding wholeSectionOf moved kindOf
+unfolding wholeSectionOf moved
 section-components h i places lent loop b n k e =
     let r = section-reads h (SpliceCommand.SpliceInsert i) places lent loop b n k e in
     let p = payload-there h 0x05 (r .payload) loop b (omega arith) (ap (λ (m : Made). sectionMade h m 0x05 loop) (sym (r .command)) ∙ e) in

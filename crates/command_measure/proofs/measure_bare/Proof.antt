@@ -33,19 +33,19 @@ measure-private-requires : tie.Need-measure-private-requires
 measure-private-requires c κs = search needs
 
 returns : tie.Need-returns
-returns c = let a = c .before .before .before .args in (command-null (a .command) (array []) (a .lent .now) (c .enum-told .given .1), countable (a .command) _ (c .enum-told .given .1) tt)
+returns c = let a = c .before .before .before .args in (command-null (a .command) (array []) (a .lent .now) (c .enum-told .given .1), countable (a .command) _ (c .enum-told .given .1) (omega arith))
 
 returns-2 : tie.Need-returns-2
 returns-2 c = let a = c .before .before .before .before .before .args in (c .measure-bare-insert .ensures .0 ∙ command-insert (a .command) (array []) (a .lent .now) _ (c .before .before .command .given .1), countable (a .command) _ (c .before .before .command .given .1) (c .measure-bare-insert .ensures .1))
 
 returns-3 : tie.Need-returns-3
-returns-3 c = let a = c .before .before .before .before .before .args in (c .measure-time .ensures ∙ command-time (a .command) (array []) (a .lent .now) _ (c .before .before .command2 .given .1), countable (a .command) _ (c .before .before .command2 .given .1) tt)
+returns-3 c = let a = c .before .before .before .before .before .args in (c .measure-time .ensures ∙ command-time (a .command) (array []) (a .lent .now) _ (c .before .before .command2 .given .1), countable (a .command) _ (c .before .before .command2 .given .1) (omega arith))
 
 returns-4 : tie.Need-returns-4
-returns-4 c = let a = c .before .before .before .args in (command-bandwidth (a .command) (array []) (a .lent .now) (c .enum-told2 .given .1), countable (a .command) _ (c .enum-told2 .given .1) tt)
+returns-4 c = let a = c .before .before .before .args in (command-bandwidth (a .command) (array []) (a .lent .now) (c .enum-told2 .given .1), countable (a .command) _ (c .enum-told2 .given .1) (omega arith))
 
 returns-5 : tie.Need-returns-5
-returns-5 c = let a = c .before .before .before .before .before .args in (c .measure-private .ensures ∙ command-private (a .command) (array []) (a .lent .now) _ (c .before .before .command3 .given .1), countable (a .command) _ (c .before .before .command3 .given .1) tt)
+returns-5 c = let a = c .before .before .before .before .before .args in (c .measure-private .ensures ∙ command-private (a .command) (array []) (a .lent .now) _ (c .before .before .command3 .given .1), countable (a .command) _ (c .before .before .command3 .given .1) (omega arith))
 
 pub measure-bare-spec : {M : Type 1} → statement M
 measure-bare-spec =

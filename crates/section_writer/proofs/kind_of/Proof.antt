@@ -1,5 +1,4 @@
 -- `section_writer::kind_of`, command by command.
-use Rattle.section_writer.specs.Writing.{kindOf}
 use borrow.Author.Needs.{needs}
 use Rattle.section_writer.proofs.kind_of.Statement.{statement}
 use Rattle.section_writer.proofs.kind_of.Tie as tie
@@ -20,23 +19,18 @@ enum-told-5 : tie.Need-enum-told-5
 enum-told-5 c = search needs
 
 returns : tie.Need-returns
-unfolding kindOf
 returns c = rw (c .enum-told .given .1)
 
 returns-2 : tie.Need-returns-2
-unfolding kindOf
 returns-2 c = rw (c .enum-told2 .given .1)
 
 returns-3 : tie.Need-returns-3
-unfolding kindOf
 returns-3 c = rw (c .enum-told3 .given .1)
 
 returns-4 : tie.Need-returns-4
-unfolding kindOf
 returns-4 c = rw (c .enum-told4 .given .1)
 
 returns-5 : tie.Need-returns-5
-unfolding kindOf
 returns-5 c = rw (c .enum-told5 .given .1)
 
 pub kind-of-spec : {M : Type 1} → statement M

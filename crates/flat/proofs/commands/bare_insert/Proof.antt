@@ -1,6 +1,6 @@
 -- `flat::commands::bare_insert` meets its contract. Assumes nothing.
 use borrow.Author.Needs.{needs}
-use Rattle.flat.specs.FlatCommand.{bareInsert}
+use Rattle.flat.specs.FlatCommand.{flatMode, wholeInsert, bareInsert}
 use Rattle.flat.proofs.commands.bare_insert.Statement.{statement}
 use Rattle.flat.proofs.commands.bare_insert.Tie as tie
 
@@ -8,7 +8,7 @@ flat-break-requires : tie.Need-flat-break-requires
 flat-break-requires c κs = search needs
 
 returns : tie.Need-returns
-unfolding bareInsert
+unfolding bareInsert wholeInsert flatMode
 returns c = rw (c .flat-break .ensures)
 
 pub bare-insert-spec : {M : Type 1} → statement M

@@ -3,7 +3,7 @@ use mathlib.Core.Path.{_≡_, ap, sym, _∙_}
 use denote.Enum.Declared.{tagOf}
 use borrow.Author.Needs.{needs}
 use Rattle.names.specs.declared.command.SpliceCommandType.the-variants.{Reserved}
-use Rattle.names.specs.Command.{commands, commandOf}
+use Rattle.names.specs.Command.{commands, commandTypeOf}
 use Rattle.names.proofs.command.SpliceCommandType.{the-type}
 use Rattle.names.proofs.Commands.{sound}
 use Rattle.scte35.proofs.Names.{of-name, of-number}
@@ -26,11 +26,11 @@ classed-requires-2 : tie.Need-classed-requires-2
 classed-requires-2 c κs = search needs
 
 returns : tie.Need-returns
-unfolding commandOf
+unfolding commandTypeOf
 returns c = c .classed .ensures ∙ of-number commands (c .before .before .before .before .before .args .n) _ (Reserved (c .before .before .x .given .0 .0)) (c .before .before .before .before .from-id .ensures) (c .before .before .x .given .1)
 
 returns-2 : tie.Need-returns-2
-unfolding commandOf
+unfolding commandTypeOf
 returns-2 c = c .classed2 .ensures ∙ of-name commands (tagOf the-type) sound (c .before .before .before .before .args .n) _ (c .before .before .before .from-id .ensures) (c .before .before .match .keys2) _ (c .before .id .ensures)
 
 pub scte35-command-type-spec : {M : Type 1} → statement M

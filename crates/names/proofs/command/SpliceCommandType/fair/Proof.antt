@@ -2,8 +2,8 @@
 use mathlib.Core.Path.{ap}
 use denote.Enum.Declared.{tagOf}
 use borrow.Author.Needs.{needs}
-use Rattle.names.specs.Numbering.{reserved}
-use Rattle.names.specs.Command.{commands, commandClass, commandOf, fairCommand}
+use Rattle.names.specs.Numbering.{class, reserved}
+use Rattle.names.specs.Command.{commands, commandTypeOf, fairCommand}
 use Rattle.names.specs.declared.command.SpliceCommandType.the-variants.{Reserved}
 use Rattle.names.proofs.Laws.{fair-by, own-name, name-fair}
 use Rattle.names.proofs.Commands.{sound}
@@ -21,19 +21,19 @@ enum-told : tie.Need-enum-told
 enum-told c = search needs
 
 returns : tie.Need-returns
-unfolding commandOf fairCommand
+unfolding commandTypeOf fairCommand
 returns c =
     let n = c .before .before .before .before .self .given in
-    rw (n .1) (fair-by commands (Reserved (n .0 .0)) _ reserved (ap commandClass (c .enum-told .given .1)) (c .before .before .from-id .ensures))
+    rw (n .1) (fair-by commands (Reserved (n .0 .0)) _ reserved (ap (class commands) (c .enum-told .given .1)) (c .before .before .from-id .ensures))
 
 returns-2 : tie.Need-returns-2
-unfolding commandOf fairCommand
+unfolding commandTypeOf fairCommand
 returns-2 c =
     let n = c .before .before .before .self .given in
     rw (n .1) (own-name commands (tagOf the-type) sound (Reserved (n .0 .0)) _ (c .before .from-id .ensures) (c .match2 .keys2))
 
 returns-3 : tie.Need-returns-3
-unfolding commandOf fairCommand
+unfolding commandTypeOf fairCommand
 returns-3 c = name-fair commands (tagOf the-type) sound (c .before .args .self) (c .match .keys2)
 
 pub fair-spec : {M : Type 1} → statement M

@@ -2,8 +2,8 @@
 use mathlib.Core.Path.{ap}
 use denote.Enum.Declared.{tagOf}
 use borrow.Author.Needs.{needs}
-use Rattle.names.specs.Numbering.{reserved}
-use Rattle.names.specs.Upid.{upidTypes, upidTypeClass, upidTypeOf, fairUpidType}
+use Rattle.names.specs.Numbering.{class, reserved}
+use Rattle.names.specs.Upid.{upidTypes, upidTypeOf, fairUpidType}
 use Rattle.names.specs.declared.upid.SegmentationUpidType.the-variants.{Reserved}
 use Rattle.names.proofs.Laws.{fair-by, own-name, name-fair}
 use Rattle.names.proofs.Upids.{sound}
@@ -24,7 +24,7 @@ returns : tie.Need-returns
 unfolding upidTypeOf fairUpidType
 returns c =
     let n = c .before .before .before .before .self .given in
-    rw (n .1) (fair-by upidTypes (Reserved (n .0 .0)) _ reserved (ap upidTypeClass (c .enum-told .given .1)) (c .before .before .from-type .ensures))
+    rw (n .1) (fair-by upidTypes (Reserved (n .0 .0)) _ reserved (ap (class upidTypes) (c .enum-told .given .1)) (c .before .before .from-type .ensures))
 
 returns-2 : tie.Need-returns-2
 unfolding upidTypeOf fairUpidType
