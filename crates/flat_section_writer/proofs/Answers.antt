@@ -27,7 +27,7 @@ use Rattle.pen.specs.Written.{refusalIn, bytesIn}
 use Rattle.section.specs.Section.{first}
 use Rattle.section_writer.proofs.Heads.{fitting, fits-within}
 use Rattle.section_writer.specs.Frame.{headed, head, body, frame, numbersFit, fairHead, sectionLength}
-use Rattle.section_writer.specs.Writing.{unless, sectionMade, kindOf, madeIf}
+use Rattle.section_writer.specs.Writing.{unless, sectionMade, kindOf}
 use Rattle.table.proofs.Lists.{zero-one, and-true}
 use Rattle.table.specs.Writing.{Made, made, refused}
 use Rattle.flat_section_writer.specs.SectionGiven.{headerFrom, headerRefusal, either, sectionWordsMade}
@@ -65,23 +65,23 @@ module _ (h : SpliceInfoHeader) (m : Made) (kind : ℕ) (loop : List ℕ) where
   rest = (eqb (refusalIn m) 33 || not (fairHead h)) ∷ ltb 4096 (sectionLength (length (bytesIn m)) (length loop)) ∷ not (canonicalLoop loop) ∷ []
 
   section-late : Late 32 m → Late 32 (sectionMade h m kind loop)
-  unfolding sectionMade madeIf
+  unfolding sectionMade
   section-late l = rw (late-ne 32 31 m (omega arith) (omega arith) l) (first-late 32 ((eqb (refusalIn m) 32 || not (numbersFit h)) ∷ rest) (frame h kind (bytesIn m) loop))
 
   section-fits : Late 33 m → numbersFit h ≡ true → Late 33 (sectionMade h m kind loop)
-  unfolding sectionMade madeIf
+  unfolding sectionMade
   section-fits l e = rw (late-ne 33 31 m (omega arith) (omega arith) l, late-ne 33 32 m (omega arith) (omega arith) l, e) (first-late 33 rest (frame h kind (bytesIn m) loop))
 
   section-31 : m ≡ refused 31 → sectionMade h m kind loop ≡ refused 31
-  unfolding sectionMade madeIf
+  unfolding sectionMade
   section-31 e = rw e
 
   section-32 : m ≡ refused 32 → sectionMade h m kind loop ≡ refused 32
-  unfolding sectionMade madeIf
+  unfolding sectionMade
   section-32 e = rw e
 
   section-over : Late 32 m → numbersFit h ≡ false → sectionMade h m kind loop ≡ refused 32
-  unfolding sectionMade madeIf
+  unfolding sectionMade
   section-over l e = rw (late-ne 32 31 m (omega arith) (omega arith) l, e) (go (eqb (refusalIn m) 32))
     where
       go : (b : Bool) → unless (first 32 ((b || true) ∷ rest)) (frame h kind (bytesIn m) loop) ≡ refused 32
@@ -90,7 +90,7 @@ module _ (h : SpliceInfoHeader) (m : Made) (kind : ℕ) (loop : List ℕ) where
 
   -- the command's length and type, which a header says, are not looked at
   headless : sectionMade (headed h 0 0) m kind loop ≡ sectionMade h m kind loop
-  unfolding sectionMade madeIf frame body head headed numbersFit fairHead
+  unfolding sectionMade frame body head headed numbersFit fairHead
   headless = refl
 
 -- ---- the header that words make
