@@ -49,7 +49,7 @@ use Rattle.section_writer.proofs.Heads.{fitting}
 use Rattle.section_writer.proofs.Refusals.{outside}
 use Rattle.section_writer.proofs.Refusals as refusals
 use Rattle.section_writer.specs.Frame.{sectionLength, headed, head, body, frame, numbersFit, fairHead}
-use Rattle.section_writer.specs.Writing.{conditions, unless, sectionMade, kindOf}
+use Rattle.section_writer.specs.Writing.{writerConditions, unless, sectionMade, kindOf}
 use Rattle.table.proofs.Lists.{zero-one, and-true}
 use Rattle.table.specs.Bits.{pick}
 use Rattle.table.specs.Lent.{noView}
@@ -133,14 +133,14 @@ network-within : (n : NetworkIndicator) → ltb (networkFlag n) 2 ≡ true
 network-within NetworkIndicator.In = refl
 network-within NetworkIndicator.Out = refl
 
-break-within : (b : Break) → ltb (insert.ticks b) (2 ^ 33) ≡ true
+break-within : (b : Break) → ltb (insert.breakTicks b) (2 ^ 33) ≡ true
     → (ltb (flatBreak b .«duration_flag») 2 ≡ true) × (ltb (flatBreak b .«auto_return») 2 ≡ true) × (ltb (flatBreak b .duration) (2 ^ 33) ≡ true)
 unfolding flatBreak
 break-within Break.Absent e = (refl, refl, refl)
 break-within (Break.Lasts d) e = (refl, return-within (d .«return_mode»), e)
 
 active-within : (event kept : ℕ) (i : Insert) → event < 2 ^ 32 → TypedDetail (SpliceInsert.Insert i) → ltb kept 128 ≡ true → ltb (ticks (programTime (i .«splice_mode»))) (2 ^ 33) ≡ true
-    → ltb (insert.ticks (i .duration)) (2 ^ 33) ≡ true → within commandWidths (commandWords (commandWith 0 0x05 (wholeInsert event 0 kept i) noTime 0 (flatView noView))) ≡ true
+    → ltb (insert.breakTicks (i .duration)) (2 ^ 33) ≡ true → within commandWidths (commandWords (commandWith 0 0x05 (wholeInsert event 0 kept i) noTime 0 (flatView noView))) ≡ true
 unfolding within commandWidths commandWords wholeInsert
 active-within event kept i v h k t d =
     let m = mode-within (i .«splice_mode») (h .3) t in
@@ -246,14 +246,14 @@ module _ (h : SpliceInfoHeader) (m : Made) (kind : ℕ) (loop : List ℕ) where
       let n = length (bytesIn m) in
       let rest = (eqb r 33 || not (fairHead h)) ∷ ltb 4096 (sectionLength n (length loop)) ∷ not (canonicalLoop loop) ∷ [] in
       let f = first-wide (eqb r 31) (eqb r 32 || not (numbersFit h)) rest (rw e (or-true (eqb r 32))) in
-      unless-wide (first 31 (conditions h r n (length loop) (canonicalLoop loop))) (frame h kind (bytesIn m) loop) (f .0) (f .1)
+      unless-wide (first 31 (writerConditions h r n (length loop) (canonicalLoop loop))) (frame h kind (bytesIn m) loop) (f .0) (f .1)
 
   section-wide-command : Wide m → Wide (sectionMade h m kind loop)
   unfolding sectionMade
   section-wide-command w = go (ltb (refusalIn m) 32) refl
     where
       k : ℕ
-      k = first 31 (conditions h (refusalIn m) (length (bytesIn m)) (length loop) (canonicalLoop loop))
+      k = first 31 (writerConditions h (refusalIn m) (length (bytesIn m)) (length loop) (canonicalLoop loop))
 
       number : (m : Made) → Wide m → (31 ≤ refusalIn m) × (refusalIn m ≤ 32)
       number (made b) w = absurd w
@@ -355,7 +355,7 @@ module _ (places : List ComponentSplice) (lent : List ℕ) (short : length lent 
       size = 10 + modeBytes (x .«splice_mode») (surveyed (immediateIn x cs) cs .bytes) + breakBytes (x .duration)
 
       w : Bool
-      w = ltb kept 128 && (ltb (ticks (programTime (x .«splice_mode»))) (2 ^ 33) && ltb (insert.ticks (x .duration)) (2 ^ 33))
+      w = ltb kept 128 && (ltb (ticks (programTime (x .«splice_mode»))) (2 ^ 33) && ltb (insert.breakTicks (x .duration)) (2 ^ 33))
 
       is : activeMeasured kept (x .«splice_mode») (x .duration) (surveyed (immediateIn x cs) cs) ≡ measuredOf (insertMade (counted i places))
       is = insert-active i x places refl there v (mode-count (x .«splice_mode») (h .3)) (h .0) (h .1) (h .2) tags
