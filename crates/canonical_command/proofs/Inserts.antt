@@ -7,7 +7,7 @@ use native.Mathlib.Omega.{arith}
 use lib.Dec.{ltb, eqb}
 use lib.ListN.{length, getD}
 use borrow.Author.Tests.{ne-eqb, lt-ltb, not-true, not-false}
-use Rattle.command.specs.Insert.{WithComponents, timeUnless, component, blank, moded, breakDuration, ending, active, insert, modeOf, activeOf, autoReturn, ticks}
+use Rattle.command.specs.Insert.{WithComponents, timeUnless, component, blank, moded, breakDuration, ending, active, insert, modeOf, activeOf, autoReturn, breakTicks}
 use Rattle.command.specs.declared.components.ComponentSplice.{ComponentSplice}
 use Rattle.command.specs.declared.insert.Break.{Break}
 use Rattle.command.specs.declared.insert.Insert.{Insert}
@@ -137,15 +137,15 @@ module _ (s : List ℕ) (i : ℕ) (b : Bool) where
     module _ (there : i < length s) (byte : getD s i 0 < 256) where
       pub break-reserved : (getD s i 0 / 2 % 64 ≡ 63 → ⊥) → Fails (breakDuration b) s (i * 8)
       unfolding breakDuration
-      break-reserved h = rw (not-false b on) (fails-flag s (i * 8) autoReturn _ _ refl (fails-six s i there byte ticks _ h))
+      break-reserved h = rw (not-false b on) (fails-flag s (i * 8) autoReturn _ _ refl (fails-six s i there byte breakTicks _ h))
 
       pub no-duration : length s < i + 5 → Fails (breakDuration b) s (i * 8)
       unfolding breakDuration
-      no-duration l = rw (not-false b on) (fails-flag s (i * 8) autoReturn _ _ refl (lacks-six s i there byte ticks _ l))
+      no-duration l = rw (not-false b on) (fails-flag s (i * 8) autoReturn _ _ refl (lacks-six s i there byte breakTicks _ l))
 
       pub a-break : getD s i 0 / 2 % 64 ≡ 63 → i + 5 ≤ length s → Stands (breakDuration b) s (i * 8) ((i + 5) * 8)
       unfolding breakDuration
-      a-break h l = rw (not-false b on) (stands-flag s (i * 8) autoReturn _ _ _ (omega arith) refl (stands-six s i there byte ticks _ h l))
+      a-break h l = rw (not-false b on) (stands-flag s (i * 8) autoReturn _ _ _ (omega arith) refl (stands-six s i there byte breakTicks _ h l))
 
 -- ---- from the duration on
 module _ (s : List ℕ) (i e : ℕ) (out b : Bool) (m : WithComponents SpliceMode) where

@@ -79,16 +79,16 @@ abbrev pub autoReturn : Break → Bool
 autoReturn Break.Absent = false
 autoReturn (Break.Lasts d) = eqb (returnFlag (d .«return_mode»)) 1
 
-abbrev pub ticks : Break → ℕ
-ticks Break.Absent = 0
-ticks (Break.Lasts d) = d .duration
+abbrev pub breakTicks : Break → ℕ
+breakTicks Break.Absent = 0
+breakTicks (Break.Lasts d) = d .duration
 
 unfoldable pub breakDuration : Bool → Table Break
 breakDuration duration-flag =
     pick duration-flag
     (flag autoReturn λ auto-return.
     ones 6 (
-    uimsbf 33 ticks λ duration.
+    uimsbf 33 breakTicks λ duration.
     done (Break.Lasts (record { «return_mode» = pick auto-return ReturnMode.Automatic ReturnMode.Manual; duration = duration }))))
     (done Break.Absent)
 

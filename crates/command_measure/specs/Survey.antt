@@ -56,5 +56,5 @@ cancelMeasured reserved = measured (ltb reserved 128) (eqb reserved 127) 5
 
 unfoldable pub activeMeasured : ℕ → SpliceMode → Break → Survey → Measured
 activeMeasured reserved mode duration s =
-    measured (s .fits && (ltb reserved 128 && (ltb (ticks (programTime mode)) (2 ^ 33) && ltb (insert.ticks duration) (2 ^ 33)))) (eqb reserved 127 && s .alike)
+    measured (s .fits && (ltb reserved 128 && (ltb (ticks (programTime mode)) (2 ^ 33) && ltb (insert.breakTicks duration) (2 ^ 33)))) (eqb reserved 127 && s .alike)
     (10 + modeBytes mode (s .bytes) + breakBytes duration)

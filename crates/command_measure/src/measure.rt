@@ -190,7 +190,7 @@ fn mode_fits(mode: SpliceMode) -> bool
 }
 
 fn break_fits(duration: Break) -> bool
-    ensures { λ r. ⌜ r ≡ ltb (insert.ticks duration) (2 ^ 33) ⌝ }
+    ensures { λ r. ⌜ r ≡ ltb (insert.breakTicks duration) (2 ^ 33) ⌝ }
 {
     match duration {
         Break::Absent => true,

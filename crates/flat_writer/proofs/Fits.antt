@@ -183,7 +183,7 @@ network-within : (n : NetworkIndicator) → ltb (networkFlag n) 2 ≡ true
 network-within NetworkIndicator.In = refl
 network-within NetworkIndicator.Out = refl
 
-break-within : (b : Break) → ltb (insert.ticks b) (2 ^ 33) ≡ true
+break-within : (b : Break) → ltb (insert.breakTicks b) (2 ^ 33) ≡ true
     → (ltb (flatBreak b .«duration_flag») 2 ≡ true) × (ltb (flatBreak b .«auto_return») 2 ≡ true) × (ltb (flatBreak b .duration) (2 ^ 33) ≡ true)
 unfolding flatBreak
 break-within Break.Absent e = (refl, refl, refl)

@@ -179,7 +179,7 @@ places-tags (suc n) words = (below _ 256 (lit< tt), places-tags n (drop 3 words)
 -- ---- and within their fields, if the words are within their widths
 abbrev pub SmallDetail : SpliceInsert → Type 0
 SmallDetail SpliceInsert.Cancel = Unit {0}
-SmallDetail (SpliceInsert.Insert i) = (ltb (ticks (programTime (i .«splice_mode»))) (2 ^ 33) ≡ true) × (ltb (insert.ticks (i .duration)) (2 ^ 33) ≡ true)
+SmallDetail (SpliceInsert.Insert i) = (ltb (ticks (programTime (i .«splice_mode»))) (2 ^ 33) ≡ true) × (ltb (insert.breakTicks (i .duration)) (2 ^ 33) ≡ true)
 
 abbrev pub Small : SpliceCommand → Type 0
 Small SpliceCommand.SpliceNull = Unit {0}
@@ -206,7 +206,7 @@ small-detail i t d false = (mode (eqb (i .mode .«program_splice_flag») 1), las
     mode false = refl
 
     lasts : (b : Bool)
-        → ltb (insert.ticks (pick b (Break.Lasts (record { «return_mode» = pick (eqb (i .«break_duration» .«auto_return») 1) ReturnMode.Automatic ReturnMode.Manual; duration = i .«break_duration» .duration })) Break.Absent)) (2 ^ 33) ≡ true
+        → ltb (insert.breakTicks (pick b (Break.Lasts (record { «return_mode» = pick (eqb (i .«break_duration» .«auto_return») 1) ReturnMode.Automatic ReturnMode.Manual; duration = i .«break_duration» .duration })) Break.Absent)) (2 ^ 33) ≡ true
     lasts true = lt-ltb _ _ d
     lasts false = refl
 

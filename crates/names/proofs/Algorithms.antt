@@ -17,7 +17,7 @@ use Rattle.names.specs.declared.algorithm.EncryptionAlgorithm.the-varian
   Reserved,
   Private,
 }
-use Rattle.names.specs.Numbering.{class, reserved, private}
+use Rattle.names.specs.Numbering.{classIn, reserved, private}
 use Rattle.names.specs.Algorithm.{algorithmNumber, otherAlgorithm, algorithms, algorithmOf, fairAlgorithm}
 use Rattle.names.proofs.algorithm.EncryptionAlgorithm.{the-type}
 use Rattle.names.proofs.Laws.{Name, Carried, Sound, Inverse, inverse}
@@ -34,11 +34,11 @@ carried : (b : Bool) (n : ℕ) → algorithmNumber (cond b (Reserved n) (Private
 carried true n = refl
 carried false n = refl
 
-own-reserved : (b : Bool) (n : ℕ) → class algorithms (cond b (Reserved n) (Private n)) ≡ reserved → cond b (Reserved n) (Private n) ≡ Reserved n
+own-reserved : (b : Bool) (n : ℕ) → classIn algorithms (cond b (Reserved n) (Private n)) ≡ reserved → cond b (Reserved n) (Private n) ≡ Reserved n
 own-reserved true n e = refl
 own-reserved false n e = absurd (omega arith)
 
-own-private : (b : Bool) (n : ℕ) → class algorithms (cond b (Reserved n) (Private n)) ≡ private → cond b (Reserved n) (Private n) ≡ Private n
+own-private : (b : Bool) (n : ℕ) → classIn algorithms (cond b (Reserved n) (Private n)) ≡ private → cond b (Reserved n) (Private n) ≡ Private n
 own-private true n e = absurd (omega arith)
 own-private false n e = refl
 

@@ -10,7 +10,7 @@ use lib.Dec.{eqb}
 use lib.ListN.{length}
 use borrow.Author.Tests.{eqb-true, eq-eqb, ne-eqb}
 use types.Run.{OneOf}
-use Rattle.names.specs.Numbering.{Table, number, class, named, nameOf, or, valueOf, fair}
+use Rattle.names.specs.Numbering.{Numbering, numberIn, classIn, named, nameOf, or, valueOf, fair}
 
 and-left : (a b : Bool) → (a && b) ≡ true → a ≡ true
 and-left true b e = refl
@@ -36,8 +36,8 @@ module _ {A : Type 0} (number : A → ℕ) (n : ℕ) where
   pub unnamed : (xs : List A) → Missed (Unit {0}) xs → none ≡ nameOf number xs n
   unnamed xs m = sym (missed (Unit {0}) xs m .1)
 
-pub other : {A : Type 0} (T : Table A) (n : ℕ) → Missed (number T) n (Unit {0}) (T .names) → T .others n ≡ valueOf T n
-other T n m = ap (λ o. or o (T .others n)) (unnamed (number T) n (T .names) m)
+pub other : {A : Type 0} (T : Numbering A) (n : ℕ) → Missed (numberIn T) n (Unit {0}) (T .names) → T .others n ≡ valueOf T n
+other T n m = ap (λ o. or o (T .others n)) (unnamed (numberIn T) n (T .names) m)
 
 -- ---- an arm of the first k variants
 abbrev pub upto : ℕ → ℕ → List ℕ
@@ -51,21 +51,21 @@ under i (suc (suc k)) n o = ⊎-elim (λ e. omega arith) (λ r. omega (arith, un
 
 -- ---- what an enum owes
 -- a name: its own number stands for it
-abbrev pub Name : {A : Type 0} → Table A → A → Type 0
-Name T x = (valueOf T (number T x) ≡ x) × (class T x ≡ named)
+abbrev pub Name : {A : Type 0} → Numbering A → A → Type 0
+Name T x = (valueOf T (numberIn T x) ≡ x) × (classIn T x ≡ named)
 
 -- a value that carries its number: it is the one of its class
-abbrev pub Carried : {A : Type 0} → Table A → A → Type 0
-Carried T x = (class T x ≡ named → ⊥) × (class T (T .others (number T x)) ≡ class T x → T .others (number T x) ≡ x)
+abbrev pub Carried : {A : Type 0} → Numbering A → A → Type 0
+Carried T x = (classIn T x ≡ named → ⊥) × (classIn T (T .others (numberIn T x)) ≡ classIn T x → T .others (numberIn T x) ≡ x)
 
 abbrev pub allNamed : {A : Type 0} → (A → ℕ) → List A → Bool
 allNamed class [] = true
 allNamed class (x ∷ xs) = eqb (class x) named && allNamed class xs
 
 -- `tag` counts the variants in the order of the declaration, the names first
-pub record Sound {A : Type 0} (T : Table A) (tag : A → ℕ) : Type 0 where
-  pub carries : (n : ℕ) → number T (T .others n) ≡ n
-  pub listed : allNamed (class T) (T .names) ≡ true
+pub record Sound {A : Type 0} (T : Numbering A) (tag : A → ℕ) : Type 0 where
+  pub carries : (n : ℕ) → numberIn T (T .others n) ≡ n
+  pub listed : allNamed (classIn T) (T .names) ≡ true
   pub split : (x : A) → Name T x ⊎ (Carried T x × (length (T .names) ≤ tag x))
 
 -- ---- what every enum then has
@@ -103,29 +103,29 @@ module _ {A : Type 0} (number : A → ℕ) (n : ℕ) (y : A) where
       go false k r = r k
 
 -- a value is fair where its number stands for a value of its class
-pub fair-by : {A : Type 0} (T : Table A) (x own : A) (k : ℕ) → class T own ≡ k → own ≡ valueOf T (number T x)
-    → eqb k (class T x) ≡ fair T x
-fair-by T x own k c e = ap (λ j. eqb j (class T x)) (sym c ∙ ap (class T) e)
+pub fair-by : {A : Type 0} (T : Numbering A) (x own : A) (k : ℕ) → classIn T own ≡ k → own ≡ valueOf T (numberIn T x)
+    → eqb k (classIn T x) ≡ fair T x
+fair-by T x own k c e = ap (λ j. eqb j (classIn T x)) (sym c ∙ ap (classIn T) e)
 
-module _ {A : Type 0} (T : Table A) (tag : A → ℕ) (s : Sound T tag) where
-  carried-back : (x : A) → Carried T x → fair T x ≡ true → valueOf T (number T x) ≡ x
+module _ {A : Type 0} (T : Numbering A) (tag : A → ℕ) (s : Sound T tag) where
+  carried-back : (x : A) → Carried T x → fair T x ≡ true → valueOf T (numberIn T x) ≡ x
   carried-back x c f =
-      let n = number T x in
-      let k : class T (valueOf T n) ≡ class T x = eqb-true (class T (valueOf T n)) (class T x) f in
+      let n = numberIn T x in
+      let k : classIn T (valueOf T n) ≡ classIn T x = eqb-true (classIn T (valueOf T n)) (classIn T x) f in
       let l : valueOf T n ≡ T .others n =
-      left-over (number T) n (T .others n) (class T) (T .names) (s .listed) (λ e. c .0 (sym k ∙ e)) in
-      l ∙ c .1 (sym (ap (class T) l) ∙ k)
+      left-over (numberIn T) n (T .others n) (classIn T) (T .names) (s .listed) (λ e. c .0 (sym k ∙ e)) in
+      l ∙ c .1 (sym (ap (classIn T) l) ∙ k)
 
-  gives-fair : (x : A) → valueOf T (number T x) ≡ x → fair T x ≡ true
-  gives-fair x e = sym (fair-by T x x (class T x) refl (sym e)) ∙ eq-eqb (class T x) (class T x) refl
+  gives-fair : (x : A) → valueOf T (numberIn T x) ≡ x → fair T x ≡ true
+  gives-fair x e = sym (fair-by T x x (classIn T x) refl (sym e)) ∙ eq-eqb (classIn T x) (classIn T x) refl
 
-  number-there : (n : ℕ) → number T (valueOf T n) ≡ n
-  number-there n = found (number T) n (T .others n) (s .carries n) (T .names)
+  number-there : (n : ℕ) → numberIn T (valueOf T n) ≡ n
+  number-there n = found (numberIn T) n (T .others n) (s .carries n) (T .names)
 
-  fair-back : (x : A) → fair T x ≡ true → valueOf T (number T x) ≡ x
+  fair-back : (x : A) → fair T x ≡ true → valueOf T (numberIn T x) ≡ x
   fair-back x f = ⊎-elim (λ m. m .0) (λ c. carried-back x (c .0) f) (s .split x)
 
-  pub inverse : Inverse (number T) (valueOf T) (fair T)
+  pub inverse : Inverse (numberIn T) (valueOf T) (fair T)
   inverse =
       record {
         there = number-there;
@@ -133,7 +133,7 @@ module _ {A : Type 0} (T : Table A) (tag : A → ℕ) (s : Sound T tag) where
         back = fair-back;
         only = gives-fair;
         one-value = λ x y f g e. sym (fair-back x f) ∙ ap (valueOf T) e ∙ fair-back y g;
-        one-number = λ m n e. sym (number-there m) ∙ ap (number T) e ∙ number-there n;
+        one-number = λ m n e. sym (number-there m) ∙ ap (numberIn T) e ∙ number-there n;
       }
 
   -- the names are the first variants
@@ -145,6 +145,6 @@ module _ {A : Type 0} (T : Table A) (tag : A → ℕ) (s : Sound T tag) where
   name-fair x o = sym (gives-fair x (is-name x o .0))
 
   -- `match` on what its number stands for finds a name
-  pub own-name : (x own : A) → own ≡ valueOf T (number T x) → OneOf (upto 0 (length (T .names))) (tag own)
-      → eqb named (class T x) ≡ fair T x
+  pub own-name : (x own : A) → own ≡ valueOf T (numberIn T x) → OneOf (upto 0 (length (T .names))) (tag own)
+      → eqb named (classIn T x) ≡ fair T x
   own-name x own e o = fair-by T x own named (is-name own o .1) e

@@ -12,7 +12,7 @@ use Rattle.names.specs.declared.algorithm.EncryptionAlgorithm.the-varian
   Reserved,
   Private,
 }
-use Rattle.names.specs.Numbering.{Entry, named, reserved, private, Table, valueOf, fair}
+use Rattle.names.specs.Numbering.{Entry, named, reserved, private, Numbering, valueOf, fair}
 
 -- The table: the number and the class of each value, the names in the order of their numbers.
 abbrev pub algorithmEntry : EncryptionAlgorithm → Entry
@@ -30,7 +30,7 @@ algorithmNumber x = algorithmEntry x .0
 abbrev pub otherAlgorithm : ℕ → EncryptionAlgorithm
 otherAlgorithm n = cond (ltb n 32) (Reserved n) (Private n)
 
-abbrev pub algorithms : Table EncryptionAlgorithm
+abbrev pub algorithms : Numbering EncryptionAlgorithm
 algorithms = record {
   entry = algorithmEntry;
   names = None ∷ DesEcb ∷ DesCbc ∷ TripleDesEde3Ecb ∷ [];

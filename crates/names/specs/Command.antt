@@ -12,7 +12,7 @@ use Rattle.names.specs.declared.command.SpliceCommandType.the-variants.{
   PrivateCommand,
   Reserved,
 }
-use Rattle.names.specs.Numbering.{Entry, named, reserved, Table, valueOf, fair}
+use Rattle.names.specs.Numbering.{Entry, named, reserved, Numbering, valueOf, fair}
 
 -- The table: the number and the class of each value, the names in the order of their numbers. 0x04 has a name here, as in 000, though a section with it is refused (01, refusal 10).
 abbrev pub commandEntry : SpliceCommandType → Entry
@@ -27,7 +27,7 @@ commandEntry (Reserved n) = (n, reserved)
 abbrev pub commandNumber : SpliceCommandType → ℕ
 commandNumber x = commandEntry x .0
 
-abbrev pub commands : Table SpliceCommandType
+abbrev pub commands : Numbering SpliceCommandType
 commands = record {
   entry = commandEntry;
   names = SpliceNull ∷ SpliceSchedule ∷ SpliceInsert ∷ TimeSignal ∷ BandwidthReservation ∷ PrivateCommand ∷ [];

@@ -23,16 +23,16 @@ abbrev pub Entry : Type 0
 Entry = ℕ × Class
 
 -- The number and the class of each value, the names in the order of their numbers, and the value of a number that no name has.
-pub record Table (A : Type 0) : Type 0 where
+pub record Numbering (A : Type 0) : Type 0 where
   pub entry : A → Entry
   pub names : List A
   pub others : ℕ → A
 
-abbrev pub number : {A : Type 0} → Table A → A → ℕ
-number T x = T .entry x .0
+abbrev pub numberIn : {A : Type 0} → Numbering A → A → ℕ
+numberIn T x = T .entry x .0
 
-abbrev pub class : {A : Type 0} → Table A → A → Class
-class T x = T .entry x .1
+abbrev pub classIn : {A : Type 0} → Numbering A → A → Class
+classIn T x = T .entry x .1
 
 -- the name that a number has, if it has one
 abbrev pub nameOf : {A : Type 0} → (A → ℕ) → List A → ℕ → Option A
@@ -44,10 +44,10 @@ or none other = other
 or (some x) other = x
 
 -- the value that a number stands for
-abbrev pub valueOf : {A : Type 0} → Table A → ℕ → A
-valueOf T n = or (nameOf (number T) (T .names) n) (T .others n)
+abbrev pub valueOf : {A : Type 0} → Numbering A → ℕ → A
+valueOf T n = or (nameOf (numberIn T) (T .names) n) (T .others n)
 
 -- 01, refusal 33: not "a reserved number that has a name or lies in another range". The number of a fair value stands for a value of
 -- the same class, which is then the value itself.
-abbrev pub fair : {A : Type 0} → Table A → A → Bool
-fair T x = eqb (class T (valueOf T (number T x))) (class T x)
+abbrev pub fair : {A : Type 0} → Numbering A → A → Bool
+fair T x = eqb (classIn T (valueOf T (numberIn T x))) (classIn T x)

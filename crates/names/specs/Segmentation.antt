@@ -34,7 +34,7 @@ use Rattle.names.specs.declared.segmentation.SegmentationTypeId.the-vari
   NetworkEnd,
   Reserved,
 }
-use Rattle.names.specs.Numbering.{Entry, named, reserved, Table, valueOf, fair}
+use Rattle.names.specs.Numbering.{Entry, named, reserved, Numbering, valueOf, fair}
 
 -- The table: the number and the class of each value, the names in the order of their numbers. 28 numbers have a name; all others are reserved.
 abbrev pub segmentationEntry : SegmentationTypeId → Entry
@@ -71,7 +71,7 @@ segmentationEntry (Reserved n) = (n, reserved)
 abbrev pub segmentationNumber : SegmentationTypeId → ℕ
 segmentationNumber x = segmentationEntry x .0
 
-abbrev pub segmentations : Table SegmentationTypeId
+abbrev pub segmentations : Numbering SegmentationTypeId
 segmentations = record {
   entry = segmentationEntry;
   names = NotIndicated ∷ ContentIdentification ∷ ProgramStart ∷ ProgramEnd ∷ ProgramEarlyTermination ∷ ProgramBreakaway

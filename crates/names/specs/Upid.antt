@@ -22,7 +22,7 @@ use Rattle.names.specs.declared.upid.SegmentationUpidType.the-variants.{
   URI,
   Reserved,
 }
-use Rattle.names.specs.Numbering.{Entry, named, reserved, Table, valueOf, fair}
+use Rattle.names.specs.Numbering.{Entry, named, reserved, Numbering, valueOf, fair}
 
 -- The table: the number and the class of each value, the names in the order of their numbers. 16 and up have no name.
 abbrev pub upidTypeEntry : SegmentationUpidType → Entry
@@ -47,7 +47,7 @@ upidTypeEntry (Reserved n) = (n, reserved)
 abbrev pub upidTypeNumber : SegmentationUpidType → ℕ
 upidTypeNumber x = upidTypeEntry x .0
 
-abbrev pub upidTypes : Table SegmentationUpidType
+abbrev pub upidTypes : Numbering SegmentationUpidType
 upidTypes = record {
   entry = upidTypeEntry;
   names = NotUsed ∷ UserDefinedDeprecated ∷ ISCIDeprecated ∷ AdID ∷ UMID ∷ ISANDeprecated ∷ ISAN ∷ TID ∷ TI ∷ ADI ∷ EIDR ∷ ATSC

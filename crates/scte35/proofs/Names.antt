@@ -6,7 +6,7 @@ use lib.ListN.{length}
 use borrow.Author.Tests.{eqb-true}
 use types.Run.{OneOf}
 use Rattle.names.specs.Flags.{Answer, gives, refuses}
-use Rattle.names.specs.Numbering.{Table, number, class, named, valueOf, fair}
+use Rattle.names.specs.Numbering.{Numbering, numberIn, classIn, named, valueOf, fair}
 use Rattle.names.proofs.Laws.{Sound, inverse, own-name, upto}
 use Rattle.scte35.specs.FlatNumber.{flatName, flatAnswer}
 use Rattle.scte35.specs.declared.numbers.FlatNumber.{FlatNumber}
@@ -15,18 +15,18 @@ use Rattle.scte35.specs.declared.numbers.FlatNumber.{FlatNumber}
 abbrev pub flat : ℕ → ℕ → FlatNumber
 flat class number = record { refusal = 0; class = class; number = number }
 
-module _ {A : Type 0} (T : Table A) (tag : A → ℕ) (s : Sound T tag) (n : ℕ) (x : A) (e : x ≡ valueOf T n) where
-  is-named : OneOf (upto 0 (length (T .names))) (tag x) → class T x ≡ named
+module _ {A : Type 0} (T : Numbering A) (tag : A → ℕ) (s : Sound T tag) (n : ℕ) (x : A) (e : x ≡ valueOf T n) where
+  is-named : OneOf (upto 0 (length (T .names))) (tag x) → classIn T x ≡ named
   is-named o =
-      let m : number T x ≡ n = ap (number T) e ∙ inverse T tag s .there n in
-      sym (eqb-true named (class T x) (own-name T tag s x x (e ∙ ap (valueOf T) (sym m)) o ∙ ap (fair T) e ∙ inverse T tag s .is-fair n))
+      let m : numberIn T x ≡ n = ap (numberIn T) e ∙ inverse T tag s .there n in
+      sym (eqb-true named (classIn T x) (own-name T tag s x x (e ∙ ap (valueOf T) (sym m)) o ∙ ap (fair T) e ∙ inverse T tag s .is-fair n))
 
   -- a name
-  pub of-name : OneOf (upto 0 (length (T .names))) (tag x) → (k : ℕ) → k ≡ number T x → flat named k ≡ flatName T (valueOf T n)
-  of-name o k h = ap (flat named) h ∙ ap (λ j. flat j (number T x)) (sym (is-named o)) ∙ ap (flatName T) e
+  pub of-name : OneOf (upto 0 (length (T .names))) (tag x) → (k : ℕ) → k ≡ numberIn T x → flat named k ≡ flatName T (valueOf T n)
+  of-name o k h = ap (flat named) h ∙ ap (λ j. flat j (numberIn T x)) (sym (is-named o)) ∙ ap (flatName T) e
 
 -- a value that carries its number
-pub of-number : {A : Type 0} (T : Table A) (n : ℕ) (x v : A) → x ≡ valueOf T n → x ≡ v → flat (class T v) (number T v) ≡ flatName T (valueOf T n)
+pub of-number : {A : Type 0} (T : Numbering A) (n : ℕ) (x v : A) → x ≡ valueOf T n → x ≡ v → flat (classIn T v) (numberIn T v) ≡ flatName T (valueOf T n)
 of-number T n x v e h = ap (flatName T) (sym h ∙ e)
 
 -- a value, or refusal 12

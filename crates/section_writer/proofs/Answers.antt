@@ -27,7 +27,7 @@ use Rattle.table.proofs.Lists.{zero-one}
 use Rattle.table.proofs.Stores.{length-stored}
 use Rattle.section_writer.specs.Frame.{sectionLength, head, frame, numbersFit, fairHead}
 use Rattle.section_writer.specs.Walk.{tail, answerFor}
-use Rattle.section_writer.specs.Writing.{conditions, unless, sectionMade, kindOf}
+use Rattle.section_writer.specs.Writing.{writerConditions, unless, sectionMade, kindOf}
 use Rattle.section_writer.proofs.Frames.{length-frame}
 use Rattle.section_writer.proofs.Stored.{section-stored}
 use Rattle.section_writer.proofs.Trips.{tests-passed}
@@ -38,7 +38,7 @@ unless-refused (suc n) b h = refl
 
 -- ---- the answer, by the first refusal that applies
 module _ (h : SpliceInfoHeader) (m : Measured) (loop : List ℕ) (room : ℕ) (k : Bool) (n : ℕ)
-    (ek : k ≡ canonicalLoop loop) (en : n ≡ first 31 (conditions h (m .refusal) (m .size) (length loop) k)) where
+    (ek : k ≡ canonicalLoop loop) (en : n ≡ first 31 (writerConditions h (m .refusal) (m .size) (length loop) k)) where
   pub refused-for : 0 < n → Written.Refused n ≡ answerFor h m loop room
   unfolding answerFor
   refused-for z = rw (← ek, ← en, ne-eqb n 0 (λ e. omega (arith, e, z)))
@@ -60,7 +60,7 @@ module _ (h : SpliceInfoHeader) (c : SpliceCommand) (cs : List ComponentSplice) 
   payload = bytesIn (commandMade c cs lent)
 
   abbrev n : ℕ
-  n = first 31 (conditions h (m .refusal) (m .size) (length loop) (canonicalLoop loop))
+  n = first 31 (writerConditions h (m .refusal) (m .size) (length loop) (canonicalLoop loop))
 
   abbrev section : Made
   section = sectionMade h (commandMade c cs lent) (kindOf c) loop
@@ -69,7 +69,7 @@ module _ (h : SpliceInfoHeader) (c : SpliceCommand) (cs : List ComponentSplice) 
   unfolding measuredOf
   size-is = ap (λ (x : Measured). x .size) em
 
-  tests : n ≡ first 31 (conditions h (refusalIn (commandMade c cs lent)) (length payload) (length loop) (canonicalLoop loop))
+  tests : n ≡ first 31 (writerConditions h (refusalIn (commandMade c cs lent)) (length payload) (length loop) (canonicalLoop loop))
   unfolding measuredOf
   tests = rw em
 

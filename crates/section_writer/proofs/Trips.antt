@@ -33,7 +33,7 @@ use Rattle.table.proofs.Lists.{zero-one}
 use Rattle.table.proofs.Reading.{field-lt}
 use Rattle.section_writer.specs.Canonical.{canonicalFrame}
 use Rattle.section_writer.specs.Frame.{headed, headerBytes, opening, sectionLength, head, withLength, body, frame, numbersFit, fairHead}
-use Rattle.section_writer.specs.Writing.{conditions, unless, sectionMade}
+use Rattle.section_writer.specs.Writing.{writerConditions, unless, sectionMade}
 use Rattle.section_writer.proofs.Backs.{opening-is, frame-again, own, own-is, headed-own}
 use Rattle.section_writer.proofs.Forms.{Framed, framed}
 use Rattle.section_writer.proofs.Frames.{crc, length-frame, behind-three, frame-loop, frame-accepted, frame-command-length, frame-loop-length}
@@ -57,7 +57,7 @@ all-false false false false false true e = absurd (omega arith)
 all-false false false false false false e = (refl, refl, refl, refl, refl)
 
 -- what no refusal says of the header and the section's length
-pub tests-passed : (h : SpliceInfoHeader) (r size extent : ℕ) (canonical : Bool) → first 31 (conditions h r size extent canonical) ≡ 0
+pub tests-passed : (h : SpliceInfoHeader) (r size extent : ℕ) (canonical : Bool) → first 31 (writerConditions h r size extent canonical) ≡ 0
     → (numbersFit h ≡ true) × (fairHead h ≡ true) × (sectionLength size extent ≤ 4096)
 tests-passed h r size extent canonical e =
     let a = all-false (eqb r 31) (eqb r 32 || not (numbersFit h)) (eqb r 33 || not (fairHead h)) (ltb 4096 (sectionLength size extent)) (not canonical) e in
@@ -83,7 +83,7 @@ section-wrote h command kind loop b e =
     let canonical = canonicalLoop loop in
     let r = refusalIn command in
     let n = sectionLength (length (bytesIn command)) (length loop) in
-    let u = unless-made (first 31 (conditions h r (length (bytesIn command)) (length loop) canonical)) (frame h kind (bytesIn command) loop) b e in
+    let u = unless-made (first 31 (writerConditions h r (length (bytesIn command)) (length loop) canonical)) (frame h kind (bytesIn command) loop) b e in
     let a = all-false (eqb r 31) (eqb r 32 || not (numbersFit h)) (eqb r 33 || not (fairHead h)) (ltb 4096 n) (not canonical) (u .0) in
     let p = tests-passed h r (length (bytesIn command)) (length loop) canonical (u .0) in
     record {

@@ -20,7 +20,7 @@ use Rattle.table.specs.Bits.{bitsOf}
 use Rattle.table.specs.Table.{Table, Answer, got, short, parse}
 use Rattle.table.specs.Writing.{Same}
 use Rattle.section_writer.specs.Frame.{headed, withLength, sectionLength}
-use Rattle.section_writer.specs.Writing.{conditions}
+use Rattle.section_writer.specs.Writing.{writerConditions}
 
 -- the numbers in the first six and in the last five bytes of a header that is not encrypted
 unfoldable pub frontNumber : SpliceInfoHeader → ℕ
@@ -35,7 +35,7 @@ tail before loop = withLength loop ++ crcBytesOf (before ++ withLength loop)
 
 -- What is answered where the target has `room` bytes: of a header, of what the command measures, and of the loop.
 unfoldable pub answerFor : SpliceInfoHeader → Measured → List ℕ → ℕ → Written
-answerFor h m loop room = answerTo (record { refusal = first 31 (conditions h (m .refusal) (m .size) (length loop) (canonicalLoop loop)); size = sectionLength (m .size) (length loop) }) room
+answerFor h m loop room = answerTo (record { refusal = first 31 (writerConditions h (m .refusal) (m .size) (length loop) (canonicalLoop loop)); size = sectionLength (m .size) (length loop) }) room
 
 -- ---- equal readings, by the tables. "Equal readings means equal values and equal bytes in the views; the header's command length and type, the views' places and array places past a count are
 -- left out."

@@ -15,8 +15,8 @@ use Rattle.section_writer.specs.Frame.{sectionLength, frame, numbersFit,
 
 -- The conditions of refusals 31 to 35, in order: of a header, of a command that its own writer gives the refusal r (0 if none) or `size` bytes, and of a loop of
 -- `extent` bytes. 36, a short target, is `answerOf`'s and `laterOf`'s.
-abbrev pub conditions : SpliceInfoHeader → ℕ → ℕ → ℕ → Bool → List Bool
-conditions header r size extent canonical =
+abbrev pub writerConditions : SpliceInfoHeader → ℕ → ℕ → ℕ → Bool → List Bool
+writerConditions header r size extent canonical =
     -- "a view reaches outside the lent bytes"
     eqb r 31
     -- "a number or count handed in exceeds its field"
@@ -38,5 +38,5 @@ unless (suc n) b = refused (suc n)
 unfoldable pub sectionMade : SpliceInfoHeader → Made → ℕ → List ℕ → Made
 sectionMade header command kind loop =
     unless
-    (first 31 (conditions header (refusalIn command) (length (bytesIn command)) (length loop) (canonicalLoop loop)))
+    (first 31 (writerConditions header (refusalIn command) (length (bytesIn command)) (length loop) (canonicalLoop loop)))
     (frame header kind (bytesIn command) loop)

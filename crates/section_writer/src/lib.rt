@@ -9,7 +9,7 @@ ghost use Rattle.section_writer.specs.Canonical.{canonicalFrame, canonic
 ghost use Rattle.command.specs.Command.{array};
 ghost use Rattle.command_measure.specs.Made.{commandMade};
 ghost use Rattle.pen.specs.Written.{answerOf, laterOf};
-ghost use Rattle.section_writer.specs.Writing.{conditions, kindOf, sectionMade};
+ghost use Rattle.section_writer.specs.Writing.{writerConditions, kindOf, sectionMade};
 ghost use Rattle.section.specs.Section.{first};
 ghost use Rattle.section_writer.specs.Walk.{frontNumber, backNumber, tail, answerFor};
 ghost use Rattle.table.specs.Lent.{stored};
@@ -67,7 +67,7 @@ fn fair_head(header: SpliceInfoHeader) -> bool
 // Refusals 31 to 35, in order of number, and 0 where none applies: of a header; of a command that its own writer gives the refusal r, or `size` bytes; and of
 // a loop of `extent` bytes.
 fn refusal_of(header: SpliceInfoHeader, r: u8, size: usize, extent: usize, canonical: bool) -> u8
-    ensures { λ n. ⌜ n ≡ first 31 (conditions header r size extent canonical) ⌝ }
+    ensures { λ n. ⌜ n ≡ first 31 (writerConditions header r size extent canonical) ⌝ }
 {
     if r == 31 {
         return 31;

@@ -2,7 +2,7 @@
 use mathlib.Core.Path.{ap}
 use denote.Enum.Declared.{tagOf}
 use borrow.Author.Needs.{needs}
-use Rattle.names.specs.Numbering.{class, reserved, private}
+use Rattle.names.specs.Numbering.{classIn, reserved, private}
 use Rattle.names.specs.Algorithm.{algorithms, algorithmOf, fairAlgorithm}
 use Rattle.names.specs.declared.algorithm.EncryptionAlgorithm.the-variants.{Reserved, Private}
 use Rattle.names.proofs.Laws.{fair-by, own-name, name-fair}
@@ -39,13 +39,13 @@ returns : tie.Need-returns
 unfolding algorithmOf fairAlgorithm
 returns c =
     let n = c .before .before .before .before .self .given in
-    rw (n .1) (fair-by algorithms (Reserved (n .0 .0)) _ reserved (ap (class algorithms) (c .enum-told .given .1)) (c .before .before .from-id .ensures))
+    rw (n .1) (fair-by algorithms (Reserved (n .0 .0)) _ reserved (ap (classIn algorithms) (c .enum-told .given .1)) (c .before .before .from-id .ensures))
 
 returns-2 : tie.Need-returns-2
 unfolding algorithmOf fairAlgorithm
 returns-2 c =
     let n = c .before .before .before .before .self .given in
-    rw (n .1) (fair-by algorithms (Reserved (n .0 .0)) _ private (ap (class algorithms) (c .enum-told2 .given .1)) (c .before .before .from-id .ensures))
+    rw (n .1) (fair-by algorithms (Reserved (n .0 .0)) _ private (ap (classIn algorithms) (c .enum-told2 .given .1)) (c .before .before .from-id .ensures))
 
 returns-3 : tie.Need-returns-3
 unfolding algorithmOf fairAlgorithm
@@ -57,13 +57,13 @@ returns-4 : tie.Need-returns-4
 unfolding algorithmOf fairAlgorithm
 returns-4 c =
     let n = c .before .before .before .before .self2 .given in
-    rw (n .1) (fair-by algorithms (Private (n .0 .0)) _ private (ap (class algorithms) (c .enum-told3 .given .1)) (c .before .before .from-id2 .ensures))
+    rw (n .1) (fair-by algorithms (Private (n .0 .0)) _ private (ap (classIn algorithms) (c .enum-told3 .given .1)) (c .before .before .from-id2 .ensures))
 
 returns-5 : tie.Need-returns-5
 unfolding algorithmOf fairAlgorithm
 returns-5 c =
     let n = c .before .before .before .before .self2 .given in
-    rw (n .1) (fair-by algorithms (Private (n .0 .0)) _ reserved (ap (class algorithms) (c .enum-told4 .given .1)) (c .before .before .from-id2 .ensures))
+    rw (n .1) (fair-by algorithms (Private (n .0 .0)) _ reserved (ap (classIn algorithms) (c .enum-told4 .given .1)) (c .before .before .from-id2 .ensures))
 
 returns-6 : tie.Need-returns-6
 unfolding algorithmOf fairAlgorithm

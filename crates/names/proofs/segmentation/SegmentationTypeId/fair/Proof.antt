@@ -2,7 +2,7 @@
 use mathlib.Core.Path.{ap}
 use denote.Enum.Declared.{tagOf}
 use borrow.Author.Needs.{needs}
-use Rattle.names.specs.Numbering.{class, reserved}
+use Rattle.names.specs.Numbering.{classIn, reserved}
 use Rattle.names.specs.Segmentation.{segmentations, segmentationOf, fairSegmentation}
 use Rattle.names.specs.declared.segmentation.SegmentationTypeId.the-variants.{Reserved}
 use Rattle.names.proofs.Laws.{fair-by, own-name, name-fair}
@@ -24,7 +24,7 @@ returns : tie.Need-returns
 unfolding segmentationOf fairSegmentation
 returns c =
     let n = c .before .before .before .before .self .given in
-    rw (n .1) (fair-by segmentations (Reserved (n .0 .0)) _ reserved (ap (class segmentations) (c .enum-told .given .1)) (c .before .before .from-id .ensures))
+    rw (n .1) (fair-by segmentations (Reserved (n .0 .0)) _ reserved (ap (classIn segmentations) (c .enum-told .given .1)) (c .before .before .from-id .ensures))
 
 returns-2 : tie.Need-returns-2
 unfolding segmentationOf fairSegmentation

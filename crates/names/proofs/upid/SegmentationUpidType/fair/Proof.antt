@@ -2,7 +2,7 @@
 use mathlib.Core.Path.{ap}
 use denote.Enum.Declared.{tagOf}
 use borrow.Author.Needs.{needs}
-use Rattle.names.specs.Numbering.{class, reserved}
+use Rattle.names.specs.Numbering.{classIn, reserved}
 use Rattle.names.specs.Upid.{upidTypes, upidTypeOf, fairUpidType}
 use Rattle.names.specs.declared.upid.SegmentationUpidType.the-variants.{Reserved}
 use Rattle.names.proofs.Laws.{fair-by, own-name, name-fair}
@@ -24,7 +24,7 @@ returns : tie.Need-returns
 unfolding upidTypeOf fairUpidType
 returns c =
     let n = c .before .before .before .before .self .given in
-    rw (n .1) (fair-by upidTypes (Reserved (n .0 .0)) _ reserved (ap (class upidTypes) (c .enum-told .given .1)) (c .before .before .from-type .ensures))
+    rw (n .1) (fair-by upidTypes (Reserved (n .0 .0)) _ reserved (ap (classIn upidTypes) (c .enum-told .given .1)) (c .before .before .from-type .ensures))
 
 returns-2 : tie.Need-returns-2
 unfolding upidTypeOf fairUpidType
