@@ -37,7 +37,7 @@ use Rattle.table.specs.Bits.{pick}
 use Rattle.table.specs.Table as tables
 use Rattle.table.specs.Table.{reserved, part, remaining}
 use Rattle.table.specs.Writing as writing
-use Rattle.table.specs.Writing.{Made, made, refused, walk}
+use Rattle.table.specs.Writing.{Made, refused, walk}
 use Rattle.table.specs.declared.View.{View}
 use Rattle.flat_item_writer.specs.ItemGiven.{segmentationIn, itemIn, restrictionsFrom, insertFrom, descriptorFrom, descriptorGiven, identifierFrom, placeFrom, byteFrom, placesFrom, eidrFrom, besideFrom, ownItem, descriptorRefusal, descriptorWordsMade}
 use Rattle.flat_item_writer.specs.ItemWords.{itemWords, itemWidths, placesIn, eidrIn, placeWidths, placesWithin, besideWithin, itemSeen, viewFits, placesGiven, itemFits, DescriptorIs, DescriptorAnswer, outside, over, nobodys, its}

@@ -1,11 +1,12 @@
 -- What a reader of C answers is what a writer of C takes: the words of a step over a descriptor make the descriptor again, if its numbers are of their types, its
 -- flags say what their parts say, and its type number is not one that has a name. Assumes nothing.
-use Prim.Native.Nat.{ℕ, _%_, _^_, _<_}
+use Prim.Native.Nat.{ℕ, _+_, _%_, _^_, _<_}
 use mathlib.Core.Bool.{Bool, true, false}
-use mathlib.Core.List.{_∷_}
+use mathlib.Core.List.{List, _∷_}
 use mathlib.Core.Path.{_≡_, refl, ap, _∙_}
 use native.Mathlib.Nat.{mod-eq-of-lt}
-use lib.Dec.{eqb}
+use lib.Dec.{eqb, lit<}
+use lib.ListN.{getD}
 use Rattle.descriptor.specs.Segmentation.{deviceOf}
 use Rattle.descriptor.specs.declared.Descriptor.{Descriptor}
 use Rattle.descriptor.specs.declared.segmentation.DeliveryRestrictionFlags.{DeliveryRestrictionFlags}
@@ -29,6 +30,12 @@ use Rattle.flat_item_writer.proofs.Typed.{TypedMode, TypedSubs, TypedIn
 pub words-back : (refusal a b c next identifier : ℕ) (f : FlatItem) → itemIn (refusal ∷ a ∷ b ∷ c ∷ next ∷ identifier ∷ itemWords f) ≡ f
 unfolding itemIn segmentationIn restrictionsIn subSegmentsIn itemWords
 words-back refusal a b c next identifier f = refl
+
+-- the words that are looked at
+pub item-agree : (u v : List ℕ) → ((i : ℕ) → i < 27 → getD u (6 + i) 0 ≡ getD v (6 + i) 0) → itemIn u ≡ itemIn v
+unfolding itemIn segmentationIn restrictionsIn subSegmentsIn
+item-agree u v h =
+    rw (h 0 (lit< tt), h 1 (lit< tt), h 2 (lit< tt), h 3 (lit< tt), h 4 (lit< tt), h 5 (lit< tt), h 6 (lit< tt), h 7 (lit< tt), h 8 (lit< tt), h 9 (lit< tt), h 10 (lit< tt), h 11 (lit< tt), h 12 (lit< tt), h 13 (lit< tt), h 14 (lit< tt), h 15 (lit< tt), h 16 (lit< tt), h 17 (lit< tt), h 18 (lit< tt), h 19 (lit< tt), h 20 (lit< tt), h 21 (lit< tt), h 22 (lit< tt), h 23 (lit< tt), h 24 (lit< tt), h 25 (lit< tt), h 26 (lit< tt))
 
 -- ---- part by part
 flag-back : (b : Bool) → eqb (flagNumber b) 1 ≡ b

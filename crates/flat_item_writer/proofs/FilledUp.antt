@@ -11,9 +11,10 @@ use lib.Seq.{getD-drop}
 use borrow.Author.Tests.{ltb-true, ltb-false}
 use Rattle.flat_items.specs.FlatItem.{flatDescriptor}
 use Rattle.flat_writer.specs.Words.{within, same, placesOf}
-use Rattle.flat_item_writer.specs.ItemGiven.{firstWord, paddedWords, restrictionsIn, subSegmentsIn, segmentationIn, itemIn, identifierFrom, descriptorGiven, ownItem, descriptorRefusal, descriptorWordsMade}
+use Rattle.flat_item_writer.specs.ItemGiven.{firstWord, paddedWords, identifierFrom, descriptorGiven, ownItem, descriptorRefusal, descriptorWordsMade}
 use Rattle.flat_item_writer.specs.ItemWords.{itemWords, itemWidths}
 use Rattle.flat_writer.proofs.Words.{word-drop, places-length, places-at}
+use Rattle.flat_item_writer.proofs.Back.{item-agree}
 
 -- ---- two lists that have the same words, past their ends too
 abbrev pub Agree : List ℕ → List ℕ → Type 0
@@ -32,13 +33,9 @@ unfolding same
 same-agree [] u v h = refl
 same-agree (x ∷ own) u v h = ap₂ _&&_ (ap (λ (y : ℕ). eqb y x) (h 0)) (same-agree own (drop 1 u) (drop 1 v) (drop-agree 1 u v h))
 
-item-agree : (u v : List ℕ) → Agree u v → itemIn u ≡ itemIn v
-unfolding itemIn segmentationIn restrictionsIn subSegmentsIn
-item-agree u v h = rw (h 6, h 7, h 8, h 9, h 10, h 11, h 12, h 13, h 14, h 15, h 16, h 17, h 18, h 19, h 20, h 21, h 22, h 23, h 24, h 25, h 26, h 27, h 28, h 29, h 30, h 31, h 32)
-
 made-agree : (u v beside lent : List ℕ) → Agree u v → descriptorWordsMade u beside lent ≡ descriptorWordsMade v beside lent
 unfolding descriptorWordsMade descriptorRefusal ownItem identifierFrom
-made-agree u v beside lent h = rw (item-agree u v h, h 5, within-agree itemWidths (drop 5 u) (drop 5 v) (drop-agree 5 u v h), same-agree (itemWords (flatDescriptor (descriptorGiven v))) (drop 6 u) (drop 6 v) (drop-agree 6 u v h))
+made-agree u v beside lent h = rw (item-agree u v (λ i l. h (6 + i)), h 5, within-agree itemWidths (drop 5 u) (drop 5 v) (drop-agree 5 u v h), same-agree (itemWords (flatDescriptor (descriptorGiven v))) (drop 6 u) (drop 6 v) (drop-agree 6 u v h))
 
 -- ---- the words of a step
 pub word-at-place : (words : List ℕ) (i : ℕ) → getD words i 0 ≡ firstWord (drop (i * 1) words)

@@ -24,10 +24,10 @@ use Rattle.flat_items.specs.declared.descriptors.FlatItem.{FlatItem}
 use Rattle.flat_writer.specs.Words.{within, same, placesOf, eachPlace}
 use Rattle.table.proofs.Lists.{and-true, zero-one}
 use Rattle.table.specs.Writing as writing
-use Rattle.flat_item_writer.specs.ItemGiven.{restrictionsIn, subSegmentsIn, segmentationIn, itemIn, descriptorFrom, descriptorGiven, placeFrom, byteFrom}
-use Rattle.flat_item_writer.specs.ItemWords.{itemWords, itemWidths, placeWidths, tagsAndOffsets, its}
+use Rattle.flat_item_writer.specs.ItemGiven.{itemIn, descriptorFrom, descriptorGiven, placeFrom, byteFrom}
+use Rattle.flat_item_writer.specs.ItemWords.{itemWords, itemWidths, placeWidths, tagsAndOffsets}
 use Rattle.flat_item_writer.proofs.Typed.{TypedMode, TypedSubs, TypedInsert, TypedDetail, Typed}
-use Rattle.flat_item_writer.proofs.Back.{from-back}
+use Rattle.flat_item_writer.proofs.Back.{words-back, item-agree, from-back}
 
 -- ---- word by word
 word-next : (words : List ℕ) (i : ℕ) → getD (drop 1 words) i 0 ≡ getD words (suc i) 0
@@ -57,37 +57,9 @@ module _ (words : List ℕ) (f : FlatItem) (is : same (itemWords f) (drop 6 word
   item-word i h = sym (getD-drop 6 words i 0) ∙ own-word (itemWords f) (drop 6 words) is i h
 
   item-is : itemIn words ≡ f
-  unfolding itemIn segmentationIn restrictionsIn subSegmentsIn itemWords
   item-is =
-      rw (
-        item-word 0 (lit< tt),
-        item-word 1 (lit< tt),
-        item-word 2 (lit< tt),
-        item-word 3 (lit< tt),
-        item-word 4 (lit< tt),
-        item-word 5 (lit< tt),
-        item-word 6 (lit< tt),
-        item-word 7 (lit< tt),
-        item-word 8 (lit< tt),
-        item-word 9 (lit< tt),
-        item-word 10 (lit< tt),
-        item-word 11 (lit< tt),
-        item-word 12 (lit< tt),
-        item-word 13 (lit< tt),
-        item-word 14 (lit< tt),
-        item-word 15 (lit< tt),
-        item-word 16 (lit< tt),
-        item-word 17 (lit< tt),
-        item-word 18 (lit< tt),
-        item-word 19 (lit< tt),
-        item-word 20 (lit< tt),
-        item-word 21 (lit< tt),
-        item-word 22 (lit< tt),
-        item-word 23 (lit< tt),
-        item-word 24 (lit< tt),
-        item-word 25 (lit< tt),
-        item-word 26 (lit< tt),
-      )
+      let own : List ℕ = 0 ∷ 0 ∷ 0 ∷ 0 ∷ 0 ∷ 0 ∷ itemWords f in
+      item-agree words own (λ i h. item-word i h ∙ getD-drop 6 own i 0) ∙ words-back 0 0 0 0 0 0 f
 
   item-small : within itemWidths (drop 5 words) ≡ true → (i : ℕ) → i < 27 → getD (itemWords f) i 0 < 2 ^ getD itemWidths (1 + i) 0
   item-small w i h =

@@ -27,7 +27,6 @@ use Rattle.table.specs.Bits.{pick, bytesOf}
 use Rattle.table.specs.Writing as writing
 use Rattle.table.specs.Writing.{Made, made, refused, Field, seen, contents, print, makeOf, refusalIn}
 use Rattle.table.specs.declared.View.{View}
-use Rattle.flat_item_writer.specs.ItemWords.{its}
 use Rattle.flat_item_writer.proofs.Typed.{TypedMode, TypedSubs, TypedInsert}
 
 -- ---- what a writer of values says of 31 and 32: are the views seen, and do the numbers fit?

@@ -71,10 +71,12 @@ eidrIn words = drop 515 words
 unfoldable pub placeWidths : List ℕ
 placeWidths = 8 ∷ 33 ∷ []
 
+-- the words of components, one after the other
 abbrev pub tagsAndOffsets : List ModeComponent → List ℕ
 tagsAndOffsets [] = []
 tagsAndOffsets (c ∷ cs) = c .«component_tag» ∷ c .«pts_offset» ∷ tagsAndOffsets cs
 
+-- the first n places, and the EIDR's twelve bytes, within their widths
 unfoldable pub placesWithin : ℕ → List ℕ → Bool
 placesWithin n words = eachPlace (within placeWidths) 2 n (placesIn words)
 
@@ -100,7 +102,7 @@ itemFits words beside = within itemWidths (drop 5 words) && (viewFits words && b
 -- ---- the words are those of d, its identifier and b beside it
 pub record DescriptorIs (words beside : List ℕ) (d : Descriptor) (identifier : List ℕ) (b : Beside) : Type 0 where
   pub item : same (itemWords (flatDescriptor d)) (drop 6 words) ≡ true
-  -- words cannot say otherwise: each flag says what its part says, and a reserved type number has no name
+  -- of the values with these words, the one whose flags say what their parts say, and whose type number, if reserved, has no name
   pub fair : ofSegmentation (λ x. fairDetail (x .«descriptor_detail»)) true d ≡ true
   pub identifies : identifier ≡ bigEndian 4 (word words 5)
   -- as many components as d counts, and blanks past them

@@ -34,7 +34,7 @@ use Rattle.flat_item_writer.proofs.Back.{descriptor-back}
 use Rattle.flat_item_writer.proofs.Told.{mode-count}
 use Rattle.flat_item_writer.specs.ItemGiven.{descriptorGiven, identifierFrom, placeFrom, byteFrom, placesFrom, eidrFrom, besideFrom, ownItem, descriptorRefusal, descriptorWordsMade}
 use Rattle.flat_item_writer.specs.ItemWords.{itemWords, itemWidths, placesIn, eidrIn, placeWidths, placesWithin, besideWithin}
-use Rattle.flat_item_writer.proofs.Typed.{TypedMode, TypedSubs, TypedInsert, TypedDetail, Typed}
+use Rattle.flat_item_writer.proofs.Typed.{TypedSubs, TypedInsert, TypedDetail, Typed}
 use Rattle.flat_items.specs.FlatItem.{flatRestrictions, flatSubSegments, wholeSegmentation, bareSegmentation, segmentationItem, flatDescriptor, flatItem, refusalIn, valuesIn, flatStep, flatComponent, flatBeside}
 use Rattle.flat_writer.proofs.Words.{and-unit, places-length}
 use Rattle.flat_writer.specs.Words.{within, same, placesOf, eachPlace, refusalOf, noLess}
