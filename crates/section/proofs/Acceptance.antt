@@ -17,7 +17,7 @@ use Rattle.header.proofs.Headers.{header-there}
 use Rattle.table.specs.Bits.{pick}
 use Rattle.table.specs.declared.View.{View}
 use Rattle.table.proofs.Lists.{zero-one}
-use Rattle.section.specs.Section.{under3, over4096, otherTable, wrongCrc, under18, encrypted, commandTooLong, noLoopLength, loopTooLong, unknownCommand, malformedCommand, conditions, first, None, commandType, commandBytes, loopPlace, layoutOf, frameOf, accepted, through, sectionOf, numberOf}
+use Rattle.section.specs.Section.{unknownCommand, malformedCommand, conditions, first, None, commandType, commandBytes, loopPlace, frameOf, accepted, through, sectionOf, numberOf}
 use Rattle.section.specs.declared.FrameRead.{FrameRead}
 use Rattle.section.specs.declared.Refusal.{Refusal}
 use Rattle.section.specs.declared.Section.{Section}
@@ -57,9 +57,9 @@ chain false false false false false false false false false h r v bs k = k refl
 
 -- refusals 1 to 11 are given in order of number, each under its condition and no other
 pub refusals-in-order : (s : List ℕ) → numberOf (sectionOf s) ≡ first 1 (conditions s)
-unfolding sectionOf frameOf layoutOf
+unfolding sectionOf frameOf
 refusals-in-order s =
-    chain (under3 s) (over4096 s) (otherTable s) (wrongCrc s) (under18 s) (encrypted s) (commandTooLong s) (noLoopLength s) (loopTooLong s)
+    chain _ _ _ _ _ _ _ _ _
     (headerOf (drop 3 s)) (commandOf (commandType s) (commandBytes s)) (loopPlace s) (unknownCommand s ∷ malformedCommand s ∷ [])
     (λ e. let h = header-there (drop 3 s) (omega (arith, length-drop 3 s, ltb-false (length s) 18 e)) in
     rw (h .1) (last (commandOf (commandType s) (commandBytes s)) (h .0) (loopPlace s)))

@@ -21,7 +21,8 @@ use Rattle.table.specs.Bits.{pick, bitsOf, field}
 use Rattle.table.specs.declared.View.{View}
 use Rattle.table.proofs.Fields.{byte-field, field-in, field-byte}
 use Rattle.table.proofs.Reading.{bits-are}
-use Rattle.section.specs.Section.{under3, over4096, otherTable, wrongCrc, under18, encrypted, commandTooLong, noLoopLength, loopTooLong, commandLength, commandType, commandBytes, roomAfter, loopLength, loopPlace, moved, movedRead, layoutOf, frameOf, accepted, through, sectionOf}
+use Rattle.section.specs.Section.{commandLength, commandType, commandBytes, roomAfter, loopLength, loopPlace, moved, movedRead, frameOf, accepted, through, sectionOf}
+use Rattle.section.specs.Walk.{layoutOf}
 use Rattle.section.specs.Walk.{viewStart}
 use Rattle.section.specs.declared.FrameRead.{FrameRead}
 use Rattle.section.specs.declared.Refusal.{Refusal}
@@ -54,7 +55,7 @@ module _ (s : List ℕ) where
           is-headless h = rw (le-ltb (length s) 3 long, le-ltb 4096 (length s) fits, eq-eqb (getD s 0 0) 0xfc table, eq-eqb (crcOf s) 0 right, lt-ltb (length s) 18 h)
 
           pub is-framed : (r : FrameRead) → 18 ≤ length s → r ≡ layoutOf s → r ≡ frameOf s
-          unfolding frameOf
+          unfolding frameOf layoutOf
           is-framed r h e = rw (le-ltb (length s) 3 long, le-ltb 4096 (length s) fits, eq-eqb (getD s 0 0) 0xfc table, eq-eqb (crcOf s) 0 right, le-ltb (length s) 18 h) e
 
 -- ---- 6 to 9; what the reader reads of the layout
@@ -179,9 +180,9 @@ pub record Framed (s : List ℕ) (v : View) : Type 0 where
   pub fits : 20 + commandLength s + loopLength s ≤ length s
 
 pub framed : (s : List ℕ) (v : View) → FrameRead.Whole v ≡ frameOf s → Framed s v
-unfolding frameOf layoutOf roomAfter loopPlace
+unfolding frameOf roomAfter loopPlace
 framed s v e =
-    let t = tests (under3 s) (over4096 s) (otherTable s) (wrongCrc s) (under18 s) (encrypted s) (commandTooLong s) (noLoopLength s) (loopTooLong s) (loopPlace s) v e in
+    let t = tests _ _ _ _ _ _ _ _ _ (loopPlace s) v e in
     let h₅ = ltb-false (length s) 18 (t .2) in
     let h₇ = ltb-false (length s - 18) (commandLength s) (t .3) in
     let h₈ = ltb-false (length s - 18 - commandLength s) 2 (t .4) in

@@ -1,7 +1,7 @@
 -- A section, by positions. 01, "Section": three bytes of common header; 11 of splice header; command; 2 of loop length; loop; anything; 4 of CRC.
 use Prim.Native.Nat.{ℕ, suc, _+_, _*_, _-_}
 use mathlib.Core.Bool.{Bool, true, false, not}
-use mathlib.Core.List.{List, [], _∷_}
+use mathlib.Core.List.{List, [], _∷_, _++_, map}
 use mathlib.Core.Path.{_≡_}
 use lib.Dec.{ltb, eqb}
 use lib.ListN.{length, getD, take, drop}
@@ -46,42 +46,6 @@ abbrev pub loopBytes : List ℕ → List ℕ
 loopBytes s = viewed s (loopPlace s)
 
 -- ---- the conditions of refusals 1 to 11
--- 1: "section under 3 bytes"
-abbrev pub under3 : List ℕ → Bool
-under3 s = ltb (length s) 3
-
--- 2: "section over 4,096 .. bytes"
-abbrev pub over4096 : List ℕ → Bool
-over4096 s = ltb 4096 (length s)
-
--- 3: "first byte is not 0xFC"
-abbrev pub otherTable : List ℕ → Bool
-otherTable s = not (eqb (getD s 0 0) 0xfc)
-
--- 4: "CRC over all bytes is not 0"
-abbrev pub wrongCrc : List ℕ → Bool
-wrongCrc s = not (eqb (crcOf s) 0)
-
--- 5: "section under 18 bytes"
-abbrev pub under18 : List ℕ → Bool
-under18 s = ltb (length s) 18
-
--- 6: "encrypted bit set", the first of byte 4
-abbrev pub encrypted : List ℕ → Bool
-encrypted s = eqb (field (bitsOf s) 32 1) 1
-
--- 7: "command length exceeds the bytes after the header, CRC excluded"
-abbrev pub commandTooLong : List ℕ → Bool
-commandTooLong s = ltb (length s - 18) (commandLength s)
-
--- 8: "fewer than 2 bytes follow the command"
-abbrev pub noLoopLength : List ℕ → Bool
-noLoopLength s = ltb (roomAfter s) 2
-
--- 9: "loop length + 2 exceeds those bytes"
-abbrev pub loopTooLong : List ℕ → Bool
-loopTooLong s = ltb (roomAfter s) (loopLength s + 2)
-
 -- 10: "command type is none of 0x00, 0x05, 0x06, 0x07, 0xFF"
 abbrev pub unknownCommand : List ℕ → Bool
 unknownCommand s = eqb (command.numberOf (commandOf (commandType s) (commandBytes s))) 10
@@ -90,11 +54,37 @@ unknownCommand s = eqb (command.numberOf (commandOf (commandType s) (commandByte
 abbrev pub malformedCommand : List ℕ → Bool
 malformedCommand s = eqb (command.numberOf (commandOf (commandType s) (commandBytes s))) 11
 
--- in order; and the number of the first that holds, 0 if none does
+-- 6 to 9, in order, with the refusal of each
+abbrev pub layoutTests : List ℕ → List (Bool × Refusal)
+layoutTests s =
+    -- 6: "encrypted bit set", the first of byte 4
+    (eqb (field (bitsOf s) 32 1) 1, Refusal.Encrypted)
+    -- 7: "command length exceeds the bytes after the header, CRC excluded"
+    ∷ (ltb (length s - 18) (commandLength s), Refusal.CommandTooLong)
+    -- 8: "fewer than 2 bytes follow the command"
+    ∷ (ltb (roomAfter s) 2, Refusal.NoLoopLength)
+    -- 9: "loop length + 2 exceeds those bytes"
+    ∷ (ltb (roomAfter s) (loopLength s + 2), Refusal.LoopTooLong)
+    ∷ []
+
+-- 1 to 9, those that come before the command
+abbrev pub frameTests : List ℕ → List (Bool × Refusal)
+frameTests s =
+    -- 1: "section under 3 bytes"
+    (ltb (length s) 3, Refusal.TooShort)
+    -- 2: "section over 4,096 .. bytes"
+    ∷ (ltb 4096 (length s), Refusal.TooLong)
+    -- 3: "first byte is not 0xFC"
+    ∷ (not (eqb (getD s 0 0) 0xfc), Refusal.OtherTable)
+    -- 4: "CRC over all bytes is not 0"
+    ∷ (not (eqb (crcOf s) 0), Refusal.WrongCrc)
+    -- 5: "section under 18 bytes"
+    ∷ (ltb (length s) 18, Refusal.NoHeader)
+    ∷ layoutTests s
+
+-- 1 to 11, in order; and the number of the first that holds, 0 if none does
 abbrev pub conditions : List ℕ → List Bool
-conditions s =
-    under3 s ∷ over4096 s ∷ otherTable s ∷ wrongCrc s ∷ under18 s ∷ encrypted s ∷ commandTooLong s ∷ noLoopLength s ∷ loopTooLong s ∷ unknownCommand s
-    ∷ malformedCommand s ∷ []
+conditions s = map (λ (t : Bool × Refusal). t .0) (frameTests s) ++ (unknownCommand s ∷ malformedCommand s ∷ [])
 
 abbrev pub first : ℕ → List Bool → ℕ
 first n [] = 0
@@ -106,25 +96,13 @@ abbrev pub None : List Bool → Type 0
 None [] = Unit {0}
 None (b ∷ bs) = (b ≡ false) × None bs
 
--- ---- the frame: refusals 1 to 9, those that come before the command, or where the loop lies
--- 6 to 9
-unfoldable pub layoutOf : List ℕ → FrameRead
-layoutOf s =
-    pick (encrypted s) (FrameRead.Refused Refusal.Encrypted)
-    (pick (commandTooLong s) (FrameRead.Refused Refusal.CommandTooLong)
-    (pick (noLoopLength s) (FrameRead.Refused Refusal.NoLoopLength)
-    (pick (loopTooLong s) (FrameRead.Refused Refusal.LoopTooLong)
-    (FrameRead.Whole (loopPlace s)))))
+-- ---- the frame: where the loop lies; or the refusal of the first test that holds: they "are checked in order of number"
+abbrev pub unlessFirst : List (Bool × Refusal) → FrameRead → FrameRead
+unlessFirst [] r = r
+unlessFirst (t ∷ ts) r = pick (t .0) (FrameRead.Refused (t .1)) (unlessFirst ts r)
 
--- refusals "are checked in order of number"
 unfoldable pub frameOf : List ℕ → FrameRead
-frameOf s =
-    pick (under3 s) (FrameRead.Refused Refusal.TooShort)
-    (pick (over4096 s) (FrameRead.Refused Refusal.TooLong)
-    (pick (otherTable s) (FrameRead.Refused Refusal.OtherTable)
-    (pick (wrongCrc s) (FrameRead.Refused Refusal.WrongCrc)
-    (pick (under18 s) (FrameRead.Refused Refusal.NoHeader)
-    (layoutOf s)))))
+frameOf s = unlessFirst (frameTests s) (FrameRead.Whole (loopPlace s))
 
 -- ---- the reading
 -- a command whose views count from `base` bytes before its payload

@@ -2,9 +2,9 @@
 ghost use mathlib.Core.Path.{_≡_};
 ghost use Prim.Native.Nat.{_+_, _*_, _<_, _≤_};
 ghost use lib.ListN.{length};
-ghost use Rattle.section.specs.Section.{commandLength, commandType, commandBytes, loopPlace, moved, movedRead, accepted, layoutOf, frameOf, sectionOf, privateView};
+ghost use Rattle.section.specs.Section.{commandLength, commandType, commandBytes, loopPlace, moved, movedRead, accepted, frameOf, sectionOf, privateView};
 ghost use Rattle.table.specs.Lent.{viewed};
-ghost use Rattle.section.specs.Walk.{viewStart};
+ghost use Rattle.section.specs.Walk.{viewStart, layoutOf};
 ghost use Rattle.table.specs.Bits.{bitsOf, field};
 ghost use Rattle.command.specs.Command.{commandOf};
 ghost use Rattle.header.specs.Header.{headerOf};

@@ -18,7 +18,7 @@ use Rattle.header.specs.Header.{headerOf}
 use Rattle.header.specs.Time.{spliceTime}
 use Rattle.header.specs.declared.header.HeaderRead.{HeaderRead}
 use Rattle.section.proofs.Acceptance.{none-if-accepted}
-use Rattle.section.specs.Section.{commandLength, commandType, commandBytes, roomAfter, loopLength, loopPlace, conditions, moved, accepted, layoutOf, frameOf, sectionOf, None}
+use Rattle.section.specs.Section.{commandLength, commandType, commandBytes, roomAfter, loopLength, loopPlace, conditions, moved, accepted, frameOf, sectionOf, None}
 use Rattle.section.specs.declared.Section.{Section}
 use Rattle.section.specs.declared.SectionRead.{SectionRead}
 use Rattle.table.proofs.Lists.{zero-one}
@@ -45,7 +45,7 @@ made s x l f (HeaderRead.Header h) CommandRead.Malformed e a = zero-one cc
 made s x l f HeaderRead.TooShort r e a = zero-one cc
 
 pub laid : (s : List ℕ) (x : Section) → sectionOf s ≡ SectionRead.Is x → Laid s x
-unfolding sectionOf frameOf layoutOf roomAfter
+unfolding sectionOf frameOf roomAfter
 laid s x e =
     let n : None (conditions s) = none-if-accepted s x e in
     let a = n .1 .1 .1 .1 in

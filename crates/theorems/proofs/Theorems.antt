@@ -298,6 +298,8 @@ pub private-bytes-read-back : (lent : List ℕ) (p : Private) (payload : List �
     → sectionMade h (made payload) 0xff loop ≡ made b → viewed b (record { at = 18; len = p .«private_bytes» .len }) ≡ viewed lent (p .«private_bytes»)
 private-bytes-read-back = views.private-bytes-back
 
+-- ---- two canonical sections
+
 -- Demand 3: "Two different canonical sections never have the same reading", over what the readers answer: the readings x and y, the components beside them, the bytes in
 -- their views, and the items. (By the tables' readings: `no-other-section` in section_writer/proofs/Theorems.antt, `one-of-items` in ItemsWritten.antt.)
 pub canonical-sections-of-equal-answers-are-one : (s r : List ℕ) (x y : Section) → AllBytes s → AllBytes r → sectionOf s ≡ SectionRead.Is x → sectionOf r ≡ SectionRead.Is y
