@@ -7,7 +7,7 @@ use mathlib.Core.Bool.{true, false, not}
 use mathlib.Core.List.{List, [], _∷_, _++_, map}
 use mathlib.Core.Path.{_≡_}
 use lib.ListN.{length, drop}
-use Rattle.command.specs.Command.{private, commandOf, array, componentsOf}
+use Rattle.command.specs.Command.{private, commandOf, array, componentsOf, countIn}
 use Rattle.command.specs.declared.CommandRead.{CommandRead}
 use Rattle.command.specs.declared.Private.{Private}
 use Rattle.command.specs.declared.SpliceCommand.{SpliceCommand}
@@ -29,8 +29,8 @@ use Rattle.flat_section_writer.proofs.Answers as section-answers
 use Rattle.flat_section_writer.specs.SectionGiven.{sectionWordsMade}
 use Rattle.flat_section_writer.specs.SectionWords.{headerWords, SectionAnswer}
 use Rattle.flat_writer.proofs.Answers as command-answers
-use Rattle.flat_writer.specs.CommandGiven.{commandWordsMade}
-use Rattle.flat_writer.specs.CommandWords.{commandWords, placesIn, CommandAnswer}
+use Rattle.flat_writer.specs.CommandGiven.{commandGiven, commandWordsMade}
+use Rattle.flat_writer.specs.CommandWords.{commandWords, CommandAnswer}
 use Rattle.header.specs.Time.{adjustedOf}
 use Rattle.header.specs.declared.header.SpliceInfoHeader.{SpliceInfoHeader}
 use Rattle.header.specs.declared.time.AdjustedTime.{AdjustedTime}
@@ -208,9 +208,9 @@ pub a-canonical-section-is-what-is-written-of-its-words : (s : List ℕ) (x : Se
 a-canonical-section-is-what-is-written-of-its-words = sections-over-c.section-again
 
 -- (The words of components matter for a command that counts some, an insert by components.)
-pub uncounted-components-are-not-looked-at : (header command v w lent loop : List ℕ) → placesIn command ≡ 0
+pub uncounted-components-are-not-looked-at : (header command v w lent loop : List ℕ) → countIn (commandGiven command) ≡ 0
     → sectionWordsMade header command v lent loop ≡ sectionWordsMade header command w lent loop
-uncounted-components-are-not-looked-at = sections-over-c.uncounted
+uncounted-components-are-not-looked-at = sections-over-c.uncounted-given
 
 -- And those of a step over a descriptor, with what stands beside it, as the descriptor. (`item.Typed`: its numbers are of their types; and, which words cannot say
 -- otherwise, its flags say what their parts say, and its type number, if reserved, has no name.)
