@@ -19,8 +19,11 @@ use Rattle.flat_section_writer.proofs.Answers as section
 use Rattle.flat_section_writer.specs.SectionGiven.{sectionWordsMade}
 use Rattle.flat_section_writer.specs.SectionWords as section-words
 use Rattle.flat_section_writer.specs.SectionWords.{headerWords}
+use Rattle.flat_writer.proofs.Answers as command
 use Rattle.flat_writer.proofs.Arrays.{array-take}
 use Rattle.flat_writer.proofs.Given.{same-append}
+use Rattle.flat_writer.specs.CommandGiven.{commandWordsMade}
+use Rattle.flat_writer.specs.CommandWords as command-words
 use Rattle.flat_writer.specs.CommandWords.{commandWords, componentWords, placesWords, CommandIs}
 use Rattle.flat_writer.specs.Words.{same, refusalOf, noLess}
 use Rattle.header.specs.declared.header.SpliceInfoHeader.{SpliceInfoHeader}
@@ -96,10 +99,15 @@ module _ (places : List ComponentSplice) (lent : List ℕ) (short : length lent 
   same-made SpliceCommand.BandwidthReservation others e = refl
   same-made (SpliceCommand.PrivateCommand p) others e = refl
 
+  counted-made : commandMade c (array (take (countIn c) places)) lent ≡ commandMade c places lent
+  counted-made = same-made c (array (take (countIn c) places)) (array-take (take (countIn c) places) (countIn c) (length-take-le (countIn c) places there))
+
+  pub command-taken : commandWordsMade (commandWords (flatCommand c)) beside lent ≡ commandMade c places lent
+  command-taken = sym (command.answer-is (commandWords (flatCommand c)) beside lent short _ (command-words.its c (take (countIn c) places) own-words)) ∙ counted-made
+
   pub section-taken : (h : SpliceInfoHeader) → fairAlgorithm (h .«encryption_algorithm») ≡ true → (loop : List ℕ)
       → sectionWordsMade (headerWords (flatHeader h)) (commandWords (flatCommand c)) beside lent loop ≡ sectionMade h (commandMade c places lent) (kindOf c) loop
   section-taken h fair loop =
-      let cs = take (countIn c) places in
       sym (section.answer-is (headerWords (flatHeader h)) (commandWords (flatCommand c)) beside lent loop short _
-      (section-words.its h c cs (record { own = same-self (headerWords (flatHeader h)); fair = fair }) own-words))
-      ∙ ap (λ (m : Made). sectionMade h m (kindOf c) loop) (same-made c (array cs) (array-take cs (countIn c) (length-take-le (countIn c) places there)))
+      (section-words.its h c (take (countIn c) places) (record { own = same-self (headerWords (flatHeader h)); fair = fair }) own-words))
+      ∙ ap (λ (m : Made). sectionMade h m (kindOf c) loop) counted-made
