@@ -1,10 +1,10 @@
 -- What `scte35_write_descriptor` makes of words: those of a step, and those of what stands beside its item. 01, "Refusal numbers", 31 to 33. These are
 -- definitions.
-use Prim.Native.Nat.{ℕ, _+_, _^_}
+use Prim.Native.Nat.{ℕ, _^_}
 use mathlib.Core.Bool.{Bool, true, false, _&&_, _||_}
 use mathlib.Core.List.{List, [], _∷_}
 use mathlib.Core.Path.{_≡_}
-use lib.Dec.{eqb, ltb, leb}
+use lib.Dec.{eqb, ltb}
 use lib.ListN.{length, drop, replicate}
 use Rattle.descriptor.specs.Segmentation.{fairDetail}
 use Rattle.descriptor.specs.Whole.{filled, ofSegmentation}
@@ -18,7 +18,9 @@ use Rattle.flat_items.specs.FlatItem.{flatDescriptor}
 use Rattle.flat_items.specs.declared.descriptors.FlatItem.{FlatItem}
 use Rattle.flat_writer.specs.Words.{word, within, same, eachPlace}
 use Rattle.table.specs.Bits.{pick, bigEndian}
+use Rattle.table.specs.Lent.{liesIn}
 use Rattle.table.specs.Writing.{Made, refused}
+use Rattle.table.specs.declared.View.{View}
 
 -- ---- struct scte35_step: after refusal, values and next, which are not looked at, the identifier is word 5, and the item begins with word 6
 unfoldable pub itemWords : FlatItem → List ℕ
@@ -86,7 +88,7 @@ besideWithin n words = placesWithin n words && within (replicate 12 8) (eidrIn w
 -- ---- refusal 31: "a view reaches outside the lent bytes". The item's last two words are one, of a DTMF, segmentation or reserved descriptor.
 unfoldable pub itemSeen : List ℕ → List ℕ → Bool
 itemSeen words lent =
-    pick (eqb (word words 6) 2 || (eqb (word words 6) 4 || eqb (word words 6) 6)) (leb (word words 31 + word words 32) (length lent)) true
+    pick (eqb (word words 6) 2 || (eqb (word words 6) 4 || eqb (word words 6) 6)) (liesIn lent (record { at = word words 31; len = word words 32 })) true
 
 -- ---- refusal 32: "a number or count handed in exceeds its field; so do over 7 DTMF or 255 UPID bytes"
 abbrev pub viewFits : List ℕ → Bool

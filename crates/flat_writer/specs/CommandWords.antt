@@ -1,10 +1,10 @@
 -- The words of a command, and what is answered of them: refused by 31, 32 or 33, or written as the value whose words they are. 01, "Refusal numbers". These are
 -- definitions.
-use Prim.Native.Nat.{ℕ, _+_}
+use Prim.Native.Nat.{ℕ}
 use mathlib.Core.Bool.{Bool, true, false, _&&_}
 use mathlib.Core.List.{List, [], _∷_, _++_, map}
 use mathlib.Core.Path.{_≡_}
-use lib.Dec.{eqb, leb}
+use lib.Dec.{eqb}
 use lib.ListN.{length, drop}
 use Rattle.command.specs.Command.{array, countIn}
 use Rattle.command.specs.declared.SpliceCommand.{SpliceCommand}
@@ -14,7 +14,9 @@ use Rattle.flat.specs.FlatCommand.{flatCommand, flatComponent}
 use Rattle.flat.specs.declared.commands.FlatCommand.{FlatCommand}
 use Rattle.flat.specs.declared.components.FlatComponentSplice.{FlatComponentSplice}
 use Rattle.table.specs.Bits.{pick}
+use Rattle.table.specs.Lent.{liesIn}
 use Rattle.table.specs.Writing.{Made, refused}
+use Rattle.table.specs.declared.View.{View}
 use Rattle.flat_writer.specs.Words.{word, within, same, eachPlace}
 
 -- ---- struct scte35_command: its words, and the width of each
@@ -77,7 +79,7 @@ placesIn words = pick (eqb (word words 1) 0x05 && (eqb (word words 3) 0 && eqb (
 
 -- refusal 31: "a view reaches outside the lent bytes". Only a private command has one
 unfoldable pub commandSeen : List ℕ → List ℕ → Bool
-commandSeen words lent = pick (eqb (word words 1) 0xff) (leb (word words 19 + word words 20) (length lent)) true
+commandSeen words lent = pick (eqb (word words 1) 0xff) (liesIn lent (record { at = word words 19; len = word words 20 })) true
 
 -- refusal 32: "a number or count handed in exceeds its field"
 unfoldable pub commandFits : List ℕ → List ℕ → Bool

@@ -150,11 +150,11 @@ and-false : (b : Bool) → b && false ≡ false
 and-false true = refl
 and-false false = refl
 
-pub uncounted-given : (header command v w lent loop : List ℕ) → countIn (commandGiven command) ≡ 0 → sectionWordsMade header command v lent loop ≡ sectionWordsMade header command w lent loop
+uncounted-given : (header command v w lent loop : List ℕ) → countIn (commandGiven command) ≡ 0 → sectionWordsMade header command v lent loop ≡ sectionWordsMade header command w lent loop
 unfolding sectionWordsMade commandRefusal splicesWithin ownSplices componentsFrom eachPlace placesOf
 uncounted-given header command v w lent loop e = rw e
 
-uncounted : (header command v w lent loop : List ℕ) → placesIn command ≡ 0 → sectionWordsMade header command v lent loop ≡ sectionWordsMade header command w lent loop
+pub uncounted : (header command v w lent loop : List ℕ) → placesIn command ≡ 0 → sectionWordsMade header command v lent loop ≡ sectionWordsMade header command w lent loop
 unfolding sectionFits commandFits
 uncounted header command v w lent loop e = go (within commandWidths command) refl (commandSeen command lent) refl
   where

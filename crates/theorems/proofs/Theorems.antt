@@ -32,8 +32,8 @@ use Rattle.flat_section_writer.proofs.Answers as section-answers
 use Rattle.flat_section_writer.specs.SectionGiven.{sectionWordsMade}
 use Rattle.flat_section_writer.specs.SectionWords.{headerWords, SectionAnswer}
 use Rattle.flat_writer.proofs.Answers as command-answers
-use Rattle.flat_writer.specs.CommandGiven.{commandGiven, commandWordsMade}
-use Rattle.flat_writer.specs.CommandWords.{commandWords, CommandAnswer}
+use Rattle.flat_writer.specs.CommandGiven.{commandWordsMade}
+use Rattle.flat_writer.specs.CommandWords.{commandWords, placesIn, CommandAnswer}
 use Rattle.header.specs.Time.{adjustedOf}
 use Rattle.header.specs.declared.header.SpliceInfoHeader.{SpliceInfoHeader}
 use Rattle.header.specs.declared.time.AdjustedTime.{AdjustedTime}
@@ -217,9 +217,9 @@ pub a-canonical-section-is-what-is-written-of-its-words : (s : List ℕ) (x : Se
 a-canonical-section-is-what-is-written-of-its-words = sections-over-c.section-again
 
 -- (The words of components matter for a command that counts some, an insert by components.)
-pub uncounted-components-are-not-looked-at : (header command v w lent loop : List ℕ) → countIn (commandGiven command) ≡ 0
+pub uncounted-components-are-not-looked-at : (header command v w lent loop : List ℕ) → placesIn command ≡ 0
     → sectionWordsMade header command v lent loop ≡ sectionWordsMade header command w lent loop
-uncounted-components-are-not-looked-at = sections-over-c.uncounted-given
+uncounted-components-are-not-looked-at = sections-over-c.uncounted
 
 -- What is made of the words of any step, with those of what stands beside it: 31 where its view lies outside, 32 where a word is over its field, 33 where the words are no
 -- descriptor's, and else what is made of the descriptor that they are (`DescriptorAnswer`, flat_item_writer/specs/ItemWords.antt)
