@@ -81,4 +81,4 @@ no-other-section s r x y a b e f c d same l =
     let h : headed (x .header) 0 0 ≡ headed (y .header) 0 0 = rw (parts-of s x e .header, parts-of r y f .header) at (same .headers) in
     let k : canonicalCommand (commandType s) (commandBytes r) ≡ true = rw (same .types) (q .command) in
     let t : commandBytes s ≡ commandBytes r = one-command (commandType s) (commandBytes s) (commandBytes r) (command-bytes s a) (command-bytes r b) (p .command) k (same .commands) in
-    one-section s r x y a b e f (p .around) (q .around) (p .loop) (q .loop) h (same .types) t l
+    one-section s r x y a b e f (p .around) (q .around) h (same .types) t l

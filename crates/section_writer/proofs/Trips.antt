@@ -2,6 +2,7 @@
 --     section-wrote          what was made passed every test, and is a frame
 --     frame-canonical        what is written has the canonical form
 --     section-write-read     it reads as what was handed in
+--     section-is-frame       a section whose frame is canonical is the frame of its parts
 --     section-read-write     a canonical section is what is written of its reading
 --     one-section            canonical sections of equal parts are equal
 use Prim.Native.Nat.{ℕ, zero, suc, _+_, _*_, _-_, _/_, _^_, _<_, _≤_}
@@ -163,20 +164,28 @@ module _ (s : List ℕ) (x : Section) (a : AllBytes s) (p : Parts s x) where
       rw (← e)
       (is-clear (own s a (p .long) (x .header) (p .header)) true (ne-eqb (field (bitsOf tail) 8 1) 1 (λ z. p .clear (field-behind s 3 8 1 ∙ z))) (sym (algorithm-laws .is-fair (field (bitsOf tail) 9 6))))
 
-pub section-read-write : (s : List ℕ) (x : Section) → AllBytes s → sectionOf s ≡ SectionRead.Is x → canonicalFrame s ≡ true → canonicalLoop (loopBytes s) ≡ true
-    → sectionMade (x .header) (made (commandBytes s)) (commandType s) (loopBytes s) ≡ made s
-unfolding sectionMade bytesIn viewed loopPlace
-section-read-write s x a e c o =
+pub section-is-frame : (s : List ℕ) (x : Section) → AllBytes s → sectionOf s ≡ SectionRead.Is x → canonicalFrame s ≡ true
+    → s ≡ frame (x .header) (commandType s) (commandBytes s) (loopBytes s)
+unfolding viewed loopPlace
+section-is-frame s x a e c =
     let p = parts-of s x e in
     let w = framed s c in
     let loop = take (loopLength s) (drop (16 + commandLength s) s) in
     let l : loopBytes s ≡ loop = rw (le-leb (16 + commandLength s + loopLength s) (length s) (omega (arith, w .exact))) in
     let f : s ≡ frame (x .header) (commandType s) (commandBytes s) loop =
     frame-again s a (p .long) (p .short) (w .exact) (x .header) (p .first) (p .crc) (w .high) (w .low) (p .header) in
+    f ∙ ap (frame (x .header) (commandType s) (commandBytes s)) (sym l)
+
+pub section-read-write : (s : List ℕ) (x : Section) → AllBytes s → sectionOf s ≡ SectionRead.Is x → canonicalFrame s ≡ true → canonicalLoop (loopBytes s) ≡ true
+    → sectionMade (x .header) (made (commandBytes s)) (commandType s) (loopBytes s) ≡ made s
+unfolding sectionMade bytesIn
+section-read-write s x a e c o =
+    let p = parts-of s x e in
+    let loop = loopBytes s in
+    let f = section-is-frame s x a e c in
     let n : sectionLength (length (commandBytes s)) (length loop) ≤ 4096 = omega (arith, ap length f, length-frame (x .header) (commandType s) (commandBytes s) loop, p .short) in
     let z = no-refusal (x .header) 0 (length (commandBytes s)) (length loop) true (λ q. omega arith) (λ q. omega arith) (is-fitting (x .header) (read-fits s x a p)) (λ q. omega arith) (read-fair s x a p) n refl in
-    let k : canonicalLoop loop ≡ true = sym (ap canonicalLoop l) ∙ o in
-    rw (l, k, ← z, ← f)
+    rw (o, ← z, ← f)
 
 -- ---- canonical sections of equal headers, commands and loops are equal
 -- the header's command length and type are left out: they are worked out
@@ -188,9 +197,8 @@ same-frame : (h g : SpliceInfoHeader) (k j : ℕ) (p q l m : List ℕ) → heade
 same-frame h g k j p q l m e₁ e₂ e₃ e₄ = headless h k p l ∙ rw (e₁, e₂, e₃, e₄) (sym (headless g j q m))
 
 pub one-section : (s r : List ℕ) (x y : Section) → AllBytes s → AllBytes r → sectionOf s ≡ SectionRead.Is x → sectionOf r ≡ SectionRead.Is y → canonicalFrame s ≡ true → canonicalFrame r ≡ true
-    → canonicalLoop (loopBytes s) ≡ true → canonicalLoop (loopBytes r) ≡ true → headed (x .header) 0 0 ≡ headed (y .header) 0 0 → commandType s ≡ commandType r → commandBytes s ≡ commandBytes r → loopBytes s ≡ loopBytes r → s ≡ r
-unfolding bytesIn
-one-section s r x y a b e f c d i j h t p l =
-    section-wrote (x .header) (made (commandBytes s)) (commandType s) (loopBytes s) s (section-read-write s x a e c i) .bytes
+    → headed (x .header) 0 0 ≡ headed (y .header) 0 0 → commandType s ≡ commandType r → commandBytes s ≡ commandBytes r → loopBytes s ≡ loopBytes r → s ≡ r
+one-section s r x y a b e f c d h t p l =
+    section-is-frame s x a e c
     ∙ same-frame (x .header) (y .header) (commandType s) (commandType r) (commandBytes s) (commandBytes r) (loopBytes s) (loopBytes r) h t p l
-    ∙ sym (section-wrote (y .header) (made (commandBytes r)) (commandType r) (loopBytes r) r (section-read-write r y b f d j) .bytes)
+    ∙ sym (section-is-frame r y b f d)

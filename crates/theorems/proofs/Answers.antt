@@ -92,9 +92,7 @@ one-answer s r x y a b e f c d same =
     let kinds : commandType s ≡ commandType r =
     sym (payload-back s x a e c .0) ∙ kind-of (x .command) ∙ ap kindOf (same .commands) ∙ sym (kind-of (y .command)) ∙ payload-back r y b f d .0 in
     let payloads : commandBytes s ≡ commandBytes r = payload-in s x a e c ∙ same-payload (same .commands) (same .components) (same .bytes) ∙ sym (payload-in r y b f d) in
-    let p = canonical-parts s c in
-    let q = canonical-parts r d in
-    one-section s r x y a b e f (p .around) (q .around) (p .loop) (q .loop) (same .headers) kinds payloads (one-loop s r x y a b e f c d (same .items))
+    one-section s r x y a b e f (canonical-parts s c .around) (canonical-parts r d .around) (same .headers) kinds payloads (one-loop s r x y a b e f c d (same .items))
 
 -- ---- its own reading
 own-item : (loop : List ℕ) (offset : ℕ) (t : List ℕ) → At loop offset t → AllBytes t → SameItem loop loop (listed loop offset) (listed loop offset)
