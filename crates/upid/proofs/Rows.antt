@@ -3,7 +3,11 @@ use Prim.Native.Nat.{ℕ}
 use mathlib.Core.Path.{_≡_, refl}
 use mathlib.Core.List.{List, [], _∷_}
 use Rattle.upid.specs.Text.{textOf, done, step, within}
-use Rattle.upid.specs.Upid.{numberOf, valuesOf, upidOf, checkOf, readOf, walkOf, _then_, plainOf, lengthOf, isText, reportedOf, listOf, partsOf, listed, unlessRefused}
+use Rattle.upid.specs.Upid.{numberOf, valuesOf, upidOf, checkOf, readOf, walkOf, _then_, plainOf, lengthOf, isText, reportedOf, listOf, partsOf, listed, unlessRefused, partsIn}
+use Rattle.upid.specs.declared.Part.{Part}
+use Rattle.upid.specs.declared.Upid.{Upid}
+use Rattle.upid.specs.declared.UpidRead.{UpidRead}
+use Rattle.upid.specs.declared.UpidRead.the-variants.{Fine, Refused}
 
 -- an answer in document 01's terms: a reported type with parts, or a refusal's number with its values
 pub data Told : Type 0 where
