@@ -1,11 +1,11 @@
 -- A section is accepted exactly when none of 1 to 11 applies, and a refusal is the first that does.
-use Prim.Native.Nat.{ℕ, zero, suc, _≤_}
-use mathlib.Core.Bool.{Bool, true, false}
+use Prim.Native.Nat.{ℕ, zero, suc, _+_, _-_, _≤_}
+use mathlib.Core.Bool.{Bool, true, false, not}
 use mathlib.Core.List.{List, [], _∷_}
 use mathlib.Core.Path.{_≡_, refl, ap, sym, _∙_}
 use native.Mathlib.Omega.{arith}
-use lib.Dec.{eqb}
-use lib.ListN.{length, drop, length-drop}
+use lib.Dec.{eqb, ltb}
+use lib.ListN.{length, getD, drop, length-drop}
 use borrow.Author.Tests.{ltb-false}
 use Rattle.command.specs.Command as command
 use Rattle.command.specs.Command.{commandOf}
@@ -14,10 +14,11 @@ use Rattle.header.specs.Header.{headerOf}
 use Rattle.header.specs.declared.header.HeaderRead.{HeaderRead}
 use Rattle.header.specs.declared.header.SpliceInfoHeader.{SpliceInfoHeader}
 use Rattle.header.proofs.Headers.{header-there}
-use Rattle.table.specs.Bits.{pick}
+use Rattle.crc.specs.Crc.{crcOf}
+use Rattle.table.specs.Bits.{pick, bitsOf, field}
 use Rattle.table.specs.declared.View.{View}
 use Rattle.table.proofs.Lists.{zero-one}
-use Rattle.section.specs.Section.{unknownCommand, malformedCommand, conditions, first, None, commandType, commandBytes, loopPlace, frameOf, accepted, through, sectionOf, numberOf}
+use Rattle.section.specs.Section.{unknownCommand, malformedCommand, conditions, first, None, commandLength, roomAfter, loopLength, commandType, commandBytes, loopPlace, frameOf, accepted, through, sectionOf, numberOf}
 use Rattle.section.specs.declared.FrameRead.{FrameRead}
 use Rattle.section.specs.declared.Refusal.{Refusal}
 use Rattle.section.specs.declared.Section.{Section}
@@ -59,7 +60,8 @@ chain false false false false false false false false false h r v bs k = k refl
 pub refusals-in-order : (s : List ℕ) → numberOf (sectionOf s) ≡ first 1 (conditions s)
 unfolding sectionOf frameOf
 refusals-in-order s =
-    chain _ _ _ _ _ _ _ _ _
+    chain (ltb (length s) 3) (ltb 4096 (length s)) (not (eqb (getD s 0 0) 0xfc)) (not (eqb (crcOf s) 0)) (ltb (length s) 18)
+    (eqb (field (bitsOf s) 32 1) 1) (ltb (length s - 18) (commandLength s)) (ltb (roomAfter s) 2) (ltb (roomAfter s) (loopLength s + 2))
     (headerOf (drop 3 s)) (commandOf (commandType s) (commandBytes s)) (loopPlace s) (unknownCommand s ∷ malformedCommand s ∷ [])
     (λ e. let h = header-there (drop 3 s) (omega (arith, length-drop 3 s, ltb-false (length s) 18 e)) in
     rw (h .1) (last (commandOf (commandType s) (commandBytes s)) (h .0) (loopPlace s)))

@@ -1,6 +1,6 @@
 -- The section's refusals one after the other, as the reader comes to them.
 use Prim.Native.Nat.{ℕ, _+_, _*_, _-_, _/_, _^_, _%_, _<_, _≤_}
-use mathlib.Core.Bool.{Bool, true, false}
+use mathlib.Core.Bool.{Bool, true, false, not}
 use mathlib.Core.List.{List}
 use mathlib.Core.Path.{_≡_, refl, ap, sym, _∙_}
 use native.Mathlib.Omega.{arith}
@@ -22,8 +22,7 @@ use Rattle.table.specs.declared.View.{View}
 use Rattle.table.proofs.Fields.{byte-field, field-in, field-byte}
 use Rattle.table.proofs.Reading.{bits-are}
 use Rattle.section.specs.Section.{commandLength, commandType, commandBytes, roomAfter, loopLength, loopPlace, moved, movedRead, frameOf, accepted, through, sectionOf}
-use Rattle.section.specs.Walk.{layoutOf}
-use Rattle.section.specs.Walk.{viewStart}
+use Rattle.section.specs.Walk.{viewStart, layoutOf}
 use Rattle.section.specs.declared.FrameRead.{FrameRead}
 use Rattle.section.specs.declared.Refusal.{Refusal}
 use Rattle.section.specs.declared.SectionRead.{SectionRead}
@@ -182,7 +181,8 @@ pub record Framed (s : List ℕ) (v : View) : Type 0 where
 pub framed : (s : List ℕ) (v : View) → FrameRead.Whole v ≡ frameOf s → Framed s v
 unfolding frameOf roomAfter loopPlace
 framed s v e =
-    let t = tests _ _ _ _ _ _ _ _ _ (loopPlace s) v e in
+    let t = tests (ltb (length s) 3) (ltb 4096 (length s)) (not (eqb (getD s 0 0) 0xfc)) (not (eqb (crcOf s) 0)) (ltb (length s) 18)
+    (eqb (field (bitsOf s) 32 1) 1) (ltb (length s - 18) (commandLength s)) (ltb (roomAfter s) 2) (ltb (roomAfter s) (loopLength s + 2)) (loopPlace s) v e in
     let h₅ = ltb-false (length s) 18 (t .2) in
     let h₇ = ltb-false (length s - 18) (commandLength s) (t .3) in
     let h₈ = ltb-false (length s - 18 - commandLength s) 2 (t .4) in
