@@ -189,10 +189,14 @@ unfolding flatBreak
 break-within Break.Absent e = (refl, refl, refl)
 break-within (Break.Lasts d) e = (refl, return-within (d .«return_mode»), e)
 
+cancel-within : (event kept : ℕ) → event < 2 ^ 32 → ltb kept (2 ^ 7) ≡ true → within commandWidths (commandWords (flatCommand (SpliceCommand.SpliceInsert (insertion event kept SpliceInsert.Cancel)))) ≡ true
+unfolding within commandWidths commandWords flatCommand flatInsertion wholeInsert bareInsert flatMode flatBreak
+cancel-within event kept h e = rw (lt-ltb event (2 ^ 32) h, e)
+
 insert-within : (event kept : ℕ) (d : SpliceInsert) → Typed (SpliceCommand.SpliceInsert (insertion event kept d)) → Small (SpliceCommand.SpliceInsert (insertion event kept d))
     → within commandWidths (commandWords (flatCommand (SpliceCommand.SpliceInsert (insertion event kept d)))) ≡ true
 unfolding within commandWidths commandWords flatCommand flatInsertion wholeInsert bareInsert flatBreak
-insert-within event kept SpliceInsert.Cancel t s = rw (lt-ltb event (2 ^ 32) (t .0), s .0)
+insert-within event kept SpliceInsert.Cancel t s = cancel-within event kept (t .0) (s .0)
 insert-within event kept (SpliceInsert.Insert i) t s =
     let m = mode-within (i .«splice_mode») (t .2 .3) (s .1 .0) in
     let b = break-within (i .duration) (s .1 .1) in
@@ -213,7 +217,7 @@ insert-within event kept (SpliceInsert.Insert i) t s =
     )
 
 command-within : (lent : List ℕ) (c : SpliceCommand) → length lent < 2 ^ 64 → seenBy c lent ≡ true → Typed c → Small c → within commandWidths (commandWords (flatCommand c)) ≡ true
-unfolding within commandWidths commandWords flatCommand noCommand bareInsert flatBreak
+unfolding within commandWidths commandWords flatCommand noCommand wholeInsert bareInsert flatMode flatBreak
 command-within lent SpliceCommand.SpliceNull l e t s = refl
 command-within lent (SpliceCommand.SpliceInsert x) l e t s = insert-within (x .«splice_event_id») (x .reserved) (x .«splice_detail») t s
 command-within lent (SpliceCommand.TimeSignal x) l e t s = let w = time-within x s in rw (w .0, w .1)
