@@ -57,7 +57,7 @@ enum scte35_refusal {
     /* of a value that is to be written; 32 is of a time that is to be adjusted, too */
     SCTE35_OUTSIDE_LENT = 31, /* a view reaches outside the lent bytes */
     SCTE35_TOO_LARGE = 32, /* a number or count exceeds its field; more than 7 DTMF characters or 255 bytes of a UPID */
-    SCTE35_NOT_CANONICAL = 33, /* a value that no canonical section has, or words that no reader gives */
+    SCTE35_NOT_CANONICAL = 33, /* a value that no canonical section has, or words that are no value's: those of a refusal or of a loop's end, or that no reader gives */
     SCTE35_RESULT_TOO_LONG = 34, /* a descriptor's length over 254, or a section over 4,096 bytes */
     SCTE35_LOOP_NOT_CANONICAL = 35, /* the loop that is lent is not canonical */
     SCTE35_TARGET_TOO_SHORT = 36 /* the target is shorter than the result */
@@ -81,7 +81,7 @@ struct scte35_view {
 enum { SCTE35_NO_TIME = 0, SCTE35_IMMEDIATE = 1, SCTE35_UNSPECIFIED = 2, SCTE35_AT = 3 };
 
 struct scte35_time {
-    uint64_t kind; /* as above */
+    uint64_t kind; /* as above; a writer refuses one over 3 with 32 */
     uint64_t ticks; /* of 90 kHz, of kind SCTE35_AT */
 };
 
@@ -329,7 +329,8 @@ uint64_t scte35_is_canonical_section(const uint8_t *s, size_t n, size_t at);
 uint64_t scte35_is_canonical_loop(const uint8_t *s, size_t n, size_t at);
 uint64_t scte35_is_canonical_descriptor(const uint8_t *s, size_t n, size_t at);
 
-/* ---- writing from C: the same writers over the structs. `components` and `beside` may be NULL: there are none */
+/* ---- writing from C: the same writers over the structs. `components` and `beside` may be NULL: all their words count as 0. So NULL serves where none are
+ * counted and the UPID is no EIDR: an insert that counts components is refused (33), but an item that counts some, or has an EIDR, is written with zeros */
 
 /* the words of a struct of this file */
 #define SCTE35_ALL_WORDS(x) (const uint64_t *)(x), (x) ? sizeof *(x) / sizeof(uint64_t) : 0

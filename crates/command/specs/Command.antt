@@ -23,7 +23,7 @@ private =
     inside (part n) (λ x. x .«private_bytes») λ bytes.
     done (record { identifier = identifier; «private_bytes» = bytes })
 
--- what a table's reading makes of a command; "Bytes after insert or time signal are tolerated"
+-- the command that is made of what a table reads, or 11. Where the reading ended is not looked at: "Bytes after insert or time signal are tolerated"
 abbrev pub read : {X : Type 0} → (X → SpliceCommand) → Answer X → CommandRead
 read f (got x at) = CommandRead.Is (f x)
 read f (short expected actual) = CommandRead.Malformed
@@ -67,7 +67,7 @@ numberOf (CommandRead.Is c) = 0
 numberOf CommandRead.UnknownType = 10
 numberOf CommandRead.Malformed = 11
 
--- ---- a value of one kind of command, and the blank of any other
+-- ---- f of one kind of command, and `none` of any other
 abbrev pub ofInsert : {A : Type 0} → (Insertion → A) → A → SpliceCommand → A
 ofInsert f none SpliceCommand.SpliceNull = none
 ofInsert f none (SpliceCommand.SpliceInsert i) = f i

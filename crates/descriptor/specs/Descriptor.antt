@@ -48,7 +48,7 @@ reservedOf tag s = parse privateBytes (bitsOf s) 0 andThen λ v at. Is (Reserved
 
 -- ---- segmentation: the UPID's own rules stand between the fields up to it and those after it
 
--- a refusal whose view, of a UPID or of a payload at `at`, counts from the start of the bytes that this lies in
+-- a refusal found in bytes that begin at `at` (a UPID in a payload, a payload in a loop), its view counted from the start of what they lie in
 abbrev pub movedRefusal : ℕ → Refusal → Refusal
 movedRefusal at TooLong = TooLong
 movedRefusal at (Short expected actual) = Short expected actual

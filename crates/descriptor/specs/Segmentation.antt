@@ -28,7 +28,7 @@ use Rattle.descriptor.specs.declared.segmentation.SubSegments.{SubSegmen
 
 -- ---- "web 1, blackout 1, archive 1, device 2 if restricted, else reserved 5"
 
--- each number of two bits has a name
+-- each number of two bits has a name, so the second line is never met
 abbrev pub named : Answer DeviceRestrictions → DeviceRestrictions
 named (gives d) = d
 named (refuses number values) = DeviceRestrictions.None
@@ -305,7 +305,8 @@ segmentation =
       components = f .components;
     }))
 
--- ---- refusal 33, as far as this table goes: "a flag that contradicts its optional part"; "a reserved number that has a name"
+-- ---- refusal 33, as far as this table goes: "a flag that contradicts its optional part"; "a reserved number that has a name or lies
+-- in another range" (there is one range)
 
 abbrev pub agrees : Bool → Bool → Bool
 agrees true b = b

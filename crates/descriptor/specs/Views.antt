@@ -41,7 +41,7 @@ refusalViews Mismatch = []
 refusalViews (NotText kind bytes) = bytes ∷ []
 refusalViews (WrongLength kind expected actual) = []
 
--- ---- the same descriptor with other views: that of its UPID, and any other
+-- ---- the same descriptor with another UPID, or, of a DTMF or reserved one, with another view
 abbrev pub withUpids : (SegmentationUpid → SegmentationUpid) → SegmentationDetail → SegmentationDetail
 withUpids f Cancel = Cancel
 withUpids f (Insert i) = Insert (withUpid i (f (i .«segmentation_upid»)))

@@ -18,7 +18,7 @@ use Rattle.descriptor.specs.declared.segmentation.SegmentationDescriptor
 use Rattle.descriptor.specs.declared.whole.Beside.{Beside}
 use Rattle.descriptor.specs.declared.whole.WholeDescriptor.{WholeDescriptor}
 
--- ---- a value of one kind of descriptor, and the blank of any other
+-- ---- f of one kind of descriptor, and `none` of any other
 abbrev pub ofSegmentation : {A : Type 0} → (SegmentationDescriptor → A) → A → Descriptor → A
 ofSegmentation f none (Avail x) = none
 ofSegmentation f none (Dtmf x) = none

@@ -56,7 +56,7 @@ itemWords i =
 
 -- of the identifier, and of the item in the same order: kind, provider_avail_id, preroll; segmentation_event_id, its four flags; the restrictions;
 -- component_count, segmentation_duration, segmentation_upid_type, segmentation_type_id, segment_num, segments_expected; sub_segments; time;
--- splice_descriptor_tag; bytes. A kind is no field: any other number than 1 to 6 is refusal 33.
+-- splice_descriptor_tag; bytes. An item's kind is no field: any other number than 1 to 6 is refusal 33.
 unfoldable pub itemWidths : List ℕ
 itemWidths =
     32 ∷ 64 ∷ 32 ∷ 8 ∷ 32 ∷ 1 ∷ 1 ∷ 1 ∷ 1 ∷ 1 ∷ 1 ∷ 1 ∷ 2 ∷ 8 ∷ 40 ∷ 8 ∷ 8 ∷ 8 ∷ 8 ∷ 1 ∷ 8 ∷ 8 ∷ 48 ∷ 32 ∷ 16 ∷ 8 ∷ 64 ∷ 64 ∷ []
@@ -85,7 +85,8 @@ placesWithin n words = eachPlace (within placeWidths) 2 n (placesIn words)
 unfoldable pub besideWithin : ℕ → List ℕ → Bool
 besideWithin n words = placesWithin n words && within (replicate 12 8) (eidrIn words)
 
--- ---- refusal 31: "a view reaches outside the lent bytes". The item's last two words are one, of a DTMF, segmentation or reserved descriptor.
+-- ---- refusal 31: "a view reaches outside the lent bytes". The item's last two words are a view, of a DTMF, segmentation or
+-- reserved descriptor; of any other kind they are a part left out (33).
 unfoldable pub itemSeen : List ℕ → List ℕ → Bool
 itemSeen words lent =
     pick (eqb (word words 6) 2 || (eqb (word words 6) 4 || eqb (word words 6) 6)) (liesIn lent (record { at = word words 31; len = word words 32 })) true
@@ -116,7 +117,7 @@ pub record DescriptorIs (words beside : List ℕ) (d : Descriptor) (identifier :
   pub eidr : same (b .eidr) (eidrIn beside) ≡ true
 
 -- ---- what is made of words: "31 to 36 are checked in order of number". Words that fit and are those of a descriptor are written, or refused, as it is; 33 is also of
--- words that no descriptor has.
+-- words that no descriptor has. (That they fit is asked here: an identifier is taken in 32 bits.) 36, a short target, is `answerOf`'s and `laterOf`'s.
 pub data DescriptorAnswer (words beside lent : List ℕ) : Made → Type 0 where
   outside : itemSeen words lent ≡ false → DescriptorAnswer words beside lent (refused 31)
   over : itemSeen words lent ≡ true → itemFits words beside ≡ false → DescriptorAnswer words beside lent (refused 32)

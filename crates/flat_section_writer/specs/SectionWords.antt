@@ -1,5 +1,5 @@
--- The words of a header, and what is answered of those of a header and of a command: refused by 31, 32 or 33, or written as the section of the values whose words they
--- are. 01, "Refusal numbers". These are definitions.
+-- The words of a header, and what is answered of those of a header and of a command: refused by 31, 32 or 33, or answered as the section writer answers of the
+-- values whose words they are (34 and 35 too). 01, "Refusal numbers". These are definitions.
 use Prim.Native.Nat.{ℕ}
 use mathlib.Core.Bool.{Bool, true, false, _&&_}
 use mathlib.Core.List.{List, [], _∷_}

@@ -30,7 +30,7 @@ use Rattle.pen.specs.Written.{bytesIn}
 use Rattle.table.proofs.Lists.{zero-one, and-true}
 use Rattle.table.specs.Writing.{Made, made, refused}
 use Rattle.flat_writer.specs.CommandGiven.{commandGiven, componentFrom, componentsFrom, splicesWithin, ownComponent, ownSplices, commandRefusal, commandWordsMade}
-use Rattle.flat_writer.specs.CommandWords.{commandWords, commandWidths, splicesIn, componentWidths, placesIn, CommandIs, commandSeen, commandFits, CommandAnswer, outside, over, nobodys, its}
+use Rattle.flat_writer.specs.CommandWords.{commandWords, commandWidths, splicesIn, componentWidths, placesGiven, CommandIs, commandSeen, commandFits, CommandAnswer, outside, over, nobodys, its}
 use Rattle.flat_writer.specs.Words.{within, same, placesOf, eachPlace, refusalOf, lowest, noLess}
 use Rattle.flat_writer.proofs.Arrays.{array-take, array-there}
 use Rattle.flat_writer.proofs.Fits.{over-or-fits, fit-within}
@@ -155,7 +155,7 @@ module _ (words components lent : List ℕ) where
   unfolding commandFits splicesWithin
   fits-are = go (within commandWidths words) refl
     where
-      go : (b : Bool) → within commandWidths words ≡ b → b && eachPlace (within componentWidths) 3 (placesIn words) (splicesIn components) ≡ b && eachPlace (within componentWidths) 3 (countIn given) (splicesIn components)
+      go : (b : Bool) → within commandWidths words ≡ b → b && eachPlace (within componentWidths) 3 (placesGiven words) (splicesIn components) ≡ b && eachPlace (within componentWidths) 3 (countIn given) (splicesIn components)
       go true e = ap (λ (n : ℕ). eachPlace (within componentWidths) 3 n (splicesIn components)) (sym (given-count words e))
       go false e = refl
 

@@ -37,7 +37,7 @@ use Rattle.table.specs.Bits.{pick}
 use Rattle.table.specs.Table.{flagNumber}
 use Rattle.table.specs.Writing as writing
 use Rattle.table.specs.Writing.{Field, walk, seen, Made, made, refused, makeOf}
-use Rattle.flat_writer.specs.CommandWords.{commandWords, commandWidths, componentWords, componentWidths, placesWords, splicesIn, placesIn, CommandIs, commandFits}
+use Rattle.flat_writer.specs.CommandWords.{commandWords, commandWidths, componentWords, componentWidths, placesWords, splicesIn, placesGiven, CommandIs, commandFits}
 use Rattle.flat_writer.specs.Words.{word, within, same, eachPlace}
 use Rattle.flat_writer.proofs.Arrays.{array-take}
 use Rattle.flat_writer.proofs.Given.{same-at, same-append, within-same, SmallDetail, Small, seenBy}
@@ -240,7 +240,7 @@ components-within (c ∷ cs) words t f e =
     rw (within-same componentWidths own words refl (s .0) ∙ component-within c (t .0) (a .0)) (components-within cs (drop 3 words) (t .1) (a .1) (s .1))
 
 -- ---- a command's own words say how many components it has
-pub own-count : (c : SpliceCommand) (words : List ℕ) → same (commandWords (flatCommand c)) words ≡ true → placesIn words ≡ countIn c
+pub own-count : (c : SpliceCommand) (words : List ℕ) → same (commandWords (flatCommand c)) words ≡ true → placesGiven words ≡ countIn c
 unfolding commandWords flatCommand noCommand flatInsertion wholeInsert bareInsert flatMode
 own-count c words e =
     let w : (i : ℕ) → i < 21 → word words i ≡ word (commandWords (flatCommand c)) i = same-at (commandWords (flatCommand c)) words e in
@@ -250,11 +250,11 @@ own-count c words e =
     mode (SpliceMode.Program t) = refl
     mode (SpliceMode.Components n) = refl
 
-    detail : (event kept : ℕ) (d : SpliceInsert) → placesIn (commandWords (flatCommand (SpliceCommand.SpliceInsert (insertion event kept d)))) ≡ count (insertOf d .«splice_mode»)
+    detail : (event kept : ℕ) (d : SpliceInsert) → placesGiven (commandWords (flatCommand (SpliceCommand.SpliceInsert (insertion event kept d)))) ≡ count (insertOf d .«splice_mode»)
     detail event kept SpliceInsert.Cancel = refl
     detail event kept (SpliceInsert.Insert i) = mode (i .«splice_mode»)
 
-    go : (c : SpliceCommand) → placesIn (commandWords (flatCommand c)) ≡ countIn c
+    go : (c : SpliceCommand) → placesGiven (commandWords (flatCommand c)) ≡ countIn c
     go SpliceCommand.SpliceNull = refl
     go (SpliceCommand.SpliceInsert x) = detail (x .«splice_event_id») (x .reserved) (x .«splice_detail»)
     go (SpliceCommand.TimeSignal t) = refl

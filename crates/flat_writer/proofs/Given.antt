@@ -30,7 +30,7 @@ use Rattle.names.specs.declared.flags.ReturnMode.{ReturnMode}
 use Rattle.table.proofs.Lists.{zero-one, and-true, and-assoc}
 use Rattle.table.specs.Bits.{pick}
 use Rattle.flat_writer.specs.CommandGiven.{modeIn, breakIn, insertIn, commandIn, timeFrom, viewFrom, modeFrom, breakFrom, insertFrom, insertionFrom, commandFrom, commandGiven, componentFrom, ownComponent}
-use Rattle.flat_writer.specs.CommandWords.{commandWords, commandWidths, componentWords, componentWidths, placesWords, placesIn, commandSeen}
+use Rattle.flat_writer.specs.CommandWords.{commandWords, commandWidths, componentWords, componentWidths, placesWords, placesGiven, commandSeen}
 use Rattle.flat_writer.specs.Words.{word, within, same, placesOf, eachPlace}
 use Rattle.flat_writer.proofs.Back.{words-back, command-back, time-back}
 use Rattle.flat_writer.proofs.Typed.{TypedMode, TypedDetail, Typed}
@@ -227,10 +227,10 @@ places-fit (suc n) words e =
     rw (small-time (record { kind = word words 1; ticks = word words 2 }) (within-at componentWidths words (a .0) 2 (omega arith))) (places-fit n (drop 3 words) (a .1))
 
 -- ---- it counts the places that are looked at
-pub given-count : (words : List ℕ) → within commandWidths words ≡ true → countIn (commandGiven words) ≡ placesIn words
+pub given-count : (words : List ℕ) → within commandWidths words ≡ true → countIn (commandGiven words) ≡ placesGiven words
 unfolding commandWidths insertionFrom insertFrom modeFrom commandIn insertIn modeIn
 given-count words h =
-    from-kinds (λ c. countIn c ≡ placesIn words) (commandIn words)
+    from-kinds (λ c. countIn c ≡ placesGiven words) (commandIn words)
     (λ e. rw e (go (eqb (word words 3) 1) (eqb (word words 3) 0) (eqb (word words 6) 1) (eqb (word words 6) 0) (flags (word words 3) (w 3 (omega arith))) (flags (word words 6) (w 6 (omega arith)))))
     (λ e. rw e) (λ e. rw e) (λ e. rw e) (λ a b. rw (ne-eqb (word words 1) 0x05 a))
   where

@@ -1,5 +1,5 @@
--- The words of a command, and what is answered of them: refused by 31, 32 or 33, or written as the value whose words they are. 01, "Refusal numbers". These are
--- definitions.
+-- The words of a command, and what is answered of them: refused by 31, 32 or 33, or answered as the writer answers of the value whose words they are. 01,
+-- "Refusal numbers". These are definitions.
 use Prim.Native.Nat.{ℕ}
 use mathlib.Core.Bool.{Bool, true, false, _&&_}
 use mathlib.Core.List.{List, [], _∷_, _++_, map}
@@ -47,7 +47,8 @@ commandWords c =
 
 -- in the same order: refusal, splice_command_type; splice_event_id, splice_event_cancel_indicator, reserved, out_of_network_indicator;
 -- program_splice_flag, splice_time, component_count; duration_flag, auto_return, duration; unique_program_id, avail_num, avails_expected;
--- splice_time; identifier, private_bytes
+-- splice_time; identifier, private_bytes. A refusal is no field: any but 0 is refusal 33. A time's kind counts as two bits: over 3 is refusal 32, and a 0 where a time must
+-- be is 33.
 unfoldable pub commandWidths : List ℕ
 commandWidths = 64 ∷ 8 ∷ 32 ∷ 1 ∷ 7 ∷ 1 ∷ 1 ∷ 2 ∷ 33 ∷ 8 ∷ 1 ∷ 1 ∷ 33 ∷ 16 ∷ 8 ∷ 8 ∷ 2 ∷ 33 ∷ 32 ∷ 64 ∷ 64 ∷ []
 
@@ -74,8 +75,8 @@ pub record CommandIs (words components : List ℕ) (c : SpliceCommand) (cs : Lis
   pub places : same (placesWords (map flatComponent cs)) (splicesIn components) ≡ true
 
 -- how many places of components are looked at: those of an insert that is neither cancelled nor by program
-abbrev pub placesIn : List ℕ → ℕ
-placesIn words = pick (eqb (word words 1) 0x05 && (eqb (word words 3) 0 && eqb (word words 6) 0)) (word words 9) 0
+abbrev pub placesGiven : List ℕ → ℕ
+placesGiven words = pick (eqb (word words 1) 0x05 && (eqb (word words 3) 0 && eqb (word words 6) 0)) (word words 9) 0
 
 -- refusal 31: "a view reaches outside the lent bytes". Only a private command has one
 unfoldable pub commandSeen : List ℕ → List ℕ → Bool
@@ -83,9 +84,10 @@ commandSeen words lent = pick (eqb (word words 1) 0xff) (liesIn lent (record { a
 
 -- refusal 32: "a number or count handed in exceeds its field"
 unfoldable pub commandFits : List ℕ → List ℕ → Bool
-commandFits words components = within commandWidths words && eachPlace (within componentWidths) 3 (placesIn words) (splicesIn components)
+commandFits words components = within commandWidths words && eachPlace (within componentWidths) 3 (placesGiven words) (splicesIn components)
 
--- "31 to 36 are checked in order of number"; 33, of words that are no value's. Those of a value are answered as its writer answers
+-- "31 to 36 are checked in order of number": 31 and 32 of the words, then 33 of words that are no value's. Those of a value are answered as its writer answers, which gives
+-- 31 and 32 itself, so that the last case needs no test. 36, a short target, is `answerOf`'s and `laterOf`'s.
 pub data CommandAnswer (words components lent : List ℕ) : Made → Type 0 where
   outside : commandSeen words lent ≡ false → CommandAnswer words components lent (refused 31)
   over : commandSeen words lent ≡ true → commandFits words components ≡ false → CommandAnswer words components lent (refused 32)

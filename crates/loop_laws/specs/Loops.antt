@@ -35,7 +35,7 @@ itemGiven loop x d = record { descriptor = d; identifier = x .step .identifier; 
 
 -- ---- "Writing a reading means each item's descriptor, joined in order as the loop, then the section."
 
--- of any other item there is no descriptor
+-- what f makes of an item's descriptor; the loop's end and a refused item have none: 33
 abbrev pub itemMade : (Descriptor → Made) → Item → Made
 itemMade f End = refused 33
 itemMade f (Refused r) = refused 33

@@ -45,7 +45,7 @@ loopPlace s = record { at = 16 + commandLength s; len = loopLength s }
 abbrev pub loopBytes : List ℕ → List ℕ
 loopBytes s = viewed s (loopPlace s)
 
--- ---- the conditions of refusals 1 to 11
+-- ---- the conditions of refusals 1 to 11, the last first
 -- 10: "command type is none of 0x00, 0x05, 0x06, 0x07, 0xFF"
 abbrev pub unknownCommand : List ℕ → Bool
 unknownCommand s = eqb (command.numberOf (commandOf (commandType s) (commandBytes s))) 10
@@ -67,7 +67,7 @@ layoutTests s =
     ∷ (ltb (roomAfter s) (loopLength s + 2), Refusal.LoopTooLong)
     ∷ []
 
--- 1 to 9, those that come before the command
+-- 1 to 9, those that come before the command: 1 to 5, and then `layoutTests`
 abbrev pub frameTests : List ℕ → List (Bool × Refusal)
 frameTests s =
     -- 1: "section under 3 bytes"
@@ -82,10 +82,11 @@ frameTests s =
     ∷ (ltb (length s) 18, Refusal.NoHeader)
     ∷ layoutTests s
 
--- 1 to 11, in order; and the number of the first that holds, 0 if none does
+-- 1 to 11, in order
 abbrev pub conditions : List ℕ → List Bool
 conditions s = map (λ (t : Bool × Refusal). t .0) (frameTests s) ++ (unknownCommand s ∷ malformedCommand s ∷ [])
 
+-- the number of the first condition that holds, where they are numbered from n on; 0 if none does (31 to 35 of a writer, too)
 abbrev pub first : ℕ → List Bool → ℕ
 first n [] = 0
 first n (true ∷ bs) = n
@@ -109,7 +110,7 @@ frameOf s = unlessFirst (frameTests s) (FrameRead.Whole (loopPlace s))
 unfoldable pub moved : ℕ → SpliceCommand → SpliceCommand
 moved base c = withView (shifted base) c
 
--- what is read of a command, as a section has it
+-- what `read_command_part` answers: a command as a section has it
 unfoldable pub movedRead : CommandRead → CommandRead
 movedRead (CommandRead.Is c) = CommandRead.Is (moved 14 c)
 movedRead CommandRead.UnknownType = CommandRead.UnknownType

@@ -26,7 +26,7 @@ use Rattle.flat_section_writer.specs.SectionGiven.{sectionWordsMade}
 use Rattle.flat_section_writer.specs.SectionWords.{headerWords, headerWidths, sectionFits}
 use Rattle.flat.specs.declared.commands.FlatCommand.{FlatCommand}
 use Rattle.flat_writer.specs.CommandGiven.{componentsFrom, splicesWithin, ownSplices, commandRefusal, commandGiven}
-use Rattle.flat_writer.specs.CommandWords.{commandWords, commandWidths, placesIn, commandSeen, commandFits}
+use Rattle.flat_writer.specs.CommandWords.{commandWords, commandWidths, placesGiven, commandSeen, commandFits}
 use Rattle.flat_writer.proofs.Fits.{own-count}
 use Rattle.flat_writer.proofs.Given.{given-count}
 use Rattle.flat_writer.specs.Words.{within, placesOf, eachPlace}
@@ -154,7 +154,7 @@ uncounted-given : (header command v w lent loop : List ℕ) → countIn (command
 unfolding sectionWordsMade commandRefusal splicesWithin ownSplices componentsFrom eachPlace placesOf
 uncounted-given header command v w lent loop e = rw e
 
-pub uncounted : (header command v w lent loop : List ℕ) → placesIn command ≡ 0 → sectionWordsMade header command v lent loop ≡ sectionWordsMade header command w lent loop
+pub uncounted : (header command v w lent loop : List ℕ) → placesGiven command ≡ 0 → sectionWordsMade header command v lent loop ≡ sectionWordsMade header command w lent loop
 unfolding sectionFits commandFits
 uncounted header command v w lent loop e = go (within commandWidths command) refl (commandSeen command lent) refl
   where
@@ -200,7 +200,7 @@ section-again s x a e c =
     (ap (λ (q : List ℕ). answer (commandOf 0x05 q) q) payload ∙ sym (ap (λ (n : ℕ). answer (commandOf n (commandBytes s)) (commandBytes s)) k)) ∙ by-payload s x a e c in
     let other : countIn (p .own) ≡ 0 → sectionWordsMade header command (splicesWords (componentsAnswered s)) s (viewed s (x .descriptors)) ≡ made s =
     λ z. uncounted header command _ _ s (viewed s (x .descriptors))
-    (ap (λ (f : FlatCommand). placesIn (commandWords f)) (flat-command s x e) ∙ own-count (x .command) (commandWords (flatCommand (x .command))) (same-self (commandWords (flatCommand (x .command))))
+    (ap (λ (f : FlatCommand). placesGiven (commandWords f)) (flat-command s x e) ∙ own-count (x .command) (commandWords (flatCommand (x .command))) (same-self (commandWords (flatCommand (x .command))))
     ∙ ap countIn (p .moves) ∙ moved-count (p .own) ∙ z)
     ∙ by-payload s x a e c in
     ⊎-elim insert other (counts-by-type (commandType s) (commandBytes s) (p .own) (p .command))

@@ -33,7 +33,7 @@ use Rattle.flat_section_writer.specs.SectionGiven.{sectionWordsMade}
 use Rattle.flat_section_writer.specs.SectionWords.{headerWords, SectionAnswer}
 use Rattle.flat_writer.proofs.Answers as command-answers
 use Rattle.flat_writer.specs.CommandGiven.{commandWordsMade}
-use Rattle.flat_writer.specs.CommandWords.{commandWords, placesIn, CommandAnswer}
+use Rattle.flat_writer.specs.CommandWords.{commandWords, placesGiven, CommandAnswer}
 use Rattle.header.specs.Time.{adjustedOf}
 use Rattle.header.specs.declared.header.SpliceInfoHeader.{SpliceInfoHeader}
 use Rattle.header.specs.declared.time.AdjustedTime.{AdjustedTime}
@@ -194,8 +194,8 @@ eight-and-twelve-bytes-are-read-whole = worked.both-whole
 -- ---- over the C boundary
 
 -- What the writers over C answer, of whatever words: what `CommandAnswer` and `SectionAnswer` say (flat_writer/specs/CommandWords.antt,
--- flat_section_writer/specs/SectionWords.antt), and no other answer is such. So what a reader over C answers is what a writer over C takes: the words of a value's flat
--- form are written as the value is written, or refused with the same number. (A slice has fewer than 2 ^ 64 bytes.)
+-- flat_section_writer/specs/SectionWords.antt), and no other answer is such. So the words of a value's flat form, as a reader over C
+-- answers them, are written as the value is written, or refused with the same number; those of a refusal are 33. (A slice has fewer than 2 ^ 64 bytes.)
 pub command-words-are-answered : (words components lent : List ℕ) → CommandAnswer words components lent (commandWordsMade words components lent)
 command-words-are-answered = command-answers.answered
 
@@ -209,15 +209,15 @@ pub section-answers-are-one : (header command components lent loop : List ℕ) �
     → SectionAnswer header command components lent loop m → SectionAnswer header command components lent loop n → m ≡ n
 section-answers-are-one = section-answers.one-answer
 
--- Demand 2 over C: writing the words that are read of a canonical section gives its bytes: its header's and its command's, as `scte35_section` answers them, those of its
--- components, as `scte35_insert_components` answers them, and its loop as it stands in the section
+-- Demand 2 over C: writing the words that are read of a canonical section gives its bytes: its header's and its command's, as `scte35_section` answers them
+-- (without the header's last two, the command's length and type, which are not looked at), those of its components, as `scte35_insert_components` answers them, and its loop as it stands in the section
 pub a-canonical-section-is-what-is-written-of-its-words : (s : List ℕ) (x : Section) → AllBytes s → sectionOf s ≡ SectionRead.Is x → canonicalSection s ≡ true
     → sectionWordsMade (headerWords (flatSectionRead (sectionOf s) .header)) (commandWords (flatSectionRead (sectionOf s) .command))
     (splicesWords (componentsAnswered s)) s (loopIn s x) ≡ made s
 a-canonical-section-is-what-is-written-of-its-words = sections-over-c.section-again
 
 -- (The words of components matter for a command that counts some, an insert by components.)
-pub uncounted-components-are-not-looked-at : (header command v w lent loop : List ℕ) → placesIn command ≡ 0
+pub uncounted-components-are-not-looked-at : (header command v w lent loop : List ℕ) → placesGiven command ≡ 0
     → sectionWordsMade header command v lent loop ≡ sectionWordsMade header command w lent loop
 uncounted-components-are-not-looked-at = sections-over-c.uncounted
 

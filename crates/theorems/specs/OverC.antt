@@ -1,4 +1,4 @@
--- The structs of C that stand beside a command, that are a step over a loop, and that stand beside an item, as the words that they are. These are definitions.
+-- The words of three structs of C: an insert's components, a step over a loop, and what stands beside an item. These are definitions.
 use Prim.Native.Nat.{ℕ, _+_}
 use mathlib.Core.List.{List, [], _∷_, _++_}
 use lib.ListN.{take, drop}
