@@ -34,7 +34,7 @@ use Rattle.descriptor.specs.declared.segmentation.SegmentationInsert.{Segmentat
 use Rattle.descriptor.specs.declared.segmentation.SegmentationUpid.{SegmentationUpid}
 use Rattle.descriptor.specs.declared.whole.Beside.{Beside}
 use Rattle.descriptor_form.specs.Walk.{upidFields}
-use Rattle.descriptor_form.specs.Same.{SameReading, viewless, bytesOfViews, countBeside, viewlessUpid}
+use Rattle.descriptor_form.specs.Same.{SameReading, withoutPlaces, bytesOfViews, countBeside, placelessUpid}
 use Rattle.descriptor_form.specs.Writing.{framedMade, allZero, alone, fairReserved, accepts, fairUpid, fairSegment, segmentationMade, payloadMade, descriptorMade, tagOf, identifierOf, upidIn, upidSource, writtenDetail, writtenKind, writtenUpid}
 use Rattle.descriptor_form.proofs.Fields.{insert-fields}
 use Rattle.descriptor_form.proofs.Making.{all-fair, by-table, counted, zero-view}
@@ -79,22 +79,22 @@ withView v (Segmentation x) = Segmentation (record { «segmentation_event_id» =
 withView v (Time x) = Time x
 withView v (Reserved tag own) = Reserved tag v
 
-detail-own : (d : SegmentationDetail) → detailAt (detailView d) (withUpids viewlessUpid d) ≡ d
+detail-own : (d : SegmentationDetail) → detailAt (detailView d) (withUpids placelessUpid d) ≡ d
 detail-own Cancel = refl
 detail-own (Insert i) = refl
 
-own-view : (d : Descriptor) → withView (viewIn d) (viewless d) ≡ d
+own-view : (d : Descriptor) → withView (viewIn d) (withoutPlaces d) ≡ d
 own-view (Avail x) = refl
 own-view (Dtmf x) = refl
 own-view (Segmentation x) = ap (λ (d : SegmentationDetail). Segmentation (record { «segmentation_event_id» = x .«segmentation_event_id»; «descriptor_detail» = d })) (detail-own (x .«descriptor_detail»))
 own-view (Time x) = refl
 own-view (Reserved tag own) = refl
 
-detail-any : (v : View) (d : SegmentationDetail) → detailAt v (withUpids viewlessUpid d) ≡ detailAt v d
+detail-any : (v : View) (d : SegmentationDetail) → detailAt v (withUpids placelessUpid d) ≡ detailAt v d
 detail-any v Cancel = refl
 detail-any v (Insert i) = refl
 
-any-view : (v : View) (d : Descriptor) → withView v (viewless d) ≡ withView v d
+any-view : (v : View) (d : Descriptor) → withView v (withoutPlaces d) ≡ withView v d
 any-view v (Avail x) = refl
 any-view v (Dtmf x) = refl
 any-view v (Segmentation x) = ap (λ (d : SegmentationDetail). Segmentation (record { «segmentation_event_id» = x .«segmentation_event_id»; «descriptor_detail» = d })) (detail-any v (x .«descriptor_detail»))
@@ -102,7 +102,7 @@ any-view v (Time x) = refl
 any-view v (Reserved tag own) = refl
 
 -- descriptors of equal values differ in their views only
-pub views-differ : (d e : Descriptor) → viewless d ≡ viewless e → withView (viewIn e) d ≡ e
+pub views-differ : (d e : Descriptor) → withoutPlaces d ≡ withoutPlaces e → withView (viewIn e) d ≡ e
 views-differ d e h = sym (any-view (viewIn e) d) ∙ ap (withView (viewIn e)) h ∙ own-view e
 
 -- ---- what is written
@@ -279,7 +279,7 @@ module _ (s r t id : List ℕ) (b c : Beside) (eidrs : b .eidr ≡ c .eidr) wher
       ∙ ap (framedMade (tagOf d) (identifierOf d id)) (g ∙ sym (u .1)) ∙ e
 
   -- of descriptors that are alike the same is written
-  pub alike-made : (d e : Descriptor) → countBeside d ≤ length (b .components) → viewless d ≡ viewless e → SameView s (viewIn d) r (viewIn e)
+  pub alike-made : (d e : Descriptor) → countBeside d ≤ length (b .components) → withoutPlaces d ≡ withoutPlaces e → SameView s (viewIn d) r (viewIn e)
       → take (countBeside d) (b .components) ≡ take (countBeside e) (c .components) → descriptorMade d id b s ≡ made t → descriptorMade e id c r ≡ made t
   alike-made d e places values h same m =
       let k : withView (viewIn e) d ≡ e = views-differ d e values in

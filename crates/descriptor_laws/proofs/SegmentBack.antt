@@ -59,13 +59,14 @@ pub record Written (u : SegmentationUpid) (eidr lent source : List ℕ) (w : Seg
   pub held : eidrOf (w .kind) (viewed source (w .bytes)) ≡ eidr
   pub kinds : pick (eqb (w .bytes .len) 0) (eqb (w .kind) 0) true ≡ true
   pub bytes : withoutView (u .kind) ≡ false → viewed source (w .bytes) ≡ viewed lent (u .bytes)
+  pub size : (at : ℕ) → reportedUpid (u .kind) (record { at = at; len = w .bytes .len }) .bytes .len ≡ u .bytes .len
   pub inside : w .bytes .at + w .bytes .len ≤ length source
   pub are : AllBytes source
 
 module _ (u : SegmentationUpid) (eidr lent : List ℕ) (twelve : length eidr ≡ 12) (held : AllBytes eidr) (all : AllBytes lent) (there : u .bytes .at + u .bytes .len ≤ length lent) where
-  of-eidr : u .kind ≡ 10 → Written u eidr lent eidr (record { kind = 10; bytes = record { at = 0; len = 12 } })
+  of-eidr : u .kind ≡ 10 → u .bytes .len ≡ 0 → Written u eidr lent eidr (record { kind = 10; bytes = record { at = 0; len = 12 } })
   unfolding upidOf
-  of-eidr k =
+  of-eidr k n =
       let v : viewed eidr (record { at = 0; len = 12 }) ≡ eidr = viewed-at eidr 0 12 (omega arith) ∙ take-all 12 eidr (omega arith) in
       let h = eidr-is-held-by-value eidr twelve in
       record {
@@ -73,6 +74,7 @@ module _ (u : SegmentationUpid) (eidr lent : List ℕ) (twelve : length eidr ≡
         held = ap (eidrOf 10) v ∙ h .1;
         kinds = refl;
         bytes = λ e. (let z : true ≡ false = rw k at e in zero-one cc);
+        size = λ at. rw k (sym n);
         inside = omega arith;
         are = held;
       }
@@ -100,16 +102,17 @@ module _ (u : SegmentationUpid) (eidr lent : List ℕ) (twelve : length eidr ≡
         held = rw k₂ (zeros eidr 12 z twelve);
         kinds = ap₂ (λ (a b : ℕ). pick (eqb a 0) (eqb b 0) true) n k₂;
         bytes = λ e. refl;
+        size = λ at. rw k (sym n);
         inside = there;
         are = all;
       }
 
   -- any other
-  of-bytes : 1 ≤ u .bytes .len → (u .kind ≡ 10 → ⊥) → (u .kind ≡ 5 → ⊥) → allZero eidr ≡ true → (c : UpidRead) → checkOf (writtenKind u) (viewed lent (u .bytes)) ≡ c → accepts c ≡ true
+  of-bytes : 1 ≤ u .bytes .len → (u .kind ≡ 0 → ⊥) → (u .kind ≡ 10 → ⊥) → (u .kind ≡ 5 → ⊥) → allZero eidr ≡ true → (c : UpidRead) → checkOf (writtenKind u) (viewed lent (u .bytes)) ≡ c → accepts c ≡ true
       → Written u eidr lent lent (record { kind = writtenKind u; bytes = u .bytes })
   unfolding writtenKind eidrOf
-  of-bytes n ten five z (Refused r) c a = zero-one cc
-  of-bytes n ten five z (Fine q) c a =
+  of-bytes n none ten five z (Refused r) c a = zero-one cc
+  of-bytes n none ten five z (Fine q) c a =
       let t = eqb (u .kind) 6 && eqb (u .bytes .len) 8 in
       let m : length (viewed lent (u .bytes)) ≡ u .bytes .len = viewed-length lent (u .bytes) there in
       let r = reports (writtenKind u) (viewed lent (u .bytes)) q c (omega arith) in
@@ -118,6 +121,7 @@ module _ (u : SegmentationUpid) (eidr lent : List ℕ) (twelve : length eidr ≡
         held = rw (ne-eqb (writtenKind u) 10 (kind-some t ten)) (zeros eidr 12 z twelve);
         kinds = rw (ne-eqb (u .bytes .len) 0 (λ (o : u .bytes .len ≡ 0). omega arith));
         bytes = λ e. refl;
+        size = λ at. rw (ne-eqb (u .kind) 0 none, ne-eqb (u .kind) 10 ten);
         inside = there;
         are = all;
       }
@@ -130,7 +134,7 @@ module _ (u : SegmentationUpid) (eidr lent : List ℕ) (twelve : length eidr ≡
           → pick t (eqb (u .bytes .len) 0)
           (allZero eidr && (agrees (eqb (u .kind) 0) (eqb (u .bytes .len) 0) && (not (eqb (u .kind) 5) && accepts (checkOf (writtenKind u) (viewed lent (u .bytes)))))) ≡ true
           → Written u eidr lent (pick t eidr lent) (pick t (record { kind = 10; bytes = record { at = 0; len = 12 } }) (record { kind = writtenKind u; bytes = u .bytes }))
-      go true t f = of-eidr (eqb-true (u .kind) 10 t)
+      go true t f = of-eidr (eqb-true (u .kind) 10 t) (eqb-true (u .bytes .len) 0 f)
       go false t f = sized (eqb (u .kind) 0) (eqb (u .bytes .len) 0) refl refl (and-true (agrees (eqb (u .kind) 0) (eqb (u .bytes .len) 0)) _ (and-true (allZero eidr) _ f .1) .0)
         where
           sized : (k n : Bool) → eqb (u .kind) 0 ≡ k → eqb (u .bytes .len) 0 ≡ n → agrees k n ≡ true → Written u eidr lent lent (record { kind = writtenKind u; bytes = u .bytes })
@@ -142,7 +146,7 @@ module _ (u : SegmentationUpid) (eidr lent : List ℕ) (twelve : length eidr ≡
               let b = and-true (agrees (eqb (u .kind) 0) (eqb (u .bytes .len) 0)) _ (a .1) in
               let c = and-true (not (eqb (u .kind) 5)) (accepts (checkOf (writtenKind u) (viewed lent (u .bytes)))) (b .1) in
               let n = eqb-false (u .bytes .len) 0 en in
-              of-bytes (omega (arith, n)) (eqb-false (u .kind) 10 t) (eqb-false (u .kind) 5 (not-true (eqb (u .kind) 5) (c .0))) (a .0) (checkOf (writtenKind u) (viewed lent (u .bytes))) refl (c .1)
+              of-bytes (omega (arith, n)) (eqb-false (u .kind) 0 ek) (eqb-false (u .kind) 10 t) (eqb-false (u .kind) 5 (not-true (eqb (u .kind) 5) (c .0))) (a .0) (checkOf (writtenKind u) (viewed lent (u .bytes))) refl (c .1)
 
 -- ---- the descriptor
 
@@ -231,7 +235,8 @@ module _ (id : List ℕ) (beside : Beside) (lent : List ℕ) (four : length id �
               again = record { «segmentation_event_id» = event; «descriptor_detail» = Insert k };
               reading = r .2 ∙ ap (λ (c : UpidRead). ifFine c (there .bytes) λ v. Is (Segmentation (record { «segmentation_event_id» = event; «descriptor_detail» = Insert (table.withUpid i v) }))) checked;
               same = record {
-                values = refl;
+                values =
+                    ap (λ (n : ℕ). Segmentation (record { «segmentation_event_id» = event; «descriptor_detail» = Insert (table.withUpid i (record { kind = u .kind; bytes = record { at = 0; len = n } })) })) (upid-is .size (there .bytes .at));
                 bytes = same-views p lent (withoutView (u .kind)) (there .bytes) (u .bytes) (λ t. upid-bytes ∙ upid-is .bytes t);
                 identifiers = zeros id 4 (f .0) four;
                 components = rw (r .0) (counted-again (countOf (i .«segmentation_mode»)) cs c);

@@ -20,7 +20,7 @@ use Rattle.descriptor.specs.declared.DescriptorRead.the-variants as read
 use Rattle.descriptor.specs.declared.segmentation.SegmentationDetail.{SegmentationDetail}
 use Rattle.descriptor.specs.declared.segmentation.SegmentationDetail.the-variants.{Cancel, Insert}
 use Rattle.descriptor.specs.declared.segmentation.SegmentationUpid.{SegmentationUpid}
-use Rattle.descriptor_form.specs.Same.{viewless, bytesOfViews, countBeside, viewlessUpid}
+use Rattle.descriptor_form.specs.Same.{withoutPlaces, bytesOfViews, countBeside, placelessUpid}
 use Rattle.descriptor_laws.proofs.Alike.{SameView, viewIn, detailView, DetailTold, NoneTold, by-bytes, both-none, no-views}
 use Rattle.descriptor_laws.proofs.PlainLaws.{viewed-at}
 use Rattle.items.specs.Place.{movedUpid, movedDescriptor}
@@ -45,11 +45,18 @@ kind-stays base u = go (withoutView (u .kind))
     go true = refl
     go false = refl
 
-detail-values : (base : ℕ) (d : SegmentationDetail) → withUpids viewlessUpid (movedDetail base d) ≡ withUpids viewlessUpid d
-detail-values base Cancel = refl
-detail-values base (Insert i) = rw (kind-stays base (i .«segmentation_upid»))
+upid-values : (base : ℕ) (u : SegmentationUpid) → placelessUpid (movedUpid base u) ≡ placelessUpid u
+upid-values base u = go (withoutView (u .kind))
+  where
+    go : (t : Bool) → (let there : SegmentationUpid = cond t u (record { kind = u .kind; bytes = shifted base (u .bytes) }) in placelessUpid there) ≡ placelessUpid u
+    go true = refl
+    go false = refl
 
-pub moved-values : (base : ℕ) (d : Descriptor) → viewless (movedDescriptor base d) ≡ viewless d
+detail-values : (base : ℕ) (d : SegmentationDetail) → withUpids placelessUpid (movedDetail base d) ≡ withUpids placelessUpid d
+detail-values base Cancel = refl
+detail-values base (Insert i) = rw (upid-values base (i .«segmentation_upid»))
+
+pub moved-values : (base : ℕ) (d : Descriptor) → withoutPlaces (movedDescriptor base d) ≡ withoutPlaces d
 moved-values base (Avail x) = refl
 moved-values base (Dtmf x) = refl
 moved-values base (Segmentation x) = ap (λ (d : SegmentationDetail). Segmentation (record { «segmentation_event_id» = x .«segmentation_event_id»; «descriptor_detail» = d })) (detail-values base (x .«descriptor_detail»))

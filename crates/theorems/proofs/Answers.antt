@@ -35,11 +35,11 @@ use Rattle.table.specs.Table.{number, part, remaining}
 use Rattle.table.specs.Writing.{walk, made, make}
 use Rattle.upid.specs.Cover.{All, none, more}
 use Rattle.theorems.specs.Identifiers.{loopIn}
-use Rattle.theorems.specs.Same.{viewless, SameSections}
+use Rattle.theorems.specs.Same.{withoutPlace, SameSections}
 use Rattle.theorems.proofs.ItemsWritten.{each-item, one-loop}
 use Rattle.theorems.proofs.WrittenBack.{payload-back}
 
--- ---- a command's type and payload, of the command without its view, its components and the bytes of its view
+-- ---- a command's type and payload, of the command without its view's place, its components and the bytes of its view
 commandPayload : SpliceCommand → List ComponentSplice → List ℕ → List ℕ
 commandPayload SpliceCommand.SpliceNull components bytes = []
 commandPayload (SpliceCommand.SpliceInsert i) components bytes = bytesIn (insertMade (record { value = i; components = components }))
@@ -47,7 +47,7 @@ commandPayload (SpliceCommand.TimeSignal t) components bytes = bytesIn (make spl
 commandPayload SpliceCommand.BandwidthReservation components bytes = []
 commandPayload (SpliceCommand.PrivateCommand p) components bytes = bytesOf (bitsOfNum 32 (p .identifier) ++ (bitsOf bytes ++ []))
 
-kind-of : (c : SpliceCommand) → kindOf c ≡ kindOf (viewless c)
+kind-of : (c : SpliceCommand) → kindOf c ≡ kindOf (withoutPlace c)
 kind-of SpliceCommand.SpliceNull = refl
 kind-of (SpliceCommand.SpliceInsert i) = refl
 kind-of (SpliceCommand.TimeSignal t) = refl
@@ -64,7 +64,7 @@ private-of lent p b e =
     rw i (w .bytes)
 
 payload-of : (c : SpliceCommand) (p s b : List ℕ) → commandMade c (componentsOf p) s ≡ made b
-    → b ≡ commandPayload (viewless c) (take (countIn c) (besideCommand c p)) (viewed s (privateView c))
+    → b ≡ commandPayload (withoutPlace c) (take (countIn c) (besideCommand c p)) (viewed s (privateView c))
 unfolding commandMade bytesIn commandPayload
 payload-of SpliceCommand.SpliceNull p s b e = ap bytesIn (sym e)
 payload-of (SpliceCommand.SpliceInsert i) p s b e = ap bytesIn (sym e)
@@ -78,10 +78,10 @@ unfolding wholeSectionOf
 beside s x e = ap (λ (r : SectionRead). besideSection r (commandBytes s)) e
 
 payload-in : (s : List ℕ) (x : Section) → AllBytes s → sectionOf s ≡ SectionRead.Is x → canonicalSection s ≡ true
-    → commandBytes s ≡ commandPayload (viewless (x .command)) (take (countIn (x .command)) (wholeSectionOf s .components)) (viewed s (privateView (x .command)))
+    → commandBytes s ≡ commandPayload (withoutPlace (x .command)) (take (countIn (x .command)) (wholeSectionOf s .components)) (viewed s (privateView (x .command)))
 payload-in s x a e c =
     payload-of (x .command) (commandBytes s) s (commandBytes s) (payload-back s x a e c .1)
-    ∙ ap (λ (cs : List ComponentSplice). commandPayload (viewless (x .command)) (take (countIn (x .command)) cs) (viewed s (privateView (x .command)))) (sym (beside s x e))
+    ∙ ap (λ (cs : List ComponentSplice). commandPayload (withoutPlace (x .command)) (take (countIn (x .command)) cs) (viewed s (privateView (x .command)))) (sym (beside s x e))
 
 same-payload : {c d : SpliceCommand} {cs ds : List ComponentSplice} {p q : List ℕ} → c ≡ d → cs ≡ ds → p ≡ q → commandPayload c cs p ≡ commandPayload d ds q
 same-payload e f g = rw (e, f, g)

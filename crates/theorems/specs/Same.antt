@@ -12,18 +12,18 @@ use Rattle.section.specs.Section.{privateView}
 use Rattle.section.specs.Whole.{wholeSectionOf}
 use Rattle.section.specs.declared.Section.{Section}
 use Rattle.section_writer.specs.Frame.{headed}
-use Rattle.table.specs.Lent.{viewed, noView}
+use Rattle.table.specs.Lent.{viewed, placeless}
 use Rattle.theorems.specs.Identifiers.{loopIn}
 
--- a command without its view
-abbrev pub viewless : SpliceCommand → SpliceCommand
-viewless c = withView (λ v. noView) c
+-- a command without its view's place
+abbrev pub withoutPlace : SpliceCommand → SpliceCommand
+withoutPlace c = withView placeless c
 
 -- x that is read of the bytes s, and y that is read of the bytes r
 pub record SameSections (s : List ℕ) (x : Section) (r : List ℕ) (y : Section) : Type 0 where
   -- 0 in place of the command's length and type
   pub headers : headed (x .header) 0 0 ≡ headed (y .header) 0 0
-  pub commands : viewless (x .command) ≡ viewless (y .command)
+  pub commands : withoutPlace (x .command) ≡ withoutPlace (y .command)
   -- as many as the command counts
   pub components : take (countIn (x .command)) (wholeSectionOf s .components) ≡ take (countIn (y .command)) (wholeSectionOf r .components)
   pub bytes : viewed s (privateView (x .command)) ≡ viewed r (privateView (y .command))
