@@ -267,24 +267,29 @@ identifier-of w (Segmentation x) id = refl
 identifier-of w (Time x) id = refl
 identifier-of w (Reserved tag own) id = refl
 
-module _ (s r t id : List ℕ) (b c : Beside) (eidrs : b .eidr ≡ c .eidr) where
-  with-view : (w : View) (d : Descriptor) → countBeside d ≤ length (b .components) → SameView s (viewIn d) r w
-      → take (countBeside d) (b .components) ≡ take (countBeside (withView w d)) (c .components) → descriptorMade d id b s ≡ made t → descriptorMade (withView w d) id c r ≡ made t
-  unfolding descriptorMade
-  with-view w d places h same e =
-      let u = unframed (tagOf d) (identifierOf d id) (payloadMade d id b s) t e in
-      let n : take (countBeside (withView w d)) (b .components) ≡ take (countBeside (withView w d)) (c .components) = ap (λ (n : ℕ). take n (b .components)) (count-of w d) ∙ same in
-      let g : payloadMade (withView w d) id c r ≡ made (u .0) = sym (payload-beside r id b c eidrs (withView w d) n) ∙ payload-alike s r w (u .0) id b d places h (u .1) in
-      ap₂ (λ (k : ℕ) (i : List ℕ). framedMade k i (payloadMade (withView w d) id c r)) (tag-of w d) (identifier-of w d id)
-      ∙ ap (framedMade (tagOf d) (identifierOf d id)) (g ∙ sym (u .1)) ∙ e
+-- descriptors of equal values have one tag and one identifier
+pub same-frame : (d e : Descriptor) (id : List ℕ) → withoutPlaces d ≡ withoutPlaces e → (tagOf d ≡ tagOf e) × (identifierOf d id ≡ identifierOf e id)
+same-frame d e id h =
+    let k = views-differ d e h in
+    (sym (tag-of (viewIn e) d) ∙ ap tagOf k, sym (identifier-of (viewIn e) d id) ∙ ap (λ (f : Descriptor). identifierOf f id) k)
 
+module _ (s r id : List ℕ) (b c : Beside) (eidrs : b .eidr ≡ c .eidr) (d e : Descriptor) (places : countBeside d ≤ length (b .components)) (values : withoutPlaces d ≡ withoutPlaces e)
+    (views : SameView s (viewIn d) r (viewIn e)) (same : take (countBeside d) (b .components) ≡ take (countBeside e) (c .components)) where
   -- of descriptors that are alike the same is written
-  pub alike-made : (d e : Descriptor) → countBeside d ≤ length (b .components) → withoutPlaces d ≡ withoutPlaces e → SameView s (viewIn d) r (viewIn e)
-      → take (countBeside d) (b .components) ≡ take (countBeside e) (c .components) → descriptorMade d id b s ≡ made t → descriptorMade e id c r ≡ made t
-  alike-made d e places values h same m =
+  pub alike-payload : (p : List ℕ) → payloadMade d id b s ≡ made p → payloadMade e id c r ≡ made p
+  alike-payload p m =
       let k : withView (viewIn e) d ≡ e = views-differ d e values in
-      subst (λ (f : Descriptor). descriptorMade f id c r ≡ made t) k
-      (with-view (viewIn e) d places h (same ∙ ap (λ (f : Descriptor). take (countBeside f) (c .components)) (sym k)) m)
+      let n : countBeside d ≡ countBeside e = sym (count-of (viewIn e) d) ∙ ap countBeside k in
+      sym (payload-beside r id b c eidrs e (ap (λ (n : ℕ). take n (b .components)) (sym n) ∙ same))
+      ∙ subst (λ (f : Descriptor). payloadMade f id b r ≡ made p) k (payload-alike s r (viewIn e) p id b d places views m)
+
+  pub alike-made : (t : List ℕ) → descriptorMade d id b s ≡ made t → descriptorMade e id c r ≡ made t
+  unfolding descriptorMade
+  alike-made t m =
+      let u = unframed (tagOf d) (identifierOf d id) (payloadMade d id b s) t m in
+      let f = same-frame d e id values in
+      ap₂ (λ (k : ℕ) (i : List ℕ). framedMade k i (payloadMade e id c r)) (sym (f .0)) (sym (f .1))
+      ∙ ap (framedMade (tagOf d) (identifierOf d id)) (alike-payload (u .0) (u .1) ∙ sym (u .1)) ∙ m
 
 -- ---- equal readings, of both of which something is written
 
@@ -329,7 +334,7 @@ module _ (s p id : List ℕ) (b : Beside) where
       let x : SegmentationDescriptor = record { «segmentation_event_id» = event; «descriptor_detail» = Insert i } in
       (zero-view x id b s (ap refusalIn e) .1, λ k. none-fair (i .«segmentation_upid») (b .eidr) s k (all-fair x id b s places p e .2))
 
-  payload-told : (d : Descriptor) → countBeside d ≤ length (b .components) → payloadMade d id b s ≡ made p → (viewIn d .at + viewIn d .len ≤ length s) × NoneTold d
+  pub payload-told : (d : Descriptor) → countBeside d ≤ length (b .components) → payloadMade d id b s ≡ made p → (viewIn d .at + viewIn d .len ≤ length s) × NoneTold d
   unfolding payloadMade dtmf privateBytes fields.number fields.reserved fields.part fields.remaining
   payload-told (Avail x) places e = (omega arith, tt)
   payload-told (Dtmf x) places e =
@@ -351,36 +356,53 @@ first [] = []
 first (b ∷ bs) = b
 
 module _ (s r : List ℕ) (w : View) where
-  detail-view : (d : SegmentationDetail) → (detailView d .at + detailView d .len ≤ length s) × DetailTold d → (detailView (detailAt w d) .at + detailView (detailAt w d) .len ≤ length r) × DetailTold (detailAt w d)
-      → bytesOfViews s (detailViews d) ≡ bytesOfViews r (detailViews (detailAt w d)) → SameView s (detailView d) r (detailView (detailAt w d))
+  detail-view : (d : SegmentationDetail) → (detailView d .at + detailView d .len ≤ length s) × DetailTold d → detailView (detailAt w d) .at + detailView (detailAt w d) .len ≤ length r
+      → detailView d .len ≡ detailView (detailAt w d) .len → bytesOfViews s (detailViews d) ≡ bytesOfViews r (detailViews (detailAt w d)) → SameView s (detailView d) r (detailView (detailAt w d))
   unfolding first
-  detail-view Cancel f g e = no-views s r
-  detail-view (Insert i) f g e = go (i .«segmentation_upid») (withoutView (i .«segmentation_upid» .kind)) (f .0) (f .1) (g .1) refl e
+  detail-view Cancel f g n e = no-views s r
+  detail-view (Insert i) f g n e = go (i .«segmentation_upid») (withoutView (i .«segmentation_upid» .kind)) (f .0) (f .1) n refl e
     where
-      go : (u : SegmentationUpid) (t : Bool) → u .bytes .at + u .bytes .len ≤ length s → (withoutView (u .kind) ≡ true → u .bytes .len ≡ 0) → (withoutView (u .kind) ≡ true → w .len ≡ 0)
-          → withoutView (u .kind) ≡ t → bytesOfViews s (cond t [] (u .bytes ∷ [])) ≡ bytesOfViews r (cond t [] (w ∷ [])) → SameView s (u .bytes) r w
-      go u true a n m t h = both-none s (u .bytes) r w a (g .0) (n t) (m t)
-      go u false a n m t h = by-bytes s (u .bytes) r w a (g .0) (ap first h)
+      go : (u : SegmentationUpid) (t : Bool) → u .bytes .at + u .bytes .len ≤ length s → (withoutView (u .kind) ≡ true → u .bytes .len ≡ 0) → u .bytes .len ≡ w .len → withoutView (u .kind) ≡ t
+          → bytesOfViews s (cond t [] (u .bytes ∷ [])) ≡ bytesOfViews r (cond t [] (w ∷ [])) → SameView s (u .bytes) r w
+      go u true a none n t h = both-none s (u .bytes) r w a g (none t) (sym n ∙ none t)
+      go u false a none n t h = by-bytes s (u .bytes) r w a g (ap first h)
 
-  view-same : (d : Descriptor) → (viewIn d .at + viewIn d .len ≤ length s) × NoneTold d → (viewIn (withView w d) .at + viewIn (withView w d) .len ≤ length r) × NoneTold (withView w d)
-      → bytesOfViews s (descriptorViews d) ≡ bytesOfViews r (descriptorViews (withView w d)) → SameView s (viewIn d) r (viewIn (withView w d))
+  view-same : (d : Descriptor) → (viewIn d .at + viewIn d .len ≤ length s) × NoneTold d → viewIn (withView w d) .at + viewIn (withView w d) .len ≤ length r
+      → viewIn d .len ≡ viewIn (withView w d) .len → bytesOfViews s (descriptorViews d) ≡ bytesOfViews r (descriptorViews (withView w d)) → SameView s (viewIn d) r (viewIn (withView w d))
   unfolding first
-  view-same (Avail x) f g e = no-views s r
-  view-same (Dtmf x) f g e = by-bytes s (x .«dtmf_chars») r w (f .0) (g .0) (ap first e)
-  view-same (Segmentation x) f g e = detail-view (x .«descriptor_detail») f g e
-  view-same (Time x) f g e = no-views s r
-  view-same (Reserved tag own) f g e = by-bytes s own r w (f .0) (g .0) (ap first e)
+  view-same (Avail x) f g n e = no-views s r
+  view-same (Dtmf x) f g n e = by-bytes s (x .«dtmf_chars») r w (f .0) g (ap first e)
+  view-same (Segmentation x) f g n e = detail-view (x .«descriptor_detail») f g n e
+  view-same (Time x) f g n e = no-views s r
+  view-same (Reserved tag own) f g n e = by-bytes s own r w (f .0) g (ap first e)
+
+-- how many bytes a view has is a value
+detail-size : (d : SegmentationDetail) → detailView (withUpids placelessUpid d) .len ≡ detailView d .len
+detail-size Cancel = refl
+detail-size (Insert i) = refl
+
+size-is : (d : Descriptor) → viewIn (withoutPlaces d) .len ≡ viewIn d .len
+size-is (Avail x) = refl
+size-is (Dtmf x) = refl
+size-is (Segmentation x) = detail-size (x .«descriptor_detail»)
+size-is (Time x) = refl
+size-is (Reserved tag own) = refl
+
+-- the views of equal readings, the first of which is written
+pub same-view : (s r : List ℕ) (d e : Descriptor) → withoutPlaces d ≡ withoutPlaces e → bytesOfViews s (descriptorViews d) ≡ bytesOfViews r (descriptorViews e)
+    → (viewIn d .at + viewIn d .len ≤ length s) × NoneTold d → viewIn e .at + viewIn e .len ≤ length r → SameView s (viewIn d) r (viewIn e)
+same-view s r d e values held f g =
+    let k : withView (viewIn e) d ≡ e = views-differ d e values in
+    let n : viewIn d .len ≡ viewIn e .len = sym (size-is d) ∙ ap (λ (y : Descriptor). viewIn y .len) values ∙ size-is e in
+    subst (λ (y : Descriptor). SameView s (viewIn d) r (viewIn y)) k
+    (view-same s r (viewIn e) d f (subst (λ (y : Descriptor). viewIn y .at + viewIn y .len ≤ length r) (sym k) g) (n ∙ ap (λ (y : Descriptor). viewIn y .len) (sym k))
+    (held ∙ ap (λ (y : Descriptor). bytesOfViews r (descriptorViews y)) (sym k)))
 
 -- what is written of equal readings is equal
 pub same-made : (s r t q : List ℕ) (d e : Descriptor) (id other : List ℕ) (b c : Beside) → countBeside d ≤ length (b .components) → countBeside e ≤ length (c .components)
     → SameReading s d id b r e other c → descriptorMade d id b s ≡ made t → descriptorMade e other c r ≡ made q → t ≡ q
 same-made s r t q d e id other b c pd pe same m n =
-    let k : withView (viewIn e) d ≡ e = views-differ d e (same .values) in
-    let f = made-told s t id b d pd m in
-    let g = subst (λ (y : Descriptor). (viewIn y .at + viewIn y .len ≤ length r) × NoneTold y) (sym k) (made-told r q other c e pe n) in
-    let v : SameView s (viewIn d) r (viewIn (withView (viewIn e) d)) =
-    view-same s r (viewIn e) d f g (same .bytes ∙ ap (λ (y : Descriptor). bytesOfViews r (descriptorViews y)) (sym k)) in
-    let h : SameView s (viewIn d) r (viewIn e) = subst (λ (y : Descriptor). SameView s (viewIn d) r (viewIn y)) k v in
-    let o : descriptorMade e id c r ≡ made t = alike-made s r t id b c (same .eidrs) d e pd (same .values) h (same .components) m in
+    let h = same-view s r d e (same .values) (same .bytes) (made-told s t id b d pd m) (made-told r q other c e pe n .0) in
+    let o : descriptorMade e id c r ≡ made t = alike-made s r id b c (same .eidrs) d e pd (same .values) h (same .components) t m in
     let z : made t ≡ made q = sym o ∙ ap (λ (i : List ℕ). descriptorMade e i c r) (same .identifiers) ∙ n in
     cc

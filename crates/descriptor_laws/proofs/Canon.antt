@@ -1,4 +1,4 @@
--- A canonical descriptor as a whole: its frame, and what is written of an avail, DTMF, time or reserved one is canonical.
+-- A canonical descriptor as a whole: its frame; and the payload that is written of an avail, DTMF, time or reserved one is canonical.
 use Prim.Native.Nat.{ℕ, zero, suc, _+_, _*_, _-_, _<_, _≤_}
 use mathlib.Core.Bool.{Bool, true, false, not, _&&_}
 use mathlib.Core.List.{List, [], _∷_, _++_}
@@ -22,10 +22,10 @@ use Rattle.descriptor.specs.declared.plain.TimeDescriptor.{TimeDescriptor}
 use Rattle.descriptor.specs.declared.whole.Beside.{Beside}
 use Rattle.descriptor.proofs.Structures.{availStructure, dtmfStructure, timeStructure, privateStructure}
 use Rattle.descriptor_form.specs.Canonical.{canonicalSegmentation, canonicalPayload, canonicalDescriptor}
-use Rattle.descriptor_form.specs.Writing.{cuei, framed, allZero, alone, fairReserved, payloadMade, descriptorMade}
+use Rattle.descriptor_form.specs.Writing.{cuei, framed, alone, fairReserved, payloadMade}
 use Rattle.table.specs.Table.{canonicalBy}
 use Rattle.descriptor_laws.proofs.PlainLaws.{table-write-read}
-use Rattle.descriptor_laws.proofs.PlainTrips.{unframed}
+use Rattle.descriptor_laws.proofs.PlainTrips.{foreign, fair-tag}
 
 -- a canonical payload in its frame
 pub framed-canonical : (tag : ℕ) (id p : List ℕ) → length id ≡ 4 → length p + 4 ≤ 254 → canonicalPayload tag id p ≡ true → canonicalDescriptor (framed tag id p) ≡ true
@@ -60,40 +60,23 @@ canonical-framed s e =
         ap₂ (λ (x : ℕ) (y : List ℕ). a ∷ (x ∷ y)) z (sym (take-append-drop 4 r))
 
 -- ---- what is written is canonical
-module _ (id : List ℕ) (beside : Beside) (lent s : List ℕ) where
-  pub avail-canonical : (x : AvailDescriptor) → descriptorMade (Avail x) id beside lent ≡ made s → canonicalDescriptor s ≡ true
-  unfolding descriptorMade payloadMade canonicalPayload isCuei
-  avail-canonical x e =
-      let u = unframed 0 cuei (make avail (alone id (beside .eidr)) lent x) s e in
-      rw (u .2) (framed-canonical 0 cuei (u .0) refl (u .3) (table-write-read avail availStructure (λ x. refl) (alone id (beside .eidr)) lent x (u .0) (u .1) tt .1))
+module _ (id : List ℕ) (beside : Beside) (lent p : List ℕ) where
+  pub avail-canonical : (x : AvailDescriptor) → payloadMade (Avail x) id beside lent ≡ made p → canonicalPayload 0 cuei p ≡ true
+  unfolding payloadMade canonicalPayload isCuei
+  avail-canonical x e = table-write-read avail availStructure (λ x. refl) (alone id (beside .eidr)) lent x p e tt .1
 
-  pub dtmf-canonical : (x : DTMFDescriptor) → descriptorMade (Dtmf x) id beside lent ≡ made s → canonicalDescriptor s ≡ true
-  unfolding descriptorMade payloadMade canonicalPayload isCuei
-  dtmf-canonical x e =
-      let u = unframed 1 cuei (make dtmf (alone id (beside .eidr)) lent x) s e in
-      rw (u .2) (framed-canonical 1 cuei (u .0) refl (u .3) (table-write-read dtmf dtmfStructure (λ x. refl) (alone id (beside .eidr)) lent x (u .0) (u .1) tt .1))
+  pub dtmf-canonical : (x : DTMFDescriptor) → payloadMade (Dtmf x) id beside lent ≡ made p → canonicalPayload 1 cuei p ≡ true
+  unfolding payloadMade canonicalPayload isCuei
+  dtmf-canonical x e = table-write-read dtmf dtmfStructure (λ x. refl) (alone id (beside .eidr)) lent x p e tt .1
 
-  pub time-canonical : (x : TimeDescriptor) → descriptorMade (Time x) id beside lent ≡ made s → canonicalDescriptor s ≡ true
-  unfolding descriptorMade payloadMade canonicalPayload isCuei
-  time-canonical x e =
-      let u = unframed 3 cuei (make time (alone id (beside .eidr)) lent x) s e in
-      rw (u .2) (framed-canonical 3 cuei (u .0) refl (u .3) (table-write-read time timeStructure (λ x. refl) (alone id (beside .eidr)) lent x (u .0) (u .1) tt .1))
+  pub time-canonical : (x : TimeDescriptor) → payloadMade (Time x) id beside lent ≡ made p → canonicalPayload 3 cuei p ≡ true
+  unfolding payloadMade canonicalPayload isCuei
+  time-canonical x e = table-write-read time timeStructure (λ x. refl) (alone id (beside .eidr)) lent x p e tt .1
 
-  pub reserved-canonical : (tag : ℕ) (v : View) → length id ≡ 4 → descriptorMade (Reserved tag v) id beside lent ≡ made s → canonicalDescriptor s ≡ true
-  unfolding descriptorMade payloadMade canonicalPayload fairReserved
-  reserved-canonical tag v four e =
+  pub reserved-canonical : (tag : ℕ) (v : View) → payloadMade (Reserved tag v) id beside lent ≡ made p → canonicalPayload tag id p ≡ true
+  unfolding payloadMade canonicalPayload
+  reserved-canonical tag v e =
       let fair : Bool = fairReserved tag id (beside .eidr) in
-      let u = unframed tag id (make privateBytes fair lent v) s e in
-      let c : canonicalBy privateBytes (u .0) ≡ true = table-write-read privateBytes privateStructure (λ x. refl) fair lent v (u .0) (u .1) tt .1 in
-      let f : not (isCuei id && ltb tag 4) ≡ true = and-true (not (isCuei id && ltb tag 4)) (allZero (beside .eidr)) (laws.wrote fair lent (walk privateBytes v 0 .fields) (u .0) (u .1) .fit) .0 in
-      rw (u .2) (framed-canonical tag id (u .0) four (u .3) (foreign (u .0) (isCuei id) (ltb tag 4) refl f ∙ c))
-    where
-      foreign : (p : List ℕ) (c l : Bool) → ltb tag 4 ≡ l → not (c && l) ≡ true
-          → pick c (pick (eqb tag 0) (canonicalBy avail p) (pick (eqb tag 1) (canonicalBy dtmf p) (pick (eqb tag 2) (canonicalSegmentation p) (pick (eqb tag 3) (canonicalBy time p) (canonicalBy privateBytes p)))))
-          (canonicalBy privateBytes p)
-          ≡ canonicalBy privateBytes p
-      foreign p false l e h = refl
-      foreign p true true e h = zero-one cc
-      foreign p true false e h =
-          let k : 4 ≤ tag = ltb-false tag 4 e in
-          rw (ne-eqb tag 0 (λ z. omega arith), ne-eqb tag 1 (λ z. omega arith), ne-eqb tag 2 (λ z. omega arith), ne-eqb tag 3 (λ z. omega arith))
+      let f = fair-tag tag id (beside .eidr) (laws.wrote fair lent (walk privateBytes v 0 .fields) p e .fit) in
+      foreign tag id (canonicalBy avail p) (canonicalBy dtmf p) (canonicalSegmentation p) (canonicalBy time p) (canonicalBy privateBytes p) (f .0)
+      ∙ table-write-read privateBytes privateStructure (λ x. refl) fair lent v p e tt .1

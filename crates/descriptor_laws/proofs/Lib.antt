@@ -10,5 +10,6 @@ pub mod SegmentBack
 pub mod SegmentCanon
 pub mod Alike
 pub mod Wholes
+pub mod Payloads
 pub mod Theorems
 pub mod Rows

@@ -33,14 +33,13 @@ use Rattle.descriptor.specs.declared.segmentation.SegmentationInsert.{Segmentat
 use Rattle.descriptor.specs.declared.segmentation.SegmentationUpid.{SegmentationUpid}
 use Rattle.descriptor.specs.declared.whole.Beside.{Beside}
 use Rattle.descriptor.proofs.SegmentationLaws.{segmentationStructure, upidAt, upidPlace}
-use Rattle.descriptor_form.specs.Canonical.{canonicalUpid, canonicalSegmentation, canonicalPayload, canonicalDescriptor}
+use Rattle.descriptor_form.specs.Canonical.{canonicalUpid, canonicalSegmentation, canonicalPayload}
 use Rattle.descriptor_form.specs.Same.{SameReading, bytesOfViews}
-use Rattle.descriptor_form.specs.Writing.{cuei, allZero, accepts, fairUpid, segmentationMade, payloadMade, descriptorMade, upidSource, written, writtenKind, writtenUpid}
+use Rattle.descriptor_form.specs.Writing.{cuei, allZero, accepts, fairUpid, segmentationMade, payloadMade, upidSource, written, writtenKind, writtenUpid}
 use Rattle.descriptor_form.proofs.Fields.{insert-fields}
 use Rattle.descriptor_form.proofs.Making.{all-fair, by-table, counted, zero-view}
-use Rattle.descriptor_laws.proofs.Canon.{framed-canonical}
 use Rattle.descriptor_laws.proofs.PlainLaws.{viewed-at}
-use Rattle.descriptor_laws.proofs.PlainTrips.{ReadsBack, unframed, zeros}
+use Rattle.descriptor_laws.proofs.PlainTrips.{ReadsBack, zeros}
 use Rattle.descriptor_laws.proofs.Remade.{withUpid, upid-found}
 use Rattle.descriptor_laws.proofs.Reported.{check-none, reports}
 use Rattle.descriptor_laws.proofs.SegmentTrips.{segmentation-write-read}
@@ -250,19 +249,10 @@ module _ (id : List ℕ) (beside : Beside) (lent : List ℕ) (four : length id �
   payload-back event Cancel h e = cancel-back event e
   payload-back event (Insert i) h e = insert-back event i h e
 
--- What is written of a segmentation descriptor reads back, and is canonical. (Its array has as many places as its count, or more.)
-module _ (x : SegmentationDescriptor) (id : List ℕ) (beside : Beside) (lent s : List ℕ) (four : length id ≡ 4) (twelve : length (beside .eidr) ≡ 12)
-    (held : AllBytes (beside .eidr)) (all : AllBytes lent) (places : componentCount x ≤ length (beside .components)) where
-  pub segmentation-reads-back : descriptorMade (Segmentation x) id beside lent ≡ made s → ReadsBack (Segmentation x) id beside lent s
-  unfolding descriptorMade payloadMade descriptorOf isCuei
-  segmentation-reads-back e =
-      let u = unframed 2 cuei (segmentationMade x id beside lent) s e in
-      let b = payload-back id beside lent four twelve held all (u .0) (x .«segmentation_event_id») (x .«descriptor_detail») places (u .1) in
-      record { payload = u .0; framing = u .2; fits = u .3; again = Segmentation (b .again); reading = b .reading; same = b .same }
-
-  pub segmentation-canonical : descriptorMade (Segmentation x) id beside lent ≡ made s → canonicalDescriptor s ≡ true
-  unfolding descriptorMade payloadMade canonicalPayload isCuei
-  segmentation-canonical e =
-      let u = unframed 2 cuei (segmentationMade x id beside lent) s e in
-      let b = payload-back id beside lent four twelve held all (u .0) (x .«segmentation_event_id») (x .«descriptor_detail») places (u .1) in
-      rw (u .2) (framed-canonical 2 cuei (u .0) refl (u .3) (b .canon))
+-- The payload that is written of a segmentation descriptor reads back, and is canonical. (Its array has as many places as its count, or more.)
+pub segmentation-back : (x : SegmentationDescriptor) (id : List ℕ) (beside : Beside) (lent p : List ℕ) → length id ≡ 4 → length (beside .eidr) ≡ 12 → AllBytes (beside .eidr) → AllBytes lent
+    → componentCount x ≤ length (beside .components) → payloadMade (Segmentation x) id beside lent ≡ made p → ReadsBack (Segmentation x) id beside lent p × (canonicalPayload 2 cuei p ≡ true)
+unfolding payloadMade descriptorOf canonicalPayload isCuei
+segmentation-back x id beside lent p four twelve held all places e =
+    let b = payload-back id beside lent four twelve held all p (x .«segmentation_event_id») (x .«descriptor_detail») places e in
+    (record { again = Segmentation (b .again); reading = b .reading; same = b .same }, b .canon)

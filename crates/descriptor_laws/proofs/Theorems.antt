@@ -8,33 +8,29 @@ use lib.ListN.{length, drop}
 use Rattle.table.specs.Bits.{AllBytes}
 use Rattle.table.specs.Writing.{made}
 use Rattle.descriptor.specs.declared.Descriptor.{Descriptor}
-use Rattle.descriptor.specs.declared.Descriptor.the-variants.{Avail, Dtmf, Segmentation, Time, Reserved}
 use Rattle.descriptor.specs.declared.DescriptorRead.the-variants.{Is}
 use Rattle.descriptor.specs.declared.whole.Beside.{Beside}
 use Rattle.descriptor.specs.declared.whole.WholeDescriptor.{WholeDescriptor}
 use Rattle.descriptor_form.specs.Canonical.{canonicalDescriptor}
 use Rattle.descriptor_form.specs.Same.{SameReading, countBeside}
-use Rattle.descriptor_form.specs.Writing.{descriptorMade}
+use Rattle.descriptor_form.specs.Writing.{payloadMade, descriptorMade, tagOf, identifierOf}
 use Rattle.descriptor_laws.specs.Trips.{wholeIn, Handed, ReadAs}
 use Rattle.descriptor_laws.proofs.Alike.{same-made}
-use Rattle.descriptor_laws.proofs.Canon.{avail-canonical, dtmf-canonical, time-canonical, reserved-canonical}
-use Rattle.descriptor_laws.proofs.PlainTrips.{ReadsBack, avail-reads-back, dtmf-reads-back, time-reads-back, reserved-reads-back}
-use Rattle.descriptor_laws.proofs.SegmentBack.{segmentation-reads-back, segmentation-canonical}
+use Rattle.descriptor_laws.proofs.Canon.{framed-canonical}
+use Rattle.descriptor_laws.proofs.Payloads.{payload-back}
+use Rattle.descriptor_laws.proofs.PlainTrips.{unframed}
 use Rattle.descriptor_laws.proofs.Wholes.{reads-as, whole-back}
-
-back : (d : Descriptor) (id : List ℕ) (beside : Beside) (lent s : List ℕ) → Handed d id beside lent → descriptorMade d id beside lent ≡ made s → ReadsBack d id beside lent s × (canonicalDescriptor s ≡ true)
-back (Avail x) id beside lent s h e = (avail-reads-back id beside lent s (h .four) (h .twelve) x e, avail-canonical id beside lent s x e)
-back (Dtmf x) id beside lent s h e = (dtmf-reads-back id beside lent s (h .four) (h .twelve) x (h .are) e, dtmf-canonical id beside lent s x e)
-back (Segmentation x) id beside lent s h e =
-    let places : countBeside (Segmentation x) ≤ length (beside .components) = omega (arith, h .count, h .places) in
-    (segmentation-reads-back x id beside lent s (h .four) (h .twelve) (h .held) (h .are) places e, segmentation-canonical x id beside lent s (h .four) (h .twelve) (h .held) (h .are) places e)
-back (Time x) id beside lent s h e = (time-reads-back id beside lent s (h .four) (h .twelve) x e, time-canonical id beside lent s x e)
-back (Reserved tag v) id beside lent s h e = (reserved-reads-back id beside lent s (h .four) (h .twelve) tag v (h .are) e, reserved-canonical id beside lent s tag v (h .four) e)
 
 -- What is written of a descriptor reads back equal to what was handed in, and is canonical.
 pub descriptor-write-read : (d : Descriptor) (identifier : List ℕ) (beside : Beside) (lent s : List ℕ) → Handed d identifier beside lent
     → descriptorMade d identifier beside lent ≡ made s → ReadAs s d identifier beside lent × (canonicalDescriptor s ≡ true)
-descriptor-write-read d id beside lent s h e = let b = back d id beside lent s h e in (reads-as d id beside lent (h .four) s (b .0), b .1)
+unfolding descriptorMade
+descriptor-write-read d id beside lent s h e =
+    let u = unframed (tagOf d) (identifierOf d id) (payloadMade d id beside lent) s e in
+    let p = payload-back id beside lent (u .0) d h (u .1) in (
+      subst (λ (t : List ℕ). ReadAs t d id beside lent) (sym (u .2)) (reads-as d id beside lent (tagOf d) (identifierOf d id) (u .0) p),
+      rw (u .2) (framed-canonical (tagOf d) (identifierOf d id) (u .0) (p .four) (u .3) (p .form)),
+    )
 
 -- A canonical descriptor is read, and writing its reading gives its bytes.
 pub descriptor-read-write : (s : List ℕ) → AllBytes s → canonicalDescriptor s ≡ true

@@ -1,5 +1,5 @@
 -- A whole descriptor: its frame, by identifier and tag, and what stands beside it.
---     reads-as          what reads back by its payload reads back as a whole
+--     reads-as          what reads as its payload does reads so in its frame
 --     whole-back        a canonical descriptor is what is written of its reading
 use Prim.Native.Nat.{ℕ, zero, suc, _+_, _≤_}
 use mathlib.Core.Bool.{Bool, true, false, _&&_}
@@ -26,10 +26,10 @@ use Rattle.descriptor_form.specs.Canonical.{canonicalSegmentation, canonicalPay
 use Rattle.descriptor_form.specs.Same.{SameReading, countBeside}
 use Rattle.descriptor_form.specs.Writing.{cuei, framed, framedMade, payloadMade, descriptorMade, tagOf, identifierOf}
 use Rattle.table.specs.Table.{canonicalBy}
+use Rattle.descriptor_laws.specs.Making.{Payload}
 use Rattle.descriptor_laws.specs.Trips.{wholeIn, ReadAs}
 use Rattle.descriptor_laws.proofs.Canon.{canonical-framed}
 use Rattle.descriptor_laws.proofs.PlainCanon.{avail-read-write, dtmf-read-write, time-read-write, reserved-read-write}
-use Rattle.descriptor_laws.proofs.PlainTrips.{ReadsBack}
 use Rattle.descriptor_laws.proofs.SegmentCanon.{segment-read-write}
 
 -- ---- the frame
@@ -49,28 +49,17 @@ module _ (tag : ℕ) (id p : List ℕ) (four : length id ≡ 4) where
   unfolding framed
   whole-framed = ap₂ (wholeOf tag) (take-at id p 4 four) (drop-at id p 4 four)
 
-module _ (d : Descriptor) (id : List ℕ) (beside : Beside) (lent : List ℕ) (four : length id ≡ 4) where
-  identifier-four : (d : Descriptor) → length (identifierOf d id) ≡ 4
-  identifier-four (Avail x) = refl
-  identifier-four (Dtmf x) = refl
-  identifier-four (Segmentation x) = refl
-  identifier-four (Time x) = refl
-  identifier-four (Reserved tag own) = four
-
-  pub reads-as : (s : List ℕ) → ReadsBack d id beside lent s → ReadAs s d id beside lent
-  reads-as s r =
-      let tag = tagOf d in
-      let own = identifierOf d id in
-      let f : drop 6 s ≡ r .payload = ap (drop 6) (r .framing) ∙ payload-framed tag own (r .payload) (identifier-four d) in
-      let w : wholeIn s ≡ record { read = Is (r .again); identifier = identifierRead (Is (r .again)) own; beside = besideRead (Is (r .again)) (r .payload) } =
-      ap wholeIn (r .framing) ∙ whole-framed tag own (r .payload) (identifier-four d) ∙ whole-read tag own (r .payload) (r .again) (r .reading) in
-      record {
-        again = r .again;
-        reading = ap (λ (x : WholeDescriptor). x .read) w;
-        same =
-            subst (λ (p : List ℕ). SameReading p (r .again) (wholeIn s .identifier) (wholeIn s .beside) lent d id beside) (sym f)
-            (subst (λ (x : WholeDescriptor). SameReading (r .payload) (r .again) (x .identifier) (x .beside) lent d id beside) (sym w) (r .same));
-      }
+-- what reads as its payload does reads so in its frame
+pub reads-as : (d : Descriptor) (id : List ℕ) (beside : Beside) (lent : List ℕ) (tag : ℕ) (own p : List ℕ) → Payload d id beside lent tag own p → ReadAs (framed tag own p) d id beside lent
+reads-as d id beside lent tag own p r =
+    let w = whole-framed tag own p (r .four) in
+    record {
+      again = r .again;
+      reading = ap (λ (x : WholeDescriptor). x .read) w ∙ r .reading;
+      same =
+          subst (λ (q : List ℕ). SameReading q (r .again) (wholeIn (framed tag own p) .identifier) (wholeIn (framed tag own p) .beside) lent d id beside) (sym (payload-framed tag own p (r .four)))
+          (subst (λ (x : WholeDescriptor). SameReading p (r .again) (x .identifier) (x .beside) lent d id beside) (sym w) (r .same));
+    }
 
 -- ---- canonical bytes, by identifier and tag
 

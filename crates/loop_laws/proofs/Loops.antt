@@ -91,7 +91,7 @@ module _ (loop : List ℕ) (offset : ℕ) (t : List ℕ) (a : At loop offset t) 
       let v : SameView (drop 6 t) (viewIn d) loop (viewIn there) =
       subst (λ (p : List ℕ). SameView p (viewIn d) loop (viewIn there)) (a .payload) (moved-view loop base (length t - 6) (a .there) d told) in
       let m : descriptorMade there id b loop ≡ made t =
-      alike-made (drop 6 t) loop t id b b refl d there (w .places) (sym (moved-values base d)) v (ap (λ (n : ℕ). take n (b .components)) (sym (moved-count base d))) (w .writes) in
+      alike-made (drop 6 t) loop id b b refl d there (w .places) (sym (moved-values base d)) v (ap (λ (n : ℕ). take n (b .components)) (sym (moved-count base d))) t (w .writes) in
       record {
         read = there;
         is = item-is ∙ ap (itemAt base) (ap (λ (x : WholeDescriptor). x .read) (w .whole));
