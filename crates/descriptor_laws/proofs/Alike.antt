@@ -40,7 +40,7 @@ use Rattle.descriptor_form.proofs.Fields.{insert-fields}
 use Rattle.descriptor_form.proofs.Making.{all-fair, by-table, counted, zero-view}
 use Rattle.descriptor_laws.proofs.PlainLaws.{viewed-at}
 use Rattle.descriptor_laws.proofs.PlainTrips.{unframed}
-use Rattle.descriptor_laws.proofs.Remade.{same-make, withUpid, insert-makes, upid-seen}
+use Rattle.descriptor_laws.proofs.Remade.{same-make, withUpid, insert-makes, insert-seen}
 use Rattle.descriptor_laws.proofs.SegmentBack.{viewed-length, viewed-none}
 
 -- ---- a descriptor and its view
@@ -216,7 +216,7 @@ module _ (s r : List ℕ) (w : View) (p id : List ℕ) (b : Beside) where
           let t = laws.wrote (fairDetail (writtenDetail (Insert i))) source (withUpid event i cs (writtenUpid u)) p g in
           rw (le-leb (w .at + w .len) (length r) (h .right), le-leb (w .len) 255 (omega (arith, n .0, h .size)))
           (ap (makeOf fair other) (insert-fields event i (writtenUpid v) cs c)
-          ∙ insert-makes event i cs (fairDetail (writtenDetail (Insert i))) fair source other (writtenUpid u) (writtenUpid v) p g upid-alike (seen-alike (upid-seen event i cs source (writtenUpid u) (t .views))) is)
+          ∙ insert-makes event i cs (fairDetail (writtenDetail (Insert i))) fair source other (writtenUpid u) (writtenUpid v) p g upid-alike (seen-alike (sym (insert-seen event i cs source (writtenUpid u)) ∙ t .views)) is)
 
   detail-alike : (event : ℕ) (d : SegmentationDetail) → countOf (frontOf d .«segmentation_mode») ≤ length (b .components) → SameView s (detailView d) r w
       → segmentationMade (record { «segmentation_event_id» = event; «descriptor_detail» = d }) id b s ≡ made p

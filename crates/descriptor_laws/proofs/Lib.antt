@@ -11,5 +11,6 @@ pub mod SegmentCanon
 pub mod Alike
 pub mod Wholes
 pub mod Payloads
+pub mod MadeSo
 pub mod Theorems
 pub mod Rows

@@ -45,6 +45,10 @@ same-make fair other l r fs gs b e same s o =
     let k : within gs ≡ true = within-held r gs ∙ ap fitting (sym same) ∙ sym (within-held l fs) ∙ w .widths in
     rw (s, k, o) (ap (λ (cs : List Content). made (bytesOf (print cs))) (sym same) ∙ ap made (sym (w .bytes)))
 
+pub and-last : (b : Bool) → b && true ≡ b
+and-last true = refl
+and-last false = refl
+
 -- ---- fields without a view
 abbrev dry : List Field → Bool
 dry [] = true
@@ -115,6 +119,13 @@ module _ (event : ℕ) (i : SegmentationInsert) (cs : List ModeComponent) where
       contents-append l (foreFields event i cs) (upidFields u ++ backFields i)
       ∙ ap (λ (k : List Content). contents l (foreFields event i cs) ++ k) (contents-append l (upidFields u) (backFields i))
 
+  -- only the UPID's fields have a view
+  pub insert-seen : (l : List ℕ) (u : SegmentationUpid) → seen l (withUpid event i cs u) ≡ seen l (upidFields u)
+  insert-seen l u =
+      seen-append l (foreFields event i cs) (upidFields u ++ backFields i)
+      ∙ rw (dry-seen l l (foreFields event i cs) (dry-fore event i cs))
+      (seen-append l (upidFields u) (backFields i) ∙ rw (dry-seen l l (backFields i) (dry-sub (i .«sub_segments»))) (and-last (seen l (upidFields u))))
+
   -- the same with another UPID, that holds the same
   pub insert-makes : (fair other : Bool) (l r : List ℕ) (u v : SegmentationUpid) (b : List ℕ) → makeOf fair l (withUpid event i cs u) ≡ made b
       → contents l (upidFields u) ≡ contents r (upidFields v) → seen r (upidFields v) ≡ true → other ≡ true → makeOf other r (withUpid event i cs v) ≡ made b
@@ -124,16 +135,7 @@ module _ (event : ℕ) (i : SegmentationInsert) (cs : List ModeComponent) where
       ∙ ap₂ (λ (p q : List Content). p ++ q) (dry-held l r (foreFields event i cs) (dry-fore event i cs))
       (ap₂ (λ (p q : List Content). p ++ q) same (dry-held l r (backFields i) (dry-sub (i .«sub_segments»))))
       ∙ sym (split-held r v) in
-      let t : seen r (withUpid event i cs v) ≡ true =
-      seen-append r (foreFields event i cs) (upidFields v ++ backFields i)
-      ∙ rw (dry-seen r r (foreFields event i cs) (dry-fore event i cs)) (seen-append r (upidFields v) (backFields i) ∙ rw s (dry-seen r r (backFields i) (dry-sub (i .«sub_segments»)))) in
-      same-make fair other l r (withUpid event i cs u) (withUpid event i cs v) b e held t o
-
-  -- an insert's view that is seen
-  pub upid-seen : (l : List ℕ) (u : SegmentationUpid) → seen l (withUpid event i cs u) ≡ true → seen l (upidFields u) ≡ true
-  upid-seen l u e =
-      let f = and-true (seen l (foreFields event i cs)) (seen l (upidFields u ++ backFields i)) (sym (seen-append l (foreFields event i cs) (upidFields u ++ backFields i)) ∙ e) in
-      and-true (seen l (upidFields u)) (seen l (backFields i)) (sym (seen-append l (upidFields u) (backFields i)) ∙ f .1) .0
+      same-make fair other l r (withUpid event i cs u) (withUpid event i cs v) b e held (insert-seen r v ∙ s) o
 
   -- what is after the first fields
   past-first : (l : List ℕ) (fs gs : List Field) → drop (length fs) (contents l (fs ++ gs)) ≡ contents l gs

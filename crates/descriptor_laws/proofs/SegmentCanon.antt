@@ -41,7 +41,7 @@ use Rattle.descriptor_form.specs.Walk.{upidFields}
 use Rattle.descriptor_form.specs.Writing.{allZero, accepts, fairUpid, fairSegment, segmentationMade, upidIn, upidSource, writtenKind, writtenUpid}
 use Rattle.descriptor_form.proofs.Fields.{insert-fields}
 use Rattle.descriptor_laws.proofs.PlainLaws.{viewed-at}
-use Rattle.descriptor_laws.proofs.Remade.{withUpid, insert-makes, upid-seen}
+use Rattle.descriptor_laws.proofs.Remade.{withUpid, insert-makes, insert-seen}
 use Rattle.descriptor_laws.proofs.Reported.{check-none, reports, eidr-is-written}
 use Rattle.descriptor_laws.proofs.SegmentBack.{viewed-length, viewed-none, counted-again}
 use Rattle.descriptor_laws.proofs.SegmentRead.{after, segmentation-read}
@@ -290,7 +290,7 @@ module _ (p : List ℕ) (a : AllBytes p) where
 
           there : u .bytes .at + u .bytes .len ≤ length p
           there =
-              let s : seen p (upidFields u) ≡ true = upid-seen event i cs p u (ap (seen p) (sym fields-of) ∙ told .views) in
+              let s : seen p (upidFields u) ≡ true = sym (insert-seen event i cs p u) ∙ ap (seen p) (sym fields-of) ∙ told .views in
               leb-true _ _ (and-true (leb (u .bytes .at + u .bytes .len) (length p)) true s .0)
 
           beside-is : besideOf p ≡ record { components = filled cs; eidr = eidrOf (u .kind) (viewed p (u .bytes)) }

@@ -1,4 +1,4 @@
--- The round trips of descriptors, of all kinds. A reader needs specs/Trips.antt beside this file, and the definitions of `descriptor_form`.
+-- The round trips of descriptors, of all kinds. A reader needs specs/{Trips,Making}.antt beside this file, and the definitions of `descriptor_form`.
 use Prim.Native.Nat.{ℕ, _≤_}
 use mathlib.Core.Bool.{true}
 use mathlib.Core.List.{List}
@@ -6,7 +6,7 @@ use mathlib.Core.Path.{_≡_, ap, sym, subst, _∙_}
 use native.Mathlib.Omega.{arith}
 use lib.ListN.{length, drop}
 use Rattle.table.specs.Bits.{AllBytes}
-use Rattle.table.specs.Writing.{made}
+use Rattle.table.specs.Writing.{Made, made}
 use Rattle.descriptor.specs.declared.Descriptor.{Descriptor}
 use Rattle.descriptor.specs.declared.DescriptorRead.the-variants.{Is}
 use Rattle.descriptor.specs.declared.whole.Beside.{Beside}
@@ -14,9 +14,11 @@ use Rattle.descriptor.specs.declared.whole.WholeDescriptor.{WholeDescriptor}
 use Rattle.descriptor_form.specs.Canonical.{canonicalDescriptor}
 use Rattle.descriptor_form.specs.Same.{SameReading, countBeside}
 use Rattle.descriptor_form.specs.Writing.{payloadMade, descriptorMade, tagOf, identifierOf}
+use Rattle.descriptor_laws.specs.Making.{DescriptorMakes}
 use Rattle.descriptor_laws.specs.Trips.{wholeIn, Handed, ReadAs}
 use Rattle.descriptor_laws.proofs.Alike.{same-made}
 use Rattle.descriptor_laws.proofs.Canon.{framed-canonical}
+use Rattle.descriptor_laws.proofs.MadeSo.{what-is-made, nothing-else}
 use Rattle.descriptor_laws.proofs.Payloads.{payload-back}
 use Rattle.descriptor_laws.proofs.PlainTrips.{unframed}
 use Rattle.descriptor_laws.proofs.Wholes.{reads-as, whole-back}
@@ -58,3 +60,13 @@ descriptors-of-one-reading-are-one s r d e a b cs cr rs rr same =
       where
         one : (x y : Descriptor) → Is x ≡ Is y → x ≡ y
         one x y e = cc
+
+-- What is made of a descriptor that is handed in is told by what is read: refusal 33 is given where no canonical payload reads as it.
+pub what-is-made-of-a-descriptor : (d : Descriptor) (identifier : List ℕ) (beside : Beside) (lent : List ℕ) → Handed d identifier beside lent
+    → DescriptorMakes d identifier beside lent (descriptorMade d identifier beside lent)
+what-is-made-of-a-descriptor d id beside lent h = what-is-made d id beside lent h
+
+-- and nothing else is
+pub a-descriptor-makes-one : (d : Descriptor) (identifier : List ℕ) (beside : Beside) (lent : List ℕ) (m n : Made) → Handed d identifier beside lent
+    → DescriptorMakes d identifier beside lent m → DescriptorMakes d identifier beside lent n → m ≡ n
+a-descriptor-makes-one d id beside lent m n h e f = sym (nothing-else d id beside lent h e) ∙ nothing-else d id beside lent h f
