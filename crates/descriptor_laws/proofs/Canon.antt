@@ -1,17 +1,16 @@
 -- A canonical descriptor as a whole: its frame; and the payload that is written of an avail, DTMF, time or reserved one is canonical.
-use Prim.Native.Nat.{ℕ, zero, suc, _+_, _*_, _-_, _<_, _≤_}
-use mathlib.Core.Bool.{Bool, true, false, not, _&&_}
+use Prim.Native.Nat.{ℕ, suc, _+_, _≤_}
+use mathlib.Core.Bool.{Bool, true, _&&_}
 use mathlib.Core.List.{List, [], _∷_, _++_}
 use mathlib.Core.Path.{_≡_, refl, ap, ap₂, sym, _∙_}
 use native.Mathlib.Omega.{arith}
-use lib.Dec.{leb, ltb, eqb}
+use lib.Dec.{leb, eqb}
 use lib.ListN.{length, take, drop, getD, length-append, length-drop, take-append-drop}
 use lib.Seq.{take-at, drop-at}
-use borrow.Author.Tests.{le-leb, leb-true, eq-eqb, eqb-true, ne-eqb, ltb-false}
-use Rattle.table.specs.Bits.{pick, AllBytes}
-use Rattle.table.specs.Writing.{walk, made, make}
+use borrow.Author.Tests.{le-leb, leb-true, eq-eqb, eqb-true}
+use Rattle.table.specs.Writing.{walk, made}
 use Rattle.table.specs.declared.View.{View}
-use Rattle.table.proofs.Lists.{zero-one, and-true}
+use Rattle.table.proofs.Lists.{and-true}
 use Rattle.table.proofs.Structure as laws
 use Rattle.descriptor.specs.Descriptor.{isCuei}
 use Rattle.descriptor.specs.Plain.{avail, dtmf, time, privateBytes}

@@ -4,7 +4,7 @@
 --     nothing-else      and allows nothing else
 use Prim.Native.Nat.{ℕ, _+_, _≤_}
 use mathlib.Core.Bool.{Bool, true, false, _&&_}
-use mathlib.Core.List.{List, [], _++_}
+use mathlib.Core.List.{List, []}
 use mathlib.Core.Path.{_≡_, refl, ap, ap₂, sym, _∙_}
 use native.Mathlib.Omega.{arith}
 use lib.Dec.{leb, ltb, eqb}
@@ -28,13 +28,13 @@ use Rattle.descriptor.specs.declared.segmentation.SegmentationUpid.{Segmentatio
 use Rattle.descriptor.specs.declared.whole.Beside.{Beside}
 use Rattle.descriptor_form.specs.Same.{countBeside}
 use Rattle.descriptor_form.specs.Walk.{upidFields, backFields}
-use Rattle.descriptor_form.specs.Writing.{framed, framedMade, alone, fairReserved, fairSegment, segmentationMade, payloadMade, descriptorMade, tagOf, identifierOf, upidIn, upidSource, written, writtenKind, writtenUpid}
+use Rattle.descriptor_form.specs.Writing.{framed, framedMade, alone, fairReserved, fairSegment, segmentationMade, payloadMade, descriptorMade, tagOf, identifierOf, upidSource, written, writtenKind, writtenUpid}
 use Rattle.descriptor_form.proofs.Fields.{foreFields, insert-fields}
 use Rattle.descriptor_form.proofs.Making as making
 use Rattle.descriptor_form.proofs.Refusals.{within-append, upid-seen}
 use Rattle.descriptor_laws.specs.Making.{fieldsOf, Payload, DescriptorMakes, outside, over, nobodys, long, its}
 use Rattle.descriptor_laws.specs.Trips.{Handed}
-use Rattle.descriptor_laws.proofs.Alike.{viewIn, detailView}
+use Rattle.descriptor_laws.proofs.Alike.{viewIn}
 use Rattle.descriptor_laws.proofs.Payloads.{counted, payload-back, written-if-read}
 use Rattle.descriptor_laws.proofs.Remade.{and-last, withUpid, insert-seen}
 

@@ -12,7 +12,6 @@ use Rattle.table.specs.Writing.{Field, walk, contents, print, made, makeOf}
 use Rattle.table.proofs.Bits.{all-bytesN}
 use Rattle.table.proofs.Structure as laws
 use Rattle.table.proofs.Walks.{print-bits}
-use Rattle.descriptor.specs.Descriptor.{descriptorOf}
 use Rattle.descriptor.specs.Plain.{avail, dtmf, time, privateBytes}
 use Rattle.descriptor.specs.Segmentation.{fairDetail, segmentation}
 use Rattle.descriptor.specs.Whole.{wholeOf, identifierRead, besideRead}
@@ -27,7 +26,7 @@ use Rattle.descriptor_form.specs.Writing.{alone, fairReserved, payloadMade, tag
 use Rattle.descriptor_form.proofs.Making.{by-table}
 use Rattle.descriptor_laws.specs.Making.{Payload}
 use Rattle.descriptor_laws.specs.Trips.{Handed}
-use Rattle.descriptor_laws.proofs.Alike.{viewIn, NoneTold, alike-payload, payload-told, same-frame, same-view}
+use Rattle.descriptor_laws.proofs.Alike.{viewIn, alike-payload, payload-told, same-frame, same-view}
 use Rattle.descriptor_laws.proofs.Canon.{avail-canonical, dtmf-canonical, time-canonical, reserved-canonical}
 use Rattle.descriptor_laws.proofs.PlainTrips.{ReadsBack, avail-reads-back, dtmf-reads-back, time-reads-back, reserved-reads-back}
 use Rattle.descriptor_laws.proofs.SegmentBack.{segmentation-back}

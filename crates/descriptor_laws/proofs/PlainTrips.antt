@@ -1,14 +1,14 @@
 -- Avail, DTMF, time and reserved descriptors by tag and identifier: what is written reads back equal to what was handed in.
-use Prim.Native.Nat.{ℕ, zero, suc, _+_, _<_, _≤_}
+use Prim.Native.Nat.{ℕ, zero, suc, _+_, _≤_}
 use mathlib.Core.Bool.{Bool, true, false, not, _&&_}
-use mathlib.Core.List.{List, [], _∷_, _++_}
+use mathlib.Core.List.{List, [], _∷_}
 use mathlib.Core.Path.{_≡_, refl, ap, ap₂, sym, _∙_}
 use native.Mathlib.Omega.{arith}
 use lib.Dec.{leb, ltb, eqb}
-use lib.ListN.{length, take, replicate}
-use borrow.Author.Tests.{leb-true, eqb-true, ltb-false, lt-ltb, ne-eqb}
+use lib.ListN.{length, replicate}
+use borrow.Author.Tests.{leb-true, eqb-true, ltb-false, ne-eqb}
 use Rattle.table.specs.Bits.{pick, AllBytes}
-use Rattle.table.specs.Writing.{walk, Made, made, refused, make}
+use Rattle.table.specs.Writing.{walk, Made, made, refused}
 use Rattle.table.specs.declared.View.{View}
 use Rattle.table.proofs.Lists.{zero-one, and-true}
 use Rattle.table.proofs.Structure as laws
@@ -24,7 +24,7 @@ use Rattle.descriptor.specs.declared.plain.TimeDescriptor.{TimeDescriptor}
 use Rattle.descriptor.specs.declared.whole.Beside.{Beside}
 use Rattle.descriptor.proofs.Structures.{dtmfMoved}
 use Rattle.descriptor_form.specs.Same.{SameReading}
-use Rattle.descriptor_form.specs.Writing.{cuei, framed, framedMade, allZero, alone, fairReserved, payloadMade, tagOf, identifierOf}
+use Rattle.descriptor_form.specs.Writing.{framed, framedMade, allZero, alone, fairReserved, payloadMade, tagOf, identifierOf}
 use Rattle.descriptor_laws.proofs.PlainLaws.{avail-write-read, time-write-read, dtmf-write-read, reserved-write-read}
 
 -- the payload that was written, read again: equal to what was handed in

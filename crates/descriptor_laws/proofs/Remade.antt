@@ -10,7 +10,7 @@ use lib.Dec.{ltb}
 use lib.ListN.{length, take, drop}
 use Rattle.table.specs.Bits.{bytesOf}
 use Rattle.table.specs.Writing.{Field, bits, run, rest, seen, within, Content, number, bytes, count, content, contents, print, made, makeOf}
-use Rattle.table.proofs.Lists.{zero-one, and-true}
+use Rattle.table.proofs.Lists.{zero-one}
 use Rattle.table.proofs.Structure as laws
 use Rattle.descriptor.specs.declared.segmentation.DeliveryRestrictionFlags.{DeliveryRestrictionFlags}
 use Rattle.descriptor.specs.declared.segmentation.ModeComponent.{ModeComponent}

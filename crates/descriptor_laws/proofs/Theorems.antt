@@ -3,7 +3,6 @@ use Prim.Native.Nat.{ℕ, _≤_}
 use mathlib.Core.Bool.{true}
 use mathlib.Core.List.{List}
 use mathlib.Core.Path.{_≡_, ap, sym, subst, _∙_}
-use native.Mathlib.Omega.{arith}
 use lib.ListN.{length, drop}
 use Rattle.table.specs.Bits.{AllBytes}
 use Rattle.table.specs.Writing.{Made, made}
