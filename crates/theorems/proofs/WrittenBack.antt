@@ -121,7 +121,7 @@ module _ (kind : ℕ) (p : List ℕ) (a : AllBytes p) where
       go false k₀ false k₅ false k₆ false k₇ false k₈ e f = zero-one cc
 
 -- ---- in a section, where the payload starts at byte 14
-kind-stays : (c : SpliceCommand) → kindOf (moved 14 c) ≡ kindOf c
+pub kind-stays : (c : SpliceCommand) → kindOf (moved 14 c) ≡ kindOf c
 unfolding moved
 kind-stays SpliceCommand.SpliceNull = refl
 kind-stays (SpliceCommand.SpliceInsert i) = refl
@@ -181,7 +181,7 @@ section-back s x a e c =
     same-made (x .header) s (b .1) (b .0) (ap (viewed s) (parts-of s x e .loop)) (section-is-written-back s x a e c)
 
 -- ---- written, then read: an array of 255 places holds as many components as a count of one byte says
-held : (c : SpliceCommand) (places : List ComponentSplice) → length places ≡ 255 → countIn c ≤ 255 → Held c places
+pub held : (c : SpliceCommand) (places : List ComponentSplice) → length places ≡ 255 → countIn c ≤ 255 → Held c places
 held SpliceCommand.SpliceNull places n k = tt
 held (SpliceCommand.SpliceInsert i) places n k = length-take-le (count (insertOf (i .«splice_detail») .«splice_mode»)) places (omega (arith, n, k))
 held (SpliceCommand.TimeSignal t) places n k = tt
@@ -199,7 +199,7 @@ components-read i places lent b n k e =
     components-are b (counted i places) (length b * 8) (insert-trip i places lent b (held (SpliceCommand.SpliceInsert i) places n k) e .1)
 
 -- the payload stands in the section that is written
-payload-there : (h : SpliceInfoHeader) (kind : ℕ) (payload loop b : List ℕ) → kind < 2 ^ 8 → sectionMade h (made payload) kind loop ≡ made b → commandBytes b ≡ payload
+pub payload-there : (h : SpliceInfoHeader) (kind : ℕ) (payload loop b : List ℕ) → kind < 2 ^ 8 → sectionMade h (made payload) kind loop ≡ made b → commandBytes b ≡ payload
 unfolding bytesIn
 payload-there h kind payload loop b byte e =
     let w = section-wrote h (made payload) kind loop b e in
