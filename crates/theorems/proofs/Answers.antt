@@ -47,7 +47,7 @@ commandPayload (SpliceCommand.TimeSignal t) components bytes = bytesIn (make spl
 commandPayload SpliceCommand.BandwidthReservation components bytes = []
 commandPayload (SpliceCommand.PrivateCommand p) components bytes = bytesOf (bitsOfNum 32 (p .identifier) ++ (bitsOf bytes ++ []))
 
-pub kind-of : (c : SpliceCommand) → kindOf c ≡ kindOf (viewless c)
+kind-of : (c : SpliceCommand) → kindOf c ≡ kindOf (viewless c)
 kind-of SpliceCommand.SpliceNull = refl
 kind-of (SpliceCommand.SpliceInsert i) = refl
 kind-of (SpliceCommand.TimeSignal t) = refl

@@ -41,7 +41,7 @@ use Rattle.table.specs.Lent.{liesIn, viewed, noView}
 use Rattle.table.specs.Table.{number, part, remaining}
 use Rattle.table.specs.Writing.{walk, seen, within, Content, contents, print, Made, made, refused, make}
 use Rattle.table.specs.declared.View.{View}
-use Rattle.theorems.specs.Making.{commandFits, CommandPayload, CommandMakes, outside, over, nobodys, its}
+use Rattle.theorems.specs.Making.{commandFits, CommandPayload, CommandMakes}
 use Rattle.theorems.specs.Same.{viewless}
 use Rattle.theorems.proofs.Answers.{private-of}
 use Rattle.theorems.proofs.WrittenBack.{command-back, held, components-read}
@@ -63,7 +63,7 @@ record Tested (c : SpliceCommand) (places : List ComponentSplice) (lent : List �
   pub bytes : AllBytes payload
   pub is : commandMade c places lent ≡ answer (liesIn lent (privateView c)) (commandFits c places) fair payload
 
-made-bytes : (cs : List Content) → AllBytes (bytesOf (print cs))
+pub made-bytes : (cs : List Content) → AllBytes (bytesOf (print cs))
 made-bytes cs = all-bytesN (length (print cs) / 8) (print cs) (print-bits cs)
 
 blank-lies : (lent : List ℕ) → liesIn lent noView ≡ true
@@ -274,24 +274,24 @@ module _ (c : SpliceCommand) (places : List ComponentSplice) (lent : List ℕ) (
 
       fitting : liesIn lent (privateView c) ≡ true → commandFits c places ≡ true → (commandMade c places lent ≡ refused 33) ⊎ ((p : List ℕ) × (commandMade c places lent ≡ made p))
           → CommandMakes c places lent (commandMade c places lent)
-      fitting l f (inl e) = rw e (nobodys l f λ p q. zero-one (let z : refused 33 ≡ made p = sym e ∙ made-if-read c places lent p l q in cc))
-      fitting l f (inr r) = rw (r .1) (its l (r .0) (payload-made c places lent (r .0) n k a (r .1)))
+      fitting l f (inl e) = rw e (CommandMakes.nobodys l f λ p q. zero-one (let z : refused 33 ≡ made p = sym e ∙ made-if-read c places lent p l q in cc))
+      fitting l f (inr r) = rw (r .1) (CommandMakes.its l (r .0) (payload-made c places lent (r .0) n k a (r .1)))
 
       go : (lies : Bool) → liesIn lent (privateView c) ≡ lies → (fits : Bool) → commandFits c places ≡ fits → CommandMakes c places lent (commandMade c places lent)
-      go false l fits f = rw (is-outside c places lent h l) (outside l)
-      go true l false f = rw (is-over c places lent h l f) (over l f)
+      go false l fits f = rw (is-outside c places lent h l) (CommandMakes.outside l)
+      go true l false f = rw (is-over c places lent h l f) (CommandMakes.over l f)
       go true l true f = fitting l f (made-or-not c places lent h l f)
 
   -- no other answer is in the relation
   only-made : (m : Made) → CommandMakes c places lent m → m ≡ commandMade c places lent
-  only-made _ (outside l) = sym (is-outside c places lent (held c places n k) l)
-  only-made _ (over l f) = sym (is-over c places lent (held c places n k) l f)
-  only-made _ (nobodys l f none) = go (made-or-not c places lent (held c places n k) l f)
+  only-made _ (CommandMakes.outside l) = sym (is-outside c places lent (held c places n k) l)
+  only-made _ (CommandMakes.over l f) = sym (is-over c places lent (held c places n k) l f)
+  only-made _ (CommandMakes.nobodys l f none) = go (made-or-not c places lent (held c places n k) l f)
     where
       go : (commandMade c places lent ≡ refused 33) ⊎ ((p : List ℕ) × (commandMade c places lent ≡ made p)) → refused 33 ≡ commandMade c places lent
       go (inl e) = sym e
       go (inr r) = absurd (none (r .0) (payload-made c places lent (r .0) n k a (r .1)))
-  only-made _ (its l p q) = sym (made-if-read c places lent p l q)
+  only-made _ (CommandMakes.its l p q) = sym (made-if-read c places lent p l q)
 
   pub one-command-made : (m o : Made) → CommandMakes c places lent m → CommandMakes c places lent o → m ≡ o
   one-command-made m o q r = only-made m q ∙ sym (only-made o r)

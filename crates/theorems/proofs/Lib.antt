@@ -13,6 +13,7 @@ pub mod WrittenBack
 pub mod ItemsWritten
 pub mod Answers
 pub mod CommandsMade
+pub mod SectionsMade
 pub mod Targets
 pub mod Tolerated
 pub mod CommandTypes

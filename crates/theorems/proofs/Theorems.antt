@@ -57,7 +57,7 @@ use Rattle.table.specs.Lent.{viewed}
 use Rattle.table.specs.Writing.{Made, made}
 use Rattle.upid.specs.Cover.{All}
 use Rattle.theorems.specs.Identifiers.{OneRun, inSection, loopIn, identifiersOf, midsOf, Unsplit}
-use Rattle.theorems.specs.Making.{CommandMakes}
+use Rattle.theorems.specs.Making.{CommandMakes, SectionMakes}
 use Rattle.theorems.specs.OverC.{componentsAnswered, splicesWords, wordsMadeAt}
 use Rattle.theorems.specs.Rows.{Holds, rows}
 use Rattle.theorems.specs.Same.{SameSections}
@@ -70,6 +70,7 @@ use Rattle.theorems.proofs.ItemsWritten as items-written
 use Rattle.theorems.proofs.LoopsOverC as loops-over-c
 use Rattle.theorems.proofs.RowsHold as rows-hold
 use Rattle.theorems.proofs.Sections as sections
+use Rattle.theorems.proofs.SectionsMade as sections-made
 use Rattle.theorems.proofs.Targets as targets
 use Rattle.theorems.proofs.SectionsOverC as sections-over-c
 use Rattle.theorems.proofs.Tolerated as tolerated
@@ -261,6 +262,17 @@ what-is-made-of-a-command = commands-made.command-makes
 pub what-is-made-of-a-command-is-one : (c : SpliceCommand) (places : List ComponentSplice) (lent : List ℕ) → length places ≡ 255 → countIn c ≤ 255 → AllBytes lent → (m n : Made)
     → CommandMakes c places lent m → CommandMakes c places lent n → m ≡ n
 what-is-made-of-a-command-is-one = commands-made.one-command-made
+
+-- What is made of a header, a command and a loop, by the same: 33 exactly where no canonical section has the header or no canonical payload the command, "a value that no
+-- canonical reading has"; 34 and 35 by their rows; and else the canonical section that reads as the three (`SectionMakes`, specs/Making.antt)
+pub what-is-made-of-a-section : (h : SpliceInfoHeader) (c : SpliceCommand) (places : List ComponentSplice) (lent loop : List ℕ) → length places ≡ 255 → countIn c ≤ 255 → AllBytes lent → AllBytes loop
+    → SectionMakes h c places lent loop (sectionMade h (commandMade c places lent) (kindOf c) loop)
+what-is-made-of-a-section = sections-made.section-makes
+
+-- and that leaves one answer
+pub what-is-made-of-a-section-is-one : (h : SpliceInfoHeader) (c : SpliceCommand) (places : List ComponentSplice) (lent loop : List ℕ) → length places ≡ 255 → countIn c ≤ 255 → AllBytes lent
+    → AllBytes loop → (m n : Made) → SectionMakes h c places lent loop m → SectionMakes h c places lent loop n → m ≡ n
+what-is-made-of-a-section-is-one = sections-made.one-section-made
 
 -- Demand 2: "Writing the reading of a canonical section gives its bytes": its header, its command with the components and bytes that it has, and its loop, as it stands
 -- in the section

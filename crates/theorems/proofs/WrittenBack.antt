@@ -121,7 +121,7 @@ module _ (kind : ℕ) (p : List ℕ) (a : AllBytes p) where
       go false k₀ false k₅ false k₆ false k₇ false k₈ e f = zero-one cc
 
 -- ---- in a section, where the payload starts at byte 14
-pub kind-stays : (c : SpliceCommand) → kindOf (moved 14 c) ≡ kindOf c
+kind-stays : (c : SpliceCommand) → kindOf (moved 14 c) ≡ kindOf c
 unfolding moved
 kind-stays SpliceCommand.SpliceNull = refl
 kind-stays (SpliceCommand.SpliceInsert i) = refl
@@ -199,7 +199,7 @@ components-read i places lent b n k e =
     components-are b (counted i places) (length b * 8) (insert-trip i places lent b (held (SpliceCommand.SpliceInsert i) places n k) e .1)
 
 -- the payload stands in the section that is written
-pub payload-there : (h : SpliceInfoHeader) (kind : ℕ) (payload loop b : List ℕ) → kind < 2 ^ 8 → sectionMade h (made payload) kind loop ≡ made b → commandBytes b ≡ payload
+payload-there : (h : SpliceInfoHeader) (kind : ℕ) (payload loop b : List ℕ) → kind < 2 ^ 8 → sectionMade h (made payload) kind loop ≡ made b → commandBytes b ≡ payload
 unfolding bytesIn
 payload-there h kind payload loop b byte e =
     let w = section-wrote h (made payload) kind loop b e in
