@@ -55,7 +55,7 @@ kind-of SpliceCommand.BandwidthReservation = refl
 kind-of (SpliceCommand.PrivateCommand p) = refl
 
 -- the view lies in the lent bytes, as something is written of it
-private-of : (lent : List ℕ) (p : Private) (b : List ℕ) → make private true lent p ≡ made b → b ≡ bytesOf (bitsOfNum 32 (p .identifier) ++ (bitsOf (viewed lent (p .«private_bytes»)) ++ []))
+pub private-of : (lent : List ℕ) (p : Private) (b : List ℕ) → make private true lent p ≡ made b → b ≡ bytesOf (bitsOfNum 32 (p .identifier) ++ (bitsOf (viewed lent (p .«private_bytes»)) ++ []))
 unfolding private number remaining part viewed
 private-of lent p b e =
     let v = p .«private_bytes» in

@@ -12,6 +12,8 @@ pub mod InsertsRead
 pub mod WrittenBack
 pub mod ItemsWritten
 pub mod Answers
+pub mod CommandsMade
+pub mod SectionsMade
 pub mod Targets
 pub mod Tolerated
 pub mod CommandTypes

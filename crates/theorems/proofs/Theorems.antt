@@ -1,4 +1,4 @@
--- The product's demands, over the definitions. A reader needs specs/{Rows,Identifiers,Sections,Written,Same}.antt beside this file; for the part on writing the
+-- The product's demands, over the definitions. A reader needs specs/{Rows,Identifiers,Sections,Written,Same,Making}.antt beside this file; for the part on writing the
 -- definitions of `section_writer` and `command_measure`, and those of `loop_laws` (specs/Loops.antt) for the loop by its items; for the part on the C boundary
 -- specs/OverC.antt and the definitions of `flat_writer`, `flat_section_writer` and `flat_item_writer`. The proofs stand in the other files of this folder. That each
 -- public contract fixes its answer is stated for each function in FixedAnswers.antt, FixedAtBoundary.antt and FixedAtWriter.antt. Assumes nothing.
@@ -7,7 +7,7 @@ use mathlib.Core.Bool.{true, false, not}
 use mathlib.Core.List.{List, [], _∷_, _++_, map}
 use mathlib.Core.Path.{_≡_}
 use lib.ListN.{length, drop}
-use Rattle.command.specs.Command.{private, commandOf, array, componentsOf, countIn}
+use Rattle.command.specs.Command.{commandOf, array, componentsOf, countIn}
 use Rattle.command.specs.declared.CommandRead.{CommandRead}
 use Rattle.command.specs.declared.Private.{Private}
 use Rattle.command.specs.declared.SpliceCommand.{SpliceCommand}
@@ -54,9 +54,10 @@ use Rattle.section_writer.specs.Trips.{ReadsBack}
 use Rattle.section_writer.specs.Writing.{kindOf, sectionMade}
 use Rattle.table.specs.Bits.{AllBytes}
 use Rattle.table.specs.Lent.{viewed}
-use Rattle.table.specs.Writing.{Made, made, make}
+use Rattle.table.specs.Writing.{Made, made}
 use Rattle.upid.specs.Cover.{All}
 use Rattle.theorems.specs.Identifiers.{OneRun, inSection, loopIn, identifiersOf, midsOf, Unsplit}
+use Rattle.theorems.specs.Making.{CommandMakes, SectionMakes}
 use Rattle.theorems.specs.OverC.{componentsAnswered, splicesWords, wordsMadeAt}
 use Rattle.theorems.specs.Rows.{Holds, rows}
 use Rattle.theorems.specs.Same.{SameSections}
@@ -64,10 +65,12 @@ use Rattle.theorems.specs.Sections.{known, EmptyCommand, spliceNull, eig
 use Rattle.theorems.specs.Written.{KeepsUpid, ChangesOnlyResult}
 use Rattle.theorems.proofs.Answers as answers
 use Rattle.theorems.proofs.CommandTypes as command-types
+use Rattle.theorems.proofs.CommandsMade as commands-made
 use Rattle.theorems.proofs.ItemsWritten as items-written
 use Rattle.theorems.proofs.LoopsOverC as loops-over-c
 use Rattle.theorems.proofs.RowsHold as rows-hold
 use Rattle.theorems.proofs.Sections as sections
+use Rattle.theorems.proofs.SectionsMade as sections-made
 use Rattle.theorems.proofs.Targets as targets
 use Rattle.theorems.proofs.SectionsOverC as sections-over-c
 use Rattle.theorems.proofs.Tolerated as tolerated
@@ -248,6 +251,29 @@ a-refused-write-changes-no-byte = targets.kept
 pub an-accepted-write-changes-only-its-result : (m : Made) (target : List ℕ) (n : ℕ) → answerOf m target ≡ Written.Wrote n → ChangesOnlyResult m target n
 an-accepted-write-changes-only-its-result = targets.changed
 
+-- What is made of a command, by what the command reader answers and the widths of the tables' fields: 31 and 32 by their rows, 33 exactly where the command is "a value that no
+-- canonical reading has", and else the canonical payload that reads as it (`CommandMakes`, specs/Making.antt). So 01's list for 33 is no more and no less than that.
+-- (An array has 255 places, and a count is a byte.)
+pub what-is-made-of-a-command : (c : SpliceCommand) (places : List ComponentSplice) (lent : List ℕ) → length places ≡ 255 → countIn c ≤ 255 → AllBytes lent
+    → CommandMakes c places lent (commandMade c places lent)
+what-is-made-of-a-command = commands-made.command-makes
+
+-- and that leaves one answer
+pub what-is-made-of-a-command-is-one : (c : SpliceCommand) (places : List ComponentSplice) (lent : List ℕ) → length places ≡ 255 → countIn c ≤ 255 → AllBytes lent → (m n : Made)
+    → CommandMakes c places lent m → CommandMakes c places lent n → m ≡ n
+what-is-made-of-a-command-is-one = commands-made.one-command-made
+
+-- What is made of a header, a command and a loop, by the same: 33 exactly where no canonical section has the header or no canonical payload the command, "a value that no
+-- canonical reading has"; 34 and 35 by their rows; and else the canonical section that reads as the three (`SectionMakes`, specs/Making.antt)
+pub what-is-made-of-a-section : (h : SpliceInfoHeader) (c : SpliceCommand) (places : List ComponentSplice) (lent loop : List ℕ) → length places ≡ 255 → countIn c ≤ 255 → AllBytes lent → AllBytes loop
+    → SectionMakes h c places lent loop (sectionMade h (commandMade c places lent) (kindOf c) loop)
+what-is-made-of-a-section = sections-made.section-makes
+
+-- and that leaves one answer
+pub what-is-made-of-a-section-is-one : (h : SpliceInfoHeader) (c : SpliceCommand) (places : List ComponentSplice) (lent loop : List ℕ) → length places ≡ 255 → countIn c ≤ 255 → AllBytes lent
+    → AllBytes loop → (m n : Made) → SectionMakes h c places lent loop m → SectionMakes h c places lent loop n → m ≡ n
+what-is-made-of-a-section-is-one = sections-made.one-section-made
+
 -- Demand 2: "Writing the reading of a canonical section gives its bytes": its header, its command with the components and bytes that it has, and its loop, as it stands
 -- in the section
 pub a-canonical-section-is-what-is-written-of-its-reading : (s : List ℕ) (x : Section) → AllBytes s → sectionOf s ≡ SectionRead.Is x → canonicalSection s ≡ true
@@ -294,9 +320,11 @@ pub a-payloads-components-read-back : (i : Insertion) (places : List ComponentSp
 a-payloads-components-read-back = written-back.components-read
 
 -- and a private command's bytes
-pub private-bytes-read-back : (lent : List ℕ) (p : Private) (payload : List ℕ) → make private true lent p ≡ made payload → (h : SpliceInfoHeader) (loop b : List ℕ) → AllBytes lent
-    → sectionMade h (made payload) 0xff loop ≡ made b → viewed b (record { at = 18; len = p .«private_bytes» .len }) ≡ viewed lent (p .«private_bytes»)
-private-bytes-read-back = views.private-bytes-back
+pub private-bytes-read-back : (p : Private) (places : List ComponentSplice) (lent payload : List ℕ) → commandMade (SpliceCommand.PrivateCommand p) places lent ≡ made payload
+    → (h : SpliceInfoHeader) (loop b : List ℕ) → AllBytes lent → sectionMade h (made payload) 0xff loop ≡ made b
+    → viewed b (record { at = 18; len = p .«private_bytes» .len }) ≡ viewed lent (p .«private_bytes»)
+unfolding commandMade
+private-bytes-read-back p places lent = views.private-bytes-back lent p
 
 -- ---- two canonical sections
 

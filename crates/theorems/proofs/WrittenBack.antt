@@ -181,7 +181,7 @@ section-back s x a e c =
     same-made (x .header) s (b .1) (b .0) (ap (viewed s) (parts-of s x e .loop)) (section-is-written-back s x a e c)
 
 -- ---- written, then read: an array of 255 places holds as many components as a count of one byte says
-held : (c : SpliceCommand) (places : List ComponentSplice) → length places ≡ 255 → countIn c ≤ 255 → Held c places
+pub held : (c : SpliceCommand) (places : List ComponentSplice) → length places ≡ 255 → countIn c ≤ 255 → Held c places
 held SpliceCommand.SpliceNull places n k = tt
 held (SpliceCommand.SpliceInsert i) places n k = length-take-le (count (insertOf (i .«splice_detail») .«splice_mode»)) places (omega (arith, n, k))
 held (SpliceCommand.TimeSignal t) places n k = tt
