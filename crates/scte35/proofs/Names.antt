@@ -22,12 +22,12 @@ module _ {A : Type 0} (T : Numbering A) (tag : A → ℕ) (s : Sound T tag) (n :
       sym (eqb-true named (classIn T x) (own-name T tag s x x (e ∙ ap (valueOf T) (sym m)) o ∙ ap (fair T) e ∙ inverse T tag s .is-fair n))
 
   -- a name
-  pub of-name : OneOf (upto 0 (length (T .names))) (tag x) → (k : ℕ) → k ≡ numberIn T x → flat named k ≡ flatName T (valueOf T n)
-  of-name o k h = ap (flat named) h ∙ ap (λ j. flat j (numberIn T x)) (sym (is-named o)) ∙ ap (flatName T) e
+  pub of-name : OneOf (upto 0 (length (T .names))) (tag x) → (k : ℕ) → k ≡ numberIn T x → flat named k ≡ flatName (T .entry) (valueOf T n)
+  of-name o k h = ap (flat named) h ∙ ap (λ j. flat j (numberIn T x)) (sym (is-named o)) ∙ ap (flatName (T .entry)) e
 
 -- a value that carries its number
-pub of-number : {A : Type 0} (T : Numbering A) (n : ℕ) (x v : A) → x ≡ valueOf T n → x ≡ v → flat (classIn T v) (numberIn T v) ≡ flatName T (valueOf T n)
-of-number T n x v e h = ap (flatName T) (sym h ∙ e)
+pub of-number : {A : Type 0} (T : Numbering A) (n : ℕ) (x v : A) → x ≡ valueOf T n → x ≡ v → flat (classIn T v) (numberIn T v) ≡ flatName (T .entry) (valueOf T n)
+of-number T n x v e h = ap (flatName (T .entry)) (sym h ∙ e)
 
 -- a value, or refusal 12
 pub of-gives : {A : Type 0} (number : A → ℕ) (x : A) (a : Answer A) (k : ℕ) → k ≡ number x → gives x ≡ a → flat named k ≡ flatAnswer number a

@@ -32,7 +32,7 @@ use Rattle.section.specs.Section.{moved, movedRead, accepted, frameOf, sectionO
 use Rattle.section.specs.declared.FrameRead.{FrameRead}
 use Rattle.section.specs.declared.Refusal.{Refusal}
 use Rattle.section.specs.declared.SectionRead.{SectionRead}
-use Rattle.section.proofs.Frame.{Framed, framed, is-accepted, section-is, sectionWith, commandRead, command-at, header-at, is-moved, malformed-moved}
+use Rattle.section.proofs.Frame.{Framed, framed, is-accepted, section-is, commandRead, command-at, header-at, is-moved, malformed-moved}
 
 -- what is told of a command as the section has it
 abbrev told : FlatHeader → CommandRead → View → FlatSection
@@ -40,8 +40,8 @@ told h (CommandRead.Is c) p = flatParts h c p
 told h CommandRead.UnknownType p = flatSectionRead (SectionRead.Refused Refusal.UnknownCommand)
 told h CommandRead.Malformed p = flatSectionRead (SectionRead.Refused Refusal.MalformedCommand)
 
-told-is : (h : FlatHeader) (x : SpliceInfoHeader) (y : CommandRead) (p : View) → h ≡ flatHeader x → told h y p ≡ flatSectionRead (sectionWith x y p)
-unfolding flatSectionRead
+told-is : (h : FlatHeader) (x : SpliceInfoHeader) (y : CommandRead) (p : View) → h ≡ flatHeader x → told h y p ≡ flatSectionRead (accepted (HeaderRead.Header x) y p)
+unfolding flatSectionRead accepted
 told-is h x (CommandRead.Is c) p e = rw e
 told-is h x CommandRead.UnknownType p e = refl
 told-is h x CommandRead.Malformed p e = refl
@@ -57,7 +57,7 @@ module _ (s : List ℕ) (p : View) (whole : FrameRead.Whole p ≡ frameOf s) (h 
       let there = header-there (drop 3 s) (omega (arith, length-drop 3 s, f .long)) in
       told-is h (there .0) y p (flat-of h (headerOf (drop 3 s)) (there .0) (eh ∙ ap flatHeaderRead (header-at s)) (there .1))
       ∙ ap flatSectionRead
-      (is-accepted s p (sectionWith (there .0) y p) whole (section-is s p (there .0) y (there .1) e (f .place) ∙ ap (accepted (headerOf (drop 3 s)) (commandRead s)) (sym (f .place))))
+      (is-accepted s p (accepted (HeaderRead.Header (there .0)) y p) whole (section-is s p (there .0) y (there .1) e (f .place) ∙ ap (accepted (headerOf (drop 3 s)) (movedRead (commandRead s))) (sym (f .place))))
 
   -- the command's bytes, as a part of the section
   abbrev bytes : List ℕ

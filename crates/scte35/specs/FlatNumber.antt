@@ -4,13 +4,13 @@ use lib.Dec.{eqb, ltb}
 use Rattle.header.specs.declared.time.SpliceTime.{SpliceTime}
 use Rattle.header.specs.declared.time.SpliceTime.the-variants.{Unspecified, At}
 use Rattle.names.specs.Flags.{Answer, gives, refuses}
-use Rattle.names.specs.Numbering.{Numbering, numberIn, classIn, named}
+use Rattle.names.specs.Numbering.{Entry, named}
 use Rattle.table.specs.Bits.{pick}
 use Rattle.scte35.specs.declared.numbers.FlatNumber.{FlatNumber}
 
--- the class (0 named, 1 reserved, 2 private) and the number of a value
-abbrev pub flatName : {A : Type 0} → Numbering A → A → FlatNumber
-flatName T x = record { refusal = 0; class = classIn T x; number = numberIn T x }
+-- the class (0 named, 1 reserved, 2 private) and the number that a table has of a value
+abbrev pub flatName : {A : Type 0} → (A → Entry) → A → FlatNumber
+flatName entry x = record { refusal = 0; class = entry x .1; number = entry x .0 }
 
 -- the number of a value that has a name, or refusal 12
 abbrev pub flatAnswer : {A : Type 0} → (A → ℕ) → Answer A → FlatNumber

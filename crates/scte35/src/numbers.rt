@@ -1,10 +1,10 @@
 // The named numbers: whether a number has a name (class 0), is reserved (1) or private (2); or refusal 12.
 ghost use mathlib.Core.Path.{_≡_};
-ghost use Rattle.names.specs.Algorithm.{algorithms, algorithmOf};
-ghost use Rattle.names.specs.Command.{commands, commandTypeOf};
+ghost use Rattle.names.specs.Algorithm.{algorithmEntry, algorithmOf};
+ghost use Rattle.names.specs.Command.{commandEntry, commandTypeOf};
 ghost use Rattle.names.specs.Flags.{networkFlag, networkOf, returnFlag, returnOf, restrictionsBits, restrictionsOf};
-ghost use Rattle.names.specs.Segmentation.{segmentations, segmentationOf};
-ghost use Rattle.names.specs.Upid.{upidTypes, upidTypeOf};
+ghost use Rattle.names.specs.Segmentation.{segmentationEntry, segmentationOf};
+ghost use Rattle.names.specs.Upid.{upidTypeEntry, upidTypeOf};
 ghost use Rattle.scte35.specs.FlatNumber.{flatName, flatAnswer};
 use names::algorithm::EncryptionAlgorithm;
 use names::command::SpliceCommandType;
@@ -46,7 +46,7 @@ fn refused() -> FlatNumber
 
 #[no_mangle]
 pub extern "C" fn scte35_algorithm(n: u8) -> FlatNumber
-    ensures { λ r. ⌜ r ≡ flatName algorithms (algorithmOf n) ⌝ }
+    ensures { λ r. ⌜ r ≡ flatName algorithmEntry (algorithmOf n) ⌝ }
 {
     let x = EncryptionAlgorithm::from_id(n);
     match x {
@@ -58,7 +58,7 @@ pub extern "C" fn scte35_algorithm(n: u8) -> FlatNumber
 
 #[no_mangle]
 pub extern "C" fn scte35_command_type(n: u8) -> FlatNumber
-    ensures { λ r. ⌜ r ≡ flatName commands (commandTypeOf n) ⌝ }
+    ensures { λ r. ⌜ r ≡ flatName commandEntry (commandTypeOf n) ⌝ }
 {
     let x = SpliceCommandType::from_id(n);
     match x {
@@ -69,7 +69,7 @@ pub extern "C" fn scte35_command_type(n: u8) -> FlatNumber
 
 #[no_mangle]
 pub extern "C" fn scte35_upid_type(n: u8) -> FlatNumber
-    ensures { λ r. ⌜ r ≡ flatName upidTypes (upidTypeOf n) ⌝ }
+    ensures { λ r. ⌜ r ≡ flatName upidTypeEntry (upidTypeOf n) ⌝ }
 {
     let x = SegmentationUpidType::from_type(n);
     match x {
@@ -80,7 +80,7 @@ pub extern "C" fn scte35_upid_type(n: u8) -> FlatNumber
 
 #[no_mangle]
 pub extern "C" fn scte35_segmentation_type(n: u8) -> FlatNumber
-    ensures { λ r. ⌜ r ≡ flatName segmentations (segmentationOf n) ⌝ }
+    ensures { λ r. ⌜ r ≡ flatName segmentationEntry (segmentationOf n) ⌝ }
 {
     let x = SegmentationTypeId::from_id(n);
     match x {

@@ -131,11 +131,11 @@ commandRead s = commandOf (commandType s) (commandBytes s)
 
 pub is-refused : (s : List ℕ) (x : Refusal) → FrameRead.Refused x ≡ frameOf s → SectionRead.Refused x ≡ sectionOf s
 unfolding sectionOf
-is-refused s x e = ap (λ (f : FrameRead). through f (headerOf (drop 3 s)) (commandRead s)) e
+is-refused s x e = ap (λ (f : FrameRead). through f (headerOf (drop 3 s)) (movedRead (commandRead s))) e
 
-pub is-accepted : (s : List ℕ) (v : View) (r : SectionRead) → FrameRead.Whole v ≡ frameOf s → r ≡ accepted (headerOf (drop 3 s)) (commandRead s) v → r ≡ sectionOf s
+pub is-accepted : (s : List ℕ) (v : View) (r : SectionRead) → FrameRead.Whole v ≡ frameOf s → r ≡ accepted (headerOf (drop 3 s)) (movedRead (commandRead s)) v → r ≡ sectionOf s
 unfolding sectionOf
-is-accepted s v r e f = f ∙ ap (λ (x : FrameRead). through x (headerOf (drop 3 s)) (commandRead s)) e
+is-accepted s v r e f = f ∙ ap (λ (x : FrameRead). through x (headerOf (drop 3 s)) (movedRead (commandRead s))) e
 
 -- what a whole frame says
 abbrev asNumber : FrameRead → ℕ
@@ -201,33 +201,22 @@ unfolding accepted
 no-header h r v e = rw e
 
 module _ (h : HeaderRead) (x : SpliceInfoHeader) (eh : h ≡ HeaderRead.Header x) (r : CommandRead) (v : View) where
-  pub is-unknown : r ≡ CommandRead.UnknownType → SectionRead.Refused Refusal.UnknownCommand ≡ accepted h r v
-  unfolding accepted
+  pub is-unknown : r ≡ CommandRead.UnknownType → SectionRead.Refused Refusal.UnknownCommand ≡ accepted h (movedRead r) v
+  unfolding accepted movedRead
   is-unknown e = rw (eh, e)
 
-  pub is-malformed : r ≡ CommandRead.Malformed → SectionRead.Refused Refusal.MalformedCommand ≡ accepted h r v
-  unfolding accepted
+  pub is-malformed : r ≡ CommandRead.Malformed → SectionRead.Refused Refusal.MalformedCommand ≡ accepted h (movedRead r) v
+  unfolding accepted movedRead
   is-malformed e = rw (eh, e)
 
-  pub is-section : (c d : SpliceCommand) (u : View) → r ≡ CommandRead.Is c → d ≡ moved 14 c → u ≡ v → SectionRead.Is (record { header = x; command = d; descriptors = u }) ≡ accepted h r v
-  unfolding accepted
+  pub is-section : (c d : SpliceCommand) (u : View) → r ≡ CommandRead.Is c → d ≡ moved 14 c → u ≡ v → SectionRead.Is (record { header = x; command = d; descriptors = u }) ≡ accepted h (movedRead r) v
+  unfolding accepted movedRead
   is-section c d u e f g = rw (eh, e, f, g)
 
 -- the same of a command as the section has it
-abbrev pub sectionWith : SpliceInfoHeader → CommandRead → View → SectionRead
-sectionWith x (CommandRead.Is c) v = SectionRead.Is (record { header = x; command = c; descriptors = v })
-sectionWith x CommandRead.UnknownType v = SectionRead.Refused Refusal.UnknownCommand
-sectionWith x CommandRead.Malformed v = SectionRead.Refused Refusal.MalformedCommand
-
-pub in-section : (h : HeaderRead) (x : SpliceInfoHeader) (r : CommandRead) (v : View) → h ≡ HeaderRead.Header x → accepted h r v ≡ sectionWith x (movedRead r) v
-unfolding accepted movedRead
-in-section h x (CommandRead.Is c) v e = rw e
-in-section h x CommandRead.UnknownType v e = rw e
-in-section h x CommandRead.Malformed v e = rw e
-
 pub section-is : (s : List ℕ) (p : View) (x : SpliceInfoHeader) (y : CommandRead) → headerOf (drop 3 s) ≡ HeaderRead.Header x → y ≡ movedRead (commandRead s) → p ≡ loopPlace s
-    → sectionWith x y p ≡ accepted (headerOf (drop 3 s)) (commandRead s) (loopPlace s)
-section-is s p x y eh ey ep = rw (ep, ey) (sym (in-section (headerOf (drop 3 s)) x (commandRead s) (loopPlace s) eh))
+    → accepted (HeaderRead.Header x) y p ≡ accepted (headerOf (drop 3 s)) (movedRead (commandRead s)) (loopPlace s)
+section-is s p x y eh ey ep = rw (ep, ey, eh)
 
 pub is-moved : (r : CommandRead) (c d : SpliceCommand) → r ≡ CommandRead.Is c → d ≡ moved 14 c → CommandRead.Is d ≡ movedRead r
 unfolding movedRead

@@ -18,7 +18,7 @@ use Rattle.header.specs.declared.time.SpliceTime.{SpliceTime}
 use Rattle.header.proofs.Headers.{header-there}
 use Rattle.table.specs.Bits.{bitsOf, field}
 use Rattle.table.specs.Table.{number, bit, reserved, list}
-use Rattle.section.specs.Section.{commandLength, commandType, commandBytes, roomAfter, loopLength, loopPlace, moved, accepted, frameOf, sectionOf, numberOf}
+use Rattle.section.specs.Section.{commandLength, commandType, commandBytes, roomAfter, loopLength, loopPlace, moved, movedRead, accepted, frameOf, sectionOf, numberOf}
 use Rattle.section.specs.Walk.{layoutOf}
 use Rattle.section.specs.Whole.{wholeSectionOf}
 use Rattle.section.specs.declared.FrameRead.{FrameRead}
@@ -113,5 +113,5 @@ of-39 =
 
 pub row-components : wholeSectionOf of-39 .components
     ≡ record { «component_tag» = 1; «splice_time» = SpliceTime.At 5 } ∷ record { «component_tag» = 2; «splice_time» = SpliceTime.Unspecified } ∷ replicate 253 blank
-unfolding wholeSectionOf sectionOf frameOf accepted moved commandLength commandType commandBytes roomAfter loopLength crcOf crcBits crcBit headerOf headerRead spliceHeader commandOf componentsOf array insert active ending moded breakDuration timeUnless component spliceTime number bit reserved list
+unfolding wholeSectionOf sectionOf frameOf accepted movedRead moved commandLength commandType commandBytes roomAfter loopLength crcOf crcBits crcBit headerOf headerRead spliceHeader commandOf componentsOf array insert active ending moded breakDuration timeUnless component spliceTime number bit reserved list
 row-components = refl

@@ -110,7 +110,7 @@ frameOf s = unlessFirst (frameTests s) (FrameRead.Whole (loopPlace s))
 unfoldable pub moved : ℕ → SpliceCommand → SpliceCommand
 moved base c = withView (shifted base) c
 
--- what `read_command_part` answers: a command as a section has it
+-- a command as a section has it: its views count from the section's first byte (`read_command_part` answers this)
 unfoldable pub movedRead : CommandRead → CommandRead
 movedRead (CommandRead.Is c) = CommandRead.Is (moved 14 c)
 movedRead CommandRead.UnknownType = CommandRead.UnknownType
@@ -118,7 +118,7 @@ movedRead CommandRead.Malformed = CommandRead.Malformed
 
 -- the header, the command and the loop's place; 10 and 11. (A section of 18 bytes has a header.)
 unfoldable pub accepted : HeaderRead → CommandRead → View → SectionRead
-accepted (HeaderRead.Header h) (CommandRead.Is c) loop = SectionRead.Is (record { header = h; command = moved 14 c; descriptors = loop })
+accepted (HeaderRead.Header h) (CommandRead.Is c) loop = SectionRead.Is (record { header = h; command = c; descriptors = loop })
 accepted (HeaderRead.Header h) CommandRead.UnknownType loop = SectionRead.Refused Refusal.UnknownCommand
 accepted (HeaderRead.Header h) CommandRead.Malformed loop = SectionRead.Refused Refusal.MalformedCommand
 accepted HeaderRead.TooShort r loop = SectionRead.Refused Refusal.NoHeader
@@ -130,7 +130,7 @@ through (FrameRead.Refused x) h r = SectionRead.Refused x
 
 -- 1 to 9, and then 10 and 11
 unfoldable pub sectionOf : List ℕ → SectionRead
-sectionOf s = through (frameOf s) (headerOf (drop 3 s)) (commandOf (commandType s) (commandBytes s))
+sectionOf s = through (frameOf s) (headerOf (drop 3 s)) (movedRead (commandOf (commandType s) (commandBytes s)))
 
 -- 01's number of each refusal; none has values
 unfoldable pub numberOf : SectionRead → ℕ

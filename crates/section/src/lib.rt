@@ -161,7 +161,7 @@ pub fn read_command_part(kind: u8, payload: &[u8]) -> CommandRead
 // The header, the command and the loop's place, of a section whose parts are all there.
 fn read_parts(s: &[u8], place: View) -> SectionRead
     requires { ⌜ (place ≡ loopPlace (now s)) × (16 + commandLength (now s) ≤ length (now s)) ⌝ }
-    ensures { λ r. ⌜ r ≡ accepted (headerOf (drop 3 (now (s .entry)))) (commandOf (commandType (now (s .entry))) (commandBytes (now (s .entry)))) (loopPlace (now (s .entry))) ⌝ }
+    ensures { λ r. ⌜ r ≡ accepted (headerOf (drop 3 (now (s .entry)))) (movedRead (commandOf (commandType (now (s .entry))) (commandBytes (now (s .entry))))) (loopPlace (now (s .entry))) ⌝ }
 {
     let header = match read_header(&s[3..]) {
         HeaderRead::Header(h) => h,

@@ -12,7 +12,7 @@ use Rattle.command.specs.declared.SpliceCommand.{SpliceCommand}
 use Rattle.crc.specs.Crc.{crcOf}
 use Rattle.header.specs.Header.{headerOf}
 use Rattle.header.specs.declared.header.HeaderRead.{HeaderRead}
-use Rattle.section.specs.Section.{commandLength, commandType, commandBytes, roomAfter, loopLength, loopPlace, moved, accepted, sectionOf}
+use Rattle.section.specs.Section.{commandLength, commandType, commandBytes, roomAfter, loopLength, loopPlace, moved, movedRead, accepted, sectionOf}
 use Rattle.section.specs.declared.Section.{Section}
 use Rattle.section.specs.declared.SectionRead.{SectionRead}
 use Rattle.section.proofs.Acceptance.{none-if-accepted}
@@ -43,8 +43,8 @@ record Made (h : HeaderRead) (r : CommandRead) (v : View) (x : Section) : Type 0
   pub moves : x .command ≡ moved 14 own
   pub loop : x .descriptors ≡ v
 
-made : (h : HeaderRead) (r : CommandRead) (v : View) (x : Section) → accepted h r v ≡ SectionRead.Is x → Made h r v x
-unfolding accepted
+made : (h : HeaderRead) (r : CommandRead) (v : View) (x : Section) → accepted h (movedRead r) v ≡ SectionRead.Is x → Made h r v x
+unfolding accepted movedRead
 made (HeaderRead.Header h) (CommandRead.Is c) v x e =
     let f : record { header = h; command = moved 14 c; descriptors = v } ≡ x = cc in
     record {
@@ -71,7 +71,7 @@ parts-of s x e =
     let size : commandLength s ≤ length s - 18 = ltb-false (length s - 18) (commandLength s) (n .1 .1 .1 .1 .1 .1 .0) in
     let room : 2 ≤ length s - 18 - commandLength s = ltb-false (length s - 18 - commandLength s) 2 (n .1 .1 .1 .1 .1 .1 .1 .0) in
     let extent : loopLength s + 2 ≤ length s - 18 - commandLength s = ltb-false (length s - 18 - commandLength s) (loopLength s + 2) (n .1 .1 .1 .1 .1 .1 .1 .1 .0) in
-    let r = accepted (headerOf (drop 3 s)) (command.commandOf (commandType s) (commandBytes s)) (loopPlace s) in
+    let r = accepted (headerOf (drop 3 s)) (movedRead (command.commandOf (commandType s) (commandBytes s))) (loopPlace s) in
     let f : r ≡ sectionOf s =
     is-accepted s (loopPlace s) r
     (is-framed s long short first crc _ longer

@@ -18,7 +18,7 @@ use Rattle.header.specs.Header.{headerOf}
 use Rattle.header.specs.Time.{spliceTime}
 use Rattle.header.specs.declared.header.HeaderRead.{HeaderRead}
 use Rattle.section.proofs.Acceptance.{none-if-accepted}
-use Rattle.section.specs.Section.{commandLength, commandType, commandBytes, roomAfter, loopLength, loopPlace, conditions, moved, accepted, frameOf, sectionOf, None}
+use Rattle.section.specs.Section.{commandLength, commandType, commandBytes, roomAfter, loopLength, loopPlace, conditions, moved, movedRead, accepted, frameOf, sectionOf, None}
 use Rattle.section.specs.declared.Section.{Section}
 use Rattle.section.specs.declared.SectionRead.{SectionRead}
 use Rattle.table.proofs.Lists.{zero-one}
@@ -35,8 +35,8 @@ pub record Laid (s : List ℕ) (x : Section) : Type 0 where
   pub command : x .command ≡ moved 14 read
 
 made : (s : List ℕ) (x : Section) → length s ≤ 4096 → 14 + commandLength s + 2 + loopLength s + 4 ≤ length s
-    → (h : HeaderRead) (r : CommandRead) → commandOf (commandType s) (commandBytes s) ≡ r → accepted h r (loopPlace s) ≡ SectionRead.Is x → Laid s x
-unfolding accepted
+    → (h : HeaderRead) (r : CommandRead) → commandOf (commandType s) (commandBytes s) ≡ r → accepted h (movedRead r) (loopPlace s) ≡ SectionRead.Is x → Laid s x
+unfolding accepted movedRead
 made s x l f (HeaderRead.Header h) (CommandRead.Is c) e a =
     let z : x ≡ record { header = h; command = moved 14 c; descriptors = loopPlace s } = cc in
     record { short = l; fits = f; place = ap (λ (x : Section). x .descriptors) z; read = c; from = e; command = ap (λ (x : Section). x .command) z }

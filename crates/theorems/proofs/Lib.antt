@@ -1,3 +1,4 @@
+pub mod Numbers
 pub mod RowsHold
 pub mod FixedAnswers
 pub mod FixedAtBoundary

@@ -41,6 +41,13 @@ use Rattle.header.specs.declared.time.SpliceTime.{SpliceTime}
 use Rattle.items.specs.Cover.{Ends, TakesRest, Covered}
 use Rattle.items.specs.Items.{stepOf, itemsOf}
 use Rattle.loop_laws.specs.Loops.{joinedMade, loopMade, Given, givenMade, GivenTypes, ItemsBack}
+use Rattle.names.specs.Algorithm.{algorithmEntry, otherAlgorithm, algorithmOf, fairAlgorithm}
+use Rattle.names.specs.Command.{commandEntry, commandTypeOf, fairCommand}
+use Rattle.names.specs.Segmentation.{segmentationEntry, segmentationOf, fairSegmentation}
+use Rattle.names.specs.Upid.{upidTypeEntry, upidTypeOf, fairUpidType}
+use Rattle.names.specs.declared.command.SpliceCommandType.{SpliceCommandType}
+use Rattle.names.specs.declared.segmentation.SegmentationTypeId.{SegmentationTypeId}
+use Rattle.names.specs.declared.upid.SegmentationUpidType.{SegmentationUpidType}
 use Rattle.pen.specs.Written.{answerOf, laterOf}
 use Rattle.pen.specs.declared.Written.{Written}
 use Rattle.section.proofs.Acceptance as acceptance
@@ -58,6 +65,7 @@ use Rattle.table.specs.Writing.{Made, made}
 use Rattle.upid.specs.Cover.{All}
 use Rattle.theorems.specs.Identifiers.{OneRun, inSection, loopIn, identifiersOf, midsOf, Unsplit}
 use Rattle.theorems.specs.Making.{CommandMakes, SectionMakes}
+use Rattle.theorems.specs.Numbers.{OnlyBy}
 use Rattle.theorems.specs.OverC.{componentsAnswered, splicesWords, wordsMadeAt}
 use Rattle.theorems.specs.Rows.{Holds, rows}
 use Rattle.theorems.specs.Same.{SameSections}
@@ -68,6 +76,7 @@ use Rattle.theorems.proofs.CommandTypes as command-types
 use Rattle.theorems.proofs.CommandsMade as commands-made
 use Rattle.theorems.proofs.ItemsWritten as items-written
 use Rattle.theorems.proofs.LoopsOverC as loops-over-c
+use Rattle.theorems.proofs.Numbers as numbers
 use Rattle.theorems.proofs.RowsHold as rows-hold
 use Rattle.theorems.proofs.Sections as sections
 use Rattle.theorems.proofs.SectionsMade as sections-made
@@ -94,6 +103,34 @@ sections-of-20-bytes-are-accepted = worked.empty-accepted
 -- there is one
 pub a-null-is-such-a-section : EmptyCommand spliceNull × (length spliceNull ≡ 20) × (loopLength spliceNull ≡ 0) × (commandType spliceNull ≡ 0)
 a-null-is-such-a-section = worked.null-is-one
+
+-- The incident, worked out (`no-mid-of-the-section-is-split`, `writing-back-splits-no-mid` say it of every section): a section whose MID has a part of 8 bytes and one of 12 is read as these two, whole
+pub eight-and-twelve-bytes-are-read-whole : Identified eightAndTwelve (
+    record { start = 35; len = 24; bytes = both }
+    ∷ record { start = 37; len = 8; bytes = eight }
+    ∷ record { start = 47; len = 12; bytes = twelve }
+    ∷ [])
+eight-and-twelve-bytes-are-read-whole = worked.both-whole
+
+-- and it is canonical, so it is what is written of its items, and its MID is kept whole
+pub the-section-with-eight-and-twelve-is-canonical : AllBytes eightAndTwelve × (canonicalSection eightAndTwelve ≡ true)
+the-section-with-eight-and-twelve-is-canonical = worked.both-canonical
+
+-- ---- named numbers
+
+-- Which value a number stands for: the name that has it in the table of names/specs, and where none has it the value that carries it ("4 to 31 reserved, 32 to 63 private; as a bare
+-- number, 64 to 255 too"); and nothing else goes by the table
+pub algorithms-go-by-their-table : OnlyBy algorithmEntry otherAlgorithm algorithmOf fairAlgorithm
+algorithms-go-by-their-table = numbers.algorithms-by
+
+pub command-types-go-by-their-table : OnlyBy commandEntry SpliceCommandType.Reserved commandTypeOf fairCommand
+command-types-go-by-their-table = numbers.commands-by
+
+pub upid-types-go-by-their-table : OnlyBy upidTypeEntry SegmentationUpidType.Reserved upidTypeOf fairUpidType
+upid-types-go-by-their-table = numbers.upid-types-by
+
+pub segmentation-types-go-by-their-table : OnlyBy segmentationEntry SegmentationTypeId.Reserved segmentationOf fairSegmentation
+segmentation-types-go-by-their-table = numbers.segmentations-by
 
 -- ---- acceptance
 
@@ -185,14 +222,6 @@ an-ending-refusal-takes-the-rest-of-the-loop = sections.ending-takes-rest
 -- "outer part before its inner ones".
 pub no-mid-of-the-section-is-split : (s : List ℕ) (x : Section) → sectionOf s ≡ SectionRead.Is x → All (Unsplit s) (midsOf s x)
 no-mid-of-the-section-is-split = sections.mids-unsplit
-
--- such a section: its MID has a part of 8 bytes and one of 12, and is read as these two, whole
-pub eight-and-twelve-bytes-are-read-whole : Identified eightAndTwelve (
-    record { start = 35; len = 24; bytes = both }
-    ∷ record { start = 37; len = 8; bytes = eight }
-    ∷ record { start = 47; len = 12; bytes = twelve }
-    ∷ [])
-eight-and-twelve-bytes-are-read-whole = worked.both-whole
 
 -- ---- over the C boundary
 
@@ -289,10 +318,6 @@ a-canonical-section-is-what-is-written-of-its-items s x a e c = (loopIn s x, ite
 -- has the same bytes and the same parts, at every level.
 pub writing-back-splits-no-mid : (s : List ℕ) (x : Section) → AllBytes s → sectionOf s ≡ SectionRead.Is x → canonicalSection s ≡ true → All (KeepsUpid (loopIn s x)) (itemsOf (loopIn s x))
 writing-back-splits-no-mid = items-written.keeps-upids
-
--- such a section is that of above: it is canonical, so it is what is written of its items, and its MID with a part of 8 bytes and one of 12 is kept whole
-pub the-section-with-eight-and-twelve-is-canonical : AllBytes eightAndTwelve × (canonicalSection eightAndTwelve ≡ true)
-the-section-with-eight-and-twelve-is-canonical = worked.both-canonical
 
 -- "reading what the writer wrote gives what it was handed": the header, with the command's length and type worked out; the command; the loop's bytes; and what is
 -- written is canonical. (An array has 255 places, and a count is a byte.)

@@ -23,7 +23,7 @@ use Rattle.section_writer.specs.Frame.{headed, numbersFit, sectionLength}
 use Rattle.table.specs.Bits.{AllBytes}
 use Rattle.table.specs.Lent.{liesIn, viewed}
 use Rattle.table.specs.Writing.{Field, walk, within, Made, made, refused}
-use Rattle.theorems.specs.Same.{viewless}
+use Rattle.theorems.specs.Same.{withoutPlace}
 
 -- ---- a command c, its components in the first of the places, its view of the lent bytes
 
@@ -45,7 +45,7 @@ pub record CommandPayload (c : SpliceCommand) (places : List ComponentSplice) (l
   pub form : canonicalCommand (kindOf c) p ≡ true
   pub again : SpliceCommand
   pub reading : commandOf (kindOf c) p ≡ CommandRead.Is again
-  pub values : viewless again ≡ viewless c
+  pub values : withoutPlace again ≡ withoutPlace c
   pub components : take (countIn again) (componentsOf p) ≡ take (countIn c) places
   pub view : viewed p (privateView again) ≡ viewed lent (privateView c)
 

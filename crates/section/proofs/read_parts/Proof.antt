@@ -2,8 +2,8 @@
 use mathlib.Core.Path.{_≡_, ap, sym, _∙_}
 use native.Mathlib.Omega.{arith}
 use Rattle.command.specs.declared.CommandRead.{CommandRead}
-use Rattle.section.specs.Section.{movedRead}
-use Rattle.section.proofs.Frame.{no-header, sectionWith, section-is, place-at, header-at, command-at}
+use Rattle.section.specs.Section.{movedRead, accepted}
+use Rattle.section.proofs.Frame.{no-header, section-is, place-at, header-at, command-at}
 use borrow.Author.Needs.{needs}
 use Rattle.section.proofs.read_parts.Statement.{statement}
 use Rattle.section.proofs.read_parts.Tie as tie
@@ -73,6 +73,7 @@ enum-told-3 : tie.Need-enum-told-3
 enum-told-3 c = search needs
 
 returns-2 : tie.Need-returns-2
+unfolding accepted
 returns-2 c =
     let r = c .before .before .before in
     let h = r .before .before .before .before .before in
@@ -83,6 +84,7 @@ returns-2 c =
     section-is (a .s .now) (a .place) _ _ (sym (header-at (a .s .now)) ∙ sym (g .read-header .ensures) ∙ h .h .given .1) read (st .pre .0)
 
 returns-3 : tie.Need-returns-3
+unfolding accepted
 returns-3 c =
     let r = c .before .before in
     let h = r .before .before .before .before .before in
@@ -93,6 +95,7 @@ returns-3 c =
     section-is (a .s .now) (a .place) _ _ (sym (header-at (a .s .now)) ∙ sym (g .read-header .ensures) ∙ h .h .given .1) read (st .pre .0)
 
 returns-4 : tie.Need-returns-4
+unfolding accepted
 returns-4 c =
     let r = c .before .before in
     let h = r .before .before .before .before .before in
