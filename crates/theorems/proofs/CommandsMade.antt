@@ -42,7 +42,7 @@ use Rattle.table.specs.Table.{number, part, remaining}
 use Rattle.table.specs.Writing.{walk, seen, within, Content, contents, print, Made, made, refused, make}
 use Rattle.table.specs.declared.View.{View}
 use Rattle.theorems.specs.Making.{commandFits, CommandPayload, CommandMakes}
-use Rattle.theorems.specs.Same.{viewless}
+use Rattle.theorems.specs.Same.{withoutPlace}
 use Rattle.theorems.proofs.Answers.{private-of}
 use Rattle.theorems.proofs.WrittenBack.{command-back, held, components-read}
 
@@ -167,7 +167,7 @@ module _ (c : SpliceCommand) (places : List ComponentSplice) (lent : List ℕ) (
     bytes-if-made = rw (← (passed .2)) (tested c places lent h .bytes)
 
 -- ---- what is made reads as the command
-own-values : (c : SpliceCommand) → viewless (ownOf c) ≡ viewless c
+own-values : (c : SpliceCommand) → withoutPlace (ownOf c) ≡ withoutPlace c
 own-values SpliceCommand.SpliceNull = refl
 own-values (SpliceCommand.SpliceInsert i) = refl
 own-values (SpliceCommand.TimeSignal t) = refl
@@ -226,7 +226,7 @@ payload-made c places lent p n k a e =
 -- ---- what reads as the command is made of it
 
 -- a command is its view, and what it has besides
-with-own-view : (c : SpliceCommand) → c ≡ withView (λ v. privateView c) (viewless c)
+with-own-view : (c : SpliceCommand) → c ≡ withView (λ v. privateView c) (withoutPlace c)
 with-own-view SpliceCommand.SpliceNull = refl
 with-own-view (SpliceCommand.SpliceInsert i) = refl
 with-own-view (SpliceCommand.TimeSignal t) = refl
@@ -245,8 +245,8 @@ module _ (v : View) (there places : List ComponentSplice) (s lent b : List ℕ) 
       let g : viewed lent (p .«private_bytes») ≡ take (p .«private_bytes» .len) (drop (p .«private_bytes» .at) lent) = rw l in
       rw (l, i, ← g, ← f) (ap made (sym (private-of s q b e)))
 
-  again : (c : SpliceCommand) → liesIn lent (privateView c) ≡ true → commandMade (withView (λ u. v) (viewless c)) there s ≡ made b
-      → take (countIn (withView (λ u. v) (viewless c))) there ≡ take (countIn c) places → viewed s (privateView (withView (λ u. v) (viewless c))) ≡ viewed lent (privateView c)
+  again : (c : SpliceCommand) → liesIn lent (privateView c) ≡ true → commandMade (withView (λ u. v) (withoutPlace c)) there s ≡ made b
+      → take (countIn (withView (λ u. v) (withoutPlace c))) there ≡ take (countIn c) places → viewed s (privateView (withView (λ u. v) (withoutPlace c))) ≡ viewed lent (privateView c)
       → commandMade c places lent ≡ made b
   unfolding commandMade
   again SpliceCommand.SpliceNull l e f g = e
@@ -258,7 +258,7 @@ module _ (v : View) (there places : List ComponentSplice) (s lent b : List ℕ) 
 pub made-if-read : (c : SpliceCommand) (places : List ComponentSplice) (lent p : List ℕ) → liesIn lent (privateView c) ≡ true → CommandPayload c places lent p → commandMade c places lent ≡ made p
 made-if-read c places lent p l q =
     let v = privateView (q .again) in
-    let is : q .again ≡ withView (λ u. v) (viewless c) = with-own-view (q .again) ∙ ap (withView (λ u. v)) (q .values) in
+    let is : q .again ≡ withView (λ u. v) (withoutPlace c) = with-own-view (q .again) ∙ ap (withView (λ u. v)) (q .values) in
     again v (componentsOf p) places p lent p c l
     (ap (λ (d : SpliceCommand). commandMade d (componentsOf p) p) (sym is) ∙ command-back (kindOf c) p (q .bytes) (q .again) (q .form) (q .reading) .1)
     (ap (λ (d : SpliceCommand). take (countIn d) (componentsOf p)) (sym is) ∙ q .components)
