@@ -1,5 +1,5 @@
 -- The product's demands, over the definitions. A reader needs specs/{Rows,Identifiers,Sections,Written,Same}.antt beside this file; for the part on writing the
--- definitions of `section_writer` and `command_measure`, and those of `loop_laws` (specs/Loops.antt) for the loop by its items; for the part on the C boundary
+-- definitions of `section_writer` and `command_measure`, those of `loop_laws` (specs/Loops.antt) for the loop by its items, and those of `descriptor_laws` (specs/{Trips,Making}.antt) for a descriptor; for the part on the C boundary
 -- specs/OverC.antt and the definitions of `flat_writer`, `flat_section_writer` and `flat_item_writer`. The proofs stand in the other files of this folder. That each
 -- public contract fixes its answer is stated for each function in FixedAnswers.antt, FixedAtBoundary.antt and FixedAtWriter.antt. Assumes nothing.
 use Prim.Native.Nat.{ℕ, _≤_, _^_, _<_}
@@ -24,6 +24,11 @@ use Rattle.descriptor.specs.declared.segmentation.SegmentationDetail.{Segmentat
 use Rattle.descriptor.specs.declared.segmentation.SegmentationInsert.{SegmentationInsert}
 use Rattle.descriptor.specs.declared.segmentation.SubSegment.{SubSegment}
 use Rattle.descriptor.specs.declared.segmentation.SubSegments.{SubSegments}
+use Rattle.descriptor.specs.declared.whole.Beside.{Beside}
+use Rattle.descriptor_form.specs.Writing.{descriptorMade}
+use Rattle.descriptor_laws.proofs.Theorems as descriptors
+use Rattle.descriptor_laws.specs.Making.{DescriptorMakes}
+use Rattle.descriptor_laws.specs.Trips.{Handed}
 use Rattle.flat.specs.FlatSection.{flatSectionRead}
 use Rattle.flat_item_writer.proofs.Answered as answered
 use Rattle.flat_item_writer.specs.ItemGiven.{descriptorWordsMade}
@@ -247,6 +252,18 @@ a-refused-write-changes-no-byte = targets.kept
 -- "an accepted one changes only the bytes of its result, which start at 0, and gives their number."
 pub an-accepted-write-changes-only-its-result : (m : Made) (target : List ℕ) (n : ℕ) → answerOf m target ≡ Written.Wrote n → ChangesOnlyResult m target n
 an-accepted-write-changes-only-its-result = targets.changed
+
+-- "33 .. a value that no canonical reading has (list below)". What is made of a descriptor that is handed in is told by what is read, and by the widths of the fields (`DescriptorMakes`,
+-- descriptor_laws/specs/Making.antt): 33 where no canonical payload reads as it, and else that payload in its frame. So nobody needs to believe the list, as far as it is of descriptors.
+-- (What the types say of a descriptor that is handed in: `Handed`.)
+pub what-is-made-of-a-descriptor-is-told-by-what-is-read : (d : Descriptor) (identifier : List ℕ) (beside : Beside) (lent : List ℕ) → Handed d identifier beside lent
+    → DescriptorMakes d identifier beside lent (descriptorMade d identifier beside lent)
+what-is-made-of-a-descriptor-is-told-by-what-is-read = descriptors.what-is-made-of-a-descriptor
+
+-- and nothing else is made of it
+pub nothing-else-is-made-of-a-descriptor : (d : Descriptor) (identifier : List ℕ) (beside : Beside) (lent : List ℕ) (m n : Made) → Handed d identifier beside lent
+    → DescriptorMakes d identifier beside lent m → DescriptorMakes d identifier beside lent n → m ≡ n
+nothing-else-is-made-of-a-descriptor = descriptors.a-descriptor-makes-one
 
 -- Demand 2: "Writing the reading of a canonical section gives its bytes": its header, its command with the components and bytes that it has, and its loop, as it stands
 -- in the section
