@@ -34,8 +34,8 @@ use Rattle.items.specs.Place.{movedDescriptor}
 use Rattle.items.specs.declared.Item.{Item}
 use Rattle.items.specs.declared.Item.the-variants.{Is}
 use Rattle.items.specs.declared.reading.Reading.{Reading}
-use Rattle.loop_laws.specs.Loops.{itemMade, writtenAt, _followed-by_, joinedMade, Given, givenMade, itemGiven, GivenTypes, ItemBack, SameItems, ItemsBack, Pairs, over, pair}
-use Rattle.loop_laws.proofs.Pieces.{Canonical, cut-canonical, At, Items, end, item, items-cut}
+use Rattle.loop_laws.specs.Loops.{WrittenAgain, Given, givenMade, itemGiven, GivenTypes, ItemBack, SameItems, ItemsBack, Pairs, over, pair}
+use Rattle.loop_laws.proofs.Pieces.{Canonical, cut-canonical, At, Items, end, item, run-is, items-cut}
 use Rattle.loop_laws.proofs.Places.{moved-values, moved-count, moved-view, moved-bytes}
 
 -- ---- the bytes of the pieces
@@ -127,19 +127,14 @@ module _ (loop : List ℕ) (offset : ℕ) (t : List ℕ) (a : At loop offset t) 
         };
       }
 
--- what is written of the item is the piece
-pub written-at : (loop : List ℕ) (offset : ℕ) (t : List ℕ) (a : At loop offset t) → Back loop offset t a → writtenAt loop (listed loop offset) ≡ made t
-written-at loop o t a b = ap (itemMade λ d. givenMade (itemGiven loop (listed loop o) d)) (b .is) ∙ b .writes
-
 -- ---- all of them
 
 module _ (loop : List ℕ) (fits : length loop ≤ 4076) where
-  pub join-back : {offset : ℕ} {ts : List (List ℕ)} {xs : List Listed} → Items loop fits offset ts xs → All AllBytes ts → joinedMade (map (writtenAt loop) xs) ≡ made (joined ts)
-  unfolding joinedMade joined
-  join-back end none = refl
-  join-back (item {offset = o} {t = t} {ts = ts} {xs = xs} a i) (more h hs) =
+  -- what is written of the item is the piece, which is the item's run
+  pub written-at : (offset : ℕ) (t : List ℕ) → At loop offset t → AllBytes t → WrittenAgain loop (listed loop offset)
+  written-at o t a h =
       let b = back-at loop o t a h in
-      ap₂ (λ (p q : Made). p followed-by q) (written-at loop o t a b) (join-back i hs)
+      record { descriptor = b .read; is = b .is; writes = b .writes ∙ ap made (sym (run-is loop fits o t a)) }
 
   -- what holds of each item where a piece stands holds of all
   pub every-item : {P : Listed → Type 0} {offset : ℕ} {ts : List (List ℕ)} {xs : List Listed} → Items loop fits offset ts xs → All AllBytes ts
@@ -185,27 +180,16 @@ items-back : (loop : List ℕ) (fits : length loop ≤ 4076) {offset : ℕ} {ts 
 items-back loop fits end over = over
 items-back loop fits (item {offset = o} {t = t} a i) (pair {y = g} r rs) = pair (given-at loop o t a g r) (items-back loop fits i rs)
 
-record Cut (gs : List Given) (loop : List ℕ) : Type 0 where
-  pieces : List (List ℕ)
-  canon : All Canonical pieces
-  reads : Reads pieces gs
-  joins : joined pieces ≡ loop
+-- descriptors that are handed in, and the bytes that are written of each
+given-cut : {gs : List Given} {bs : List (List ℕ)} → All GivenTypes gs → Pairs (λ (g : Given) (b : List ℕ). givenMade g ≡ made b) gs bs → All Canonical bs × Reads bs gs
+given-cut none over = (none, over)
+given-cut (more {x = g} h hs) (pair {y = t} e es) =
+    let i = given-cut hs es in
+    let r = descriptor-write-read (g .descriptor) (g .identifier) (g .beside) (g .lent) t h e in
+    (more (r .1) (i .0), pair (r .0) (i .1))
 
-given-cut : {gs : List Given} → All GivenTypes gs → (loop : List ℕ) → joinedMade (map givenMade gs) ≡ made loop → Cut gs loop
-unfolding joinedMade joined
-given-cut none loop e = record { pieces = []; canon = none; reads = over; joins = cc }
-given-cut (more {x = g} {xs = gs} h hs) loop e = go (givenMade g) (joinedMade (map givenMade gs)) (given-cut hs) refl refl e
-  where
-    go : (m n : Made) → ((c : List ℕ) → joinedMade (map givenMade gs) ≡ made c → Cut gs c) → givenMade g ≡ m → joinedMade (map givenMade gs) ≡ n → m followed-by n ≡ made loop → Cut (g ∷ gs) loop
-    go (refused k) n more-cut em en e = zero-one cc
-    go (made t) (refused k) more-cut em en e = zero-one cc
-    go (made t) (made c) more-cut em en e =
-        let i = more-cut c en in
-        let r = descriptor-write-read (g .descriptor) (g .identifier) (g .beside) (g .lent) t h em in
-        let z : t ++ c ≡ loop = cc in
-        record { pieces = t ∷ i .pieces; canon = more (r .1) (i .canon); reads = pair (r .0) (i .reads); joins = ap (λ (l : List ℕ). t ++ l) (i .joins) ∙ z }
-
-pub given-back : {gs : List Given} → All GivenTypes gs → (loop : List ℕ) → length loop ≤ 4076 → joinedMade (map givenMade gs) ≡ made loop → (canonicalLoop loop ≡ true) × ItemsBack loop (itemsOf loop) gs
-given-back hs loop fits e =
-    let c = given-cut hs loop e in
-    (subst (λ (l : List ℕ). canonicalLoop l ≡ true) (c .joins) (cut-canonical (c .canon)), items-back loop fits (items-cut loop fits (c .canon) (c .joins)) (c .reads))
+pub given-back : {gs : List Given} {bs : List (List ℕ)} → All GivenTypes gs → length (joined bs) ≤ 4076 → Pairs (λ (g : Given) (b : List ℕ). givenMade g ≡ made b) gs bs
+    → (canonicalLoop (joined bs) ≡ true) × ItemsBack (joined bs) (itemsOf (joined bs)) gs
+given-back {gs} {bs} hs fits es =
+    let c = given-cut hs es in
+    (cut-canonical (c .0), items-back (joined bs) fits (items-cut (joined bs) fits (c .0) refl) (c .1))

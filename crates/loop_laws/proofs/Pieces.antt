@@ -16,7 +16,7 @@ use Rattle.upid.specs.Cover.{All, none, more}
 use Rattle.descriptor.specs.Whole.{wholeOf}
 use Rattle.descriptor_form.specs.Canonical.{canonicalDescriptor, canonicalFrom, canonicalLoop}
 use Rattle.descriptor_laws.specs.Trips.{wholeIn}
-use Rattle.items.specs.Cover.{joined}
+use Rattle.items.specs.Cover.{joined, runOf}
 use Rattle.items.specs.Items.{stepOf, readingOf, Listed, listed, itemsOf}
 use Rattle.items.specs.declared.reading.Reading.{Reading}
 use Rattle.items.proofs.Lists.{rest, rest-end, rest-more, items-rest}
@@ -93,6 +93,7 @@ cut-canonical {ts} cs = cut-from (length (joined ts)) cs (omega arith)
 pub record At (loop : List ℕ) (offset : ℕ) (t : List ℕ) : Type 0 where
   pub canon : Canonical t
   pub reading : readingOf loop offset ≡ placed (offset + 6) (offset + length t) (wholeIn t)
+  pub run : take (length t) (drop offset loop) ≡ t
   pub payload : take (length t - 6) (drop (offset + 6) loop) ≡ drop 6 t
   pub there : offset + 6 + (length t - 6) ≤ length loop
   pub inside : offset < length loop
@@ -121,6 +122,7 @@ module _ (loop : List ℕ) (fits : length loop ≤ 4076) where
             reading-whole loop o L stands (omega (arith, z .1))
             ∙ ap₂ (λ (k : ℕ) (w : _). placed (o + 6) k w) next
             (ap₂ (λ (k : ℕ) (i : List ℕ). wholeOf k i (take (L - 4) (drop (o + 6) loop))) head id ∙ ap (wholeOf (getD t 0 0) (take 4 (drop 2 t))) same);
+        run = ap (take (length t)) is ∙ take-at t post (length t) refl;
         payload = body;
         there = omega arith;
         inside = omega arith;
@@ -134,6 +136,12 @@ module _ (loop : List ℕ) (fits : length loop ≤ 4076) where
   next-is : (offset : ℕ) (t : List ℕ) → At loop offset t → stepOf loop offset .next ≡ offset + length t
   unfolding readingOf
   next-is o t a = ap (λ (r : Reading). r .step .next) (a .reading)
+
+  -- the piece is the run of the loop that the item uses
+  pub run-is : (offset : ℕ) (t : List ℕ) → At loop offset t → runOf loop (listed loop offset) ≡ t
+  run-is o t a =
+      let n : stepOf loop o .next - o ≡ length t = omega (arith, next-is o t a) in
+      ap (λ (k : ℕ). take k (drop o loop)) n ∙ a .run
 
   cut-items : {ts : List (List ℕ)} → All Canonical ts → (offset : ℕ) → offset ≤ length loop → drop offset loop ≡ joined ts → Items offset ts (rest loop fits offset)
   unfolding joined

@@ -9,10 +9,11 @@ use Rattle.table.specs.Bits.{AllBytes}
 use Rattle.table.specs.Writing.{made}
 use Rattle.upid.specs.Cover.{All}
 use Rattle.descriptor_form.specs.Canonical.{canonicalLoop}
-use Rattle.items.specs.Cover.{joined}
+use Rattle.items.proofs.Theorems.{items-cover-the-loop}
+use Rattle.items.specs.Cover.{joined, runOf}
 use Rattle.items.specs.Items.{itemsOf}
-use Rattle.loop_laws.specs.Loops.{joinedMade, loopMade, SameItems, Given, givenMade, GivenTypes, ItemsBack}
-use Rattle.loop_laws.proofs.Loops.{all-pieces, join-back, one-cut, given-back}
+use Rattle.loop_laws.specs.Loops.{WrittenAgain, SameItems, Given, givenMade, GivenTypes, ItemsBack, Pairs}
+use Rattle.loop_laws.proofs.Loops.{all-pieces, written-at, every-item, one-cut, given-back}
 use Rattle.loop_laws.proofs.Pieces.{Canonical, canonical-cut, items-cut}
 
 -- the canonical descriptors of a canonical loop
@@ -20,12 +21,12 @@ pub cut : (loop : List ℕ) → canonicalLoop loop ≡ true → (ts : List (List
 unfolding canonicalLoop
 cut loop c = canonical-cut (length loop) loop c
 
--- "Writing a reading means each item's descriptor, joined in order as the loop": of a canonical loop this gives its bytes.
-pub a-canonical-loop-is-what-is-written-of-its-items : (loop : List ℕ) → AllBytes loop → length loop ≤ 4076 → canonicalLoop loop ≡ true → loopMade loop ≡ made loop
-unfolding loopMade
+-- "Writing a reading means each item's descriptor, joined in order as the loop": of a canonical loop each item is written as its own bytes, which joined are the loop.
+pub a-canonical-loop-is-what-is-written-of-its-items : (loop : List ℕ) → AllBytes loop → length loop ≤ 4076 → canonicalLoop loop ≡ true
+    → All (WrittenAgain loop) (itemsOf loop) × (joined (map (runOf loop) (itemsOf loop)) ≡ loop)
 a-canonical-loop-is-what-is-written-of-its-items loop a fits c =
     let t = cut loop c in
-    join-back loop fits (items-cut loop fits (t .1) (t .2)) (all-pieces (t .0) (subst AllBytes (sym (t .2)) a)) ∙ ap made (t .2)
+    (every-item loop fits (items-cut loop fits (t .1) (t .2)) (all-pieces (t .0) (subst AllBytes (sym (t .2)) a)) (written-at loop fits), items-cover-the-loop loop fits .cutting .joins)
 
 -- Two different canonical loops never have the same items.
 pub canonical-loops-of-the-same-items-are-one : (loop other : List ℕ) → AllBytes loop → AllBytes other → length loop ≤ 4076 → length other ≤ 4076 → canonicalLoop loop ≡ true → canonicalLoop other ≡ true
@@ -38,6 +39,6 @@ canonical-loops-of-the-same-items-are-one loop other a b fits fits₂ c d same =
     sym (t .2) ∙ ap joined e ∙ u .2
 
 -- What is written of descriptors, joined in order, is a canonical loop, and its items read back as what was handed in.
-pub descriptors-written-in-order-are-the-items-of-a-canonical-loop : (gs : List Given) (loop : List ℕ) → All GivenTypes gs → length loop ≤ 4076 → joinedMade (map givenMade gs) ≡ made loop
-    → (canonicalLoop loop ≡ true) × ItemsBack loop (itemsOf loop) gs
-descriptors-written-in-order-are-the-items-of-a-canonical-loop gs loop h fits e = given-back h loop fits e
+pub descriptors-written-in-order-are-the-items-of-a-canonical-loop : (gs : List Given) (bs : List (List ℕ)) → All GivenTypes gs → length (joined bs) ≤ 4076
+    → Pairs (λ (g : Given) (b : List ℕ). givenMade g ≡ made b) gs bs → (canonicalLoop (joined bs) ≡ true) × ItemsBack (joined bs) (itemsOf (joined bs)) gs
+descriptors-written-in-order-are-the-items-of-a-canonical-loop gs bs h fits e = given-back h fits e

@@ -1,16 +1,16 @@
--- A descriptor loop as the join of what is written of its items. These are definitions.
+-- A descriptor loop as what is written of its items. These are definitions.
 use Prim.Native.Nat.{ℕ}
-use mathlib.Core.List.{List, [], _∷_, _++_, map}
+use mathlib.Core.List.{List, [], _∷_}
 use mathlib.Core.Path.{_≡_}
-use Rattle.table.specs.Writing.{Made, made, refused}
+use Rattle.table.specs.Writing.{Made, made}
 use Rattle.descriptor.specs.declared.Descriptor.{Descriptor}
 use Rattle.descriptor.specs.declared.whole.Beside.{Beside}
 use Rattle.descriptor_form.specs.Same.{SameReading}
 use Rattle.descriptor_form.specs.Writing.{descriptorMade}
 use Rattle.descriptor_laws.specs.Trips.{Handed}
-use Rattle.items.specs.Items.{readingOf, Listed, itemsOf}
-use Rattle.items.specs.declared.Item.{Item}
-use Rattle.items.specs.declared.Item.the-variants.{End, Refused, Is}
+use Rattle.items.specs.Cover.{runOf}
+use Rattle.items.specs.Items.{readingOf, Listed}
+use Rattle.items.specs.declared.Item.the-variants.{Is}
 
 -- ---- a descriptor that is handed in, with the bytes that its views refer to
 
@@ -35,30 +35,11 @@ itemGiven loop x d = record { descriptor = d; identifier = x .step .identifier; 
 
 -- ---- "Writing a reading means each item's descriptor, joined in order as the loop, then the section."
 
--- what f makes of an item's descriptor; the loop's end and a refused item have none: 33
-abbrev pub itemMade : (Descriptor → Made) → Item → Made
-itemMade f End = refused 33
-itemMade f (Refused r) = refused 33
-itemMade f (Is d) = f d
-
--- what is written of an item of the loop, as it is read
-abbrev pub writtenAt : List ℕ → Listed → Made
-writtenAt loop x = itemMade (λ d. givenMade (itemGiven loop x d)) (x .step .item)
-
--- "joined in order": the first refusal stands
-infixr 40 _followed-by_
-abbrev pub _followed-by_ : Made → Made → Made
-made b followed-by made c = made (b ++ c)
-made b followed-by refused n = refused n
-refused n followed-by m = refused n
-
-unfoldable pub joinedMade : List Made → Made
-joinedMade [] = made []
-joinedMade (m ∷ ms) = m followed-by joinedMade ms
-
--- the loop that is written of the items of a loop
-unfoldable pub loopMade : List ℕ → Made
-loopMade loop = joinedMade (map (writtenAt loop) (itemsOf loop))
+-- the item x of the loop is a descriptor, which is written as the very bytes that it was read of. Joined in order these are the loop (`Covered`, items/specs/Cover.antt)
+pub record WrittenAgain (loop : List ℕ) (x : Listed) : Type 0 where
+  pub descriptor : Descriptor
+  pub is : x .step .item ≡ Is descriptor
+  pub writes : givenMade (itemGiven loop x descriptor) ≡ made (runOf loop x)
 
 -- ---- equal readings, in order
 

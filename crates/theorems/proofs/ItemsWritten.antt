@@ -1,5 +1,5 @@
 -- A section's loop, written of its items. Assumes nothing.
---     loop-written      of a canonical section's loop, the items written and joined are the loop
+--     loop-written      each item of a canonical section's loop is written as its own bytes, which joined are the loop
 --     keeps-upids       each of its items keeps its UPID
 --     one-loop          two canonical sections with the same items have equal loops
 --     one-of-items      and are equal, if they say the same around them
@@ -17,16 +17,18 @@ use Rattle.descriptor.specs.declared.segmentation.SegmentationDetail.{Segmentat
 use Rattle.descriptor.specs.declared.whole.Beside.{Beside}
 use Rattle.descriptor_form.specs.Canonical.{canonicalLoop}
 use Rattle.descriptor_laws.proofs.Alike.{SameView, viewIn, detailView}
+use Rattle.descriptor_laws.specs.Trips.{wholeIn}
 use Rattle.header.specs.declared.header.SpliceInfoHeader.{SpliceInfoHeader}
+use Rattle.items.specs.Cover.{joined, runOf}
 use Rattle.items.specs.Items.{Listed, listed, itemsOf}
 use Rattle.items.specs.Place.{movedDescriptor}
 use Rattle.items.specs.Walk.{movedDetail}
 use Rattle.items.specs.declared.Item.{Item}
 use Rattle.loop_laws.proofs.Loops.{all-pieces, back-at, beside-is, written-at, every-item}
-use Rattle.loop_laws.proofs.Pieces.{At, items-cut}
+use Rattle.loop_laws.proofs.Pieces.{At, run-is, items-cut}
 use Rattle.loop_laws.proofs.Places.{kind-stays}
 use Rattle.loop_laws.proofs.Theorems.{cut, a-canonical-loop-is-what-is-written-of-its-items, canonical-loops-of-the-same-items-are-one, descriptors-written-in-order-are-the-items-of-a-canonical-loop}
-use Rattle.loop_laws.specs.Loops.{joinedMade, loopMade, SameItems, Given, givenMade, GivenTypes, ItemsBack}
+use Rattle.loop_laws.specs.Loops.{WrittenAgain, SameItems, Given, givenMade, GivenTypes, ItemsBack, Pairs}
 use Rattle.section.specs.Section.{loopBytes, sectionOf}
 use Rattle.section.specs.declared.Section.{Section}
 use Rattle.section.specs.declared.SectionRead.{SectionRead}
@@ -64,7 +66,7 @@ module _ (s : List ℕ) (x : Section) (e : sectionOf s ≡ SectionRead.Is x) whe
     pub here-canonical : canonicalLoop (loopIn s x) ≡ true
     here-canonical = ap canonicalLoop loop-here ∙ canonical-parts s c .loop
 
-    pub loop-written : loopMade (loopIn s x) ≡ made (loopIn s x)
+    pub loop-written : All (WrittenAgain (loopIn s x)) (itemsOf (loopIn s x)) × (joined (map (runOf (loopIn s x)) (itemsOf (loopIn s x))) ≡ loopIn s x)
     loop-written = a-canonical-loop-is-what-is-written-of-its-items (loopIn s x) (all-viewed s (x .descriptors) a) (loop-short s x e) here-canonical
 
 -- ---- each item keeps its UPID
@@ -84,16 +86,18 @@ module _ (p loop : List ℕ) (base : ℕ) where
   descriptor-held (Descriptor.Time x) h = refl
   descriptor-held (Descriptor.Reserved tag own) h = refl
 
-keeps-upid : (loop : List ℕ) (offset : ℕ) (t : List ℕ) → At loop offset t → AllBytes t → KeepsUpid loop (listed loop offset)
-keeps-upid loop offset t a all =
+keeps-upid : (loop : List ℕ) → length loop ≤ 4076 → (offset : ℕ) (t : List ℕ) → At loop offset t → AllBytes t → KeepsUpid loop (listed loop offset)
+keeps-upid loop fits offset t a all =
     let b = back-at loop offset t a all in
+    let r : runOf loop (listed loop offset) ≡ t = run-is loop fits offset t a in
     record {
-      written = t;
-      writes = written-at loop offset t a b;
+      written = written-at loop fits offset t a all;
       again = b .own;
-      reading = b .alone;
-      upids = descriptor-held (drop 6 t) loop (offset + 6) (b .own) (b .view) ∙ ap (λ (i : Item). map (heldIn loop) (upidsOf i)) (sym (b .is ∙ ap Item.Is (b .moves)));
-      eidr = sym (ap (λ (c : Beside). c .eidr) (beside-is loop offset t a));
+      reading = ap (λ (p : List ℕ). wholeIn p .read) r ∙ b .alone;
+      upids =
+          ap (λ (p : List ℕ). map (heldIn (drop 6 p)) (descriptorUpids (b .own))) r
+          ∙ descriptor-held (drop 6 t) loop (offset + 6) (b .own) (b .view) ∙ ap (λ (i : Item). map (heldIn loop) (upidsOf i)) (sym (b .is ∙ ap Item.Is (b .moves)));
+      eidr = ap (λ (p : List ℕ). wholeIn p .beside .eidr) r ∙ sym (ap (λ (c : Beside). c .eidr) (beside-is loop offset t a));
     }
 
 -- what holds of each item where a canonical descriptor stands holds of all of a canonical section
@@ -105,7 +109,7 @@ each-item s x a e c f =
     every-item loop (loop-short s x e) (items-cut loop (loop-short s x e) (t .1) (t .2)) (all-pieces (t .0) (subst AllBytes (sym (t .2)) (all-viewed s (x .descriptors) a))) f
 
 pub keeps-upids : (s : List ℕ) (x : Section) → AllBytes s → sectionOf s ≡ SectionRead.Is x → canonicalSection s ≡ true → All (KeepsUpid (loopIn s x)) (itemsOf (loopIn s x))
-keeps-upids s x a e c = each-item s x a e c (keeps-upid (loopIn s x))
+keeps-upids s x a e c = each-item s x a e c (keeps-upid (loopIn s x) (loop-short s x e))
 
 -- ---- equal readings
 
@@ -123,11 +127,8 @@ one-of-items s r x y a b e f c d around items = no-other-section s r x y a b e f
 
 -- ---- written of descriptors, then read
 
-pub items-read : (gs : List Given) (h : SpliceInfoHeader) (c : SpliceCommand) (places : List ComponentSplice) (lent loop b : List ℕ) → All GivenTypes gs → joinedMade (map givenMade gs) ≡ made loop
-    → ReadsBack h c places lent loop b → ItemsBack (loopBytes b) (itemsOf (loopBytes b)) gs
-items-read gs h c places lent loop b types m r = go _ (r .reads)
-  where
-    go : (x : Section) → sectionOf b ≡ SectionRead.Is x → ItemsBack (loopBytes b) (itemsOf (loopBytes b)) gs
-    go x e =
-        let fits : length loop ≤ 4076 = subst (λ (l : List ℕ). length l ≤ 4076) (loop-here b x e ∙ r .loops) (loop-short b x e) in
-        subst (λ (l : List ℕ). ItemsBack l (itemsOf l) gs) (sym (r .loops)) (descriptors-written-in-order-are-the-items-of-a-canonical-loop gs loop types fits m .1)
+pub items-read : (gs : List Given) (bs : List (List ℕ)) (b : List ℕ) → All GivenTypes gs → Pairs (λ (g : Given) (b : List ℕ). givenMade g ≡ made b) gs bs
+    → (x : Section) → sectionOf b ≡ SectionRead.Is x → loopBytes b ≡ joined bs → ItemsBack (loopBytes b) (itemsOf (loopBytes b)) gs
+items-read gs bs b types m x e l =
+    let fits : length (joined bs) ≤ 4076 = subst (λ (l : List ℕ). length l ≤ 4076) (loop-here b x e ∙ l) (loop-short b x e) in
+    subst (λ (l : List ℕ). ItemsBack l (itemsOf l) gs) (sym l) (descriptors-written-in-order-are-the-items-of-a-canonical-loop gs bs types fits m .1)

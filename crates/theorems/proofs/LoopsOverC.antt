@@ -21,14 +21,13 @@ use Rattle.descriptor_laws.specs.Trips.{wholeIn}
 use Rattle.flat_item_writer.proofs.Own.{filled-length}
 use Rattle.flat_item_writer.specs.ItemGiven.{descriptorWordsMade}
 use Rattle.flat_items.specs.FlatItem.{flatStep, flatBeside}
-use Rattle.items.specs.Items.{stepOf, readingOf, Listed, listed, itemsOf}
+use Rattle.items.specs.Cover.{runOf}
+use Rattle.items.specs.Items.{stepOf, readingOf, listed, itemsOf}
 use Rattle.items.specs.declared.Item.{Item}
 use Rattle.items.specs.declared.Step.{Step}
 use Rattle.items.specs.declared.reading.Reading.{Reading}
-use Rattle.loop_laws.proofs.Loops.{all-pieces, back-at, identifier-is, beside-is, written-at, every-item}
-use Rattle.loop_laws.proofs.Pieces.{At, said, items-cut}
-use Rattle.loop_laws.proofs.Theorems.{cut}
-use Rattle.loop_laws.specs.Loops.{writtenAt, _followed-by_, joinedMade, loopMade}
+use Rattle.loop_laws.proofs.Loops.{back-at, identifier-is, beside-is}
+use Rattle.loop_laws.proofs.Pieces.{At, said, run-is}
 use Rattle.section.specs.Section.{sectionOf}
 use Rattle.section.specs.declared.Section.{Section}
 use Rattle.section.specs.declared.SectionRead.{SectionRead}
@@ -46,7 +45,7 @@ use Rattle.theorems.specs.Identifiers.{loopIn}
 use Rattle.theorems.specs.OverC.{stepWords, besideWords, wordsMadeAt}
 use Rattle.theorems.proofs.ItemsOverC.{ModeTags, TypedBeside, descriptor-taken}
 use Rattle.theorems.proofs.ItemsTyped.{written-typed}
-use Rattle.theorems.proofs.ItemsWritten.{all-viewed, here-canonical, loop-written}
+use Rattle.theorems.proofs.ItemsWritten.{each-item}
 use Rattle.theorems.proofs.Sections.{loop-short}
 
 got-same : {X : Type 0} {x y : X} {m n : ℕ} → got x m ≡ got y n → x ≡ y
@@ -209,7 +208,7 @@ unfolding readingOf
 reading-is loop o d e = ap (λ (s : Step). record { step = s; beside = readingOf loop o .beside }) (step-is (stepOf loop o) d e)
 
 module _ (loop : List ℕ) (fits : length loop ≤ 4076) where
-  words-at : (o : ℕ) (t : List ℕ) → At loop o t → AllBytes t → wordsMadeAt loop (listed loop o) ≡ writtenAt loop (listed loop o)
+  words-at : (o : ℕ) (t : List ℕ) → At loop o t → AllBytes t → wordsMadeAt loop (listed loop o) ≡ made (runOf loop (listed loop o))
   words-at o t a all =
       let b = back-at loop o t a all in
       let d = b .read in
@@ -218,18 +217,8 @@ module _ (loop : List ℕ) (fits : length loop ≤ 4076) where
       let types : TypedBeside id side = subst (λ (i : List ℕ). TypedBeside i side) (sym (identifier-is loop o t a)) (subst (TypedBeside (wholeIn t .identifier)) (sym (beside-is loop o t a)) (whole-typed t all (said t (a .canon) .0))) in
       let typed = written-typed id side loop d t all (b .places) (b .writes) in
       ap₂ (λ (s : Step) (r : Reading). descriptorWordsMade (stepWords (flatStep s)) (besideWords (flatBeside r)) loop) (step-is (stepOf loop o) d (b .is)) (reading-is loop o d (b .is))
-      ∙ descriptor-taken d (stepOf loop o .next) id side loop typed types (omega (arith, fits)) ∙ b .writes ∙ sym (written-at loop o t a b)
+      ∙ descriptor-taken d (stepOf loop o .next) id side loop typed types (omega (arith, fits)) ∙ b .writes ∙ ap made (sym (run-is loop fits o t a))
 
-joined-same : (loop : List ℕ) (ys : List Listed) → All (λ y. wordsMadeAt loop y ≡ writtenAt loop y) ys → joinedMade (map (wordsMadeAt loop) ys) ≡ joinedMade (map (writtenAt loop) ys)
-unfolding joinedMade
-joined-same loop [] none = refl
-joined-same loop (y ∷ ys) (more h hs) = ap₂ (λ (p q : Made). p followed-by q) h (joined-same loop ys hs)
-
-pub loop-again : (s : List ℕ) (x : Section) → AllBytes s → sectionOf s ≡ SectionRead.Is x → canonicalSection s ≡ true
-    → joinedMade (map (wordsMadeAt (loopIn s x)) (itemsOf (loopIn s x))) ≡ made (loopIn s x)
-unfolding loopMade
-loop-again s x a e c =
-    let loop : List ℕ = loopIn s x in
-    let t = cut loop (here-canonical s x e a c) in
-    let all = every-item loop (loop-short s x e) (items-cut loop (loop-short s x e) (t .1) (t .2)) (all-pieces (t .0) (subst AllBytes (sym (t .2)) (all-viewed s (x .descriptors) a))) (words-at loop (loop-short s x e)) in
-    joined-same loop (itemsOf loop) all ∙ loop-written s x e a c
+pub items-again : (s : List ℕ) (x : Section) → AllBytes s → sectionOf s ≡ SectionRead.Is x → canonicalSection s ≡ true
+    → All (λ y. wordsMadeAt (loopIn s x) y ≡ made (runOf (loopIn s x) y)) (itemsOf (loopIn s x))
+items-again s x a e c = each-item s x a e c (words-at (loopIn s x) (loop-short s x e))

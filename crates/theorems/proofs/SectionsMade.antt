@@ -245,6 +245,20 @@ module _ (h : SpliceInfoHeader) (c : SpliceCommand) (places : List ComponentSpli
         go true l false w = rw (as-32 l w) (SectionMakes.over l w)
         go true l true w = fitting l w (made-or-not c places lent places-held l (and-true (numbersFit h) (commandFits c places) w .1))
 
+    made-reads : (m : Made) (t : List ℕ) → SectionMakes h c places lent loop m → m ≡ made t → SectionBytes h c places lent loop t
+    made-reads _ t (SectionMakes.outside l) e = zero-one cc
+    made-reads _ t (SectionMakes.over l w) e = zero-one cc
+    made-reads _ t (SectionMakes.nobodys l w none) e = zero-one cc
+    made-reads _ t (SectionMakes.long l o p q s) e = zero-one cc
+    made-reads _ t (SectionMakes.other l o p q s f) e = zero-one cc
+    made-reads _ t (SectionMakes.its l u q) e =
+        let z : u ≡ t = cc in
+        subst (SectionBytes h c places lent loop) z q
+
+    -- what is written reads as what was handed in
+    pub section-reads-as : (t : List ℕ) → whole ≡ made t → SectionBytes h c places lent loop t
+    section-reads-as t e = made-reads whole t section-makes e
+
     -- no other answer is in the relation
     only-made : (m : Made) → SectionMakes h c places lent loop m → m ≡ whole
     only-made _ (SectionMakes.outside l) = sym (as-31 l)

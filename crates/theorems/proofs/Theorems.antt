@@ -1,5 +1,5 @@
--- The product's demands, over the definitions. A reader needs specs/{Rows,Identifiers,Sections,Written,Same,Making}.antt beside this file; for the part on writing the
--- definitions of `section_writer` and `command_measure`, and those of `loop_laws` (specs/Loops.antt) for the loop by its items; for the part on the C boundary
+-- The product's demands, over the definitions. A reader needs the specs of this crate beside this file; for the part on writing those of `section_writer`, `command_measure`,
+-- `loop_laws` (specs/Loops.antt, the loop by its items) and `descriptor_laws` (specs/{Trips,Making}.antt, a descriptor); for the part on the C boundary
 -- specs/OverC.antt and the definitions of `flat_writer`, `flat_section_writer` and `flat_item_writer`. The proofs stand in the other files of this folder. That each
 -- public contract fixes its answer is stated for each function in FixedAnswers.antt, FixedAtBoundary.antt and FixedAtWriter.antt. Assumes nothing.
 use Prim.Native.Nat.{ℕ, _≤_, _^_, _<_}
@@ -24,6 +24,11 @@ use Rattle.descriptor.specs.declared.segmentation.SegmentationDetail.{Segmentat
 use Rattle.descriptor.specs.declared.segmentation.SegmentationInsert.{SegmentationInsert}
 use Rattle.descriptor.specs.declared.segmentation.SubSegment.{SubSegment}
 use Rattle.descriptor.specs.declared.segmentation.SubSegments.{SubSegments}
+use Rattle.descriptor.specs.declared.whole.Beside.{Beside}
+use Rattle.descriptor_form.specs.Writing.{descriptorMade}
+use Rattle.descriptor_laws.proofs.Theorems as descriptors
+use Rattle.descriptor_laws.specs.Making.{DescriptorMakes}
+use Rattle.descriptor_laws.specs.Trips.{Handed}
 use Rattle.flat.specs.FlatSection.{flatSectionRead}
 use Rattle.flat_item_writer.proofs.Answered as answered
 use Rattle.flat_item_writer.specs.ItemGiven.{descriptorWordsMade}
@@ -38,9 +43,9 @@ use Rattle.header.specs.Time.{adjustedOf}
 use Rattle.header.specs.declared.header.SpliceInfoHeader.{SpliceInfoHeader}
 use Rattle.header.specs.declared.time.AdjustedTime.{AdjustedTime}
 use Rattle.header.specs.declared.time.SpliceTime.{SpliceTime}
-use Rattle.items.specs.Cover.{Ends, TakesRest, Covered}
+use Rattle.items.specs.Cover.{Ends, joined, runOf, TakesRest, Covered}
 use Rattle.items.specs.Items.{stepOf, itemsOf}
-use Rattle.loop_laws.specs.Loops.{joinedMade, loopMade, Given, givenMade, GivenTypes, ItemsBack}
+use Rattle.loop_laws.specs.Loops.{Given, givenMade, GivenTypes, WrittenAgain, Pairs, ItemsBack}
 use Rattle.names.specs.Algorithm.{algorithmEntry, otherAlgorithm, algorithmOf, fairAlgorithm}
 use Rattle.names.specs.Command.{commandEntry, commandTypeOf, fairCommand}
 use Rattle.names.specs.Segmentation.{segmentationEntry, segmentationOf, fairSegmentation}
@@ -64,7 +69,7 @@ use Rattle.table.specs.Lent.{viewed}
 use Rattle.table.specs.Writing.{Made, made}
 use Rattle.upid.specs.Cover.{All}
 use Rattle.theorems.specs.Identifiers.{OneRun, inSection, loopIn, identifiersOf, midsOf, Unsplit}
-use Rattle.theorems.specs.Making.{CommandMakes, SectionMakes}
+use Rattle.theorems.specs.Making.{CommandMakes, SectionBytes, SectionMakes}
 use Rattle.theorems.specs.Numbers.{OnlyBy}
 use Rattle.theorems.specs.OverC.{componentsAnswered, splicesWords, wordsMadeAt}
 use Rattle.theorems.specs.Rows.{Holds, rows}
@@ -262,12 +267,10 @@ descriptor-words-are-answered = answered.descriptor-words-are-answered
 pub descriptor-answers-are-one : (words beside lent : List ℕ) (m n : Made) → DescriptorAnswer words beside lent m → DescriptorAnswer words beside lent n → m ≡ n
 descriptor-answers-are-one words beside lent m n = answered.descriptor-answers-are-one words beside lent
 
--- Demand 2 over C, by items: what is written of the words of each item of a canonical section, joined in order, is its loop, and with it the section is written again
-pub a-canonical-section-is-what-is-written-of-its-items-words : (s : List ℕ) (x : Section) → AllBytes s → sectionOf s ≡ SectionRead.Is x → canonicalSection s ≡ true
-    → (loop : List ℕ) × (joinedMade (map (wordsMadeAt (loopIn s x)) (itemsOf (loopIn s x))) ≡ made loop)
-    × (sectionWordsMade (headerWords (flatSectionRead (sectionOf s) .header)) (commandWords (flatSectionRead (sectionOf s) .command))
-    (splicesWords (componentsAnswered s)) s loop ≡ made s)
-a-canonical-section-is-what-is-written-of-its-items-words s x a e c = (loopIn s x, loops-over-c.loop-again s x a e c, sections-over-c.section-again s x a e c)
+-- and by items: each item of a canonical section is written of its words as its own bytes, which joined are its loop (`a-canonical-section-is-what-is-written-of-its-items`)
+pub the-items-of-a-canonical-section-are-written-of-their-words : (s : List ℕ) (x : Section) → AllBytes s → sectionOf s ≡ SectionRead.Is x → canonicalSection s ≡ true
+    → All (λ y. wordsMadeAt (loopIn s x) y ≡ made (runOf (loopIn s x) y)) (itemsOf (loopIn s x))
+the-items-of-a-canonical-section-are-written-of-their-words = loops-over-c.items-again
 
 -- ---- writing
 
@@ -303,53 +306,44 @@ pub what-is-made-of-a-section-is-one : (h : SpliceInfoHeader) (c : SpliceCommand
     → AllBytes loop → (m n : Made) → SectionMakes h c places lent loop m → SectionMakes h c places lent loop n → m ≡ n
 what-is-made-of-a-section-is-one = sections-made.one-section-made
 
+-- "33 .. a value that no canonical reading has (list below)". What is made of a descriptor that is handed in is told by what is read, and by the widths of the fields (`DescriptorMakes`,
+-- descriptor_laws/specs/Making.antt): 33 where no canonical payload reads as it, and else that payload in its frame. So nobody needs to believe the list, as far as it is of descriptors.
+-- (What the types say of a descriptor that is handed in: `Handed`.)
+pub what-is-made-of-a-descriptor-is-told-by-what-is-read : (d : Descriptor) (identifier : List ℕ) (beside : Beside) (lent : List ℕ) → Handed d identifier beside lent
+    → DescriptorMakes d identifier beside lent (descriptorMade d identifier beside lent)
+what-is-made-of-a-descriptor-is-told-by-what-is-read = descriptors.what-is-made-of-a-descriptor
+
+-- and nothing else is made of it
+pub nothing-else-is-made-of-a-descriptor : (d : Descriptor) (identifier : List ℕ) (beside : Beside) (lent : List ℕ) (m n : Made) → Handed d identifier beside lent
+    → DescriptorMakes d identifier beside lent m → DescriptorMakes d identifier beside lent n → m ≡ n
+nothing-else-is-made-of-a-descriptor = descriptors.a-descriptor-makes-one
+
 -- Demand 2: "Writing the reading of a canonical section gives its bytes": its header, its command with the components and bytes that it has, and its loop, as it stands
 -- in the section
 pub a-canonical-section-is-what-is-written-of-its-reading : (s : List ℕ) (x : Section) → AllBytes s → sectionOf s ≡ SectionRead.Is x → canonicalSection s ≡ true
     → sectionMade (x .header) (commandMade (x .command) (componentsOf (commandBytes s)) s) (kindOf (x .command)) (loopIn s x) ≡ made s
 a-canonical-section-is-what-is-written-of-its-reading = written-back.section-back
 
--- and its loop is what is written of its items: "each item's descriptor, joined in order as the loop, then the section"
+-- and its loop is what is written of its items, each as its own bytes: "each item's descriptor, joined in order as the loop, then the section"
 pub a-canonical-section-is-what-is-written-of-its-items : (s : List ℕ) (x : Section) → AllBytes s → sectionOf s ≡ SectionRead.Is x → canonicalSection s ≡ true
-    → (loop : List ℕ) × (loopMade (loopIn s x) ≡ made loop) × (sectionMade (x .header) (commandMade (x .command) (componentsOf (commandBytes s)) s) (kindOf (x .command)) loop ≡ made s)
-a-canonical-section-is-what-is-written-of-its-items s x a e c = (loopIn s x, items-written.loop-written s x e a c, written-back.section-back s x a e c)
+    → All (WrittenAgain (loopIn s x)) (itemsOf (loopIn s x)) × (joined (map (runOf (loopIn s x)) (itemsOf (loopIn s x))) ≡ loopIn s x)
+a-canonical-section-is-what-is-written-of-its-items s x a e c = items-written.loop-written s x e a c
 
 -- The incident, when it is written back: each item of a canonical section is written again, and what is written, read alone, has the same UPID. So each MID
 -- has the same bytes and the same parts, at every level.
 pub writing-back-splits-no-mid : (s : List ℕ) (x : Section) → AllBytes s → sectionOf s ≡ SectionRead.Is x → canonicalSection s ≡ true → All (KeepsUpid (loopIn s x)) (itemsOf (loopIn s x))
 writing-back-splits-no-mid = items-written.keeps-upids
 
--- "reading what the writer wrote gives what it was handed": the header, with the command's length and type worked out; the command; the loop's bytes; and what is
--- written is canonical. (An array has 255 places, and a count is a byte.)
-pub what-is-written-reads-back : (h : SpliceInfoHeader) (c : SpliceCommand) (places : List ComponentSplice) (lent loop b : List ℕ) → length places ≡ 255 → countIn c ≤ 255
-    → sectionMade h (commandMade c places lent) (kindOf c) loop ≡ made b → ReadsBack h c places lent loop b
-what-is-written-reads-back = written-back.section-reads
+-- "reading what the writer wrote gives what it was handed": the header; the command, with its components and the bytes of its view; and the loop. And what is written is canonical.
+pub what-is-written-reads-back : (h : SpliceInfoHeader) (c : SpliceCommand) (places : List ComponentSplice) (lent loop : List ℕ) → length places ≡ 255 → countIn c ≤ 255 → AllBytes lent → AllBytes loop
+    → (b : List ℕ) → sectionMade h (commandMade c places lent) (kindOf c) loop ≡ made b → SectionBytes h c places lent loop b
+what-is-written-reads-back = sections-made.section-reads-as
 
 -- A loop that is the join of what is written of descriptors: these are the items that are read, in order, with equal values and equal bytes in their views. (What
 -- the types say of each: `GivenTypes`.)
-pub what-is-written-of-descriptors-reads-back : (gs : List Given) (h : SpliceInfoHeader) (c : SpliceCommand) (places : List ComponentSplice) (lent loop b : List ℕ) → length places ≡ 255 → countIn c ≤ 255
-    → All GivenTypes gs → joinedMade (map givenMade gs) ≡ made loop → sectionMade h (commandMade c places lent) (kindOf c) loop ≡ made b
-    → ReadsBack h c places lent loop b × ItemsBack (loopBytes b) (itemsOf (loopBytes b)) gs
-what-is-written-of-descriptors-reads-back gs h c places lent loop b n k types m e =
-    let r = written-back.section-reads h c places lent loop b n k e in
-    (r, items-written.items-read gs h c places lent loop b types m r)
-
--- its insert's components, "arrays with a count, 255 components, blank .. past it", as `read_whole_section` answers them beside the section
-pub an-inserts-components-read-back : (h : SpliceInfoHeader) (i : Insertion) (places : List ComponentSplice) (lent loop b : List ℕ) → length places ≡ 255 → countIn (SpliceCommand.SpliceInsert i) ≤ 255
-    → sectionMade h (commandMade (SpliceCommand.SpliceInsert i) places lent) (kindOf (SpliceCommand.SpliceInsert i)) loop ≡ made b → wholeSectionOf b .components ≡ array (counted i places .components)
-an-inserts-components-read-back = written-back.section-components
-
--- the same of its payload alone, as the payload's reader answers them
-pub a-payloads-components-read-back : (i : Insertion) (places : List ComponentSplice) (lent b : List ℕ) → length places ≡ 255 → countIn (SpliceCommand.SpliceInsert i) ≤ 255
-    → commandMade (SpliceCommand.SpliceInsert i) places lent ≡ made b → componentsOf b ≡ array (counted i places .components)
-a-payloads-components-read-back = written-back.components-read
-
--- and a private command's bytes
-pub private-bytes-read-back : (p : Private) (places : List ComponentSplice) (lent payload : List ℕ) → commandMade (SpliceCommand.PrivateCommand p) places lent ≡ made payload
-    → (h : SpliceInfoHeader) (loop b : List ℕ) → AllBytes lent → sectionMade h (made payload) 0xff loop ≡ made b
-    → viewed b (record { at = 18; len = p .«private_bytes» .len }) ≡ viewed lent (p .«private_bytes»)
-unfolding commandMade
-private-bytes-read-back p places lent = views.private-bytes-back lent p
+pub what-is-written-of-descriptors-reads-back : (gs : List Given) (bs : List (List ℕ)) → All GivenTypes gs → Pairs (λ (g : Given) (b : List ℕ). givenMade g ≡ made b) gs bs
+    → (b : List ℕ) (x : Section) → sectionOf b ≡ SectionRead.Is x → loopBytes b ≡ joined bs → ItemsBack (loopBytes b) (itemsOf (loopBytes b)) gs
+what-is-written-of-descriptors-reads-back gs bs types m b x e l = items-written.items-read gs bs b types m x e l
 
 -- ---- two canonical sections
 

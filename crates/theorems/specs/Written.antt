@@ -7,8 +7,9 @@ use Rattle.descriptor.specs.declared.Descriptor.{Descriptor}
 use Rattle.descriptor.specs.declared.DescriptorRead.{DescriptorRead}
 use Rattle.descriptor.specs.declared.segmentation.SegmentationUpid.{SegmentationUpid}
 use Rattle.descriptor_laws.specs.Trips.{wholeIn}
+use Rattle.items.specs.Cover.{runOf}
 use Rattle.items.specs.Items.{readingOf, Listed}
-use Rattle.loop_laws.specs.Loops.{writtenAt}
+use Rattle.loop_laws.specs.Loops.{WrittenAgain}
 use Rattle.pen.specs.Written.{laterOf}
 use Rattle.table.specs.Lent.{viewed}
 use Rattle.table.specs.Writing.{Made, made}
@@ -25,14 +26,13 @@ pub record UpidHeld : Type 0 where
 abbrev pub heldIn : List ℕ → SegmentationUpid → UpidHeld
 heldIn lent u = record { kind = u .kind; bytes = viewed lent (u .bytes); parts = partsIn (upidOf (u .kind) (viewed lent (u .bytes))) }
 
--- An item of a loop is written again, and what is written, read alone, has the same UPID: its type, its bytes and its parts, and the EIDR beside it.
+-- An item of a loop is written as its own bytes, and these, read alone, have the same UPID: its type, its bytes and its parts, and the EIDR beside it.
 pub record KeepsUpid (loop : List ℕ) (y : Listed) : Type 0 where
-  pub written : List ℕ
-  pub writes : writtenAt loop y ≡ made written
+  pub written : WrittenAgain loop y
   pub again : Descriptor
-  pub reading : wholeIn written .read ≡ DescriptorRead.Is again
-  pub upids : map (heldIn (drop 6 written)) (descriptorUpids again) ≡ map (heldIn loop) (upidsOf (y .step .item))
-  pub eidr : wholeIn written .beside .eidr ≡ readingOf loop (y .offset) .beside .eidr
+  pub reading : wholeIn (runOf loop y) .read ≡ DescriptorRead.Is again
+  pub upids : map (heldIn (drop 6 (runOf loop y))) (descriptorUpids again) ≡ map (heldIn loop) (upidsOf (y .step .item))
+  pub eidr : wholeIn (runOf loop y) .beside .eidr ≡ readingOf loop (y .offset) .beside .eidr
 
 -- "an accepted one changes only the bytes of its result, which start at 0, and gives their number"
 pub record ChangesOnlyResult (m : Made) (target : List ℕ) (n : ℕ) : Type 0 where
