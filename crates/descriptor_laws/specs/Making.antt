@@ -37,9 +37,9 @@ pub record Payload (d : Descriptor) (identifier : List ℕ) (beside : Beside) (l
 
 -- "31 to 36 are checked in order of number"
 pub data DescriptorMakes (d : Descriptor) (identifier : List ℕ) (beside : Beside) (lent : List ℕ) : Made → Type 0 where
-  -- 31
+  -- 31: "a view reaches outside the lent bytes"
   outside : seen lent (fieldsOf d beside) ≡ false → DescriptorMakes d identifier beside lent (refused 31)
-  -- 32
+  -- 32: "a number or count handed in exceeds its field; so do over 7 DTMF or 255 UPID bytes"
   over : seen lent (fieldsOf d beside) ≡ true → within (fieldsOf d beside) ≡ false → DescriptorMakes d identifier beside lent (refused 32)
   -- 33: "a value that no canonical reading has"
   nobodys : seen lent (fieldsOf d beside) ≡ true → within (fieldsOf d beside) ≡ true
