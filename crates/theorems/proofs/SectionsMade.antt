@@ -1,5 +1,6 @@
 -- What is made of a section is fixed by the readers and the tables' widths. Assumes nothing.
---     of-header          a header that a canonical section has passes the writer's tests of it
+--     written-back       a canonical section is what is made of its payload, its type and its loop, with any header that is its own but for the command's length and type
+--     of-header          such a header passes the writer's tests of it
 --     header-of          and one that passes them is that of a null with an empty loop
 --     section-makes      so the answer is the relation's
 --     one-section-made   and the relation leaves one
@@ -7,7 +8,7 @@ use Prim.Native.Nat.{ℕ, _-_, _^_, _≤_, _<_}
 use mathlib.Core.Bool.{Bool, true, false, not, _&&_}
 use mathlib.Core.List.{List, [], _∷_, _++_}
 use mathlib.Core.Logic.{_⊎_, inl, inr}
-use mathlib.Core.Path.{_≡_, refl, ap, sym, _∙_}
+use mathlib.Core.Path.{_≡_, refl, ap, ap₂, sym, _∙_}
 use native.Mathlib.Omega.{arith}
 use lib.Dec.{ltb}
 use lib.ListN.{length}
@@ -36,7 +37,7 @@ use Rattle.table.proofs.Lists.{zero-one, and-true}
 use Rattle.table.specs.Bits.{pick, bitsOfNum, bigEndian, AllBytes}
 use Rattle.table.specs.Lent.{liesIn}
 use Rattle.table.specs.Writing.{walk, contents, Made, made, refused}
-use Rattle.theorems.specs.Making.{commandFits, HeaderOf, SectionBytes, SectionMakes}
+use Rattle.theorems.specs.Making.{commandFits, HasHeader, SectionBytes, SectionMakes}
 use Rattle.theorems.proofs.CommandsMade.{made-bytes, is-outside, is-over, made-or-not, payload-made, made-if-read}
 use Rattle.theorems.proofs.WrittenBack.{held, section-reads}
 
@@ -77,9 +78,9 @@ tests true true true form b = refl
 tests true true false false b = refl
 tests true true false true b = refl
 
-unfair-tests : (fits fair big form : Bool) (b : List ℕ) → unless (first 31 (false ∷ not fits ∷ true ∷ big ∷ not form ∷ [])) b ≡ pick fits (refused 33) (refused 32)
-unfair-tests false fair big form b = refl
-unfair-tests true fair big form b = refl
+unfair-tests : (fits big form : Bool) (b : List ℕ) → unless (first 31 (false ∷ not fits ∷ true ∷ big ∷ not form ∷ [])) b ≡ pick fits (refused 33) (refused 32)
+unfair-tests false big form b = refl
+unfair-tests true big form b = refl
 
 module _ (h : SpliceInfoHeader) (kind : ℕ) (loop : List ℕ) where
   of-made : (p : List ℕ) → sectionMade h (made p) kind loop ≡ answer (numbersFit h) (fairHead h) (ltb 4096 (sectionLength (length p) (length loop))) (canonicalLoop loop) (frame h kind p loop)
@@ -96,7 +97,7 @@ module _ (h : SpliceInfoHeader) (kind : ℕ) (loop : List ℕ) where
 
   of-33 : sectionMade h (refused 33) kind loop ≡ pick (numbersFit h) (refused 33) (refused 32)
   unfolding sectionMade bytesIn
-  of-33 = unfair-tests (numbersFit h) (fairHead h) (ltb 4096 (sectionLength 0 (length loop))) (canonicalLoop loop) (frame h kind [] loop)
+  of-33 = unfair-tests (numbersFit h) (ltb 4096 (sectionLength 0 (length loop))) (canonicalLoop loop) (frame h kind [] loop)
 
 -- ---- headers
 -- the command's length and type are not looked at
@@ -107,25 +108,27 @@ headless h m kind loop = refl
 by-header : (g h : SpliceInfoHeader) (m : Made) (kind : ℕ) (loop : List ℕ) → headed g 0 0 ≡ headed h 0 0 → sectionMade g m kind loop ≡ sectionMade h m kind loop
 by-header g h m kind loop e = headless g m kind loop ∙ ap (λ (x : SpliceInfoHeader). sectionMade x m kind loop) e ∙ sym (headless h m kind loop)
 
-of-header : (h : SpliceInfoHeader) → HeaderOf h → (numbersFit h ≡ true) × (fairHead h ≡ true)
-of-header h o =
-    let s = o .section in
-    let e = sym (by-header (o .reading .header) h (made (commandBytes s)) (commandType s) (loopBytes s) (o .same)) ∙ section-is-written-back s (o .reading) (o .bytes) (o .reads) (o .form) in
-    let w = section-wrote h (made (commandBytes s)) (commandType s) (loopBytes s) s e in
+written-back : (h : SpliceInfoHeader) (s : List ℕ) → HasHeader h s → sectionMade h (made (commandBytes s)) (commandType s) (loopBytes s) ≡ made s
+written-back h s o =
+    sym (by-header (o .reading .header) h (made (commandBytes s)) (commandType s) (loopBytes s) (o .same))
+    ∙ section-is-written-back s (o .reading) (o .bytes) (o .reads) (o .form)
+
+of-header : (h : SpliceInfoHeader) (s : List ℕ) → HasHeader h s → (numbersFit h ≡ true) × (fairHead h ≡ true)
+of-header h s o =
+    let w = section-wrote h (made (commandBytes s)) (commandType s) (loopBytes s) s (written-back h s o) in
     (w .fits, w .fair)
 
 empty-loop : canonicalLoop [] ≡ true
 unfolding canonicalLoop canonicalFrom
 empty-loop = refl
 
-header-of : (h : SpliceInfoHeader) → numbersFit h ≡ true → fairHead h ≡ true → HeaderOf h
+header-of : (h : SpliceInfoHeader) → numbersFit h ≡ true → fairHead h ≡ true → HasHeader h (frame h 0x00 [] [])
 unfolding headed
 header-of h fits fair =
     let b = frame h 0x00 [] [] in
     let e : sectionMade h (made []) 0x00 [] ≡ made b = of-made h 0x00 [] [] ∙ rw (fits, fair, empty-loop) in
     let n = null-trip [] [] .1 in
     record {
-      section = b;
       bytes = frame-bytes h 0x00 [] [] tt tt;
       form = section-is-canonical h [] 0x00 [] b SpliceCommand.SpliceNull (omega arith) e n null-canonical;
       reading = _;
@@ -206,11 +209,7 @@ module _ (h : SpliceInfoHeader) (c : SpliceCommand) (places : List ComponentSpli
             let q = payload-made c places lent p n k a e in
             let r = section-reads h c places lent loop (frame h (kindOf c) p loop) n k (as-made o) in
             record {
-              bytes = frame-bytes h (kindOf c) p loop (q .bytes) b;
-              form = r .form;
-              reading = _;
-              reads = r .reads;
-              header = refl;
+              header = record { bytes = frame-bytes h (kindOf c) p loop (q .bytes) b; form = r .form; reading = _; reads = r .reads; same = refl };
               type = frame-command-type h (kindOf c) p loop f g (kind-byte c) s;
               command = rw (frame-command-bytes h (kindOf c) p loop f g (kind-byte c) s) q;
               loops = r .loops;
@@ -221,23 +220,23 @@ module _ (h : SpliceInfoHeader) (c : SpliceCommand) (places : List ComponentSpli
     section-makes = go lies refl fits refl
       where
         formed : lies ≡ true → numbersFit h ≡ true → fairHead h ≡ true → (p : List ℕ) → command ≡ made p → size p ≤ 4096 → (form : Bool) → canonicalLoop loop ≡ form → SectionMakes h c places lent loop whole
-        formed l f g p e s false o = rw (as-35 p e f g s o) (SectionMakes.other l (header-of h f g) p (payload-made c places lent p n k a e) s o)
+        formed l f g p e s false o = rw (as-35 p e f g s o) (SectionMakes.other l _ p (header-of h f g) (payload-made c places lent p n k a e) s o)
         formed l f g p e s true o = rw (as-made p e f g s o) (SectionMakes.its l (frame h (kindOf c) p loop) (bytes-made p e f g s a b o))
 
         sized : lies ≡ true → numbersFit h ≡ true → fairHead h ≡ true → (p : List ℕ) → command ≡ made p → (big : Bool) → ltb 4096 (size p) ≡ big → SectionMakes h c places lent loop whole
-        sized l f g p e true s = rw (as-34 p e f g (ltb-true _ _ s)) (SectionMakes.long l (header-of h f g) p (payload-made c places lent p n k a e) (ltb-true _ _ s))
+        sized l f g p e true s = rw (as-34 p e f g (ltb-true _ _ s)) (SectionMakes.long l _ p (header-of h f g) (payload-made c places lent p n k a e) (ltb-true _ _ s))
         sized l f g p e false s = formed l f g p e (ltb-false _ _ s) (canonicalLoop loop) refl
 
         judged : lies ≡ true → fits ≡ true → (p : List ℕ) → command ≡ made p → (fair : Bool) → fairHead h ≡ fair → SectionMakes h c places lent loop whole
         judged l w p e false g =
             rw (head-unfair p e (and-true (numbersFit h) (commandFits c places) w .0) g)
-            (SectionMakes.nobodys l w λ o q r. zero-one (let z = of-header h o .1 in cc))
+            (SectionMakes.nobodys l w λ x y o q. zero-one (let z = of-header h x o .1 in cc))
         judged l w p e true g = sized l (and-true (numbersFit h) (commandFits c places) w .0) g p e (ltb 4096 (size p)) refl
 
         fitting : lies ≡ true → fits ≡ true → (command ≡ refused 33) ⊎ ((p : List ℕ) × (command ≡ made p)) → SectionMakes h c places lent loop whole
         fitting l w (inl e) =
             rw (as-33 (and-true (numbersFit h) (commandFits c places) w .0) e)
-            (SectionMakes.nobodys l w λ o p q. zero-one (let z : refused 33 ≡ made p = sym e ∙ made-if-read c places lent p l q in cc))
+            (SectionMakes.nobodys l w λ x p o q. zero-one (let z : refused 33 ≡ made p = sym e ∙ made-if-read c places lent p l q in cc))
         fitting l w (inr r) = judged l w (r .0) (r .1) (fairHead h) refl
 
         go : (u : Bool) → lies ≡ u → (v : Bool) → fits ≡ v → SectionMakes h c places lent loop whole
@@ -271,13 +270,13 @@ module _ (h : SpliceInfoHeader) (c : SpliceCommand) (places : List ComponentSpli
         go : (command ≡ refused 33) ⊎ ((p : List ℕ) × (command ≡ made p)) → (fair : Bool) → fairHead h ≡ fair → refused 33 ≡ whole
         go (inl e) fair g = sym (as-33 (v .0) e)
         go (inr r) false g = sym (head-unfair (r .0) (r .1) (v .0) g)
-        go (inr r) true g = absurd (none (header-of h (v .0) g) (r .0) (payload-made c places lent (r .0) n k a (r .1)))
-    only-made _ (SectionMakes.long l o p q s) = let t = of-header h o in sym (as-34 p (made-if-read c places lent p l q) (t .0) (t .1) s)
-    only-made _ (SectionMakes.other l o p q s f) = let t = of-header h o in sym (as-35 p (made-if-read c places lent p l q) (t .0) (t .1) s f)
+        go (inr r) true g = absurd (none _ (r .0) (header-of h (v .0) g) (payload-made c places lent (r .0) n k a (r .1)))
+    only-made _ (SectionMakes.long l x p o q s) = let t = of-header h x o in sym (as-34 p (made-if-read c places lent p l q) (t .0) (t .1) s)
+    only-made _ (SectionMakes.other l x p o q s f) = let t = of-header h x o in sym (as-35 p (made-if-read c places lent p l q) (t .0) (t .1) s f)
     only-made _ (SectionMakes.its l x q) =
         sym (of-command (made (commandBytes x)) (made-if-read c places lent (commandBytes x) l (q .command))
-        ∙ sym (by-header (q .reading .header) h (made (commandBytes x)) (kindOf c) loop (q .header))
-        ∙ rw (← (q .type), ← (q .loops)) (section-is-written-back x (q .reading) (q .bytes) (q .reads) (q .form)))
+        ∙ ap₂ (sectionMade h (made (commandBytes x))) (sym (q .type)) (sym (q .loops))
+        ∙ written-back h x (q .header))
 
     pub one-section-made : (m o : Made) → SectionMakes h c places lent loop m → SectionMakes h c places lent loop o → m ≡ o
     one-section-made m o q r = only-made m q ∙ sym (only-made o r)

@@ -61,22 +61,17 @@ pub data CommandMakes (c : SpliceCommand) (places : List ComponentSplice) (lent 
 
 -- ---- a section: a header h, such a command, and a lent loop
 
--- a canonical section has this header: "the header's command length and type .. are left out"
-pub record HeaderOf (h : SpliceInfoHeader) : Type 0 where
-  pub section : List ℕ
-  pub bytes : AllBytes section
-  pub form : canonicalSection section ≡ true
-  pub reading : Section
-  pub reads : sectionOf section ≡ SectionRead.Is reading
-  pub same : headed (reading .header) 0 0 ≡ headed h 0 0
-
--- b is a canonical section that reads as the three
-pub record SectionBytes (h : SpliceInfoHeader) (c : SpliceCommand) (places : List ComponentSplice) (lent loop b : List ℕ) : Type 0 where
+-- b is a canonical section with this header: "the header's command length and type .. are left out"
+pub record HasHeader (h : SpliceInfoHeader) (b : List ℕ) : Type 0 where
   pub bytes : AllBytes b
   pub form : canonicalSection b ≡ true
   pub reading : Section
   pub reads : sectionOf b ≡ SectionRead.Is reading
-  pub header : headed (reading .header) 0 0 ≡ headed h 0 0
+  pub same : headed (reading .header) 0 0 ≡ headed h 0 0
+
+-- and with this command and this loop
+pub record SectionBytes (h : SpliceInfoHeader) (c : SpliceCommand) (places : List ComponentSplice) (lent loop b : List ℕ) : Type 0 where
+  pub header : HasHeader h b
   -- a null and a bandwidth reservation have the same payload
   pub type : commandType b ≡ kindOf c
   pub command : CommandPayload c places lent (commandBytes b)
@@ -86,12 +81,13 @@ pub data SectionMakes (h : SpliceInfoHeader) (c : SpliceCommand) (places : List 
   outside : liesIn lent (privateView c) ≡ false → SectionMakes h c places lent loop (refused 31)
   over : liesIn lent (privateView c) ≡ true → numbersFit h && commandFits c places ≡ false → SectionMakes h c places lent loop (refused 32)
   -- no canonical section has the header, or no canonical payload the command
-  nobodys : liesIn lent (privateView c) ≡ true → numbersFit h && commandFits c places ≡ true → (HeaderOf h → (p : List ℕ) → CommandPayload c places lent p → ⊥)
+  nobodys : liesIn lent (privateView c) ≡ true → numbersFit h && commandFits c places ≡ true → ((b p : List ℕ) → HasHeader h b → CommandPayload c places lent p → ⊥)
       → SectionMakes h c places lent loop (refused 33)
   -- "section over 4,096"
-  long : liesIn lent (privateView c) ≡ true → HeaderOf h → (p : List ℕ) → CommandPayload c places lent p → 4096 < sectionLength (length p) (length loop)
+  long : liesIn lent (privateView c) ≡ true → (b p : List ℕ) → HasHeader h b → CommandPayload c places lent p → 4096 < sectionLength (length p) (length loop)
       → SectionMakes h c places lent loop (refused 34)
   -- "lent loop not canonical"
-  other : liesIn lent (privateView c) ≡ true → HeaderOf h → (p : List ℕ) → CommandPayload c places lent p → sectionLength (length p) (length loop) ≤ 4096 → canonicalLoop loop ≡ false
+  other : liesIn lent (privateView c) ≡ true → (b p : List ℕ) → HasHeader h b → CommandPayload c places lent p → sectionLength (length p) (length loop) ≤ 4096 → canonicalLoop loop ≡ false
       → SectionMakes h c places lent loop (refused 35)
+  -- else the section that has them all
   its : liesIn lent (privateView c) ≡ true → (b : List ℕ) → SectionBytes h c places lent loop b → SectionMakes h c places lent loop (made b)
