@@ -45,7 +45,7 @@ use Rattle.theorems.specs.Identifiers.{loopIn}
 use Rattle.theorems.specs.OverC.{stepWords, besideWords, wordsMadeAt}
 use Rattle.theorems.proofs.ItemsOverC.{ModeTags, TypedBeside, descriptor-taken}
 use Rattle.theorems.proofs.ItemsTyped.{written-typed}
-use Rattle.theorems.proofs.ItemsWritten.{each-item}
+use Rattle.theorems.proofs.ItemsWritten.{all-viewed, each-item}
 use Rattle.theorems.proofs.Sections.{loop-short}
 
 got-same : {X : Type 0} {x y : X} {m n : ℕ} → got x m ≡ got y n → x ≡ y

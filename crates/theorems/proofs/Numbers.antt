@@ -9,6 +9,7 @@ use native.Mathlib.Omega.{arith}
 use lib.Dec.{eqb, ltb}
 use borrow.Author.Tests.{eqb-true}
 use denote.Enum.Declared.{tagOf}
+use Rattle.descriptor.specs.Segmentation.{deviceOf}
 use Rattle.names.proofs.Algorithms as algorithm
 use Rattle.names.proofs.Commands as command
 use Rattle.names.proofs.Laws.{Sound, allNamed, inverse}
@@ -20,11 +21,13 @@ use Rattle.names.proofs.segmentation.SegmentationTypeId as declared-segmentatio
 use Rattle.names.proofs.upid.SegmentationUpidType as declared-upid
 use Rattle.names.specs.Algorithm.{algorithmEntry, otherAlgorithm, algorithms, algorithmOf, fairAlgorithm}
 use Rattle.names.specs.Command.{commandEntry, commands, commandTypeOf, fairCommand}
+use Rattle.names.specs.Flags.{restrictionsBits, restrictionsOf}
 use Rattle.names.specs.Numbering.{Numbering, numberIn, classIn, named, nameOf, or, valueOf, fair}
 use Rattle.names.specs.Segmentation.{segmentationEntry, segmentations, segmentationOf, fairSegmentation}
 use Rattle.names.specs.Upid.{upidTypeEntry, upidTypes, upidTypeOf, fairUpidType}
 use Rattle.names.specs.declared.algorithm.EncryptionAlgorithm.{EncryptionAlgorithm}
 use Rattle.names.specs.declared.command.SpliceCommandType.{SpliceCommandType}
+use Rattle.names.specs.declared.flags.DeviceRestrictions.{DeviceRestrictions}
 use Rattle.names.specs.declared.segmentation.SegmentationTypeId.{SegmentationTypeId}
 use Rattle.names.specs.declared.upid.SegmentationUpidType.{SegmentationUpidType}
 use Rattle.table.proofs.Lists.{zero-one, and-true}
@@ -99,3 +102,11 @@ upid-types-by = only-by-table upidTypes (tagOf declared-upid.the-type) upid.soun
 pub segmentations-by : OnlyBy segmentationEntry SegmentationTypeId.Reserved segmentationOf fairSegmentation
 unfolding segmentationOf fairSegmentation
 segmentations-by = only-by-table segmentations (tagOf declared-segmentation.the-type) segmentation.sound (λ n e. omega arith)
+
+-- ---- device_restrictions: each number of two bits has a name
+pub device-by : (d : DeviceRestrictions) → deviceOf (restrictionsBits d) ≡ d
+unfolding deviceOf restrictionsOf
+device-by DeviceRestrictions.RestrictGroup0 = refl
+device-by DeviceRestrictions.RestrictGroup1 = refl
+device-by DeviceRestrictions.RestrictGroup2 = refl
+device-by DeviceRestrictions.None = refl

@@ -8,7 +8,7 @@ use Prim.Native.Nat.{ℕ, _-_, _^_, _≤_, _<_}
 use mathlib.Core.Bool.{Bool, true, false, not, _&&_}
 use mathlib.Core.List.{List, [], _∷_, _++_}
 use mathlib.Core.Logic.{_⊎_, inl, inr}
-use mathlib.Core.Path.{_≡_, refl, ap, ap₂, sym, _∙_}
+use mathlib.Core.Path.{_≡_, refl, ap, ap₂, sym, subst, _∙_}
 use native.Mathlib.Omega.{arith}
 use lib.Dec.{ltb}
 use lib.ListN.{length}
@@ -248,8 +248,8 @@ module _ (h : SpliceInfoHeader) (c : SpliceCommand) (places : List ComponentSpli
     made-reads _ t (SectionMakes.outside l) e = zero-one cc
     made-reads _ t (SectionMakes.over l w) e = zero-one cc
     made-reads _ t (SectionMakes.nobodys l w none) e = zero-one cc
-    made-reads _ t (SectionMakes.long l o p q s) e = zero-one cc
-    made-reads _ t (SectionMakes.other l o p q s f) e = zero-one cc
+    made-reads _ t (SectionMakes.long l b p o q s) e = zero-one cc
+    made-reads _ t (SectionMakes.other l b p o q s f) e = zero-one cc
     made-reads _ t (SectionMakes.its l u q) e =
         let z : u ≡ t = cc in
         subst (SectionBytes h c places lent loop) z q

@@ -17,6 +17,7 @@ use Rattle.command_measure.specs.Made.{counted, commandMade}
 use Rattle.crc.specs.Crc.{crcOf}
 use Rattle.descriptor.proofs.Longer as longer
 use Rattle.descriptor.specs.Descriptor.{availOf, dtmfOf, timeOf, cuei, descriptorOf}
+use Rattle.descriptor.specs.Segmentation.{deviceOf}
 use Rattle.descriptor.specs.declared.Descriptor.{Descriptor}
 use Rattle.descriptor.specs.declared.DescriptorRead.{DescriptorRead}
 use Rattle.descriptor.specs.declared.segmentation.SegmentationDescriptor.{SegmentationDescriptor}
@@ -25,6 +26,7 @@ use Rattle.descriptor.specs.declared.segmentation.SegmentationInsert.{Segmentat
 use Rattle.descriptor.specs.declared.segmentation.SubSegment.{SubSegment}
 use Rattle.descriptor.specs.declared.segmentation.SubSegments.{SubSegments}
 use Rattle.descriptor.specs.declared.whole.Beside.{Beside}
+use Rattle.descriptor_form.specs.Canonical.{canonicalDescriptor, canonicalLoop}
 use Rattle.descriptor_form.specs.Writing.{descriptorMade}
 use Rattle.descriptor_laws.proofs.Theorems as descriptors
 use Rattle.descriptor_laws.specs.Making.{DescriptorMakes}
@@ -45,12 +47,16 @@ use Rattle.header.specs.declared.time.AdjustedTime.{AdjustedTime}
 use Rattle.header.specs.declared.time.SpliceTime.{SpliceTime}
 use Rattle.items.specs.Cover.{Ends, joined, runOf, TakesRest, Covered}
 use Rattle.items.specs.Items.{stepOf, itemsOf}
+use Rattle.loop_laws.proofs.Pieces as pieces
+use Rattle.loop_laws.proofs.Theorems as loops
 use Rattle.loop_laws.specs.Loops.{Given, givenMade, GivenTypes, WrittenAgain, Pairs, ItemsBack}
 use Rattle.names.specs.Algorithm.{algorithmEntry, otherAlgorithm, algorithmOf, fairAlgorithm}
 use Rattle.names.specs.Command.{commandEntry, commandTypeOf, fairCommand}
+use Rattle.names.specs.Flags.{restrictionsBits}
 use Rattle.names.specs.Segmentation.{segmentationEntry, segmentationOf, fairSegmentation}
 use Rattle.names.specs.Upid.{upidTypeEntry, upidTypeOf, fairUpidType}
 use Rattle.names.specs.declared.command.SpliceCommandType.{SpliceCommandType}
+use Rattle.names.specs.declared.flags.DeviceRestrictions.{DeviceRestrictions}
 use Rattle.names.specs.declared.segmentation.SegmentationTypeId.{SegmentationTypeId}
 use Rattle.names.specs.declared.upid.SegmentationUpidType.{SegmentationUpidType}
 use Rattle.pen.specs.Written.{answerOf, laterOf}
@@ -136,6 +142,10 @@ upid-types-go-by-their-table = numbers.upid-types-by
 
 pub segmentation-types-go-by-their-table : OnlyBy segmentationEntry SegmentationTypeId.Reserved segmentationOf fairSegmentation
 segmentation-types-go-by-their-table = numbers.segmentations-by
+
+-- of device_restrictions each number of two bits has a name
+pub device-restrictions-go-by-their-numbers : (d : DeviceRestrictions) → deviceOf (restrictionsBits d) ≡ d
+device-restrictions-go-by-their-numbers = numbers.device-by
 
 -- ---- acceptance
 
@@ -317,6 +327,13 @@ what-is-made-of-a-descriptor-is-told-by-what-is-read = descriptors.what-is-made-
 pub nothing-else-is-made-of-a-descriptor : (d : Descriptor) (identifier : List ℕ) (beside : Beside) (lent : List ℕ) (m n : Made) → Handed d identifier beside lent
     → DescriptorMakes d identifier beside lent m → DescriptorMakes d identifier beside lent n → m ≡ n
 nothing-else-is-made-of-a-descriptor = descriptors.a-descriptor-makes-one
+
+-- A loop is canonical exactly if it is canonical descriptors, one after the other
+pub a-canonical-loop-is-canonical-descriptors : (loop : List ℕ) → canonicalLoop loop ≡ true → (ps : List (List ℕ)) × All (λ p. canonicalDescriptor p ≡ true) ps × (joined ps ≡ loop)
+a-canonical-loop-is-canonical-descriptors = loops.cut
+
+pub canonical-descriptors-are-a-canonical-loop : (ps : List (List ℕ)) → All (λ p. canonicalDescriptor p ≡ true) ps → canonicalLoop (joined ps) ≡ true
+canonical-descriptors-are-a-canonical-loop ps c = pieces.cut-canonical c
 
 -- Demand 2: "Writing the reading of a canonical section gives its bytes": its header, its command with the components and bytes that it has, and its loop, as it stands
 -- in the section
