@@ -14,6 +14,7 @@ use Rattle.command.specs.declared.Private.{Private}
 use Rattle.command.specs.declared.SpliceCommand.{SpliceCommand}
 use Rattle.command.specs.declared.components.ComponentSplice.{ComponentSplice}
 use Rattle.command.specs.declared.insert.Insertion.{Insertion}
+use Rattle.command.specs.declared.insert.SpliceInsert.{SpliceInsert}
 
 -- "Private: identifier 32, the rest as a view."
 unfoldable pub private : Table Private
@@ -75,9 +76,12 @@ ofInsert f none (SpliceCommand.TimeSignal t) = none
 ofInsert f none SpliceCommand.BandwidthReservation = none
 ofInsert f none (SpliceCommand.PrivateCommand p) = none
 
--- how many components a command has
+-- how many components an insert and a command have
+abbrev pub insertCount : SpliceInsert → ℕ
+insertCount d = count (insertOf d .«splice_mode»)
+
 abbrev pub countIn : SpliceCommand → ℕ
-countIn c = ofInsert (λ i. count (insertOf (i .«splice_detail») .«splice_mode»)) 0 c
+countIn c = ofInsert (λ i. insertCount (i .«splice_detail»)) 0 c
 
 abbrev pub ofPrivate : {A : Type 0} → (Private → A) → A → SpliceCommand → A
 ofPrivate f none SpliceCommand.SpliceNull = none

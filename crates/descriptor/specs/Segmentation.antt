@@ -282,13 +282,31 @@ backOf (Insert i) = record {
   «sub_segments» = i .«sub_segments»;
 }
 
--- how many components a segmentation descriptor has
+-- the UPID of a detail, and how many components it has
+abbrev pub detailUpid : SegmentationDetail → SegmentationUpid
+detailUpid d = frontOf d .«segmentation_upid»
+
+abbrev pub detailCount : SegmentationDetail → ℕ
+detailCount d = countOf (frontOf d .«segmentation_mode»)
+
 abbrev pub componentCount : SegmentationDescriptor → ℕ
-componentCount x = countOf (frontOf (x .«descriptor_detail») .«segmentation_mode»)
+componentCount x = detailCount (x .«descriptor_detail»)
 
 -- the same with another UPID
 abbrev pub withUpid : SegmentationInsert → SegmentationUpid → SegmentationInsert
-withUpid i upid = insertFrom (frontOf (Insert i)) upid (backOf (Insert i))
+withUpid i upid = record {
+  «program_segmentation_flag» = i .«program_segmentation_flag»;
+  «segmentation_duration_flag» = i .«segmentation_duration_flag»;
+  «delivery_not_restricted_flag» = i .«delivery_not_restricted_flag»;
+  «delivery_restrictions» = i .«delivery_restrictions»;
+  «segmentation_mode» = i .«segmentation_mode»;
+  «segmentation_duration» = i .«segmentation_duration»;
+  «segmentation_upid» = upid;
+  «segmentation_type_id» = i .«segmentation_type_id»;
+  «segment_num» = i .«segment_num»;
+  «segments_expected» = i .«segments_expected»;
+  «sub_segments» = i .«sub_segments»;
+}
 
 abbrev pub headOf : SegmentationDescriptor → Head
 headOf d = record { event = d .«segmentation_event_id»; cancel = cancelled (d .«descriptor_detail») }

@@ -8,7 +8,7 @@ use Rattle.table.specs.Table.{Answer, got, short, parse}
 use Rattle.upid.specs.Upid.{eidrOf}
 use Rattle.descriptor.specs.Descriptor.{descriptorOf}
 use Rattle.descriptor.specs.Segmentation as table
-use Rattle.descriptor.specs.Segmentation.{blankComponent, frontOf, segmentation}
+use Rattle.descriptor.specs.Segmentation.{blankComponent, detailUpid, segmentation}
 use Rattle.descriptor.specs.declared.Descriptor.{Descriptor}
 use Rattle.descriptor.specs.declared.Descriptor.the-variants.{Avail, Dtmf, Segmentation, Time, Reserved}
 use Rattle.descriptor.specs.declared.DescriptorRead.{DescriptorRead}
@@ -44,7 +44,7 @@ blankBeside = record { components = filled []; eidr = replicate 12 0 }
 -- beside a segmentation descriptor, which has a UPID as written; "The EIDR identifier of 12 bytes is held by value"
 unfoldable pub besideIn : List ℕ → Answer table.Segmentation → Beside
 besideIn s (got x at) =
-    let upid = frontOf (x .descriptor .«descriptor_detail») .«segmentation_upid» in
+    let upid = detailUpid (x .descriptor .«descriptor_detail») in
     record { components = filled (x .components); eidr = eidrOf (upid .kind) (viewed s (upid .bytes)) }
 besideIn s (short expected actual) = blankBeside
 

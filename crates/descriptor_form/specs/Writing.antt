@@ -16,7 +16,7 @@ use Rattle.descriptor.specs.Descriptor.{isCuei}
 pub use Rattle.descriptor.specs.Descriptor.{cuei}
 use Rattle.descriptor.specs.Plain.{avail, dtmf, time, privateBytes}
 use Rattle.descriptor.specs.Segmentation as table
-use Rattle.descriptor.specs.Segmentation.{componentCount, agrees, fairDetail, frontOf, segmentation}
+use Rattle.descriptor.specs.Segmentation.{componentCount, agrees, detailUpid, fairDetail, segmentation}
 use Rattle.descriptor.specs.Views.{withUpids}
 use Rattle.descriptor.specs.Whole.{ofReserved}
 use Rattle.descriptor.specs.declared.Descriptor.{Descriptor}
@@ -98,7 +98,7 @@ written x components = record {
 
 -- the UPID handed in: a cancelled one has the blank
 abbrev pub upidIn : SegmentationDescriptor → SegmentationUpid
-upidIn x = frontOf (x .«descriptor_detail») .«segmentation_upid»
+upidIn x = detailUpid (x .«descriptor_detail»)
 
 -- refusal 33: `fairDetail` has "a flag that contradicts its optional part" and "a reserved number that has a name"
 unfoldable pub fairSegment : SegmentationDescriptor → List ℕ → List ℕ → List ℕ → Bool

@@ -11,7 +11,7 @@ use Rattle.upid.specs.Cover.{All}
 use Rattle.upid.specs.declared.Refusal.the-variants.{TooLong}
 use Rattle.descriptor.specs.Whole.{wholeOf}
 use Rattle.items.specs.Walk.{Run}
-use Rattle.items.specs.Cover.{Ends, Cutting, TakesRest, Covered}
+use Rattle.items.specs.Cover.{Ends, Cutting, TakesRest, Covered, times}
 use Rattle.items.specs.Items.{bare, stepOf, readingOf, Listed, itemsOf, countOf}
 use Rattle.items.specs.Place.{viewsOf}
 use Rattle.items.specs.declared.Item.the-variants.{Refused}
@@ -25,7 +25,7 @@ use Rattle.items.proofs.Steps as steps
 
 -- ---- no item is split
 
--- The items of a loop, in order, cover it exactly once; their bytes are its one cutting by document 01's rules.
+-- The items of a loop, in order, cover it; their bytes are its one cutting by document 01's rules.
 pub items-cover-the-loop : (loop : List ℕ) → length loop ≤ 4076 → Covered loop (itemsOf loop)
 items-cover-the-loop loop fits =
     let w = lists.walked loop fits in
@@ -33,8 +33,11 @@ items-cover-the-loop loop fits =
       cutting = record { joins = cuttings.joined-walk w; fair = cuttings.fair-walk w };
       only = λ other c. cuttings.one-cutting (c .fair) (cuttings.fair-walk w) (c .joins ∙ sym (cuttings.joined-walk w));
       follow = cuttings.follow-walk w;
-      once = λ i h. cuttings.once-follow i (cuttings.follow-walk w) (omega arith) h;
     }
+
+-- Every byte of a loop lies in exactly one item.
+pub every-byte-lies-in-one-item : (loop : List ℕ) → length loop ≤ 4076 → (i : ℕ) → i < length loop → times i (itemsOf loop) ≡ 1
+every-byte-lies-in-one-item loop fits i h = cuttings.once-follow i (cuttings.follow-walk (lists.walked loop fits)) (omega arith) h
 
 -- Two cuttings of one loop are equal.
 pub no-other-cutting : (loop : List ℕ) (ps qs : List (List ℕ)) → Cutting loop ps → Cutting loop qs → ps ≡ qs

@@ -54,14 +54,6 @@ pub data Follow : ℕ → ℕ → List Listed → Type 0 where
   done : {end : ℕ} → Follow end end []
   follows : {at end : ℕ} {x : Listed} {xs : List Listed} → x .offset ≡ at → Follow (at + x .used) end xs → Follow at end (x ∷ xs)
 
--- whether byte i of the loop lies in an item, and in how many
-unfoldable pub lies : ℕ → Listed → Bool
-lies i x = leb (x .offset) i && ltb i (x .offset + x .used)
-
-unfoldable pub times : ℕ → List Listed → ℕ
-times i [] = 0
-times i (x ∷ xs) = pick (lies i x) 1 0 + times i xs
-
 -- ---- the claims
 
 -- the step refuses the item and takes the rest: the next offset is the loop's length
@@ -69,10 +61,16 @@ pub record TakesRest (loop : List ℕ) (s : Step) : Type 0 where
   pub refusal : ItemRefusal
   pub is : s ≡ bare (Refused refusal) (length loop)
 
--- The items' bytes are one cutting of the loop, in order from its start to its end; no other cutting meets the rules; and each byte lies in
--- exactly one item.
+-- The items' bytes are one cutting of the loop, in order from its start to its end; and no other cutting meets the rules.
 pub record Covered (loop : List ℕ) (xs : List Listed) : Type 0 where
   pub cutting : Cutting loop (map (runOf loop) xs)
   pub only : (other : List (List ℕ)) → Cutting loop other → other ≡ map (runOf loop) xs
   pub follow : Follow 0 (length loop) xs
-  pub once : (i : ℕ) → i < length loop → times i xs ≡ 1
+
+-- ---- the same, byte by byte: whether byte i of the loop lies in an item, and in how many
+unfoldable pub lies : ℕ → Listed → Bool
+lies i x = leb (x .offset) i && ltb i (x .offset + x .used)
+
+unfoldable pub times : ℕ → List Listed → ℕ
+times i [] = 0
+times i (x ∷ xs) = pick (lies i x) 1 0 + times i xs

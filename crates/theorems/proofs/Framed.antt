@@ -18,6 +18,7 @@ use Rattle.header.specs.Header.{headerOf}
 use Rattle.header.specs.Time.{spliceTime}
 use Rattle.header.specs.declared.header.HeaderRead.{HeaderRead}
 use Rattle.section.proofs.Acceptance.{none-if-accepted}
+use Rattle.section_writer.proofs.Parts.{parts-of}
 use Rattle.section.specs.Section.{commandLength, commandType, commandBytes, roomAfter, loopLength, loopPlace, conditions, moved, movedRead, accepted, frameOf, sectionOf, None}
 use Rattle.section.specs.declared.Section.{Section}
 use Rattle.section.specs.declared.SectionRead.{SectionRead}
@@ -34,25 +35,18 @@ pub record Laid (s : List ℕ) (x : Section) : Type 0 where
   pub from : commandOf (commandType s) (commandBytes s) ≡ CommandRead.Is read
   pub command : x .command ≡ moved 14 read
 
-made : (s : List ℕ) (x : Section) → length s ≤ 4096 → 14 + commandLength s + 2 + loopLength s + 4 ≤ length s
-    → (h : HeaderRead) (r : CommandRead) → commandOf (commandType s) (commandBytes s) ≡ r → accepted h (movedRead r) (loopPlace s) ≡ SectionRead.Is x → Laid s x
-unfolding accepted movedRead
-made s x l f (HeaderRead.Header h) (CommandRead.Is c) e a =
-    let z : x ≡ record { header = h; command = moved 14 c; descriptors = loopPlace s } = cc in
-    record { short = l; fits = f; place = ap (λ (x : Section). x .descriptors) z; read = c; from = e; command = ap (λ (x : Section). x .command) z }
-made s x l f (HeaderRead.Header h) CommandRead.UnknownType e a = zero-one cc
-made s x l f (HeaderRead.Header h) CommandRead.Malformed e a = zero-one cc
-made s x l f HeaderRead.TooShort r e a = zero-one cc
-
 pub laid : (s : List ℕ) (x : Section) → sectionOf s ≡ SectionRead.Is x → Laid s x
-unfolding sectionOf frameOf roomAfter
 laid s x e =
-    let n : None (conditions s) = none-if-accepted s x e in
-    let a = n .1 .1 .1 .1 in
-    made s x (ltb-false 4096 (length s) (n .1 .0))
-    (omega (arith, ltb-false (length s) 18 (a .0), ltb-false (length s - 18) (commandLength s) (a .1 .1 .0), ltb-false (roomAfter s) (loopLength s + 2) (a .1 .1 .1 .1 .0)))
-    (headerOf (drop 3 s)) (commandOf (commandType s) (commandBytes s)) refl
-    (rw (n .0, n .1 .0, n .1 .1 .0, n .1 .1 .1 .0, a .0, a .1 .0, a .1 .1 .0, a .1 .1 .1 .0, a .1 .1 .1 .1 .0) at e)
+    let p = parts-of s x e in
+    record { short = p .short; fits = omega (arith, p .fits); place = p .loop; read = p .own; from = p .command; command = p .moves }
+
+-- what it says: its header, its command as a section has it, and the loop's place
+pub says : (s : List ℕ) (x : Section) → sectionOf s ≡ SectionRead.Is x
+    → (headerOf (drop 3 s) ≡ HeaderRead.Header (x .header)) × (movedRead (commandOf (commandType s) (commandBytes s)) ≡ CommandRead.Is (x .command)) × (x .descriptors ≡ loopPlace s)
+unfolding movedRead
+says s x e =
+    let p = parts-of s x e in
+    (p .header, ap movedRead (p .command) ∙ ap CommandRead.Is (sym (p .moves)), p .loop)
 
 -- ---- the bytes of a private command
 

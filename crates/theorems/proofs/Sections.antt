@@ -14,16 +14,17 @@ use Rattle.descriptor.specs.declared.segmentation.SegmentationUpid.{Segmentatio
 use Rattle.items.proofs.Lists.{Walked, stop, step, walked}
 use Rattle.items.proofs.Places.{all-into, all-map}
 use Rattle.items.proofs.Steps.{clause, turn, within, views-between}
-use Rattle.items.proofs.Theorems.{items-cover-the-loop, an-ending-refusal-takes-the-rest}
-use Rattle.items.specs.Cover.{Ends, TakesRest, Covered}
+use Rattle.items.proofs.Theorems.{items-cover-the-loop, every-byte-lies-in-one-item, an-ending-refusal-takes-the-rest}
+use Rattle.items.specs.Cover.{Ends, TakesRest, Covered, times}
 use Rattle.items.specs.Items.{stepOf, Listed, listed, itemsOf}
 use Rattle.section.specs.Section.{commandLength, commandBytes, loopLength, loopPlace, moved, sectionOf}
 use Rattle.section.specs.declared.Section.{Section}
 use Rattle.section.specs.declared.SectionRead.{SectionRead}
 use Rattle.table.specs.Lent.{viewed}
 use Rattle.table.specs.declared.View.{View}
-use Rattle.upid.proofs.Theorems.{only-a-mid-has-parts}
-use Rattle.upid.specs.Cover.{All, none, more}
+use Rattle.upid.proofs.Theorems.{only-a-mid-has-parts, every-byte-lies-in-one-part}
+use Rattle.upid.specs.Cover.{All, none, more, whole, Once}
+use Rattle.upid.specs.Upid.{upidOf, partsIn}
 use Rattle.theorems.specs.Identifiers.{
   Identifier,
   OneRun,
@@ -143,6 +144,13 @@ module _ (s : List ℕ) (x : Section) (e : sectionOf s ≡ SectionRead.Is x) whe
   pub mids-unsplit : All (Unsplit s) (midsOf s x)
   unfolding midsOf
   mids-unsplit = loop-mids s (inSection s (x .descriptors)) loop-run loop-short
+
+  -- byte by byte
+  pub bytes-in-one-part : All (λ mid. All (λ m. m .kind ≡ 13 → Once (partsIn (upidOf 13 (mid .bytes))) m) (whole (mid .bytes) ∷ partsIn (upidOf 13 (mid .bytes)))) (midsOf s x)
+  bytes-in-one-part = all-into (λ mid u. every-byte-lies-in-one-part (mid .bytes) (rw (u .accepted) tt)) mids-unsplit
+
+  pub bytes-in-one-item : (i : ℕ) → i < length (loopIn s x) → times i (itemsOf (loopIn s x)) ≡ 1
+  bytes-in-one-item i h = every-byte-lies-in-one-item (loopIn s x) loop-short i h
 
   pub items-cover : Covered (loopIn s x) (itemsOf (loopIn s x))
   items-cover = items-cover-the-loop (loopIn s x) loop-short

@@ -5,19 +5,21 @@
 use Prim.Native.Nat.{ℕ, _≤_, _^_, _<_}
 use mathlib.Core.Bool.{true, false, not}
 use mathlib.Core.List.{List, [], _∷_, _++_, map}
-use mathlib.Core.Path.{_≡_}
+use mathlib.Core.Path.{_≡_, refl}
 use lib.ListN.{length, drop}
-use Rattle.command.specs.Command.{commandOf, array, componentsOf, countIn}
+use Rattle.command.specs.Command.{commandOf, array, componentsOf, countIn, insertCount}
+use Rattle.command.specs.Insert.{count}
 use Rattle.command.specs.declared.CommandRead.{CommandRead}
 use Rattle.command.specs.declared.Private.{Private}
 use Rattle.command.specs.declared.SpliceCommand.{SpliceCommand}
 use Rattle.command.specs.declared.components.ComponentSplice.{ComponentSplice}
-use Rattle.command.specs.declared.insert.Insertion.{Insertion}
+use Rattle.command.specs.declared.insert.Insert.{Insert}
+use Rattle.command.specs.declared.insert.SpliceInsert.{SpliceInsert}
 use Rattle.command_measure.specs.Made.{counted, commandMade}
 use Rattle.crc.specs.Crc.{crcOf}
 use Rattle.descriptor.proofs.Longer as longer
 use Rattle.descriptor.specs.Descriptor.{availOf, dtmfOf, timeOf, cuei, descriptorOf}
-use Rattle.descriptor.specs.Segmentation.{deviceOf}
+use Rattle.descriptor.specs.Segmentation.{deviceOf, countOf, blankUpid, detailUpid, detailCount}
 use Rattle.descriptor.specs.declared.Descriptor.{Descriptor}
 use Rattle.descriptor.specs.declared.DescriptorRead.{DescriptorRead}
 use Rattle.descriptor.specs.declared.segmentation.SegmentationDescriptor.{SegmentationDescriptor}
@@ -41,11 +43,13 @@ use Rattle.flat_section_writer.specs.SectionWords.{headerWords, SectionAnswer}
 use Rattle.flat_writer.proofs.Answers as command-answers
 use Rattle.flat_writer.specs.CommandGiven.{commandWordsMade}
 use Rattle.flat_writer.specs.CommandWords.{commandWords, placesGiven, CommandAnswer}
+use Rattle.header.specs.Header.{headerOf}
 use Rattle.header.specs.Time.{adjustedOf}
+use Rattle.header.specs.declared.header.HeaderRead.{HeaderRead}
 use Rattle.header.specs.declared.header.SpliceInfoHeader.{SpliceInfoHeader}
 use Rattle.header.specs.declared.time.AdjustedTime.{AdjustedTime}
 use Rattle.header.specs.declared.time.SpliceTime.{SpliceTime}
-use Rattle.items.specs.Cover.{Ends, joined, runOf, TakesRest, Covered}
+use Rattle.items.specs.Cover.{Ends, joined, runOf, TakesRest, Covered, times}
 use Rattle.items.specs.Items.{stepOf, itemsOf}
 use Rattle.loop_laws.proofs.Pieces as pieces
 use Rattle.loop_laws.proofs.Theorems as loops
@@ -62,7 +66,7 @@ use Rattle.names.specs.declared.upid.SegmentationUpidType.{SegmentationUpidType
 use Rattle.pen.specs.Written.{answerOf, laterOf}
 use Rattle.pen.specs.declared.Written.{Written}
 use Rattle.section.proofs.Acceptance as acceptance
-use Rattle.section.specs.Section.{commandType, commandBytes, loopLength, loopBytes, unknownCommand, conditions, first, sectionOf, numberOf, None}
+use Rattle.section.specs.Section.{commandType, commandBytes, loopLength, loopPlace, loopBytes, movedRead, unknownCommand, conditions, first, sectionOf, numberOf, None}
 use Rattle.section.specs.Whole.{wholeSectionOf}
 use Rattle.section.specs.declared.Section.{Section}
 use Rattle.section.specs.declared.SectionRead.{SectionRead}
@@ -73,7 +77,8 @@ use Rattle.section_writer.specs.Writing.{kindOf, sectionMade}
 use Rattle.table.specs.Bits.{AllBytes}
 use Rattle.table.specs.Lent.{viewed}
 use Rattle.table.specs.Writing.{Made, made}
-use Rattle.upid.specs.Cover.{All}
+use Rattle.upid.specs.Cover.{All, whole, Once}
+use Rattle.upid.specs.Upid.{upidOf, partsIn}
 use Rattle.theorems.specs.Identifiers.{OneRun, inSection, loopIn, identifiersOf, midsOf, Unsplit}
 use Rattle.theorems.specs.Making.{CommandMakes, SectionBytes, SectionMakes}
 use Rattle.theorems.specs.Numbers.{OnlyBy}
@@ -85,6 +90,7 @@ use Rattle.theorems.specs.Written.{KeepsUpid, ChangesOnlyResult}
 use Rattle.theorems.proofs.Answers as answers
 use Rattle.theorems.proofs.CommandTypes as command-types
 use Rattle.theorems.proofs.CommandsMade as commands-made
+use Rattle.theorems.proofs.Framed as framed
 use Rattle.theorems.proofs.ItemsWritten as items-written
 use Rattle.theorems.proofs.LoopsOverC as loops-over-c
 use Rattle.theorems.proofs.Numbers as numbers
@@ -127,7 +133,7 @@ eight-and-twelve-bytes-are-read-whole = worked.both-whole
 pub the-section-with-eight-and-twelve-is-canonical : AllBytes eightAndTwelve × (canonicalSection eightAndTwelve ≡ true)
 the-section-with-eight-and-twelve-is-canonical = worked.both-canonical
 
--- ---- named numbers
+-- ---- numbers and times
 
 -- Which value a number stands for: the name that has it in the table of names/specs, and where none has it the value that carries it ("4 to 31 reserved, 32 to 63 private; as a bare
 -- number, 64 to 255 too"); and nothing else goes by the table
@@ -146,6 +152,18 @@ segmentation-types-go-by-their-table = numbers.segmentations-by
 -- of device_restrictions each number of two bits has a name
 pub device-restrictions-go-by-their-numbers : (d : DeviceRestrictions) → deviceOf (restrictionsBits d) ≡ d
 device-restrictions-go-by-their-numbers = numbers.device-by
+
+-- what a detail has: a cancelled one has no UPID and counts no components
+pub upids-and-counts-of-segmentations : (detailUpid SegmentationDetail.Cancel ≡ blankUpid) × (detailCount SegmentationDetail.Cancel ≡ 0)
+    × ((i : SegmentationInsert) → (detailUpid (SegmentationDetail.Insert i) ≡ i .«segmentation_upid») × (detailCount (SegmentationDetail.Insert i) ≡ countOf (i .«segmentation_mode»)))
+upids-and-counts-of-segmentations = (refl, refl, λ i. (refl, refl))
+
+pub counts-of-inserts : (insertCount SpliceInsert.Cancel ≡ 0) × ((i : Insert) → insertCount (SpliceInsert.Insert i) ≡ count (i .«splice_mode»))
+counts-of-inserts = (refl, λ i. refl)
+
+-- "Adjusted time: .. 0 to 17,179,869,182"
+pub an-adjusted-time-is-at-most-17179869182 : (t : SpliceTime) (adjustment n : ℕ) → adjustedOf t adjustment ≡ AdjustedTime.At n → n ≤ 17179869182
+an-adjusted-time-is-at-most-17179869182 = tolerated.adjusted-most
 
 -- ---- acceptance
 
@@ -190,10 +208,6 @@ pub bytes-left-over-by-sub-segments-are-tolerated : (payload more : List ℕ) (x
     → descriptorOf 2 cuei (payload ++ more) ≡ descriptorOf 2 cuei payload
 bytes-left-over-by-sub-segments-are-tolerated = longer.sub-segments-on
 
--- "Adjusted time: .. 0 to 17,179,869,182"
-pub an-adjusted-time-is-at-most-17179869182 : (t : SpliceTime) (adjustment n : ℕ) → adjustedOf t adjustment ≡ AdjustedTime.At n → n ≤ 17179869182
-an-adjusted-time-is-at-most-17179869182 = tolerated.adjusted-most
-
 -- Condition 10: "command type is none of 0x00, 0x05, 0x06, 0x07, 0xFF", whatever the payload
 pub condition-10-is-of-the-other-types : (s : List ℕ) → unknownCommand s ≡ not (known (commandType s))
 condition-10-is-of-the-other-types s = command-types.unknown-is (commandType s) (commandBytes s)
@@ -211,6 +225,11 @@ accepted-if-none-applies = acceptance.accepted-if-none
 
 pub none-applies-if-accepted : (s : List ℕ) (x : Section) → sectionOf s ≡ SectionRead.Is x → None (conditions s)
 none-applies-if-accepted = acceptance.none-if-accepted
+
+-- and says what its layout has: its header, its command, whose views count from the section's first byte, and the loop's place
+pub what-an-accepted-section-says : (s : List ℕ) (x : Section) → sectionOf s ≡ SectionRead.Is x
+    → (headerOf (drop 3 s) ≡ HeaderRead.Header (x .header)) × (movedRead (commandOf (commandType s) (commandBytes s)) ≡ CommandRead.Is (x .command)) × (x .descriptors ≡ loopPlace s)
+what-an-accepted-section-says = framed.says
 
 -- ---- of every section that is accepted
 
@@ -237,6 +256,22 @@ an-ending-refusal-takes-the-rest-of-the-loop = sections.ending-takes-rest
 -- "outer part before its inner ones".
 pub no-mid-of-the-section-is-split : (s : List ℕ) (x : Section) → sectionOf s ≡ SectionRead.Is x → All (Unsplit s) (midsOf s x)
 no-mid-of-the-section-is-split = sections.mids-unsplit
+
+-- ---- what follows from these
+
+-- "the loop's items .. cover the loop once", byte by byte: each byte lies in exactly one item
+pub each-byte-of-the-loop-lies-in-one-item : (s : List ℕ) (x : Section) → sectionOf s ≡ SectionRead.Is x → (i : ℕ) → i < length (loopIn s x) → times i (itemsOf (loopIn s x)) ≡ 1
+each-byte-of-the-loop-lies-in-one-item = sections.bytes-in-one-item
+
+-- "the direct parts of each accepted MID, heads included, cover that MID once", byte by byte: each byte of a MID, at every depth, lies in exactly one of its direct parts
+pub each-byte-of-a-mid-lies-in-one-part : (s : List ℕ) (x : Section) → sectionOf s ≡ SectionRead.Is x
+    → All (λ mid. All (λ m. m .kind ≡ 13 → Once (partsIn (upidOf 13 (mid .bytes))) m) (whole (mid .bytes) ∷ partsIn (upidOf 13 (mid .bytes)))) (midsOf s x)
+each-byte-of-a-mid-lies-in-one-part = sections.bytes-in-one-part
+
+-- The incident, when it is written back: each item of a canonical section is written again, and what is written, read alone, has the same UPID. So each MID
+-- has the same bytes and the same parts, at every level.
+pub writing-back-splits-no-mid : (s : List ℕ) (x : Section) → AllBytes s → sectionOf s ≡ SectionRead.Is x → canonicalSection s ≡ true → All (KeepsUpid (loopIn s x)) (itemsOf (loopIn s x))
+writing-back-splits-no-mid = items-written.keeps-upids
 
 -- ---- over the C boundary
 
@@ -345,11 +380,6 @@ a-canonical-section-is-what-is-written-of-its-reading = written-back.section-bac
 pub a-canonical-section-is-what-is-written-of-its-items : (s : List ℕ) (x : Section) → AllBytes s → sectionOf s ≡ SectionRead.Is x → canonicalSection s ≡ true
     → All (WrittenAgain (loopIn s x)) (itemsOf (loopIn s x)) × (joined (map (runOf (loopIn s x)) (itemsOf (loopIn s x))) ≡ loopIn s x)
 a-canonical-section-is-what-is-written-of-its-items s x a e c = items-written.loop-written s x e a c
-
--- The incident, when it is written back: each item of a canonical section is written again, and what is written, read alone, has the same UPID. So each MID
--- has the same bytes and the same parts, at every level.
-pub writing-back-splits-no-mid : (s : List ℕ) (x : Section) → AllBytes s → sectionOf s ≡ SectionRead.Is x → canonicalSection s ≡ true → All (KeepsUpid (loopIn s x)) (itemsOf (loopIn s x))
-writing-back-splits-no-mid = items-written.keeps-upids
 
 -- "reading what the writer wrote gives what it was handed": the header; the command, with its components and the bytes of its view; and the loop. And what is written is canonical.
 pub what-is-written-reads-back : (h : SpliceInfoHeader) (c : SpliceCommand) (places : List ComponentSplice) (lent loop : List ℕ) → length places ≡ 255 → countIn c ≤ 255 → AllBytes lent → AllBytes loop

@@ -8,7 +8,7 @@ use lib.ListN.{length, take, drop, getD}
 use Rattle.command.specs.Command.{ofPrivate}
 use Rattle.command.specs.declared.SpliceCommand.{SpliceCommand}
 use Rattle.descriptor.specs.Segmentation as table
-use Rattle.descriptor.specs.Segmentation.{frontOf}
+use Rattle.descriptor.specs.Segmentation.{detailUpid}
 use Rattle.descriptor.specs.Whole.{ofSegmentation, ofReserved, besideOf}
 use Rattle.descriptor.specs.declared.Descriptor.{Descriptor}
 use Rattle.descriptor.specs.declared.segmentation.SegmentationDetail.{SegmentationDetail}
@@ -72,7 +72,7 @@ payloadOf loop x = take (x .used - 6) (drop (x .offset + 6) loop)
 
 -- where the UPID that is written in a segmentation descriptor's payload starts
 abbrev pub upidStart : Answer table.Segmentation → ℕ
-upidStart (got x at) = frontOf (x .descriptor .«descriptor_detail») .«segmentation_upid» .bytes .at
+upidStart (got x at) = detailUpid (x .descriptor .«descriptor_detail») .bytes .at
 upidStart (short expected actual) = 0
 
 -- "The EIDR identifier of 12 bytes is held by value"

@@ -10,7 +10,7 @@ use lib.Seq.{take-append-seam, drop-append-seam, take-length}
 use borrow.Author.Tests.{le-ltb, ltb-false, eqb-true, eqb-false}
 use Rattle.upid.specs.Upid.{upidOf, checkOf, readOf, walkOf, plainOf, _then_, listOf, reportedOf, lengthOf, isText, listed, blankPart, unlessRefused, eidrOf, partsIn}
 use Rattle.upid.specs.Text.{textOf}
-use Rattle.upid.specs.Cover.{All, none, more, Cut, joined, placed, whole, bytesOf, directOf, Covered, Ascending, Owned}
+use Rattle.upid.specs.Cover.{All, none, more, Cut, joined, placed, whole, bytesOf, directOf, Covered, Ascending, Owned, Once}
 use Rattle.table.specs.declared.View.{View}
 use Rattle.upid.specs.Walk.{Accepted, Announced}
 use Rattle.upid.specs.declared.Part.{Part}
@@ -49,22 +49,31 @@ cover top ps m h =
       only = λ other e. one-cutting other (h .cutting) (e ∙ sym (h .joins));
       pieces = h .pieces;
       runs = rw (h .pieces) (placed-runs top (m .level + 1) (m .start) (h .cutting) _ here);
-      once = λ i low high. rw (h .pieces) (placed-once (m .level + 1) (m .start) i (h .cutting) low (rw (h .size) high));
     }
 
-cover-forest : (f : Forest) → Grown f → All (λ (m : Part). m .kind ≡ 13 → Covered (joined (cuts f)) (records 1 0 f) m) (whole (joined (cuts f)) ∷ records 1 0 f)
-cover-forest f g =
-    all-map (λ m h e. cover (joined (cuts f)) (records 1 0 f) m (h e))
-    (more (λ e. whole-piece f g) (inner-pieces (joined (cuts f)) f 1 0 [] g (sym (append-nil _))))
+once : (top : List ℕ) (ps : List Part) (m : Part) → Piece top ps m → Once ps m
+once top ps m h i low high = rw (h .pieces) (placed-once (m .level + 1) (m .start) i (h .cutting) low (rw (h .size) high))
 
-cover-tree : (top : List ℕ) (ps : List Part) (f : Forest) → Grown f → joined (cuts f) ≡ top → ps ≡ records 1 0 f
-    → All (λ (m : Part). m .kind ≡ 13 → Covered top ps m) (whole top ∷ ps)
-cover-tree top ps f g j r = rw (r, ← j) (cover-forest f g)
+-- what holds of each piece holds of every MID in what is accepted
+module _ (P : List ℕ → List Part → Part → Type 0) (of-piece : (top : List ℕ) (ps : List Part) (m : Part) → Piece top ps m → P top ps m) where
+  in-forest : (f : Forest) → Grown f → All (λ (m : Part). m .kind ≡ 13 → P (joined (cuts f)) (records 1 0 f) m) (whole (joined (cuts f)) ∷ records 1 0 f)
+  in-forest f g =
+      all-map (λ m h e. of-piece (joined (cuts f)) (records 1 0 f) m (h e))
+      (more (λ e. whole-piece f g) (inner-pieces (joined (cuts f)) f 1 0 [] g (sym (append-nil _))))
+
+  in-tree : (top : List ℕ) (ps : List Part) (f : Forest) → Grown f → joined (cuts f) ≡ top → ps ≡ records 1 0 f → All (λ (m : Part). m .kind ≡ 13 → P top ps m) (whole top ∷ ps)
+  in-tree top ps f g j r = rw (r, ← j) (in-forest f g)
+
+  of-every-mid : (top : List ℕ) → Accepted (checkOf 13 top) → All (λ (m : Part). m .kind ≡ 13 → P top (partsIn (upidOf 13 top)) m) (whole top ∷ partsIn (upidOf 13 top))
+  of-every-mid top a =
+      let (f, g, j, r) = grow (length top) 1 0 top (omega arith) (check-mid top a) in
+      in-tree top _ f g j (parts-of-mid top a ∙ r)
 
 pub covered : (top : List ℕ) → Accepted (checkOf 13 top) → All (λ (m : Part). m .kind ≡ 13 → Covered top (partsIn (upidOf 13 top)) m) (whole top ∷ partsIn (upidOf 13 top))
-covered top a =
-    let (f, g, j, r) = grow (length top) 1 0 top (omega arith) (check-mid top a) in
-    cover-tree top _ f g j (parts-of-mid top a ∙ r)
+covered = of-every-mid Covered cover
+
+pub all-once : (top : List ℕ) → Accepted (checkOf 13 top) → All (λ (m : Part). m .kind ≡ 13 → Once (partsIn (upidOf 13 top)) m) (whole top ∷ partsIn (upidOf 13 top))
+all-once = of-every-mid (λ top. Once) once
 
 pub announced-all : (top : List ℕ) → Accepted (checkOf 13 top) → All (Announced top) (partsIn (upidOf 13 top))
 announced-all top a =

@@ -9,7 +9,7 @@ use Rattle.table.specs.declared.View.{View}
 use Rattle.upid.specs.Walk.{Accepted, Announced}
 use Rattle.upid.specs.Upid.{upidOf, checkOf, readOf, reportedOf, blankPart, walkOf, plainOf, _then_, listOf, partsOf, listed, unlessRefused, partsIn}
 use Rattle.upid.specs.Text.{characters, begun, Octets, textOf}
-use Rattle.upid.specs.Cover.{All, Cut, joined, placed, whole, bytesOf, directOf, Covered, Ascending, Owned}
+use Rattle.upid.specs.Cover.{All, Cut, joined, placed, whole, bytesOf, directOf, Covered, Ascending, Owned, Once}
 use Rattle.upid.specs.declared.Part.{Part}
 use Rattle.upid.specs.declared.Refusal.{Refusal}
 use Rattle.upid.specs.declared.Refusal.the-variants.{NotText}
@@ -21,11 +21,16 @@ use Rattle.upid.proofs.Utf8 as utf8
 -- ---- no identifier is split
 
 -- The top MID, and every part of it that is a MID, at whatever level: its direct parts, heads included, are the pieces of one cutting of its
--- bytes, every byte lies in exactly one of them, and it can be cut in no other way.
+-- bytes, and it can be cut in no other way.
 pub every-mid-is-covered : (top : List ℕ) → Accepted (upidOf 13 top .read)
     → All (λ (m : Part). m .kind ≡ 13 → Covered top (partsIn (upidOf 13 top)) m) (whole top ∷ partsIn (upidOf 13 top))
 unfolding upidOf
 every-mid-is-covered = answers.covered
+
+-- Every byte of such a MID lies in exactly one of its direct parts.
+pub every-byte-lies-in-one-part : (top : List ℕ) → Accepted (upidOf 13 top .read) → All (λ (m : Part). m .kind ≡ 13 → Once (partsIn (upidOf 13 top)) m) (whole top ∷ partsIn (upidOf 13 top))
+unfolding upidOf
+every-byte-lies-in-one-part = answers.all-once
 
 -- Every part, at whatever level, is one run of the top UPID: exactly the payload that the two bytes before it announce.
 pub every-part-is-announced : (top : List ℕ) → Accepted (upidOf 13 top .read) → All (Announced top) (partsIn (upidOf 13 top))

@@ -50,26 +50,16 @@ placed level start (c ∷ cs) =
     record { kind = reportedOf (c .kind); level = level; start = start + 2; len = length (c .payload) }
     ∷ placed level (start + (2 + length (c .payload))) cs
 
--- whether byte i of the top UPID lies in a part, its head of two bytes included
-unfoldable pub lies : ℕ → Part → Bool
-lies i p = leb (p .start) (i + 2) && ltb i (p .start + p .len)
-
--- in how many of the parts it lies
-unfoldable pub times : ℕ → List Part → ℕ
-times i [] = 0
-times i (p ∷ ps) = cond (lies i p) 1 0 + times i ps
-
 -- ---- the claims
 
 -- The direct parts of the MID m among all parts of the top UPID are the pieces of one cutting, in order and in their places, each with its
--- payload's bytes; no other cutting joins to m's bytes; and each byte of m lies in exactly one of them.
+-- payload's bytes; and no other cutting joins to m's bytes.
 pub record Covered (top : List ℕ) (ps : List Part) (m : Part) : Type 0 where
   pub cutting : List Cut
   pub joins : joined cutting ≡ bytesOf top m
   pub only : (other : List Cut) → joined other ≡ bytesOf top m → other ≡ cutting
   pub pieces : directOf m ps ≡ placed (m .level + 1) (m .start) cutting
   pub runs : map (bytesOf top) (directOf m ps) ≡ map (λ (c : Cut). c .payload) cutting
-  pub once : (i : ℕ) → m .start ≤ i → i < m .start + m .len → times i (directOf m ps) ≡ 1
 
 -- each part starts after the one before it: the list is in byte order, and each part stands before those inside it
 pub data Ascending : List Part → Type 0 where
@@ -82,3 +72,18 @@ pub record Owned (ms : List Part) (p : Part) : Type 0 where
   pub found : List·Memᴰ mid ms
   pub kind : mid .kind ≡ 13
   pub direct : directly mid p ≡ true
+
+-- ---- the same, byte by byte
+
+-- whether byte i of the top UPID lies in a part, its head of two bytes included
+unfoldable pub lies : ℕ → Part → Bool
+lies i p = leb (p .start) (i + 2) && ltb i (p .start + p .len)
+
+-- in how many of the parts it lies
+unfoldable pub times : ℕ → List Part → ℕ
+times i [] = 0
+times i (p ∷ ps) = cond (lies i p) 1 0 + times i ps
+
+-- each byte of the MID m lies in exactly one of its direct parts
+abbrev pub Once : List Part → Part → Type 0
+Once ps m = (i : ℕ) → m .start ≤ i → i < m .start + m .len → times i (directOf m ps) ≡ 1
