@@ -4,14 +4,13 @@
 --     given-back     what is written of descriptors, joined, has them as its items
 use Prim.Native.Nat.{ℕ, _+_, _-_, _≤_}
 use mathlib.Core.Bool.{true}
-use mathlib.Core.List.{List, [], _∷_, _++_, map}
+use mathlib.Core.List.{List, [], _∷_, _++_}
 use mathlib.Core.Path.{_≡_, refl, ap, ap₂, sym, subst, _∙_}
 use native.Mathlib.Omega.{arith}
 use lib.ListN.{length, take, drop, getD}
 use Rattle.table.specs.Bits.{AllBytes}
-use Rattle.table.specs.Writing.{Made, made, refused}
+use Rattle.table.specs.Writing.{made}
 use Rattle.table.specs.declared.View.{View}
-use Rattle.table.proofs.Lists.{zero-one}
 use Rattle.upid.specs.Cover.{All, none, more}
 use Rattle.descriptor.specs.Views.{descriptorViews}
 use Rattle.descriptor.specs.Walk.{readViews}
@@ -34,7 +33,7 @@ use Rattle.items.specs.Place.{movedDescriptor}
 use Rattle.items.specs.declared.Item.{Item}
 use Rattle.items.specs.declared.Item.the-variants.{Is}
 use Rattle.items.specs.declared.reading.Reading.{Reading}
-use Rattle.loop_laws.specs.Loops.{WrittenAgain, Given, givenMade, itemGiven, GivenTypes, ItemBack, SameItems, ItemsBack, Pairs, over, pair}
+use Rattle.loop_laws.specs.Loops.{WrittenAgain, Given, givenMade, GivenTypes, ItemBack, SameItems, ItemsBack, Pairs, over, pair}
 use Rattle.loop_laws.proofs.Pieces.{Canonical, cut-canonical, At, Items, end, item, run-is, items-cut}
 use Rattle.loop_laws.proofs.Places.{moved-values, moved-count, moved-view, moved-bytes}
 

@@ -10,7 +10,6 @@ pub mod Forms
 pub mod Commands
 pub mod Theorems
 pub mod Rows
-pub mod Views
 pub mod Answers
 pub mod Whole
 pub mod Sections

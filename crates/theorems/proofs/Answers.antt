@@ -7,7 +7,7 @@ use mathlib.Core.Bool.{true}
 use mathlib.Core.List.{List, [], _++_}
 use mathlib.Core.Path.{_≡_, refl, ap, sym, _∙_}
 use lib.Dec.{leb}
-use lib.ListN.{length, take, drop}
+use lib.ListN.{length, take}
 use Rattle.command.specs.Command.{private, componentsOf, countIn}
 use Rattle.command.specs.declared.Private.{Private}
 use Rattle.command.specs.declared.SpliceCommand.{SpliceCommand}
@@ -20,7 +20,6 @@ use Rattle.loop_laws.proofs.Pieces.{At}
 use Rattle.loop_laws.specs.Loops.{SameItem, SameItems, over, pair}
 use Rattle.pen.specs.Written.{bytesIn}
 use Rattle.section.specs.Section.{commandType, commandBytes, privateView, sectionOf}
-use Rattle.section.specs.Whole.{besideCommand, besideSection, wholeSectionOf}
 use Rattle.section.specs.declared.Section.{Section}
 use Rattle.section.specs.declared.SectionRead.{SectionRead}
 use Rattle.section_writer.proofs.Theorems.{canonical-parts}
@@ -64,7 +63,7 @@ private-of lent p b e =
     rw i (w .bytes)
 
 payload-of : (c : SpliceCommand) (p s b : List ℕ) → commandMade c (componentsOf p) s ≡ made b
-    → b ≡ commandPayload (withoutPlace c) (take (countIn c) (besideCommand c p)) (viewed s (privateView c))
+    → b ≡ commandPayload (withoutPlace c) (take (countIn c) (componentsOf p)) (viewed s (privateView c))
 unfolding commandMade bytesIn commandPayload
 payload-of SpliceCommand.SpliceNull p s b e = ap bytesIn (sym e)
 payload-of (SpliceCommand.SpliceInsert i) p s b e = ap bytesIn (sym e)
@@ -73,15 +72,9 @@ payload-of SpliceCommand.BandwidthReservation p s b e = ap bytesIn (sym e)
 payload-of (SpliceCommand.PrivateCommand own) p s b e = private-of s own b e
 
 -- ---- in a section
-beside : (s : List ℕ) (x : Section) → sectionOf s ≡ SectionRead.Is x → wholeSectionOf s .components ≡ besideCommand (x .command) (commandBytes s)
-unfolding wholeSectionOf
-beside s x e = ap (λ (r : SectionRead). besideSection r (commandBytes s)) e
-
 payload-in : (s : List ℕ) (x : Section) → AllBytes s → sectionOf s ≡ SectionRead.Is x → canonicalSection s ≡ true
-    → commandBytes s ≡ commandPayload (withoutPlace (x .command)) (take (countIn (x .command)) (wholeSectionOf s .components)) (viewed s (privateView (x .command)))
-payload-in s x a e c =
-    payload-of (x .command) (commandBytes s) s (commandBytes s) (payload-back s x a e c .1)
-    ∙ ap (λ (cs : List ComponentSplice). commandPayload (withoutPlace (x .command)) (take (countIn (x .command)) cs) (viewed s (privateView (x .command)))) (sym (beside s x e))
+    → commandBytes s ≡ commandPayload (withoutPlace (x .command)) (take (countIn (x .command)) (componentsOf (commandBytes s))) (viewed s (privateView (x .command)))
+payload-in s x a e c = payload-of (x .command) (commandBytes s) s (commandBytes s) (payload-back s x a e c .1)
 
 same-payload : {c d : SpliceCommand} {cs ds : List ComponentSplice} {p q : List ℕ} → c ≡ d → cs ≡ ds → p ≡ q → commandPayload c cs p ≡ commandPayload d ds q
 same-payload e f g = rw (e, f, g)

@@ -8,7 +8,6 @@ use mathlib.Core.Path.{_≡_, refl, ap, sym, _∙_}
 use native.Mathlib.Omega.{arith}
 use lib.Dec.{eqb}
 use lib.ListN.{length, drop}
-use borrow.Author.Tests.{ltb-false}
 use Rattle.command.specs.Command.{private, read, commandOf}
 use Rattle.command.specs.Insert.{insert}
 use Rattle.command.specs.declared.CommandRead.{CommandRead}
@@ -17,12 +16,10 @@ use Rattle.command.specs.declared.SpliceCommand.{SpliceCommand}
 use Rattle.header.specs.Header.{headerOf}
 use Rattle.header.specs.Time.{spliceTime}
 use Rattle.header.specs.declared.header.HeaderRead.{HeaderRead}
-use Rattle.section.proofs.Acceptance.{none-if-accepted}
 use Rattle.section_writer.proofs.Parts.{parts-of}
-use Rattle.section.specs.Section.{commandLength, commandType, commandBytes, roomAfter, loopLength, loopPlace, conditions, moved, movedRead, accepted, frameOf, sectionOf, None}
+use Rattle.section.specs.Section.{commandLength, commandType, commandBytes, loopLength, loopPlace, moved, movedRead, sectionOf}
 use Rattle.section.specs.declared.Section.{Section}
 use Rattle.section.specs.declared.SectionRead.{SectionRead}
-use Rattle.table.proofs.Lists.{zero-one}
 use Rattle.table.proofs.Steps.{reads-number, reads-part, takes-remaining}
 use Rattle.table.specs.Bits.{pick, bitsOf, field}
 use Rattle.table.specs.Table.{Answer, got, short, parse}

@@ -10,15 +10,12 @@ use mathlib.Core.List.{List, [], _∷_, map}
 use mathlib.Core.Path.{_≡_, refl, ap, ap₂, sym, subst, _∙_}
 use lib.Dec.{leb}
 use lib.ListN.{length, take, drop}
-use Rattle.command.specs.declared.SpliceCommand.{SpliceCommand}
-use Rattle.command.specs.declared.components.ComponentSplice.{ComponentSplice}
 use Rattle.descriptor.specs.declared.Descriptor.{Descriptor}
 use Rattle.descriptor.specs.declared.segmentation.SegmentationDetail.{SegmentationDetail}
 use Rattle.descriptor.specs.declared.whole.Beside.{Beside}
 use Rattle.descriptor_form.specs.Canonical.{canonicalLoop}
 use Rattle.descriptor_laws.proofs.Alike.{SameView, viewIn, detailView}
 use Rattle.descriptor_laws.specs.Trips.{wholeIn}
-use Rattle.header.specs.declared.header.SpliceInfoHeader.{SpliceInfoHeader}
 use Rattle.items.specs.Cover.{joined, runOf}
 use Rattle.items.specs.Items.{Listed, listed, itemsOf}
 use Rattle.items.specs.Place.{movedDescriptor}
@@ -35,7 +32,6 @@ use Rattle.section.specs.declared.SectionRead.{SectionRead}
 use Rattle.section_writer.proofs.Numbers.{bytes-take, bytes-drop}
 use Rattle.section_writer.proofs.Theorems.{canonical-parts, no-other-section}
 use Rattle.section_writer.specs.Canonical.{canonicalSection}
-use Rattle.section_writer.specs.Trips.{ReadsBack}
 use Rattle.section_writer.specs.Walk.{SameAround}
 use Rattle.table.specs.Bits.{pick, AllBytes}
 use Rattle.table.specs.Lent.{viewed}

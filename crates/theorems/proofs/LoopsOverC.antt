@@ -1,7 +1,7 @@
 -- The loop of a canonical section is what is written over C of the words that are read of its items over C. Assumes nothing.
 use Prim.Native.Nat.{ℕ, zero, suc, _+_, _-_, _<_, _≤_}
 use mathlib.Core.Bool.{Bool, true, false, cond, _&&_}
-use mathlib.Core.List.{List, [], _∷_, _++_, map}
+use mathlib.Core.List.{List, [], _∷_, _++_}
 use mathlib.Core.Path.{_≡_, refl, ap, ap₂, sym, subst, _∙_}
 use native.Mathlib.Omega.{arith}
 use lib.Dec.{eqb}
@@ -38,8 +38,8 @@ use Rattle.table.proofs.Steps.{reads-in, reads-number, reads-flag, reads-ones}
 use Rattle.table.specs.Bits.{pick, bitsOf, field, AllBytes}
 use Rattle.table.specs.Lent.{viewed}
 use Rattle.table.specs.Table.{done, inside, list, Answer, got, short, parse}
-use Rattle.table.specs.Writing.{Made, made}
-use Rattle.upid.specs.Cover.{All, none, more}
+use Rattle.table.specs.Writing.{made}
+use Rattle.upid.specs.Cover.{All}
 use Rattle.upid.specs.Upid.{eidrOf}
 use Rattle.theorems.specs.Identifiers.{loopIn}
 use Rattle.theorems.specs.OverC.{stepWords, besideWords, wordsMadeAt}

@@ -24,7 +24,7 @@ use Rattle.table.specs.Lent.{viewed}
 use Rattle.table.specs.declared.View.{View}
 use Rattle.upid.proofs.Theorems.{only-a-mid-has-parts, every-byte-lies-in-one-part}
 use Rattle.upid.specs.Cover.{All, none, more, whole, Once}
-use Rattle.upid.specs.Upid.{upidOf, partsIn}
+use Rattle.upid.specs.Upid.{upidOf}
 use Rattle.theorems.specs.Identifiers.{
   Identifier,
   OneRun,
@@ -42,6 +42,7 @@ use Rattle.theorems.specs.Identifiers.{
   midOf,
   midsOf,
   Unsplit,
+  partsRead,
 }
 use Rattle.theorems.proofs.Framed.{laid, private-in}
 use Rattle.theorems.proofs.Items.{Found, found, mid-of, eidr-of, beside-runs}
@@ -146,7 +147,8 @@ module _ (s : List ℕ) (x : Section) (e : sectionOf s ≡ SectionRead.Is x) whe
   mids-unsplit = loop-mids s (inSection s (x .descriptors)) loop-run loop-short
 
   -- byte by byte
-  pub bytes-in-one-part : All (λ mid. All (λ m. m .kind ≡ 13 → Once (partsIn (upidOf 13 (mid .bytes))) m) (whole (mid .bytes) ∷ partsIn (upidOf 13 (mid .bytes)))) (midsOf s x)
+  pub bytes-in-one-part : All (λ mid. All (λ m. m .kind ≡ 13 → Once (partsRead 13 (mid .bytes)) m) (whole (mid .bytes) ∷ partsRead 13 (mid .bytes))) (midsOf s x)
+  unfolding upidOf
   bytes-in-one-part = all-into (λ mid u. every-byte-lies-in-one-part (mid .bytes) (rw (u .accepted) tt)) mids-unsplit
 
   pub bytes-in-one-item : (i : ℕ) → i < length (loopIn s x) → times i (itemsOf (loopIn s x)) ≡ 1

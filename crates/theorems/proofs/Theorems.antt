@@ -7,15 +7,14 @@ use mathlib.Core.Bool.{true, false, not}
 use mathlib.Core.List.{List, [], _∷_, _++_, map}
 use mathlib.Core.Path.{_≡_, refl}
 use lib.ListN.{length, drop}
-use Rattle.command.specs.Command.{commandOf, array, componentsOf, countIn, insertCount}
+use Rattle.command.specs.Command.{commandOf, componentsOf, countIn, insertCount}
 use Rattle.command.specs.Insert.{count}
 use Rattle.command.specs.declared.CommandRead.{CommandRead}
-use Rattle.command.specs.declared.Private.{Private}
 use Rattle.command.specs.declared.SpliceCommand.{SpliceCommand}
 use Rattle.command.specs.declared.components.ComponentSplice.{ComponentSplice}
 use Rattle.command.specs.declared.insert.Insert.{Insert}
 use Rattle.command.specs.declared.insert.SpliceInsert.{SpliceInsert}
-use Rattle.command_measure.specs.Made.{counted, commandMade}
+use Rattle.command_measure.specs.Made.{commandMade}
 use Rattle.crc.specs.Crc.{crcOf}
 use Rattle.descriptor.proofs.Longer as longer
 use Rattle.descriptor.specs.Descriptor.{availOf, dtmfOf, timeOf, cuei, descriptorOf}
@@ -67,19 +66,16 @@ use Rattle.pen.specs.Written.{answerOf, laterOf}
 use Rattle.pen.specs.declared.Written.{Written}
 use Rattle.section.proofs.Acceptance as acceptance
 use Rattle.section.specs.Section.{commandType, commandBytes, loopLength, loopPlace, loopBytes, movedRead, unknownCommand, conditions, first, sectionOf, numberOf, None}
-use Rattle.section.specs.Whole.{wholeSectionOf}
 use Rattle.section.specs.declared.Section.{Section}
 use Rattle.section.specs.declared.SectionRead.{SectionRead}
-use Rattle.section_writer.proofs.Views as views
 use Rattle.section_writer.specs.Canonical.{canonicalSection}
-use Rattle.section_writer.specs.Trips.{ReadsBack}
 use Rattle.section_writer.specs.Writing.{kindOf, sectionMade}
 use Rattle.table.specs.Bits.{AllBytes}
-use Rattle.table.specs.Lent.{viewed}
 use Rattle.table.specs.Writing.{Made, made}
 use Rattle.upid.specs.Cover.{All, whole, Once}
-use Rattle.upid.specs.Upid.{upidOf, partsIn}
-use Rattle.theorems.specs.Identifiers.{OneRun, inSection, loopIn, identifiersOf, midsOf, Unsplit}
+use Rattle.upid.proofs.Answers as upids
+use Rattle.upid.specs.Upid.{checkOf, listOf, unlessRefused}
+use Rattle.theorems.specs.Identifiers.{OneRun, inSection, partsRead, loopIn, identifiersOf, midsOf, Unsplit}
 use Rattle.theorems.specs.Making.{CommandMakes, SectionBytes, SectionMakes}
 use Rattle.theorems.specs.Numbers.{OnlyBy}
 use Rattle.theorems.specs.OverC.{componentsAnswered, splicesWords, wordsMadeAt}
@@ -238,6 +234,10 @@ what-an-accepted-section-says = framed.says
 pub every-identifier-is-one-run-of-the-section : (s : List ℕ) (x : Section) → sectionOf s ≡ SectionRead.Is x → All (OneRun s) (identifiersOf s x)
 every-identifier-is-one-run-of-the-section = sections.identifiers-run
 
+-- (The parts of a UPID, as `read_upid` answers them: those of its walk, and none of what is refused)
+pub the-parts-that-are-read : (kind : ℕ) (bytes : List ℕ) → partsRead kind bytes ≡ unlessRefused (checkOf kind bytes) (listOf kind 1 0 bytes)
+the-parts-that-are-read = upids.parts-in
+
 -- the loop lies in the section whole
 pub the-loop-is-one-run-of-the-section : (s : List ℕ) (x : Section) → sectionOf s ≡ SectionRead.Is x → OneRun s (inSection s (x .descriptors))
 the-loop-is-one-run-of-the-section = sections.loop-run
@@ -265,7 +265,7 @@ each-byte-of-the-loop-lies-in-one-item = sections.bytes-in-one-item
 
 -- "the direct parts of each accepted MID, heads included, cover that MID once", byte by byte: each byte of a MID, at every depth, lies in exactly one of its direct parts
 pub each-byte-of-a-mid-lies-in-one-part : (s : List ℕ) (x : Section) → sectionOf s ≡ SectionRead.Is x
-    → All (λ mid. All (λ m. m .kind ≡ 13 → Once (partsIn (upidOf 13 (mid .bytes))) m) (whole (mid .bytes) ∷ partsIn (upidOf 13 (mid .bytes)))) (midsOf s x)
+    → All (λ mid. All (λ m. m .kind ≡ 13 → Once (partsRead 13 (mid .bytes)) m) (whole (mid .bytes) ∷ partsRead 13 (mid .bytes))) (midsOf s x)
 each-byte-of-a-mid-lies-in-one-part = sections.bytes-in-one-part
 
 -- The incident, when it is written back: each item of a canonical section is written again, and what is written, read alone, has the same UPID. So each MID

@@ -1,7 +1,7 @@
 -- A canonical command is what is written of its own reading, and so is a canonical section of its own.
-use Prim.Native.Nat.{ℕ, _+_, _*_, _-_, _^_, _≤_, _<_}
+use Prim.Native.Nat.{ℕ, _+_, _*_, _-_, _≤_}
 use mathlib.Core.Bool.{Bool, true, false}
-use mathlib.Core.List.{List, [], _∷_, _++_}
+use mathlib.Core.List.{List, [], _∷_}
 use mathlib.Core.Path.{_≡_, refl, ap, sym, _∙_}
 use native.Mathlib.Omega.{arith}
 use lib.Dec.{leb, eqb}
@@ -10,7 +10,7 @@ use lib.Seq.{take-at, length-take-le}
 use borrow.Author.Tests.{eqb-true, le-leb, leb-true}
 use Rattle.canonical_command.specs.Canonical.{canonicalCommand}
 use Rattle.command.proofs.InsertLeads.{Counted}
-use Rattle.command.specs.Command.{private, read, empty, commandOf, countIn, array, componentsIn, componentsOf}
+use Rattle.command.specs.Command.{private, read, empty, commandOf, countIn, array, componentsOf}
 use Rattle.command.specs.Insert.{WithComponents, insert, blank, count, insertOf}
 use Rattle.command.specs.declared.CommandRead.{CommandRead}
 use Rattle.command.specs.declared.SpliceCommand.{SpliceCommand}
@@ -21,17 +21,13 @@ use Rattle.command_writer.proofs.Theorems.{insert-trip, time-back, private-back
 use Rattle.header.specs.Time.{spliceTime}
 use Rattle.header.specs.declared.header.SpliceInfoHeader.{SpliceInfoHeader}
 use Rattle.loop_laws.proofs.Places.{run-of-run}
-use Rattle.pen.specs.Written.{bytesIn}
 use Rattle.section.specs.Section.{commandLength, commandType, commandBytes, moved, sectionOf}
-use Rattle.section.specs.Whole.{besideSection, wholeSectionOf}
 use Rattle.section.specs.declared.Section.{Section}
 use Rattle.section.specs.declared.SectionRead.{SectionRead}
 use Rattle.section_writer.proofs.Commands.{Read, read-by}
-use Rattle.section_writer.proofs.Frames.{frame-command-bytes}
 use Rattle.section_writer.proofs.Numbers.{bytes-take, bytes-drop}
 use Rattle.section_writer.proofs.Parts.{parts-of}
 use Rattle.section_writer.proofs.Theorems.{canonical-parts, section-is-written-back}
-use Rattle.section_writer.proofs.Trips.{section-wrote}
 use Rattle.section_writer.proofs.Whole.{Held, whole-reads-back}
 use Rattle.section_writer.specs.Canonical.{canonicalSection}
 use Rattle.section_writer.specs.Trips.{ReadsBack}
@@ -40,7 +36,7 @@ use Rattle.table.proofs.Lists.{zero-one, and-true}
 use Rattle.table.proofs.Structure.{wrote}
 use Rattle.table.specs.Bits.{pick, bitsOf, AllBytes}
 use Rattle.table.specs.Lent.{viewed}
-use Rattle.table.specs.Table.{number, part, remaining, Answer, got, short, parse, canonicalBy}
+use Rattle.table.specs.Table.{number, part, remaining, Answer, got, parse, canonicalBy}
 use Rattle.table.specs.Writing.{walk, Made, made, make}
 use Rattle.theorems.proofs.InsertsRead.{insert-has}
 
@@ -197,19 +193,3 @@ pub components-read : (i : Insertion) (places : List ComponentSplice) (lent b : 
     → commandMade (SpliceCommand.SpliceInsert i) places lent ≡ made b → componentsOf b ≡ array (counted i places .components)
 components-read i places lent b n k e =
     components-are b (counted i places) (length b * 8) (insert-trip i places lent b (held (SpliceCommand.SpliceInsert i) places n k) e .1)
-
--- the payload stands in the section that is written
-payload-there : (h : SpliceInfoHeader) (kind : ℕ) (payload loop b : List ℕ) → kind < 2 ^ 8 → sectionMade h (made payload) kind loop ≡ made b → commandBytes b ≡ payload
-unfolding bytesIn
-payload-there h kind payload loop b byte e =
-    let w = section-wrote h (made payload) kind loop b e in
-    ap commandBytes (w .bytes) ∙ frame-command-bytes h kind payload loop (w .fits) (w .fair) byte (w .short)
-
--- an insert's components, in the array beside the section that is read
-pub section-components : (h : SpliceInfoHeader) (i : Insertion) (places : List ComponentSplice) (lent loop b : List ℕ) → length places ≡ 255 → countIn (SpliceCommand.SpliceInsert i) ≤ 255
-    → sectionMade h (commandMade (SpliceCommand.SpliceInsert i) places lent) (kindOf (SpliceCommand.SpliceInsert i)) loop ≡ made b → wholeSectionOf b .components ≡ array (counted i places .components)
-unfolding wholeSectionOf moved
-section-components h i places lent loop b n k e =
-    let r = section-reads h (SpliceCommand.SpliceInsert i) places lent loop b n k e in
-    let p = payload-there h 0x05 (r .payload) loop b (omega arith) (ap (λ (m : Made). sectionMade h m 0x05 loop) (sym (r .command)) ∙ e) in
-    ap (λ (q : SectionRead). besideSection q (commandBytes b)) (r .reads) ∙ ap componentsOf p ∙ components-read i places lent (r .payload) n k (r .command)

@@ -22,7 +22,7 @@ use Rattle.table.specs.Lent.{viewed}
 use Rattle.table.specs.Table.{Answer, got, short, parse}
 use Rattle.table.specs.declared.View.{View}
 use Rattle.upid.specs.Cover.{All, Covered, Ascending, Owned, whole}
-use Rattle.upid.specs.Upid.{upidOf, partsIn, partView, reportedOf}
+use Rattle.upid.specs.Upid.{checkOf, partView, partsIn, reportedOf, upidOf}
 use Rattle.upid.specs.declared.Part.{Part}
 use Rattle.upid.specs.declared.UpidRead.{UpidRead}
 
@@ -62,9 +62,12 @@ upidsOf Item.End = []
 upidsOf (Item.Refused r) = []
 upidsOf (Item.Is d) = descriptorUpids d
 
--- the parts of a UPID, at every level: where it is no MID there are none
+-- the parts that `read_upid` answers of a UPID, at every level: where it is no MID there are none
+abbrev pub partsRead : ℕ → List ℕ → List Part
+partsRead kind bytes = partsIn (upidOf kind bytes)
+
 abbrev pub partsOf : ℕ → List ℕ → SegmentationUpid → List Identifier
-partsOf base loop u = map (λ (p : Part). inLent (base + u .bytes .at) (viewed loop (u .bytes)) (partView p)) (partsIn (upidOf (u .kind) (viewed loop (u .bytes))))
+partsOf base loop u = map (λ (p : Part). inLent (base + u .bytes .at) (viewed loop (u .bytes)) (partView p)) (partsRead (u .kind) (viewed loop (u .bytes)))
 
 -- the payload of an item behind its head and identifier, as it is handed to its reader
 abbrev pub payloadOf : List ℕ → Listed → List ℕ
@@ -134,8 +137,8 @@ pub record Announced (s : List ℕ) (p : Part) (i : Identifier) : Type 0 where
 -- byte order, "outer part before its inner ones".
 pub record Unsplit (s : List ℕ) (mid : Identifier) : Type 0 where
   pub unbroken : OneRun s mid
-  pub accepted : upidOf 13 (mid .bytes) .read ≡ UpidRead.Fine 13
-  pub parts : All (λ (p : Part). Announced s p (inLent (mid .start) (mid .bytes) (partView p))) (partsIn (upidOf 13 (mid .bytes)))
-  pub covered : All (λ (m : Part). m .kind ≡ 13 → Covered (mid .bytes) (partsIn (upidOf 13 (mid .bytes))) m) (whole (mid .bytes) ∷ partsIn (upidOf 13 (mid .bytes)))
-  pub owned : All (Owned (whole (mid .bytes) ∷ partsIn (upidOf 13 (mid .bytes)))) (partsIn (upidOf 13 (mid .bytes)))
-  pub ordered : Ascending (partsIn (upidOf 13 (mid .bytes)))
+  pub accepted : checkOf 13 (mid .bytes) ≡ UpidRead.Fine 13
+  pub parts : All (λ (p : Part). Announced s p (inLent (mid .start) (mid .bytes) (partView p))) (partsRead 13 (mid .bytes))
+  pub covered : All (λ (m : Part). m .kind ≡ 13 → Covered (mid .bytes) (partsRead 13 (mid .bytes)) m) (whole (mid .bytes) ∷ partsRead 13 (mid .bytes))
+  pub owned : All (Owned (whole (mid .bytes) ∷ partsRead 13 (mid .bytes))) (partsRead 13 (mid .bytes))
+  pub ordered : Ascending (partsRead 13 (mid .bytes))

@@ -4,12 +4,11 @@ use Prim.Native.Nat.{ℕ}
 use mathlib.Core.List.{List}
 use mathlib.Core.Path.{_≡_}
 use lib.ListN.{take}
-use Rattle.command.specs.Command.{withView, countIn}
+use Rattle.command.specs.Command.{withView, countIn, componentsOf}
 use Rattle.command.specs.declared.SpliceCommand.{SpliceCommand}
 use Rattle.items.specs.Items.{itemsOf}
 use Rattle.loop_laws.specs.Loops.{SameItems}
-use Rattle.section.specs.Section.{privateView}
-use Rattle.section.specs.Whole.{wholeSectionOf}
+use Rattle.section.specs.Section.{commandBytes, privateView}
 use Rattle.section.specs.declared.Section.{Section}
 use Rattle.section_writer.specs.Frame.{headed}
 use Rattle.table.specs.Lent.{viewed, placeless}
@@ -25,7 +24,7 @@ pub record SameSections (s : List ℕ) (x : Section) (r : List ℕ) (y : Section
   pub headers : headed (x .header) 0 0 ≡ headed (y .header) 0 0
   pub commands : withoutPlace (x .command) ≡ withoutPlace (y .command)
   -- as many as the command counts
-  pub components : take (countIn (x .command)) (wholeSectionOf s .components) ≡ take (countIn (y .command)) (wholeSectionOf r .components)
+  pub components : take (countIn (x .command)) (componentsOf (commandBytes s)) ≡ take (countIn (y .command)) (componentsOf (commandBytes r))
   pub bytes : viewed s (privateView (x .command)) ≡ viewed r (privateView (y .command))
   -- of the loop: its items, in order
   pub items : SameItems (loopIn s x) (loopIn r y) (itemsOf (loopIn s x)) (itemsOf (loopIn r y))

@@ -13,9 +13,8 @@ use Rattle.loop_laws.specs.Loops.{WrittenAgain}
 use Rattle.pen.specs.Written.{laterOf}
 use Rattle.table.specs.Lent.{viewed}
 use Rattle.table.specs.Writing.{Made, made}
-use Rattle.upid.specs.Upid.{upidOf, partsIn}
 use Rattle.upid.specs.declared.Part.{Part}
-use Rattle.theorems.specs.Identifiers.{descriptorUpids, upidsOf}
+use Rattle.theorems.specs.Identifiers.{descriptorUpids, partsRead, upidsOf}
 
 -- a UPID with a view of lent bytes: its reported type, its bytes, and the parts, at every level, that are read of them
 pub record UpidHeld : Type 0 where
@@ -24,7 +23,7 @@ pub record UpidHeld : Type 0 where
   pub parts : List Part
 
 abbrev pub heldIn : List ℕ → SegmentationUpid → UpidHeld
-heldIn lent u = record { kind = u .kind; bytes = viewed lent (u .bytes); parts = partsIn (upidOf (u .kind) (viewed lent (u .bytes))) }
+heldIn lent u = record { kind = u .kind; bytes = viewed lent (u .bytes); parts = partsRead (u .kind) (viewed lent (u .bytes)) }
 
 -- An item of a loop is written as its own bytes, and these, read alone, have the same UPID: its type, its bytes and its parts, and the EIDR beside it.
 pub record KeepsUpid (loop : List ℕ) (y : Listed) : Type 0 where
