@@ -16,7 +16,8 @@ use Rattle.descriptor.specs.declared.Descriptor.{Descriptor}
 use Rattle.descriptor.specs.declared.segmentation.SegmentationDetail.{SegmentationDetail}
 use Rattle.descriptor.specs.declared.whole.Beside.{Beside}
 use Rattle.descriptor_form.specs.Canonical.{canonicalLoop}
-use Rattle.descriptor_laws.proofs.Alike.{SameView, viewIn, detailView}
+use Rattle.descriptor_laws.proofs.Alike.{SameView}
+use Rattle.descriptor_laws.specs.Making.{detailView, viewIn}
 use Rattle.descriptor_laws.specs.Trips.{wholeIn}
 use Rattle.header.specs.declared.header.SpliceInfoHeader.{SpliceInfoHeader}
 use Rattle.items.specs.Cover.{joined, runOf}
