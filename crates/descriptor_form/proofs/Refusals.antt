@@ -66,11 +66,11 @@ module _ (l : List ℕ) where
   seen-sub SubSegments.Absent = refl
   seen-sub (SubSegments.Is x) = refl
 
-flag-within : (b : Bool) → ltb (flagNumber b) 2 ≡ true
+pub flag-within : (b : Bool) → ltb (flagNumber b) 2 ≡ true
 flag-within true = refl
 flag-within false = refl
 
-within-delivery : (d : DeliveryRestrictionFlags) → within (deliveryFields d) ≡ true
+pub within-delivery : (d : DeliveryRestrictionFlags) → within (deliveryFields d) ≡ true
 within-delivery DeliveryRestrictionFlags.None = refl
 within-delivery (DeliveryRestrictionFlags.DeliveryRestrictions r) =
     rw (flag-within (r .«web_delivery_allowed_flag»), flag-within (r .«no_regional_blackout_flag»), flag-within (r .«archive_allowed_flag»)) (device (r .«device_restrictions»))

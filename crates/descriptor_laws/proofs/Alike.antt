@@ -38,6 +38,7 @@ use Rattle.descriptor_form.specs.Same.{SameReading, withoutPlaces, bytesOfViews
 use Rattle.descriptor_form.specs.Writing.{framedMade, allZero, alone, fairReserved, accepts, fairUpid, fairSegment, segmentationMade, payloadMade, descriptorMade, tagOf, identifierOf, upidIn, upidSource, writtenDetail, writtenKind, writtenUpid}
 use Rattle.descriptor_form.proofs.Fields.{insert-fields}
 use Rattle.descriptor_form.proofs.Making.{all-fair, by-table, counted, zero-view}
+use Rattle.descriptor_laws.specs.Making.{detailView, viewIn}
 use Rattle.descriptor_laws.proofs.PlainLaws.{viewed-at}
 use Rattle.descriptor_laws.proofs.PlainTrips.{unframed}
 use Rattle.descriptor_laws.proofs.Remade.{same-make, withUpid, insert-makes, insert-seen}
@@ -51,18 +52,6 @@ pub record SameView (s : List ℕ) (v : View) (r : List ℕ) (w : View) : Type 0
   pub bytes : viewed s v ≡ viewed r w
   pub left : v .at + v .len ≤ length s
   pub right : w .at + w .len ≤ length r
-
-abbrev pub detailView : SegmentationDetail → View
-detailView Cancel = noView
-detailView (Insert i) = i .«segmentation_upid» .bytes
-
--- the view that a descriptor has; the blank where it has none
-abbrev pub viewIn : Descriptor → View
-viewIn (Avail x) = noView
-viewIn (Dtmf x) = x .«dtmf_chars»
-viewIn (Segmentation x) = detailView (x .«descriptor_detail»)
-viewIn (Time x) = noView
-viewIn (Reserved tag own) = own
 
 -- the same with another view
 abbrev insertAt : View → SegmentationInsert → SegmentationInsert

@@ -1,42 +1,51 @@
--- What is made of a descriptor is fixed by the readers and by the widths of its table.
---     by-fields         31 and 32, by the fields of what is handed in
+-- What is made of a descriptor is fixed by the readers and by the widths of its fields.
+--     numbers-fit       the fields of an insert hold its numbers, and what always fits: flags, reserved bits, device restrictions
+--     tested            31 and 32, by the view and the numbers that are handed in
 --     what-is-made      `descriptorMade` is what `DescriptorMakes` allows
 --     nothing-else      and allows nothing else
-use Prim.Native.Nat.{ℕ, _+_, _≤_}
+use Prim.Native.Nat.{ℕ, _+_, _^_, _≤_}
 use mathlib.Core.Bool.{Bool, true, false, _&&_}
-use mathlib.Core.List.{List, []}
+use mathlib.Core.List.{List, [], _∷_, _++_}
 use mathlib.Core.Path.{_≡_, refl, ap, ap₂, sym, _∙_}
 use native.Mathlib.Omega.{arith}
 use lib.Dec.{leb, ltb, eqb}
 use lib.ListN.{length, take}
 use borrow.Author.Tests.{eqb-true, le-leb, lt-leb, leb-true, leb-false, lt-ltb, le-ltb}
+use Rattle.names.specs.Segmentation.{segmentationNumber}
 use Rattle.table.specs.Bits.{pick, bytesOf}
 use Rattle.table.specs.Lent.{liesIn}
 use Rattle.table.specs.Table as fields
 use Rattle.table.specs.Writing.{Field, walk, seen, within, contents, print, Made, made, refused}
+use Rattle.table.specs.declared.View.{View}
 use Rattle.table.proofs.Lists.{zero-one, and-true}
 use Rattle.descriptor.specs.Plain.{avail, dtmf, time, privateBytes}
-use Rattle.descriptor.specs.Segmentation.{countOf, frontOf, head, segmentation}
+use Rattle.descriptor.specs.Segmentation.{byProgram, countOf, frontOf, head, lasting, segmentation, subSegment, ticks, unrestricted}
 use Rattle.descriptor.specs.declared.Descriptor.{Descriptor}
 use Rattle.descriptor.specs.declared.Descriptor.the-variants.{Avail, Dtmf, Segmentation, Time, Reserved}
 use Rattle.descriptor.specs.declared.segmentation.ModeComponent.{ModeComponent}
 use Rattle.descriptor.specs.declared.segmentation.SegmentationDescriptor.{SegmentationDescriptor}
 use Rattle.descriptor.specs.declared.segmentation.SegmentationDetail.{SegmentationDetail}
 use Rattle.descriptor.specs.declared.segmentation.SegmentationDetail.the-variants.{Cancel, Insert}
+use Rattle.descriptor.specs.declared.segmentation.SegmentationDuration.{SegmentationDuration}
 use Rattle.descriptor.specs.declared.segmentation.SegmentationInsert.{SegmentationInsert}
+use Rattle.descriptor.specs.declared.segmentation.SegmentationMode.{SegmentationMode}
 use Rattle.descriptor.specs.declared.segmentation.SegmentationUpid.{SegmentationUpid}
+use Rattle.descriptor.specs.declared.segmentation.SubSegments.{SubSegments}
 use Rattle.descriptor.specs.declared.whole.Beside.{Beside}
 use Rattle.descriptor_form.specs.Same.{countBeside}
-use Rattle.descriptor_form.specs.Walk.{upidFields, backFields}
+use Rattle.descriptor_form.specs.Walk.{deliveryFields, componentsFields, modeFields, durationFields, upidFields, subFields, backFields}
 use Rattle.descriptor_form.specs.Writing.{framed, framedMade, alone, fairReserved, fairSegment, segmentationMade, payloadMade, descriptorMade, tagOf, identifierOf, upidSource, written, writtenKind, writtenUpid}
 use Rattle.descriptor_form.proofs.Fields.{foreFields, insert-fields}
 use Rattle.descriptor_form.proofs.Making as making
-use Rattle.descriptor_form.proofs.Refusals.{within-append, upid-seen}
-use Rattle.descriptor_laws.specs.Making.{fieldsOf, Payload, DescriptorMakes, outside, over, nobodys, long, its}
+use Rattle.descriptor_form.proofs.Refusals.{within-append, flag-within, within-delivery, upid-seen}
+use Rattle.descriptor_laws.specs.Making.{viewIn, fit, componentNumbers, numbersOf, Payload, DescriptorMakes, outside, over, nobodys, long, its}
 use Rattle.descriptor_laws.specs.Trips.{Handed}
-use Rattle.descriptor_laws.proofs.Alike.{viewIn}
 use Rattle.descriptor_laws.proofs.Payloads.{counted, payload-back, written-if-read}
 use Rattle.descriptor_laws.proofs.Remade.{and-last, withUpid, insert-seen}
+
+and-none : (b : Bool) → b && false ≡ false
+and-none true = refl
+and-none false = refl
 
 -- ---- the fields of what is handed in, and of what is written: an EIDR's view and type are written otherwise, and an ISAN's type
 
@@ -45,13 +54,9 @@ upid-within : (u : SegmentationUpid) → leb (u .bytes .len) 255 && within (upid
 unfolding writtenUpid writtenKind
 upid-within u = go (leb (u .bytes .len) 255) (eqb (u .kind) 10) (eqb (u .kind) 6 && eqb (u .bytes .len) 8) refl refl refl
   where
-    none : (k : Bool) → false ≡ k && false
-    none true = refl
-    none false = refl
-
     go : (short ten six : Bool) → leb (u .bytes .len) 255 ≡ short → eqb (u .kind) 10 ≡ ten → eqb (u .kind) 6 && eqb (u .bytes .len) 8 ≡ six
         → short && within (upidFields (pick ten (record { kind = 10; bytes = record { at = 0; len = 12 } }) (record { kind = pick six 5 (u .kind); bytes = u .bytes }))) ≡ within (upidFields u)
-    go false ten six l t s = rw (le-ltb (u .bytes .len) 256 (omega (arith, leb-false (u .bytes .len) 255 l))) (none (ltb (u .kind) 256))
+    go false ten six l t s = rw (le-ltb (u .bytes .len) 256 (omega (arith, leb-false (u .bytes .len) 255 l))) (sym (and-none (ltb (u .kind) 256)))
     go true true six l t s =
         let k = eqb-true (u .kind) 10 t in
         rw (lt-ltb (u .kind) 256 (omega arith), lt-ltb (u .bytes .len) 256 (omega (arith, leb-true (u .bytes .len) 255 l)))
@@ -60,19 +65,82 @@ upid-within u = go (leb (u .bytes .len) 255) (eqb (u .kind) 10) (eqb (u .kind) 6
         rw (lt-ltb (u .kind) 256 (omega arith))
     go true false false l t s = refl
 
+-- ---- the numbers of an insert
+
+components-fit : (cs : List ModeComponent) → within (componentsFields cs) ≡ fit (componentNumbers cs)
+components-fit [] = refl
+components-fit (c ∷ cs) = ap (λ (b : Bool). ltb (c .«component_tag») (2 ^ 8) && (ltb (c .«pts_offset») (2 ^ 33) && b)) (components-fit cs)
+
+mode-fits : (k : SegmentationMode) (places : List ModeComponent) → within (modeFields k (take (countOf k) places)) ≡ ltb (countOf k) (2 ^ 8) && fit (componentNumbers (take (countOf k) places))
+mode-fits SegmentationMode.Program places = refl
+mode-fits (SegmentationMode.Component n) places = ap (λ (b : Bool). ltb n (2 ^ 8) && b) (components-fit (take n places))
+
+duration-fits : (d : SegmentationDuration) → within (durationFields d) ≡ ltb (ticks d) (2 ^ 40)
+duration-fits SegmentationDuration.Absent = refl
+duration-fits (SegmentationDuration.Ticks t) = and-last (ltb t (2 ^ 40))
+
+sub-fits : (s : SubSegments) → within (subFields s) ≡ ltb (subSegment s .«sub_segment_num») (2 ^ 8) && (ltb (subSegment s .«sub_segments_expected») (2 ^ 8) && true)
+sub-fits SubSegments.Absent = refl
+sub-fits (SubSegments.Is x) = refl
+
+module _ (event : ℕ) (i : SegmentationInsert) (places : List ModeComponent) where
+  abbrev counts : List ModeComponent
+  counts = take (countOf (i .«segmentation_mode»)) places
+
+  fore-fits : within (foreFields event i counts)
+      ≡ ltb event (2 ^ 32) && ((ltb (countOf (i .«segmentation_mode»)) (2 ^ 8) && fit (componentNumbers counts)) && ltb (ticks (i .«segmentation_duration»)) (2 ^ 40))
+  fore-fits =
+      let m = modeFields (i .«segmentation_mode») counts in
+      let t = durationFields (i .«segmentation_duration») in
+      let d = deliveryFields (i .«delivery_restrictions») in
+      ap (λ (b : Bool). ltb event (2 ^ 32) && b)
+      (rw (flag-within (byProgram (i .«segmentation_mode»)), flag-within (lasting (i .«segmentation_duration»)), flag-within (unrestricted (i .«delivery_restrictions»)))
+      (within-append d (m ++ t)
+      ∙ ap₂ (λ (a b : Bool). a && b) (within-delivery (i .«delivery_restrictions»))
+      (within-append m t ∙ ap₂ (λ (a b : Bool). a && b) (mode-fits (i .«segmentation_mode») places) (duration-fits (i .«segmentation_duration»)))))
+
+  -- its fields are its numbers, in another order
+  pub numbers-fit : within (withUpid event i counts (i .«segmentation_upid»)) ≡ fit (numbersOf (Segmentation (record { «segmentation_event_id» = event; «descriptor_detail» = Insert i })) places)
+  numbers-fit =
+      let u = i .«segmentation_upid» in
+      let n = ltb (segmentationNumber (i .«segmentation_type_id»)) (2 ^ 8) in
+      within-append (foreFields event i counts) (upidFields u ++ backFields i)
+      ∙ ap₂ (λ (a b : Bool). a && b) fore-fits
+      (ap (λ (b : Bool). ltb (u .kind) (2 ^ 8) && (ltb (u .bytes .len) (2 ^ 8) && (n && (ltb (i .«segment_num») (2 ^ 8) && (ltb (i .«segments_expected») (2 ^ 8) && b))))) (sub-fits (i .«sub_segments»)))
+      ∙ turned (ltb event (2 ^ 32)) (ltb (countOf (i .«segmentation_mode»)) (2 ^ 8)) (fit (componentNumbers counts)) (ltb (ticks (i .«segmentation_duration»)) (2 ^ 40))
+      (ltb (u .kind) (2 ^ 8)) (ltb (u .bytes .len) (2 ^ 8)) n (ltb (i .«segment_num») (2 ^ 8)) (ltb (i .«segments_expected») (2 ^ 8))
+      (ltb (subSegment (i .«sub_segments») .«sub_segment_num») (2 ^ 8)) (ltb (subSegment (i .«sub_segments») .«sub_segments_expected») (2 ^ 8))
+    where
+      -- the components last
+      last : (c k l t n x a b : Bool) → c && (k && (l && (t && (n && (x && (a && (b && true))))))) ≡ k && (l && (t && (n && (x && (a && (b && c))))))
+      last c false l t n x a b = and-none c
+      last c true false t n x a b = and-none c
+      last c true true false n x a b = and-none c
+      last c true true true false x a b = and-none c
+      last c true true true true false a b = and-none c
+      last c true true true true true false b = and-none c
+      last c true true true true true true false = and-none c
+      last c true true true true true true true = and-last c
+
+      turned : (e m c d k l t n x a b : Bool)
+          → (e && ((m && c) && d)) && (k && (l && (t && (n && (x && (a && (b && true))))))) ≡ e && (m && (d && (k && (l && (t && (n && (x && (a && (b && c)))))))))
+      turned false m c d k l t n x a b = refl
+      turned true false c d k l t n x a b = refl
+      turned true true c false k l t n x a b = ap (λ (z : Bool). z && (k && (l && (t && (n && (x && (a && (b && true)))))))) (and-none c)
+      turned true true c true k l t n x a b = ap (λ (z : Bool). z && (k && (l && (t && (n && (x && (a && (b && true)))))))) (and-last c) ∙ last c k l t n x a b
+
 -- of what is made: 31 by a, 32 by b
 abbrev checked : Bool → Bool → Bool → List ℕ → Made
 checked a b fair q = pick a (pick b (pick fair (made q) (refused 33)) (refused 32)) (refused 31)
 
-pub record ByFields (d : Descriptor) (id : List ℕ) (beside : Beside) (lent : List ℕ) : Type 0 where
-  pub view : seen lent (fieldsOf d beside) ≡ liesIn lent (viewIn d)
+pub record Tested (d : Descriptor) (id : List ℕ) (beside : Beside) (lent : List ℕ) : Type 0 where
   pub fair : Bool
   pub bytes : List ℕ
-  pub is : payloadMade d id beside lent ≡ checked (seen lent (fieldsOf d beside)) (within (fieldsOf d beside)) fair bytes
+  pub is : payloadMade d id beside lent ≡ checked (liesIn lent (viewIn d)) (fit (numbersOf d (beside .components))) fair bytes
 
 module _ (id : List ℕ) (beside : Beside) (lent : List ℕ) (twelve : length (beside .eidr) ≡ 12) where
-  no-view : true ≡ leb 0 (length lent)
-  no-view = sym (le-leb 0 (length lent) (omega arith))
+  no-view : leb 0 (length lent) ≡ true
+  no-view = le-leb 0 (length lent) (omega arith)
 
   module _ (event : ℕ) (i : SegmentationInsert) (places : countOf (i .«segmentation_mode») ≤ length (beside .components)) where
     abbrev x : SegmentationDescriptor
@@ -131,50 +199,54 @@ module _ (id : List ℕ) (beside : Beside) (lent : List ℕ) (twelve : length (b
             rw (insert-seen event i cs source (writtenUpid u) ∙ upid-seen u (beside .eidr) lent twelve e)
             (both (leb (u .bytes .len) 255) (within inks) m ∙ ap (λ (b : Bool). pick b m (refused 32)) all-within)
 
-    insert-by-fields : ByFields (Segmentation x) id beside lent
+    insert-tested : Tested (Segmentation x) id beside lent
     unfolding payloadMade
-    insert-by-fields =
-        let f = insert-fields event i u cs (making.counted x id beside lent places) in
-        let v : seen lent (fieldsOf (Segmentation x) beside) ≡ liesIn lent (u .bytes) = ap (seen lent) f ∙ insert-seen event i cs lent u ∙ and-last (liesIn lent (u .bytes)) in
+    insert-tested =
         let q : List ℕ = bytesOf (print (contents source inks)) in
         let fair : Bool = fairSegment x id (beside .eidr) lent in
-        record { view = v; fair = fair; bytes = q; is = insert-checked ∙ ap₂ (λ (a b : Bool). checked a b fair q) (sym v) (ap within (sym f)) }
+        record { fair = fair; bytes = q; is = insert-checked ∙ ap (λ (b : Bool). checked (liesIn lent (u .bytes)) b fair q) (numbers-fit event i (beside .components)) }
 
-  cancel-by-fields : (event : ℕ) → ByFields (Segmentation (record { «segmentation_event_id» = event; «descriptor_detail» = Cancel })) id beside lent
+  cancel-tested : (event : ℕ) → Tested (Segmentation (record { «segmentation_event_id» = event; «descriptor_detail» = Cancel })) id beside lent
   unfolding payloadMade segmentationMade upidSource segmentation head fields.number fields.bit fields.reserved
-  cancel-by-fields event =
+  cancel-tested event =
       let x : SegmentationDescriptor = record { «segmentation_event_id» = event; «descriptor_detail» = Cancel } in
       let fs : List Field = walk segmentation (written x (beside .components)) 0 .fields in
-      record { view = no-view; fair = fairSegment x id (beside .eidr) lent; bytes = bytesOf (print (contents lent fs)); is = rw (sym no-view) }
+      record { fair = fairSegment x id (beside .eidr) lent; bytes = bytesOf (print (contents lent fs)); is = rw no-view }
 
-  detail-by-fields : (event : ℕ) (d : SegmentationDetail) → countOf (frontOf d .«segmentation_mode») ≤ length (beside .components)
-      → ByFields (Segmentation (record { «segmentation_event_id» = event; «descriptor_detail» = d })) id beside lent
-  detail-by-fields event Cancel places = cancel-by-fields event
-  detail-by-fields event (Insert i) places = insert-by-fields event i places
+  detail-tested : (event : ℕ) (d : SegmentationDetail) → countOf (frontOf d .«segmentation_mode») ≤ length (beside .components)
+      → Tested (Segmentation (record { «segmentation_event_id» = event; «descriptor_detail» = d })) id beside lent
+  detail-tested event Cancel places = cancel-tested event
+  detail-tested event (Insert i) places = insert-tested event i places
 
-  pub by-fields : (d : Descriptor) → countBeside d ≤ length (beside .components) → ByFields d id beside lent
+  -- a view, and no other field that has one
+  by-view : (v : View) (fits fair : Bool) (q : List ℕ) → checked (liesIn lent v && true) fits fair q ≡ checked (liesIn lent v) fits fair q
+  by-view v fits fair q = ap (λ (a : Bool). checked a fits fair q) (and-last (liesIn lent v))
+
+  pub tested : (d : Descriptor) → countBeside d ≤ length (beside .components) → Tested d id beside lent
   unfolding payloadMade avail dtmf time privateBytes fields.number fields.reserved fields.part fields.remaining
-  by-fields (Avail x) places = record { view = no-view; fair = alone id (beside .eidr); bytes = bytesOf (print (contents lent (walk avail x 0 .fields))); is = refl }
-  by-fields (Dtmf x) places =
-      record { view = and-last (liesIn lent (x .«dtmf_chars»)); fair = alone id (beside .eidr); bytes = bytesOf (print (contents lent (walk dtmf x 0 .fields))); is = refl }
-  by-fields (Segmentation x) places = detail-by-fields (x .«segmentation_event_id») (x .«descriptor_detail») places
-  by-fields (Time x) places = record { view = no-view; fair = alone id (beside .eidr); bytes = bytesOf (print (contents lent (walk time x 0 .fields))); is = refl }
-  by-fields (Reserved tag v) places =
-      record { view = and-last (liesIn lent v); fair = fairReserved tag id (beside .eidr); bytes = bytesOf (print (contents lent (walk privateBytes v 0 .fields))); is = refl }
+  tested (Avail x) places = record { fair = alone id (beside .eidr); bytes = bytesOf (print (contents lent (walk avail x 0 .fields))); is = rw no-view }
+  tested (Dtmf x) places =
+      let q : List ℕ = bytesOf (print (contents lent (walk dtmf x 0 .fields))) in
+      record { fair = alone id (beside .eidr); bytes = q; is = by-view (x .«dtmf_chars») (fit (numbersOf (Dtmf x) (beside .components))) (alone id (beside .eidr)) q }
+  tested (Segmentation x) places = detail-tested (x .«segmentation_event_id») (x .«descriptor_detail») places
+  tested (Time x) places = record { fair = alone id (beside .eidr); bytes = bytesOf (print (contents lent (walk time x 0 .fields))); is = rw no-view }
+  tested (Reserved tag v) places =
+      let q : List ℕ = bytesOf (print (contents lent (walk privateBytes v 0 .fields))) in
+      record { fair = fairReserved tag id (beside .eidr); bytes = q; is = by-view v true (fairReserved tag id (beside .eidr)) q }
 
 -- ---- what is made
 module _ (d : Descriptor) (id : List ℕ) (beside : Beside) (lent : List ℕ) (h : Handed d id beside lent) where
   abbrev sees : Bool
-  sees = seen lent (fieldsOf d beside)
+  sees = liesIn lent (viewIn d)
 
   abbrev fits : Bool
-  fits = within (fieldsOf d beside)
+  fits = fit (numbersOf d (beside .components))
 
-  told : ByFields d id beside lent
-  told = by-fields id beside lent (h .twelve) d (counted id beside lent [] d h)
+  told : Tested d id beside lent
+  told = tested id beside lent (h .twelve) d (counted id beside lent [] d h)
 
   only : sees ≡ true → (tag : ℕ) (own p : List ℕ) → Payload d id beside lent tag own p → (payloadMade d id beside lent ≡ made p) × (tagOf d ≡ tag) × (identifierOf d id ≡ own)
-  only s = written-if-read d id beside lent (leb-true (viewIn d .at + viewIn d .len) (length lent) (sym (told .view) ∙ s))
+  only s = written-if-read d id beside lent (leb-true (viewIn d .at + viewIn d .len) (length lent) s)
 
   pub what-is-made : DescriptorMakes d id beside lent (descriptorMade d id beside lent)
   unfolding descriptorMade framedMade

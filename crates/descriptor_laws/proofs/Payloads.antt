@@ -24,9 +24,9 @@ use Rattle.descriptor_form.specs.Canonical.{canonicalPayload}
 use Rattle.descriptor_form.specs.Same.{SameReading, countBeside}
 use Rattle.descriptor_form.specs.Writing.{alone, fairReserved, payloadMade, tagOf, identifierOf, upidIn, upidSource, written, writtenDetail}
 use Rattle.descriptor_form.proofs.Making.{by-table}
-use Rattle.descriptor_laws.specs.Making.{Payload}
+use Rattle.descriptor_laws.specs.Making.{viewIn, Payload}
 use Rattle.descriptor_laws.specs.Trips.{Handed}
-use Rattle.descriptor_laws.proofs.Alike.{viewIn, alike-payload, payload-told, same-frame, same-view}
+use Rattle.descriptor_laws.proofs.Alike.{alike-payload, payload-told, same-frame, same-view}
 use Rattle.descriptor_laws.proofs.Canon.{avail-canonical, dtmf-canonical, time-canonical, reserved-canonical}
 use Rattle.descriptor_laws.proofs.PlainTrips.{ReadsBack, avail-reads-back, dtmf-reads-back, time-reads-back, reserved-reads-back}
 use Rattle.descriptor_laws.proofs.SegmentBack.{segmentation-back}

@@ -1,30 +1,77 @@
--- What is made of a descriptor that is handed in, by what is read and by the widths of its table's fields. `descriptorMade` is this and nothing else is (proofs/Theorems.antt):
+-- What is made of a descriptor that is handed in, by what is read and by the widths of its fields. `descriptorMade` is this and nothing else is (proofs/Theorems.antt):
 -- so 01's list of refusal 33 is what its row says, "a value that no canonical reading has", and need not be believed. These are definitions.
-use Prim.Native.Nat.{ℕ, _+_, _<_, _≤_}
-use mathlib.Core.Bool.{true, false}
-use mathlib.Core.List.{List}
+use Prim.Native.Nat.{ℕ, _+_, _^_, _<_, _≤_}
+use mathlib.Core.Bool.{Bool, true, false, _&&_}
+use mathlib.Core.List.{List, [], _∷_}
 use mathlib.Core.Path.{_≡_}
+use lib.Dec.{ltb}
 use lib.ListN.{length, take}
+use Rattle.names.specs.Segmentation.{segmentationNumber}
 use Rattle.table.specs.Bits.{AllBytes}
-use Rattle.table.specs.Writing.{Field, walk, seen, within, Made, made, refused}
-use Rattle.descriptor.specs.Plain.{avail, dtmf, time, privateBytes}
-use Rattle.descriptor.specs.Segmentation.{componentCount, segmentation}
+use Rattle.table.specs.Lent.{noView, liesIn}
+use Rattle.table.specs.Writing.{Made, made, refused}
+use Rattle.table.specs.declared.View.{View}
+use Rattle.descriptor.specs.Segmentation.{countOf, ticks, subSegment}
 use Rattle.descriptor.specs.Whole.{wholeOf}
 use Rattle.descriptor.specs.declared.Descriptor.{Descriptor}
 use Rattle.descriptor.specs.declared.Descriptor.the-variants.{Avail, Dtmf, Segmentation, Time, Reserved}
 use Rattle.descriptor.specs.declared.DescriptorRead.the-variants.{Is}
+use Rattle.descriptor.specs.declared.segmentation.ModeComponent.{ModeComponent}
+use Rattle.descriptor.specs.declared.segmentation.SegmentationDetail.{SegmentationDetail}
+use Rattle.descriptor.specs.declared.segmentation.SegmentationDetail.the-variants.{Cancel, Insert}
 use Rattle.descriptor.specs.declared.whole.Beside.{Beside}
 use Rattle.descriptor_form.specs.Canonical.{canonicalPayload}
 use Rattle.descriptor_form.specs.Same.{SameReading}
 use Rattle.descriptor_form.specs.Writing.{framed}
 
--- what a descriptor has in the fields of its table, with its components up to the count
-abbrev pub fieldsOf : Descriptor → Beside → List Field
-fieldsOf (Avail x) beside = walk avail x 0 .fields
-fieldsOf (Dtmf x) beside = walk dtmf x 0 .fields
-fieldsOf (Segmentation x) beside = walk segmentation (record { descriptor = x; components = take (componentCount x) (beside .components) }) 0 .fields
-fieldsOf (Time x) beside = walk time x 0 .fields
-fieldsOf (Reserved tag bytes) beside = walk privateBytes bytes 0 .fields
+-- ---- 31: the view that is handed in, also where it should be blank
+
+abbrev pub detailView : SegmentationDetail → View
+detailView Cancel = noView
+detailView (Insert i) = i .«segmentation_upid» .bytes
+
+-- the blank where there is none
+abbrev pub viewIn : Descriptor → View
+viewIn (Avail x) = noView
+viewIn (Dtmf x) = x .«dtmf_chars»
+viewIn (Segmentation x) = detailView (x .«descriptor_detail»)
+viewIn (Time x) = noView
+viewIn (Reserved tag own) = own
+
+-- ---- 32: the numbers that are handed in, each with the bits of its field before it. 01, "Loop items"
+
+-- each number is within its field
+abbrev pub fit : List (ℕ × ℕ) → Bool
+fit [] = true
+fit (x ∷ xs) = ltb (x .1) (2 ^ x .0) && fit xs
+
+abbrev pub componentNumbers : List ModeComponent → List (ℕ × ℕ)
+componentNumbers [] = []
+componentNumbers (c ∷ cs) = (8, c .«component_tag») ∷ (33, c .«pts_offset») ∷ componentNumbers cs
+
+-- what is absent counts as 0; of the places the components up to the count
+abbrev pub detailNumbers : SegmentationDetail → List ModeComponent → List (ℕ × ℕ)
+detailNumbers Cancel places = []
+detailNumbers (Insert i) places =
+    (8, countOf (i .«segmentation_mode»))
+    ∷ (40, ticks (i .«segmentation_duration»))
+    ∷ (8, i .«segmentation_upid» .kind)
+    ∷ (8, i .«segmentation_upid» .bytes .len)
+    ∷ (8, segmentationNumber (i .«segmentation_type_id»))
+    ∷ (8, i .«segment_num»)
+    ∷ (8, i .«segments_expected»)
+    ∷ (8, subSegment (i .«sub_segments») .«sub_segment_num»)
+    ∷ (8, subSegment (i .«sub_segments») .«sub_segments_expected»)
+    ∷ componentNumbers (take (countOf (i .«segmentation_mode»)) places)
+
+abbrev pub numbersOf : Descriptor → List ModeComponent → List (ℕ × ℕ)
+numbersOf (Avail x) places = (32, x .«provider_avail_id») ∷ []
+numbersOf (Dtmf x) places = (8, x .preroll) ∷ (3, x .«dtmf_chars» .len) ∷ []
+numbersOf (Segmentation x) places = (32, x .«segmentation_event_id») ∷ detailNumbers (x .«descriptor_detail») places
+numbersOf (Time x) places = (48, x .«tai_seconds») ∷ (32, x .«tai_nanoseconds») ∷ (16, x .«utc_offset») ∷ []
+numbersOf (Reserved tag own) places = []
+
+-- ---- 33 and on: what is read
 
 -- p is a canonical payload, under a tag and an identifier, whose reading is equal to what is handed in
 pub record Payload (d : Descriptor) (identifier : List ℕ) (beside : Beside) (lent : List ℕ) (tag : ℕ) (id p : List ℕ) : Type 0 where
@@ -38,15 +85,15 @@ pub record Payload (d : Descriptor) (identifier : List ℕ) (beside : Beside) (l
 -- "31 to 36 are checked in order of number"
 pub data DescriptorMakes (d : Descriptor) (identifier : List ℕ) (beside : Beside) (lent : List ℕ) : Made → Type 0 where
   -- 31: "a view reaches outside the lent bytes"
-  outside : seen lent (fieldsOf d beside) ≡ false → DescriptorMakes d identifier beside lent (refused 31)
+  outside : liesIn lent (viewIn d) ≡ false → DescriptorMakes d identifier beside lent (refused 31)
   -- 32: "a number or count handed in exceeds its field; so do over 7 DTMF or 255 UPID bytes"
-  over : seen lent (fieldsOf d beside) ≡ true → within (fieldsOf d beside) ≡ false → DescriptorMakes d identifier beside lent (refused 32)
+  over : liesIn lent (viewIn d) ≡ true → fit (numbersOf d (beside .components)) ≡ false → DescriptorMakes d identifier beside lent (refused 32)
   -- 33: "a value that no canonical reading has"
-  nobodys : seen lent (fieldsOf d beside) ≡ true → within (fieldsOf d beside) ≡ true
+  nobodys : liesIn lent (viewIn d) ≡ true → fit (numbersOf d (beside .components)) ≡ true
       → ((tag : ℕ) (id p : List ℕ) → Payload d identifier beside lent tag id p → ⊥) → DescriptorMakes d identifier beside lent (refused 33)
   -- 34: "descriptor length over 254"
-  long : seen lent (fieldsOf d beside) ≡ true → (tag : ℕ) (id p : List ℕ) → Payload d identifier beside lent tag id p → 254 < length p + 4
+  long : liesIn lent (viewIn d) ≡ true → (tag : ℕ) (id p : List ℕ) → Payload d identifier beside lent tag id p → 254 < length p + 4
       → DescriptorMakes d identifier beside lent (refused 34)
   -- the bytes that read as what is handed in
-  its : seen lent (fieldsOf d beside) ≡ true → (tag : ℕ) (id p : List ℕ) → Payload d identifier beside lent tag id p → length p + 4 ≤ 254
+  its : liesIn lent (viewIn d) ≡ true → (tag : ℕ) (id p : List ℕ) → Payload d identifier beside lent tag id p → length p + 4 ≤ 254
       → DescriptorMakes d identifier beside lent (made (framed tag id p))

@@ -23,8 +23,9 @@ use Rattle.descriptor.proofs.Insides.{read-inside}
 use Rattle.descriptor_form.specs.Canonical.{canonicalLoop}
 use Rattle.descriptor_form.specs.Same.{bytesOfViews, countBeside}
 use Rattle.descriptor_form.specs.Writing.{descriptorMade}
+use Rattle.descriptor_laws.specs.Making.{viewIn}
 use Rattle.descriptor_laws.specs.Trips.{wholeIn, ReadAs}
-use Rattle.descriptor_laws.proofs.Alike.{SameView, viewIn, NoneTold, made-told, alike-made, same-made}
+use Rattle.descriptor_laws.proofs.Alike.{SameView, NoneTold, made-told, alike-made, same-made}
 use Rattle.descriptor_laws.proofs.Theorems.{descriptor-write-read}
 use Rattle.descriptor_laws.proofs.Wholes.{whole-back}
 use Rattle.items.specs.Cover.{joined}

@@ -14,7 +14,8 @@ use Rattle.descriptor.specs.declared.Descriptor.{Descriptor}
 use Rattle.descriptor.specs.declared.segmentation.SegmentationDetail.{SegmentationDetail}
 use Rattle.descriptor.specs.declared.whole.Beside.{Beside}
 use Rattle.descriptor_form.specs.Canonical.{canonicalLoop}
-use Rattle.descriptor_laws.proofs.Alike.{SameView, viewIn, detailView}
+use Rattle.descriptor_laws.proofs.Alike.{SameView}
+use Rattle.descriptor_laws.specs.Making.{detailView, viewIn}
 use Rattle.descriptor_laws.specs.Trips.{wholeIn}
 use Rattle.items.specs.Cover.{joined, runOf}
 use Rattle.items.specs.Items.{Listed, listed, itemsOf}
