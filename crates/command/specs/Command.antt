@@ -4,6 +4,7 @@ use mathlib.Core.List.{List, [], map}
 use lib.Dec.{eqb}
 use lib.ListN.{length}
 use Rattle.header.specs.Time.{spliceTime}
+use Rattle.header.specs.declared.time.SpliceTime.{SpliceTime}
 use Rattle.table.specs.Bits.{pick, bitsOf, AllBytes}
 use Rattle.table.specs.Lent.{filledTo}
 use Rattle.table.specs.Table.{Table, done, inside, uimsbf, remaining, part, Answer, got, short, parse}
@@ -43,13 +44,17 @@ byType kind null insert time bandwidth private another =
     (pick (eqb kind 0xff) private
     another))))
 
+-- by a command: what is made of each kind
+abbrev pub byCommand : {A : Type 0} → A → (Insertion → A) → (SpliceTime → A) → A → (Private → A) → SpliceCommand → A
+byCommand null insert time bandwidth private SpliceCommand.SpliceNull = null
+byCommand null insert time bandwidth private (SpliceCommand.SpliceInsert i) = insert i
+byCommand null insert time bandwidth private (SpliceCommand.TimeSignal t) = time t
+byCommand null insert time bandwidth private SpliceCommand.BandwidthReservation = bandwidth
+byCommand null insert time bandwidth private (SpliceCommand.PrivateCommand p) = private p
+
 -- the type that a command has
 abbrev pub kindOf : SpliceCommand → ℕ
-kindOf SpliceCommand.SpliceNull = 0x00
-kindOf (SpliceCommand.SpliceInsert i) = 0x05
-kindOf (SpliceCommand.TimeSignal t) = 0x06
-kindOf SpliceCommand.BandwidthReservation = 0x07
-kindOf (SpliceCommand.PrivateCommand p) = 0xff
+kindOf c = byCommand 0x00 (λ i. 0x05) (λ t. 0x06) 0x07 (λ p. 0xff) c
 
 -- refusal 10: "command type is none of ..", the last; refusal 11: "command payload malformed"
 unfoldable pub commandOf : ℕ → List ℕ → CommandRead
@@ -70,11 +75,7 @@ numberOf CommandRead.Malformed = 11
 
 -- ---- f of one kind of command, and `none` of any other
 abbrev pub ofInsert : {A : Type 0} → (Insertion → A) → A → SpliceCommand → A
-ofInsert f none SpliceCommand.SpliceNull = none
-ofInsert f none (SpliceCommand.SpliceInsert i) = f i
-ofInsert f none (SpliceCommand.TimeSignal t) = none
-ofInsert f none SpliceCommand.BandwidthReservation = none
-ofInsert f none (SpliceCommand.PrivateCommand p) = none
+ofInsert f none c = byCommand none f (λ t. none) none (λ p. none) c
 
 -- how many components an insert and a command have
 abbrev pub insertCount : SpliceInsert → ℕ
@@ -84,11 +85,7 @@ abbrev pub countIn : SpliceCommand → ℕ
 countIn c = ofInsert (λ i. insertCount (i .«splice_detail»)) 0 c
 
 abbrev pub ofPrivate : {A : Type 0} → (Private → A) → A → SpliceCommand → A
-ofPrivate f none SpliceCommand.SpliceNull = none
-ofPrivate f none (SpliceCommand.SpliceInsert i) = none
-ofPrivate f none (SpliceCommand.TimeSignal t) = none
-ofPrivate f none SpliceCommand.BandwidthReservation = none
-ofPrivate f none (SpliceCommand.PrivateCommand p) = f p
+ofPrivate f none c = byCommand none (λ i. none) (λ t. none) none f c
 
 -- the same command with another view, if it has one
 abbrev pub withView : (View → View) → SpliceCommand → SpliceCommand

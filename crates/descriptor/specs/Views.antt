@@ -10,6 +10,10 @@ use Rattle.upid.specs.declared.Refusal.the-variants.{TooLong, Short, Mismatch, 
 use Rattle.descriptor.specs.Segmentation.{withUpid}
 use Rattle.descriptor.specs.declared.Descriptor.{Descriptor}
 use Rattle.descriptor.specs.declared.Descriptor.the-variants.{Avail, Dtmf, Segmentation, Time, Reserved}
+use Rattle.descriptor.specs.declared.plain.AvailDescriptor.{AvailDescriptor}
+use Rattle.descriptor.specs.declared.plain.DTMFDescriptor.{DTMFDescriptor}
+use Rattle.descriptor.specs.declared.plain.TimeDescriptor.{TimeDescriptor}
+use Rattle.descriptor.specs.declared.segmentation.SegmentationDescriptor.{SegmentationDescriptor}
 use Rattle.descriptor.specs.declared.segmentation.SegmentationDetail.{SegmentationDetail}
 use Rattle.descriptor.specs.declared.segmentation.SegmentationDetail.the-variants.{Cancel, Insert}
 use Rattle.descriptor.specs.declared.segmentation.SegmentationUpid.{SegmentationUpid}
@@ -25,13 +29,17 @@ abbrev pub detailViews : SegmentationDetail → List View
 detailViews Cancel = []
 detailViews (Insert i) = upidViews (i .«segmentation_upid»)
 
+-- by a descriptor: what is made of each kind
+abbrev pub byDescriptor : {A : Type 0} → (AvailDescriptor → A) → (DTMFDescriptor → A) → (SegmentationDescriptor → A) → (TimeDescriptor → A) → (ℕ → View → A) → Descriptor → A
+byDescriptor avail dtmf segmentation time reserved (Avail x) = avail x
+byDescriptor avail dtmf segmentation time reserved (Dtmf x) = dtmf x
+byDescriptor avail dtmf segmentation time reserved (Segmentation x) = segmentation x
+byDescriptor avail dtmf segmentation time reserved (Time x) = time x
+byDescriptor avail dtmf segmentation time reserved (Reserved tag bytes) = reserved tag bytes
+
 -- DTMF characters, a UPID, private bytes
 abbrev pub descriptorViews : Descriptor → List View
-descriptorViews (Avail x) = []
-descriptorViews (Dtmf x) = x .«dtmf_chars» ∷ []
-descriptorViews (Segmentation x) = detailViews (x .«descriptor_detail»)
-descriptorViews (Time x) = []
-descriptorViews (Reserved tag bytes) = bytes ∷ []
+descriptorViews d = byDescriptor (λ x. []) (λ x. x .«dtmf_chars» ∷ []) (λ x. detailViews (x .«descriptor_detail»)) (λ x. []) (λ tag bytes. bytes ∷ []) d
 
 -- the text of refusal 24
 abbrev pub refusalViews : Refusal → List View

@@ -8,9 +8,9 @@ use Rattle.table.specs.Table.{Answer, got, short, parse}
 use Rattle.upid.specs.Upid.{eidrOf}
 use Rattle.descriptor.specs.Descriptor.{descriptorOf}
 use Rattle.descriptor.specs.Segmentation as table
+use Rattle.descriptor.specs.Views.{byDescriptor}
 use Rattle.descriptor.specs.Segmentation.{blankComponent, detailUpid, segmentation}
 use Rattle.descriptor.specs.declared.Descriptor.{Descriptor}
-use Rattle.descriptor.specs.declared.Descriptor.the-variants.{Avail, Dtmf, Segmentation, Time, Reserved}
 use Rattle.descriptor.specs.declared.DescriptorRead.{DescriptorRead}
 use Rattle.descriptor.specs.declared.DescriptorRead.the-variants.{Is, Refused}
 use Rattle.descriptor.specs.declared.segmentation.ModeComponent.{ModeComponent}
@@ -20,18 +20,10 @@ use Rattle.descriptor.specs.declared.whole.WholeDescriptor.{WholeDescrip
 
 -- ---- f of one kind of descriptor, and `none` of any other
 abbrev pub ofSegmentation : {A : Type 0} → (SegmentationDescriptor → A) → A → Descriptor → A
-ofSegmentation f none (Avail x) = none
-ofSegmentation f none (Dtmf x) = none
-ofSegmentation f none (Segmentation x) = f x
-ofSegmentation f none (Time x) = none
-ofSegmentation f none (Reserved tag v) = none
+ofSegmentation f none d = byDescriptor (λ x. none) (λ x. none) f (λ x. none) (λ tag v. none) d
 
 abbrev pub ofReserved : {A : Type 0} → A → A → Descriptor → A
-ofReserved its none (Avail x) = none
-ofReserved its none (Dtmf x) = none
-ofReserved its none (Segmentation x) = none
-ofReserved its none (Time x) = none
-ofReserved its none (Reserved tag v) = its
+ofReserved its none d = byDescriptor (λ x. none) (λ x. none) (λ x. none) (λ x. none) (λ tag v. its) d
 
 -- ---- the array of a segmentation descriptor, and its EIDR
 -- "arrays with a count, 255 components, blank (all zero ..) past it"
