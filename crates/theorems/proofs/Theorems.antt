@@ -13,7 +13,7 @@ use Rattle.command.specs.declared.Private.{Private}
 use Rattle.command.specs.declared.SpliceCommand.{SpliceCommand}
 use Rattle.command.specs.declared.components.ComponentSplice.{ComponentSplice}
 use Rattle.command.specs.declared.insert.Insertion.{Insertion}
-use Rattle.command_measure.specs.Made.{counted, commandMade}
+use Rattle.command_measure.specs.Made.{commandMade}
 use Rattle.crc.specs.Crc.{crcOf}
 use Rattle.descriptor.proofs.Longer as longer
 use Rattle.descriptor.specs.Descriptor.{availOf, dtmfOf, timeOf, cuei, descriptorOf}
