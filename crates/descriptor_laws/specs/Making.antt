@@ -12,6 +12,7 @@ use Rattle.table.specs.Lent.{noView, liesIn}
 use Rattle.table.specs.Writing.{Made, made, refused}
 use Rattle.table.specs.declared.View.{View}
 use Rattle.descriptor.specs.Segmentation.{countOf, ticks, subSegment}
+use Rattle.descriptor.specs.Views.{byDescriptor}
 use Rattle.descriptor.specs.Whole.{wholeOf}
 use Rattle.descriptor.specs.declared.Descriptor.{Descriptor}
 use Rattle.descriptor.specs.declared.Descriptor.the-variants.{Avail, Dtmf, Segmentation, Time, Reserved}
@@ -32,11 +33,7 @@ detailView (Insert i) = i .«segmentation_upid» .bytes
 
 -- the blank where there is none
 abbrev pub viewIn : Descriptor → View
-viewIn (Avail x) = noView
-viewIn (Dtmf x) = x .«dtmf_chars»
-viewIn (Segmentation x) = detailView (x .«descriptor_detail»)
-viewIn (Time x) = noView
-viewIn (Reserved tag own) = own
+viewIn d = byDescriptor (λ x. noView) (λ x. x .«dtmf_chars») (λ x. detailView (x .«descriptor_detail»)) (λ x. noView) (λ tag own. own) d
 
 -- ---- 32: the numbers that are handed in, each with the bits of its field before it. 01, "Loop items"
 
@@ -53,15 +50,10 @@ componentNumbers (c ∷ cs) = (8, c .«component_tag») ∷ (33, c .«pts_offset
 abbrev pub detailNumbers : SegmentationDetail → List ModeComponent → List (ℕ × ℕ)
 detailNumbers Cancel places = []
 detailNumbers (Insert i) places =
-    (8, countOf (i .«segmentation_mode»))
-    ∷ (40, ticks (i .«segmentation_duration»))
-    ∷ (8, i .«segmentation_upid» .kind)
-    ∷ (8, i .«segmentation_upid» .bytes .len)
-    ∷ (8, segmentationNumber (i .«segmentation_type_id»))
-    ∷ (8, i .«segment_num»)
-    ∷ (8, i .«segments_expected»)
-    ∷ (8, subSegment (i .«sub_segments») .«sub_segment_num»)
-    ∷ (8, subSegment (i .«sub_segments») .«sub_segments_expected»)
+    (8, countOf (i .«segmentation_mode»)) ∷ (40, ticks (i .«segmentation_duration»))
+    ∷ (8, i .«segmentation_upid» .kind) ∷ (8, i .«segmentation_upid» .bytes .len)
+    ∷ (8, segmentationNumber (i .«segmentation_type_id»)) ∷ (8, i .«segment_num») ∷ (8, i .«segments_expected»)
+    ∷ (8, subSegment (i .«sub_segments») .«sub_segment_num») ∷ (8, subSegment (i .«sub_segments») .«sub_segments_expected»)
     ∷ componentNumbers (take (countOf (i .«segmentation_mode»)) places)
 
 abbrev pub numbersOf : Descriptor → List ModeComponent → List (ℕ × ℕ)

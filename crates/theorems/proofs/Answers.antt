@@ -13,6 +13,7 @@ use Rattle.command.specs.declared.Private.{Private}
 use Rattle.command.specs.declared.SpliceCommand.{SpliceCommand}
 use Rattle.command.specs.declared.components.ComponentSplice.{ComponentSplice}
 use Rattle.command_measure.specs.Made.{insertMade, commandMade}
+use Rattle.header.specs.declared.header.SpliceInfoHeader.{SpliceInfoHeader}
 use Rattle.header.specs.Time.{spliceTime, notImmediate}
 use Rattle.items.specs.Items.{Listed, listed}
 use Rattle.loop_laws.proofs.Loops.{back-at}
@@ -24,6 +25,7 @@ use Rattle.section.specs.declared.Section.{Section}
 use Rattle.section.specs.declared.SectionRead.{SectionRead}
 use Rattle.section_writer.proofs.Theorems.{canonical-parts}
 use Rattle.section_writer.proofs.Trips.{one-section}
+use Rattle.section_writer.specs.Frame.{headed}
 use Rattle.section_writer.specs.Canonical.{canonicalSection}
 use Rattle.section_writer.specs.Writing.{kindOf}
 use Rattle.table.proofs.Lists.{and-true}
@@ -34,7 +36,7 @@ use Rattle.table.specs.Table.{number, part, remaining}
 use Rattle.table.specs.Writing.{walk, made, make}
 use Rattle.upid.specs.Cover.{All, none, more}
 use Rattle.theorems.specs.Identifiers.{loopIn}
-use Rattle.theorems.specs.Same.{withoutPlace, SameSections}
+use Rattle.theorems.specs.Same.{withoutPlace, SameHeader, SameSections}
 use Rattle.theorems.proofs.ItemsWritten.{each-item, one-loop}
 use Rattle.theorems.proofs.WrittenBack.{payload-back}
 
@@ -79,13 +81,22 @@ payload-in s x a e c = payload-of (x .command) (commandBytes s) s (commandBytes 
 same-payload : {c d : SpliceCommand} {cs ds : List ComponentSplice} {p q : List ℕ} → c ≡ d → cs ≡ ds → p ≡ q → commandPayload c cs p ≡ commandPayload d ds q
 same-payload e f g = rw (e, f, g)
 
+-- equal headers, with 0 in place of the command's length and type
+pub same-headed : (g h : SpliceInfoHeader) → SameHeader g h → headed g 0 0 ≡ headed h 0 0
+unfolding headed
+same-headed g h s = rw (s .version, s .encrypted, s .algorithm, s .adjustment, s .index, s .tiers)
+
+pub own-header : (h : SpliceInfoHeader) (size kind : ℕ) → SameHeader (headed h size kind) h
+unfolding headed
+own-header h size kind = record { version = refl; encrypted = refl; algorithm = refl; adjustment = refl; index = refl; tiers = refl }
+
 pub one-answer : (s r : List ℕ) (x y : Section) → AllBytes s → AllBytes r → sectionOf s ≡ SectionRead.Is x → sectionOf r ≡ SectionRead.Is y → canonicalSection s ≡ true → canonicalSection r ≡ true
     → SameSections s x r y → s ≡ r
 one-answer s r x y a b e f c d same =
     let kinds : commandType s ≡ commandType r =
     sym (payload-back s x a e c .0) ∙ kind-of (x .command) ∙ ap kindOf (same .commands) ∙ sym (kind-of (y .command)) ∙ payload-back r y b f d .0 in
     let payloads : commandBytes s ≡ commandBytes r = payload-in s x a e c ∙ same-payload (same .commands) (same .components) (same .bytes) ∙ sym (payload-in r y b f d) in
-    one-section s r x y a b e f (canonical-parts s c .around) (canonical-parts r d .around) (same .headers) kinds payloads (one-loop s r x y a b e f c d (same .items))
+    one-section s r x y a b e f (canonical-parts s c .around) (canonical-parts r d .around) (same-headed (x .header) (y .header) (same .headers)) kinds payloads (one-loop s r x y a b e f c d (same .items))
 
 -- ---- its own reading
 own-item : (loop : List ℕ) (offset : ℕ) (t : List ℕ) → At loop offset t → AllBytes t → SameItem loop loop (listed loop offset) (listed loop offset)
@@ -102,4 +113,4 @@ own-items loop none = over
 own-items loop (more h hs) = pair h (own-items loop hs)
 
 pub own-answer : (s : List ℕ) (x : Section) → AllBytes s → sectionOf s ≡ SectionRead.Is x → canonicalSection s ≡ true → SameSections s x s x
-own-answer s x a e c = record { headers = refl; commands = refl; components = refl; bytes = refl; items = own-items (loopIn s x) (each-item s x a e c (own-item (loopIn s x))) }
+own-answer s x a e c = record { headers = record { version = refl; encrypted = refl; algorithm = refl; adjustment = refl; index = refl; tiers = refl }; commands = refl; components = refl; bytes = refl; items = own-items (loopIn s x) (each-item s x a e c (own-item (loopIn s x))) }

@@ -1,4 +1,4 @@
--- What is made of a command is fixed by the command reader and the tables' widths. Assumes nothing.
+-- What is made of a command is fixed by the command reader and the fields' widths. Assumes nothing.
 --     tested             the tests of the command writer, in order
 --     payload-made       what is made of a command is a canonical payload that reads as it
 --     made-if-read       a canonical payload that reads as a command is what is made of it
@@ -25,6 +25,7 @@ use Rattle.command_measure.proofs.Ties.{time-fields, insert-fields}
 use Rattle.command_measure.specs.Fields.{timeFields, insertFields}
 use Rattle.command_measure.specs.Made.{counted, timesFit, insertMade, commandMade}
 use Rattle.command_writer.proofs.Theorems.{private-trip}
+use Rattle.descriptor_laws.specs.Making.{fit}
 use Rattle.flat_writer.proofs.Arrays.{array-take}
 use Rattle.header.specs.Time.{spliceTime, notImmediate}
 use Rattle.header.specs.declared.time.SpliceTime.{SpliceTime}
@@ -41,9 +42,10 @@ use Rattle.table.specs.Lent.{liesIn, viewed, noView}
 use Rattle.table.specs.Table.{number, part, remaining}
 use Rattle.table.specs.Writing.{walk, seen, within, Content, contents, print, Made, made, refused, make}
 use Rattle.table.specs.declared.View.{View}
-use Rattle.theorems.specs.Making.{commandFits, CommandPayload, CommandMakes}
+use Rattle.theorems.specs.Making.{commandNumbers, CommandPayload, CommandMakes}
 use Rattle.theorems.specs.Same.{withoutPlace}
 use Rattle.theorems.proofs.Answers.{private-of}
+use Rattle.theorems.proofs.NumbersFit.{and-one, time-fits, private-fits, insert-fits}
 use Rattle.theorems.proofs.WrittenBack.{command-back, held, components-read}
 
 -- ---- the writer's tests
@@ -61,7 +63,7 @@ record Tested (c : SpliceCommand) (places : List ComponentSplice) (lent : List �
   pub fair : Bool
   pub payload : List ℕ
   pub bytes : AllBytes payload
-  pub is : commandMade c places lent ≡ answer (liesIn lent (privateView c)) (commandFits c places) fair payload
+  pub is : commandMade c places lent ≡ answer (liesIn lent (privateView c)) (fit (commandNumbers c places)) fair payload
 
 pub made-bytes : (cs : List Content) → AllBytes (bytesOf (print cs))
 made-bytes cs = all-bytesN (length (print cs) / 8) (print cs) (print-bits cs)
@@ -90,10 +92,6 @@ both : (times fits fair : Bool) (b : List ℕ) → pick times (pick fits (pick f
 both true fits fair b = refl
 both false fits fair b = refl
 
-and-one : (b : Bool) → b && true ≡ b
-and-one true = refl
-and-one false = refl
-
 tested : (c : SpliceCommand) (places : List ComponentSplice) (lent : List ℕ) → Held c places → Tested c places lent
 unfolding commandMade insertMade
 tested SpliceCommand.SpliceNull places lent h = record { fair = true; payload = []; bytes = tt; is = rw (blank-lies lent) }
@@ -108,7 +106,8 @@ tested (SpliceCommand.SpliceInsert i) places lent h =
       is = rw (blank-lies lent) (
           ap (λ (s : Bool). pick (timesFit (x .components)) (answer s (within fs) (fairInsert x) b) (refused 32))
           (insert-seen (i .«splice_event_id») (i .reserved) (i .«splice_detail») (x .components) h)
-          ∙ both (timesFit (x .components)) (within fs) (fairInsert x) b);
+          ∙ both (timesFit (x .components)) (within fs) (fairInsert x) b
+          ∙ ap (λ (w : Bool). answer true w (fairInsert x) b) (insert-fits i places h));
     }
 tested (SpliceCommand.TimeSignal t) places lent h =
     let fs = walk spliceTime t 0 .fields in
@@ -116,7 +115,7 @@ tested (SpliceCommand.TimeSignal t) places lent h =
       fair = notImmediate t;
       payload = bytesOf (print (contents [] fs));
       bytes = made-bytes (contents [] fs);
-      is = rw (blank-lies lent) (ap (λ (s : Bool). answer s (within fs) (notImmediate t) (bytesOf (print (contents [] fs)))) (time-seen t));
+      is = rw (blank-lies lent) (ap₂ (λ (s w : Bool). answer s w (notImmediate t) (bytesOf (print (contents [] fs)))) (time-seen t) (time-fits t));
     }
 tested SpliceCommand.BandwidthReservation places lent h = record { fair = true; payload = []; bytes = tt; is = rw (blank-lies lent) }
 tested (SpliceCommand.PrivateCommand p) places lent h =
@@ -126,7 +125,7 @@ tested (SpliceCommand.PrivateCommand p) places lent h =
       fair = true;
       payload = bytesOf (print (contents lent fs));
       bytes = made-bytes (contents lent fs);
-      is = ap (λ (s : Bool). answer s (within fs) true (bytesOf (print (contents lent fs)))) s;
+      is = ap₂ (λ (s w : Bool). answer s w true (bytesOf (print (contents lent fs)))) s (private-fits p);
     }
 
 -- what the tests say of what is made
@@ -142,25 +141,25 @@ answer-else false b = inl refl
 
 module _ (c : SpliceCommand) (places : List ComponentSplice) (lent : List ℕ) (h : Held c places) where
   pub is-outside : liesIn lent (privateView c) ≡ false → commandMade c places lent ≡ refused 31
-  is-outside l = let t = tested c places lent h in t .is ∙ ap (λ (s : Bool). answer s (commandFits c places) (t .fair) (t .payload)) l
+  is-outside l = let t = tested c places lent h in t .is ∙ ap (λ (s : Bool). answer s (fit (commandNumbers c places)) (t .fair) (t .payload)) l
 
-  pub is-over : liesIn lent (privateView c) ≡ true → commandFits c places ≡ false → commandMade c places lent ≡ refused 32
+  pub is-over : liesIn lent (privateView c) ≡ true → fit (commandNumbers c places) ≡ false → commandMade c places lent ≡ refused 32
   is-over l f = let t = tested c places lent h in t .is ∙ ap₂ (λ (s w : Bool). answer s w (t .fair) (t .payload)) l f
 
-  pub made-or-not : liesIn lent (privateView c) ≡ true → commandFits c places ≡ true → (commandMade c places lent ≡ refused 33) ⊎ ((p : List ℕ) × (commandMade c places lent ≡ made p))
+  pub made-or-not : liesIn lent (privateView c) ≡ true → fit (commandNumbers c places) ≡ true → (commandMade c places lent ≡ refused 33) ⊎ ((p : List ℕ) × (commandMade c places lent ≡ made p))
   made-or-not l f =
       let t = tested c places lent h in
       let e : commandMade c places lent ≡ answer true true (t .fair) (t .payload) = t .is ∙ ap₂ (λ (s w : Bool). answer s w (t .fair) (t .payload)) l f in
       rw e (answer-else (t .fair) (t .payload))
 
   module _ (p : List ℕ) (e : commandMade c places lent ≡ made p) where
-    passed : (liesIn lent (privateView c) ≡ true) × (commandFits c places ≡ true) × (tested c places lent h .payload ≡ p)
-    passed = let t = tested c places lent h in answer-made (liesIn lent (privateView c)) (commandFits c places) (t .fair) (t .payload) p (sym (t .is) ∙ e)
+    passed : (liesIn lent (privateView c) ≡ true) × (fit (commandNumbers c places) ≡ true) × (tested c places lent h .payload ≡ p)
+    passed = let t = tested c places lent h in answer-made (liesIn lent (privateView c)) (fit (commandNumbers c places)) (t .fair) (t .payload) p (sym (t .is) ∙ e)
 
     pub lies-if-made : liesIn lent (privateView c) ≡ true
     lies-if-made = passed .0
 
-    pub fits-if-made : commandFits c places ≡ true
+    pub fits-if-made : fit (commandNumbers c places) ≡ true
     fits-if-made = passed .1
 
     pub bytes-if-made : AllBytes p
@@ -267,17 +266,17 @@ made-if-read c places lent p l q =
 -- ---- the relation
 module _ (c : SpliceCommand) (places : List ComponentSplice) (lent : List ℕ) (n : length places ≡ 255) (k : countIn c ≤ 255) (a : AllBytes lent) where
   pub command-makes : CommandMakes c places lent (commandMade c places lent)
-  command-makes = go (liesIn lent (privateView c)) refl (commandFits c places) refl
+  command-makes = go (liesIn lent (privateView c)) refl (fit (commandNumbers c places)) refl
     where
       h : Held c places
       h = held c places n k
 
-      fitting : liesIn lent (privateView c) ≡ true → commandFits c places ≡ true → (commandMade c places lent ≡ refused 33) ⊎ ((p : List ℕ) × (commandMade c places lent ≡ made p))
+      fitting : liesIn lent (privateView c) ≡ true → fit (commandNumbers c places) ≡ true → (commandMade c places lent ≡ refused 33) ⊎ ((p : List ℕ) × (commandMade c places lent ≡ made p))
           → CommandMakes c places lent (commandMade c places lent)
       fitting l f (inl e) = rw e (CommandMakes.nobodys l f λ p q. zero-one (let z : refused 33 ≡ made p = sym e ∙ made-if-read c places lent p l q in cc))
       fitting l f (inr r) = rw (r .1) (CommandMakes.its l (r .0) (payload-made c places lent (r .0) n k a (r .1)))
 
-      go : (lies : Bool) → liesIn lent (privateView c) ≡ lies → (fits : Bool) → commandFits c places ≡ fits → CommandMakes c places lent (commandMade c places lent)
+      go : (lies : Bool) → liesIn lent (privateView c) ≡ lies → (fits : Bool) → fit (commandNumbers c places) ≡ fits → CommandMakes c places lent (commandMade c places lent)
       go false l fits f = rw (is-outside c places lent h l) (CommandMakes.outside l)
       go true l false f = rw (is-over c places lent h l f) (CommandMakes.over l f)
       go true l true f = fitting l f (made-or-not c places lent h l f)

@@ -13,6 +13,7 @@ pub mod InsertsRead
 pub mod WrittenBack
 pub mod ItemsWritten
 pub mod Answers
+pub mod NumbersFit
 pub mod CommandsMade
 pub mod SectionsMade
 pub mod Targets

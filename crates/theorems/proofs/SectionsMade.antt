@@ -1,4 +1,4 @@
--- What is made of a section is fixed by the readers and the tables' widths. Assumes nothing.
+-- What is made of a section is fixed by the readers and the fields' widths. Assumes nothing.
 --     written-back       a canonical section is what is made of its payload, its type and its loop, with any header that is its own but for the command's length and type
 --     of-header          such a header passes the writer's tests of it
 --     header-of          and one that passes them is that of a null with an empty loop
@@ -20,6 +20,7 @@ use Rattle.command_measure.specs.Made.{commandMade}
 use Rattle.command_writer.proofs.Theorems.{null-trip}
 use Rattle.crc.specs.Crc.{crcBytesOf}
 use Rattle.descriptor_form.specs.Canonical.{canonicalFrom, canonicalLoop}
+use Rattle.descriptor_laws.specs.Making.{fit}
 use Rattle.header.specs.Header.{spliceHeader}
 use Rattle.header.specs.declared.header.SpliceInfoHeader.{SpliceInfoHeader}
 use Rattle.pen.proofs.Penned.{all-number}
@@ -37,8 +38,11 @@ use Rattle.table.proofs.Lists.{zero-one, and-true}
 use Rattle.table.specs.Bits.{pick, bitsOfNum, bigEndian, AllBytes}
 use Rattle.table.specs.Lent.{liesIn}
 use Rattle.table.specs.Writing.{walk, contents, Made, made, refused}
-use Rattle.theorems.specs.Making.{commandFits, HasHeader, SectionBytes, SectionMakes}
+use Rattle.theorems.specs.Making.{headerNumbers, commandNumbers, HasHeader, SectionBytes, SectionMakes}
+use Rattle.theorems.specs.Same.{SameHeader}
+use Rattle.theorems.proofs.Answers.{same-headed, own-header}
 use Rattle.theorems.proofs.CommandsMade.{made-bytes, is-outside, is-over, made-or-not, payload-made, made-if-read}
+use Rattle.theorems.proofs.NumbersFit.{header-fits}
 use Rattle.theorems.proofs.WrittenBack.{held, section-reads}
 
 -- ---- a section's bytes are bytes
@@ -83,9 +87,12 @@ unfair-tests false big form b = refl
 unfair-tests true big form b = refl
 
 module _ (h : SpliceInfoHeader) (kind : ℕ) (loop : List ℕ) where
-  of-made : (p : List ℕ) → sectionMade h (made p) kind loop ≡ answer (numbersFit h) (fairHead h) (ltb 4096 (sectionLength (length p) (length loop))) (canonicalLoop loop) (frame h kind p loop)
+  of-made : (p : List ℕ) → sectionMade h (made p) kind loop ≡ answer (fit (headerNumbers h)) (fairHead h) (ltb 4096 (sectionLength (length p) (length loop))) (canonicalLoop loop) (frame h kind p loop)
   unfolding sectionMade bytesIn
-  of-made p = tests (numbersFit h) (fairHead h) (ltb 4096 (sectionLength (length p) (length loop))) (canonicalLoop loop) (frame h kind p loop)
+  of-made p =
+      let big = ltb 4096 (sectionLength (length p) (length loop)) in
+      tests (numbersFit h) (fairHead h) big (canonicalLoop loop) (frame h kind p loop)
+      ∙ ap (λ (w : Bool). answer w (fairHead h) big (canonicalLoop loop) (frame h kind p loop)) (header-fits h)
 
   of-31 : sectionMade h (refused 31) kind loop ≡ refused 31
   unfolding sectionMade
@@ -95,9 +102,11 @@ module _ (h : SpliceInfoHeader) (kind : ℕ) (loop : List ℕ) where
   unfolding sectionMade
   of-32 = refl
 
-  of-33 : sectionMade h (refused 33) kind loop ≡ pick (numbersFit h) (refused 33) (refused 32)
+  of-33 : sectionMade h (refused 33) kind loop ≡ pick (fit (headerNumbers h)) (refused 33) (refused 32)
   unfolding sectionMade bytesIn
-  of-33 = unfair-tests (numbersFit h) (ltb 4096 (sectionLength 0 (length loop))) (canonicalLoop loop) (frame h kind [] loop)
+  of-33 =
+      unfair-tests (numbersFit h) (ltb 4096 (sectionLength 0 (length loop))) (canonicalLoop loop) (frame h kind [] loop)
+      ∙ ap (λ (w : Bool). pick w (refused 33) (refused 32)) (header-fits h)
 
 -- ---- headers
 -- the command's length and type are not looked at
@@ -105,25 +114,24 @@ headless : (h : SpliceInfoHeader) (m : Made) (kind : ℕ) (loop : List ℕ) → 
 unfolding sectionMade numbersFit fairHead frame body head headed
 headless h m kind loop = refl
 
-by-header : (g h : SpliceInfoHeader) (m : Made) (kind : ℕ) (loop : List ℕ) → headed g 0 0 ≡ headed h 0 0 → sectionMade g m kind loop ≡ sectionMade h m kind loop
-by-header g h m kind loop e = headless g m kind loop ∙ ap (λ (x : SpliceInfoHeader). sectionMade x m kind loop) e ∙ sym (headless h m kind loop)
+by-header : (g h : SpliceInfoHeader) (m : Made) (kind : ℕ) (loop : List ℕ) → SameHeader g h → sectionMade g m kind loop ≡ sectionMade h m kind loop
+by-header g h m kind loop e = headless g m kind loop ∙ ap (λ (x : SpliceInfoHeader). sectionMade x m kind loop) (same-headed g h e) ∙ sym (headless h m kind loop)
 
 written-back : (h : SpliceInfoHeader) (s : List ℕ) → HasHeader h s → sectionMade h (made (commandBytes s)) (commandType s) (loopBytes s) ≡ made s
 written-back h s o =
     sym (by-header (o .reading .header) h (made (commandBytes s)) (commandType s) (loopBytes s) (o .same))
     ∙ section-is-written-back s (o .reading) (o .bytes) (o .reads) (o .form)
 
-of-header : (h : SpliceInfoHeader) (s : List ℕ) → HasHeader h s → (numbersFit h ≡ true) × (fairHead h ≡ true)
+of-header : (h : SpliceInfoHeader) (s : List ℕ) → HasHeader h s → (fit (headerNumbers h) ≡ true) × (fairHead h ≡ true)
 of-header h s o =
     let w = section-wrote h (made (commandBytes s)) (commandType s) (loopBytes s) s (written-back h s o) in
-    (w .fits, w .fair)
+    (sym (header-fits h) ∙ w .fits, w .fair)
 
 empty-loop : canonicalLoop [] ≡ true
 unfolding canonicalLoop canonicalFrom
 empty-loop = refl
 
-header-of : (h : SpliceInfoHeader) → numbersFit h ≡ true → fairHead h ≡ true → HasHeader h (frame h 0x00 [] [])
-unfolding headed
+header-of : (h : SpliceInfoHeader) → fit (headerNumbers h) ≡ true → fairHead h ≡ true → HasHeader h (frame h 0x00 [] [])
 header-of h fits fair =
     let b = frame h 0x00 [] [] in
     let e : sectionMade h (made []) 0x00 [] ≡ made b = of-made h 0x00 [] [] ∙ rw (fits, fair, empty-loop) in
@@ -133,7 +141,7 @@ header-of h fits fair =
       form = section-is-canonical h [] 0x00 [] b SpliceCommand.SpliceNull (omega arith) e n null-canonical;
       reading = _;
       reads = section-reads-back h [] 0x00 [] b SpliceCommand.SpliceNull (omega arith) e n .0;
-      same = refl;
+      same = own-header h 0 0x00;
     }
 
 -- ---- the relation
@@ -155,7 +163,7 @@ module _ (h : SpliceInfoHeader) (c : SpliceCommand) (places : List ComponentSpli
   lies = liesIn lent (privateView c)
 
   abbrev fits : Bool
-  fits = numbersFit h && commandFits c places
+  fits = fit (headerNumbers h) && fit (commandNumbers c places)
 
   abbrev size : List ℕ → ℕ
   size p = sectionLength (length p) (length loop)
@@ -170,23 +178,23 @@ module _ (h : SpliceInfoHeader) (c : SpliceCommand) (places : List ComponentSpli
   as-31 l = of-command (refused 31) (is-outside c places lent places-held l) ∙ of-31 h (kindOf c) loop
 
   -- the header's numbers, where the command's fit
-  head-over : numbersFit h ≡ false → (command ≡ refused 33) ⊎ ((p : List ℕ) × (command ≡ made p)) → whole ≡ refused 32
+  head-over : fit (headerNumbers h) ≡ false → (command ≡ refused 33) ⊎ ((p : List ℕ) × (command ≡ made p)) → whole ≡ refused 32
   head-over w (inl e) = of-command (refused 33) e ∙ of-33 h (kindOf c) loop ∙ rw w
   head-over w (inr r) = of-command (made (r .0)) (r .1) ∙ of-made h (kindOf c) loop (r .0) ∙ rw w
 
   as-32 : lies ≡ true → fits ≡ false → whole ≡ refused 32
-  as-32 l w = go (numbersFit h) refl (commandFits c places) refl w
+  as-32 l w = go (fit (headerNumbers h)) refl (fit (commandNumbers c places)) refl w
     where
-      go : (u : Bool) → numbersFit h ≡ u → (v : Bool) → commandFits c places ≡ v → u && v ≡ false → whole ≡ refused 32
+      go : (u : Bool) → fit (headerNumbers h) ≡ u → (v : Bool) → fit (commandNumbers c places) ≡ v → u && v ≡ false → whole ≡ refused 32
       go u f false g w = of-command (refused 32) (is-over c places lent places-held l g) ∙ of-32 h (kindOf c) loop
       go false f true g w = head-over f (made-or-not c places lent places-held l g)
       go true f true g w = zero-one cc
 
-  as-33 : numbersFit h ≡ true → command ≡ refused 33 → whole ≡ refused 33
+  as-33 : fit (headerNumbers h) ≡ true → command ≡ refused 33 → whole ≡ refused 33
   as-33 f e = of-command (refused 33) e ∙ of-33 h (kindOf c) loop ∙ rw f
 
-  module _ (p : List ℕ) (e : command ≡ made p) (f : numbersFit h ≡ true) where
-    tested : whole ≡ answer (numbersFit h) (fairHead h) (ltb 4096 (size p)) (canonicalLoop loop) (frame h (kindOf c) p loop)
+  module _ (p : List ℕ) (e : command ≡ made p) (f : fit (headerNumbers h) ≡ true) where
+    tested : whole ≡ answer (fit (headerNumbers h)) (fairHead h) (ltb 4096 (size p)) (canonicalLoop loop) (frame h (kindOf c) p loop)
     tested = of-command (made p) e ∙ of-made h (kindOf c) loop p
 
     head-unfair : fairHead h ≡ false → whole ≡ refused 33
@@ -204,14 +212,13 @@ module _ (h : SpliceInfoHeader) (c : SpliceCommand) (places : List ComponentSpli
         as-made o = tested ∙ rw (f, g, le-ltb 4096 (size p) s, o)
 
         bytes-made : AllBytes lent → AllBytes loop → canonicalLoop loop ≡ true → SectionBytes h c places lent loop (frame h (kindOf c) p loop)
-        unfolding headed
         bytes-made a b o =
             let q = payload-made c places lent p n k a e in
             let r = section-reads h c places lent loop (frame h (kindOf c) p loop) n k (as-made o) in
             record {
-              header = record { bytes = frame-bytes h (kindOf c) p loop (q .bytes) b; form = r .form; reading = _; reads = r .reads; same = refl };
-              type = frame-command-type h (kindOf c) p loop f g (kind-byte c) s;
-              command = rw (frame-command-bytes h (kindOf c) p loop f g (kind-byte c) s) q;
+              header = record { bytes = frame-bytes h (kindOf c) p loop (q .bytes) b; form = r .form; reading = _; reads = r .reads; same = own-header h (length (r .payload)) (kindOf c) };
+              type = frame-command-type h (kindOf c) p loop (header-fits h ∙ f) g (kind-byte c) s;
+              command = rw (frame-command-bytes h (kindOf c) p loop (header-fits h ∙ f) g (kind-byte c) s) q;
               loops = r .loops;
             }
 
@@ -219,30 +226,30 @@ module _ (h : SpliceInfoHeader) (c : SpliceCommand) (places : List ComponentSpli
     pub section-makes : SectionMakes h c places lent loop whole
     section-makes = go lies refl fits refl
       where
-        formed : lies ≡ true → numbersFit h ≡ true → fairHead h ≡ true → (p : List ℕ) → command ≡ made p → size p ≤ 4096 → (form : Bool) → canonicalLoop loop ≡ form → SectionMakes h c places lent loop whole
+        formed : lies ≡ true → fit (headerNumbers h) ≡ true → fairHead h ≡ true → (p : List ℕ) → command ≡ made p → size p ≤ 4096 → (form : Bool) → canonicalLoop loop ≡ form → SectionMakes h c places lent loop whole
         formed l f g p e s false o = rw (as-35 p e f g s o) (SectionMakes.other l _ p (header-of h f g) (payload-made c places lent p n k a e) s o)
         formed l f g p e s true o = rw (as-made p e f g s o) (SectionMakes.its l (frame h (kindOf c) p loop) (bytes-made p e f g s a b o))
 
-        sized : lies ≡ true → numbersFit h ≡ true → fairHead h ≡ true → (p : List ℕ) → command ≡ made p → (big : Bool) → ltb 4096 (size p) ≡ big → SectionMakes h c places lent loop whole
+        sized : lies ≡ true → fit (headerNumbers h) ≡ true → fairHead h ≡ true → (p : List ℕ) → command ≡ made p → (big : Bool) → ltb 4096 (size p) ≡ big → SectionMakes h c places lent loop whole
         sized l f g p e true s = rw (as-34 p e f g (ltb-true _ _ s)) (SectionMakes.long l _ p (header-of h f g) (payload-made c places lent p n k a e) (ltb-true _ _ s))
         sized l f g p e false s = formed l f g p e (ltb-false _ _ s) (canonicalLoop loop) refl
 
         judged : lies ≡ true → fits ≡ true → (p : List ℕ) → command ≡ made p → (fair : Bool) → fairHead h ≡ fair → SectionMakes h c places lent loop whole
         judged l w p e false g =
-            rw (head-unfair p e (and-true (numbersFit h) (commandFits c places) w .0) g)
+            rw (head-unfair p e (and-true (fit (headerNumbers h)) (fit (commandNumbers c places)) w .0) g)
             (SectionMakes.nobodys l w λ x y o q. zero-one (let z = of-header h x o .1 in cc))
-        judged l w p e true g = sized l (and-true (numbersFit h) (commandFits c places) w .0) g p e (ltb 4096 (size p)) refl
+        judged l w p e true g = sized l (and-true (fit (headerNumbers h)) (fit (commandNumbers c places)) w .0) g p e (ltb 4096 (size p)) refl
 
         fitting : lies ≡ true → fits ≡ true → (command ≡ refused 33) ⊎ ((p : List ℕ) × (command ≡ made p)) → SectionMakes h c places lent loop whole
         fitting l w (inl e) =
-            rw (as-33 (and-true (numbersFit h) (commandFits c places) w .0) e)
+            rw (as-33 (and-true (fit (headerNumbers h)) (fit (commandNumbers c places)) w .0) e)
             (SectionMakes.nobodys l w λ x p o q. zero-one (let z : refused 33 ≡ made p = sym e ∙ made-if-read c places lent p l q in cc))
         fitting l w (inr r) = judged l w (r .0) (r .1) (fairHead h) refl
 
         go : (u : Bool) → lies ≡ u → (v : Bool) → fits ≡ v → SectionMakes h c places lent loop whole
         go false l v w = rw (as-31 l) (SectionMakes.outside l)
         go true l false w = rw (as-32 l w) (SectionMakes.over l w)
-        go true l true w = fitting l w (made-or-not c places lent places-held l (and-true (numbersFit h) (commandFits c places) w .1))
+        go true l true w = fitting l w (made-or-not c places lent places-held l (and-true (fit (headerNumbers h)) (fit (commandNumbers c places)) w .1))
 
     made-reads : (m : Made) (t : List ℕ) → SectionMakes h c places lent loop m → m ≡ made t → SectionBytes h c places lent loop t
     made-reads _ t (SectionMakes.outside l) e = zero-one cc
@@ -264,8 +271,8 @@ module _ (h : SpliceInfoHeader) (c : SpliceCommand) (places : List ComponentSpli
     only-made _ (SectionMakes.over l w) = sym (as-32 l w)
     only-made _ (SectionMakes.nobodys l w none) = go (made-or-not c places lent places-held l (v .1)) (fairHead h) refl
       where
-        v : (numbersFit h ≡ true) × (commandFits c places ≡ true)
-        v = and-true (numbersFit h) (commandFits c places) w
+        v : (fit (headerNumbers h) ≡ true) × (fit (commandNumbers c places) ≡ true)
+        v = and-true (fit (headerNumbers h)) (fit (commandNumbers c places)) w
 
         go : (command ≡ refused 33) ⊎ ((p : List ℕ) × (command ≡ made p)) → (fair : Bool) → fairHead h ≡ fair → refused 33 ≡ whole
         go (inl e) fair g = sym (as-33 (v .0) e)

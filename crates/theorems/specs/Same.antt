@@ -10,7 +10,7 @@ use Rattle.items.specs.Items.{itemsOf}
 use Rattle.loop_laws.specs.Loops.{SameItems}
 use Rattle.section.specs.Section.{commandBytes, privateView}
 use Rattle.section.specs.declared.Section.{Section}
-use Rattle.section_writer.specs.Frame.{headed}
+use Rattle.header.specs.declared.header.SpliceInfoHeader.{SpliceInfoHeader}
 use Rattle.table.specs.Lent.{viewed, placeless}
 use Rattle.theorems.specs.Identifiers.{loopIn}
 
@@ -18,10 +18,18 @@ use Rattle.theorems.specs.Identifiers.{loopIn}
 abbrev pub withoutPlace : SpliceCommand → SpliceCommand
 withoutPlace c = withView placeless c
 
+-- headers: "the header's command length and type .. are left out"
+pub record SameHeader (g h : SpliceInfoHeader) : Type 0 where
+  pub version : g .«protocol_version» ≡ h .«protocol_version»
+  pub encrypted : g .«encrypted_packet» ≡ h .«encrypted_packet»
+  pub algorithm : g .«encryption_algorithm» ≡ h .«encryption_algorithm»
+  pub adjustment : g .«pts_adjustment» ≡ h .«pts_adjustment»
+  pub index : g .«cw_index» ≡ h .«cw_index»
+  pub tiers : g .tier ≡ h .tier
+
 -- x that is read of the bytes s, and y that is read of the bytes r
 pub record SameSections (s : List ℕ) (x : Section) (r : List ℕ) (y : Section) : Type 0 where
-  -- 0 in place of the command's length and type
-  pub headers : headed (x .header) 0 0 ≡ headed (y .header) 0 0
+  pub headers : SameHeader (x .header) (y .header)
   pub commands : withoutPlace (x .command) ≡ withoutPlace (y .command)
   -- as many as the command counts
   pub components : take (countIn (x .command)) (componentsOf (commandBytes s)) ≡ take (countIn (y .command)) (componentsOf (commandBytes r))
