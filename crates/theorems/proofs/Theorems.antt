@@ -99,68 +99,6 @@ use Rattle.theorems.proofs.Tolerated as tolerated
 use Rattle.theorems.proofs.Worked as worked
 use Rattle.theorems.proofs.WrittenBack as written-back
 
--- ---- the worked rows
-
--- 01: "Rows a to n are proved together, one table under one theorem over the definitions."
-pub rows-a-to-n-hold : All Holds rows
-rows-a-to-n-hold = rows-hold.every-row
-
--- "Sections with right CRC and command length 0: 18 and 19 bytes give 8;"
-pub sections-of-18-and-19-bytes-give-8 : (s : List ℕ) → EmptyCommand s → 18 ≤ length s → length s ≤ 19 → numberOf (sectionOf s) ≡ 8
-sections-of-18-and-19-bytes-give-8 = worked.no-loop-length
-
--- "20 with loop length 0 and command type 0 is accepted."
-pub sections-of-20-bytes-are-accepted : (s : List ℕ) → EmptyCommand s → length s ≡ 20 → loopLength s ≡ 0 → commandType s ≡ 0 → (x : Section) × (sectionOf s ≡ SectionRead.Is x)
-sections-of-20-bytes-are-accepted = worked.empty-accepted
-
--- there is one
-pub a-null-is-such-a-section : EmptyCommand spliceNull × (length spliceNull ≡ 20) × (loopLength spliceNull ≡ 0) × (commandType spliceNull ≡ 0)
-a-null-is-such-a-section = worked.null-is-one
-
--- The incident, worked out (`no-mid-of-the-section-is-split`, `writing-back-splits-no-mid` say it of every section): a section whose MID has a part of 8 bytes and one of 12 is read as these two, whole
-pub eight-and-twelve-bytes-are-read-whole : Identified eightAndTwelve (
-    record { start = 35; len = 24; bytes = both }
-    ∷ record { start = 37; len = 8; bytes = eight }
-    ∷ record { start = 47; len = 12; bytes = twelve }
-    ∷ [])
-eight-and-twelve-bytes-are-read-whole = worked.both-whole
-
--- and it is canonical, so it is what is written of its items, and its MID is kept whole
-pub the-section-with-eight-and-twelve-is-canonical : AllBytes eightAndTwelve × (canonicalSection eightAndTwelve ≡ true)
-the-section-with-eight-and-twelve-is-canonical = worked.both-canonical
-
--- ---- numbers and times
-
--- Which value a number stands for: the name that has it in the table of names/specs, and where none has it the value that carries it ("4 to 31 reserved, 32 to 63 private; as a bare
--- number, 64 to 255 too"); and nothing else goes by the table
-pub algorithms-go-by-their-table : OnlyBy algorithmEntry otherAlgorithm algorithmOf fairAlgorithm
-algorithms-go-by-their-table = numbers.algorithms-by
-
-pub command-types-go-by-their-table : OnlyBy commandEntry SpliceCommandType.Reserved commandTypeOf fairCommand
-command-types-go-by-their-table = numbers.commands-by
-
-pub upid-types-go-by-their-table : OnlyBy upidTypeEntry SegmentationUpidType.Reserved upidTypeOf fairUpidType
-upid-types-go-by-their-table = numbers.upid-types-by
-
-pub segmentation-types-go-by-their-table : OnlyBy segmentationEntry SegmentationTypeId.Reserved segmentationOf fairSegmentation
-segmentation-types-go-by-their-table = numbers.segmentations-by
-
--- of device_restrictions each number of two bits has a name
-pub device-restrictions-go-by-their-numbers : (d : DeviceRestrictions) → deviceOf (restrictionsBits d) ≡ d
-device-restrictions-go-by-their-numbers = numbers.device-by
-
--- what a detail has: a cancelled one has no UPID and counts no components
-pub upids-and-counts-of-segmentations : (detailUpid SegmentationDetail.Cancel ≡ blankUpid) × (detailCount SegmentationDetail.Cancel ≡ 0)
-    × ((i : SegmentationInsert) → (detailUpid (SegmentationDetail.Insert i) ≡ i .«segmentation_upid») × (detailCount (SegmentationDetail.Insert i) ≡ countOf (i .«segmentation_mode»)))
-upids-and-counts-of-segmentations = (refl, refl, λ i. (refl, refl))
-
-pub counts-of-inserts : (insertCount SpliceInsert.Cancel ≡ 0) × ((i : Insert) → insertCount (SpliceInsert.Insert i) ≡ count (i .«splice_mode»))
-counts-of-inserts = (refl, λ i. refl)
-
--- "Adjusted time: .. 0 to 17,179,869,182"
-pub an-adjusted-time-is-at-most-17179869182 : (t : SpliceTime) (adjustment n : ℕ) → adjustedOf t adjustment ≡ AdjustedTime.At n → n ≤ 17179869182
-an-adjusted-time-is-at-most-17179869182 = tolerated.adjusted-most
-
 -- ---- acceptance
 
 -- Of 1 to 11, which are the section reader's: "checked in order of number". The number given is that of the first condition that holds, each under its condition
@@ -257,66 +195,6 @@ an-ending-refusal-takes-the-rest-of-the-loop = sections.ending-takes-rest
 pub no-mid-of-the-section-is-split : (s : List ℕ) (x : Section) → sectionOf s ≡ SectionRead.Is x → All (Unsplit s) (midsOf s x)
 no-mid-of-the-section-is-split = sections.mids-unsplit
 
--- ---- what follows from these
-
--- "the loop's items .. cover the loop once", byte by byte: each byte lies in exactly one item
-pub each-byte-of-the-loop-lies-in-one-item : (s : List ℕ) (x : Section) → sectionOf s ≡ SectionRead.Is x → (i : ℕ) → i < length (loopIn s x) → times i (itemsOf (loopIn s x)) ≡ 1
-each-byte-of-the-loop-lies-in-one-item = sections.bytes-in-one-item
-
--- "the direct parts of each accepted MID, heads included, cover that MID once", byte by byte: each byte of a MID, at every depth, lies in exactly one of its direct parts
-pub each-byte-of-a-mid-lies-in-one-part : (s : List ℕ) (x : Section) → sectionOf s ≡ SectionRead.Is x
-    → All (λ mid. All (λ m. m .kind ≡ 13 → Once (partsRead 13 (mid .bytes)) m) (whole (mid .bytes) ∷ partsRead 13 (mid .bytes))) (midsOf s x)
-each-byte-of-a-mid-lies-in-one-part = sections.bytes-in-one-part
-
--- The incident, when it is written back: each item of a canonical section is written again, and what is written, read alone, has the same UPID. So each MID
--- has the same bytes and the same parts, at every level.
-pub writing-back-splits-no-mid : (s : List ℕ) (x : Section) → AllBytes s → sectionOf s ≡ SectionRead.Is x → canonicalSection s ≡ true → All (KeepsUpid (loopIn s x)) (itemsOf (loopIn s x))
-writing-back-splits-no-mid = items-written.keeps-upids
-
--- ---- over the C boundary
-
--- What the writers over C answer, of whatever words: what `CommandAnswer` and `SectionAnswer` say (flat_writer/specs/CommandWords.antt,
--- flat_section_writer/specs/SectionWords.antt), and no other answer is such. So the words of a value's flat form, as a reader over C
--- answers them, are written as the value is written, or refused with the same number; those of a refusal are 33. (A slice has fewer than 2 ^ 64 bytes.)
-pub command-words-are-answered : (words components lent : List ℕ) → CommandAnswer words components lent (commandWordsMade words components lent)
-command-words-are-answered = command-answers.answered
-
-pub command-answers-are-one : (words components lent : List ℕ) → length lent < 2 ^ 64 → (m n : Made) → CommandAnswer words components lent m → CommandAnswer words components lent n → m ≡ n
-command-answers-are-one = command-answers.one-answer
-
-pub section-words-are-answered : (header command components lent loop : List ℕ) → SectionAnswer header command components lent loop (sectionWordsMade header command components lent loop)
-section-words-are-answered = section-answers.answered
-
-pub section-answers-are-one : (header command components lent loop : List ℕ) → length lent < 2 ^ 64 → (m n : Made)
-    → SectionAnswer header command components lent loop m → SectionAnswer header command components lent loop n → m ≡ n
-section-answers-are-one = section-answers.one-answer
-
--- Demand 2 over C: writing the words that are read of a canonical section gives its bytes: its header's and its command's, as `scte35_section` answers them
--- (without the header's last two, the command's length and type, which are not looked at), those of its components, as `scte35_insert_components` answers them, and its loop as it stands in the section
-pub a-canonical-section-is-what-is-written-of-its-words : (s : List ℕ) (x : Section) → AllBytes s → sectionOf s ≡ SectionRead.Is x → canonicalSection s ≡ true
-    → sectionWordsMade (headerWords (flatSectionRead (sectionOf s) .header)) (commandWords (flatSectionRead (sectionOf s) .command))
-    (splicesWords (componentsAnswered s)) s (loopIn s x) ≡ made s
-a-canonical-section-is-what-is-written-of-its-words = sections-over-c.section-again
-
--- (The words of components matter for a command that counts some, an insert by components.)
-pub uncounted-components-are-not-looked-at : (header command v w lent loop : List ℕ) → placesGiven command ≡ 0
-    → sectionWordsMade header command v lent loop ≡ sectionWordsMade header command w lent loop
-uncounted-components-are-not-looked-at = sections-over-c.uncounted
-
--- What is made of the words of any step, with those of what stands beside it: 31 where its view lies outside, 32 where a word is over its field, 33 where the words are no
--- descriptor's, and else what is made of the descriptor that they are (`DescriptorAnswer`, flat_item_writer/specs/ItemWords.antt)
-pub descriptor-words-are-answered : (words beside lent : List ℕ) → DescriptorAnswer words beside lent (descriptorWordsMade words beside lent)
-descriptor-words-are-answered = answered.descriptor-words-are-answered
-
--- and that leaves one answer
-pub descriptor-answers-are-one : (words beside lent : List ℕ) (m n : Made) → DescriptorAnswer words beside lent m → DescriptorAnswer words beside lent n → m ≡ n
-descriptor-answers-are-one words beside lent m n = answered.descriptor-answers-are-one words beside lent
-
--- and by items: each item of a canonical section is written of its words as its own bytes, which joined are its loop (`a-canonical-section-is-what-is-written-of-its-items`)
-pub the-items-of-a-canonical-section-are-written-of-their-words : (s : List ℕ) (x : Section) → AllBytes s → sectionOf s ≡ SectionRead.Is x → canonicalSection s ≡ true
-    → All (λ y. wordsMadeAt (loopIn s x) y ≡ made (runOf (loopIn s x) y)) (itemsOf (loopIn s x))
-the-items-of-a-canonical-section-are-written-of-their-words = loops-over-c.items-again
-
 -- ---- writing
 
 -- "A refused write leaves the target's bytes". By each writer's contract `answerOf` is its answer and `laterOf` are the target's later bytes, of what is made, m
@@ -403,3 +281,125 @@ canonical-sections-of-equal-answers-are-one = answers.one-answer
 -- and each has the answers of itself
 pub a-canonical-section-has-its-own-answers : (s : List ℕ) (x : Section) → AllBytes s → sectionOf s ≡ SectionRead.Is x → canonicalSection s ≡ true → SameSections s x s x
 a-canonical-section-has-its-own-answers = answers.own-answer
+
+-- ---- what follows from these
+
+-- "the loop's items .. cover the loop once", byte by byte: each byte lies in exactly one item
+pub each-byte-of-the-loop-lies-in-one-item : (s : List ℕ) (x : Section) → sectionOf s ≡ SectionRead.Is x → (i : ℕ) → i < length (loopIn s x) → times i (itemsOf (loopIn s x)) ≡ 1
+each-byte-of-the-loop-lies-in-one-item = sections.bytes-in-one-item
+
+-- "the direct parts of each accepted MID, heads included, cover that MID once", byte by byte: each byte of a MID, at every depth, lies in exactly one of its direct parts
+pub each-byte-of-a-mid-lies-in-one-part : (s : List ℕ) (x : Section) → sectionOf s ≡ SectionRead.Is x
+    → All (λ mid. All (λ m. m .kind ≡ 13 → Once (partsRead 13 (mid .bytes)) m) (whole (mid .bytes) ∷ partsRead 13 (mid .bytes))) (midsOf s x)
+each-byte-of-a-mid-lies-in-one-part = sections.bytes-in-one-part
+
+-- The incident, when it is written back: each item of a canonical section is written again, and what is written, read alone, has the same UPID. So each MID
+-- has the same bytes and the same parts, at every level.
+pub writing-back-splits-no-mid : (s : List ℕ) (x : Section) → AllBytes s → sectionOf s ≡ SectionRead.Is x → canonicalSection s ≡ true → All (KeepsUpid (loopIn s x)) (itemsOf (loopIn s x))
+writing-back-splits-no-mid = items-written.keeps-upids
+
+-- ---- numbers and times
+
+-- Which value a number stands for: the name that has it in the table of names/specs, and where none has it the value that carries it ("4 to 31 reserved, 32 to 63 private; as a bare
+-- number, 64 to 255 too"); and nothing else goes by the table
+pub algorithms-go-by-their-table : OnlyBy algorithmEntry otherAlgorithm algorithmOf fairAlgorithm
+algorithms-go-by-their-table = numbers.algorithms-by
+
+pub command-types-go-by-their-table : OnlyBy commandEntry SpliceCommandType.Reserved commandTypeOf fairCommand
+command-types-go-by-their-table = numbers.commands-by
+
+pub upid-types-go-by-their-table : OnlyBy upidTypeEntry SegmentationUpidType.Reserved upidTypeOf fairUpidType
+upid-types-go-by-their-table = numbers.upid-types-by
+
+pub segmentation-types-go-by-their-table : OnlyBy segmentationEntry SegmentationTypeId.Reserved segmentationOf fairSegmentation
+segmentation-types-go-by-their-table = numbers.segmentations-by
+
+-- of device_restrictions each number of two bits has a name
+pub device-restrictions-go-by-their-numbers : (d : DeviceRestrictions) → deviceOf (restrictionsBits d) ≡ d
+device-restrictions-go-by-their-numbers = numbers.device-by
+
+-- what a detail has: a cancelled one has no UPID and counts no components
+pub upids-and-counts-of-segmentations : (detailUpid SegmentationDetail.Cancel ≡ blankUpid) × (detailCount SegmentationDetail.Cancel ≡ 0)
+    × ((i : SegmentationInsert) → (detailUpid (SegmentationDetail.Insert i) ≡ i .«segmentation_upid») × (detailCount (SegmentationDetail.Insert i) ≡ countOf (i .«segmentation_mode»)))
+upids-and-counts-of-segmentations = (refl, refl, λ i. (refl, refl))
+
+pub counts-of-inserts : (insertCount SpliceInsert.Cancel ≡ 0) × ((i : Insert) → insertCount (SpliceInsert.Insert i) ≡ count (i .«splice_mode»))
+counts-of-inserts = (refl, λ i. refl)
+
+-- "Adjusted time: .. 0 to 17,179,869,182"
+pub an-adjusted-time-is-at-most-17179869182 : (t : SpliceTime) (adjustment n : ℕ) → adjustedOf t adjustment ≡ AdjustedTime.At n → n ≤ 17179869182
+an-adjusted-time-is-at-most-17179869182 = tolerated.adjusted-most
+
+-- ---- the worked rows
+
+-- 01: "Rows a to n are proved together, one table under one theorem over the definitions."
+pub rows-a-to-n-hold : All Holds rows
+rows-a-to-n-hold = rows-hold.every-row
+
+-- "Sections with right CRC and command length 0: 18 and 19 bytes give 8;"
+pub sections-of-18-and-19-bytes-give-8 : (s : List ℕ) → EmptyCommand s → 18 ≤ length s → length s ≤ 19 → numberOf (sectionOf s) ≡ 8
+sections-of-18-and-19-bytes-give-8 = worked.no-loop-length
+
+-- "20 with loop length 0 and command type 0 is accepted."
+pub sections-of-20-bytes-are-accepted : (s : List ℕ) → EmptyCommand s → length s ≡ 20 → loopLength s ≡ 0 → commandType s ≡ 0 → (x : Section) × (sectionOf s ≡ SectionRead.Is x)
+sections-of-20-bytes-are-accepted = worked.empty-accepted
+
+-- there is one
+pub a-null-is-such-a-section : EmptyCommand spliceNull × (length spliceNull ≡ 20) × (loopLength spliceNull ≡ 0) × (commandType spliceNull ≡ 0)
+a-null-is-such-a-section = worked.null-is-one
+
+-- The incident, worked out (`no-mid-of-the-section-is-split`, `writing-back-splits-no-mid` say it of every section): a section whose MID has a part of 8 bytes and one of 12 is read as these two, whole
+pub eight-and-twelve-bytes-are-read-whole : Identified eightAndTwelve (
+    record { start = 35; len = 24; bytes = both }
+    ∷ record { start = 37; len = 8; bytes = eight }
+    ∷ record { start = 47; len = 12; bytes = twelve }
+    ∷ [])
+eight-and-twelve-bytes-are-read-whole = worked.both-whole
+
+-- and it is canonical, so it is what is written of its items, and its MID is kept whole
+pub the-section-with-eight-and-twelve-is-canonical : AllBytes eightAndTwelve × (canonicalSection eightAndTwelve ≡ true)
+the-section-with-eight-and-twelve-is-canonical = worked.both-canonical
+
+-- ---- over the C boundary
+
+-- What the writers over C answer, of whatever words: what `CommandAnswer` and `SectionAnswer` say (flat_writer/specs/CommandWords.antt,
+-- flat_section_writer/specs/SectionWords.antt), and no other answer is such. So the words of a value's flat form, as a reader over C
+-- answers them, are written as the value is written, or refused with the same number; those of a refusal are 33. (A slice has fewer than 2 ^ 64 bytes.)
+pub command-words-are-answered : (words components lent : List ℕ) → CommandAnswer words components lent (commandWordsMade words components lent)
+command-words-are-answered = command-answers.answered
+
+pub command-answers-are-one : (words components lent : List ℕ) → length lent < 2 ^ 64 → (m n : Made) → CommandAnswer words components lent m → CommandAnswer words components lent n → m ≡ n
+command-answers-are-one = command-answers.one-answer
+
+pub section-words-are-answered : (header command components lent loop : List ℕ) → SectionAnswer header command components lent loop (sectionWordsMade header command components lent loop)
+section-words-are-answered = section-answers.answered
+
+pub section-answers-are-one : (header command components lent loop : List ℕ) → length lent < 2 ^ 64 → (m n : Made)
+    → SectionAnswer header command components lent loop m → SectionAnswer header command components lent loop n → m ≡ n
+section-answers-are-one = section-answers.one-answer
+
+-- Demand 2 over C: writing the words that are read of a canonical section gives its bytes: its header's and its command's, as `scte35_section` answers them
+-- (without the header's last two, the command's length and type, which are not looked at), those of its components, as `scte35_insert_components` answers them, and its loop as it stands in the section
+pub a-canonical-section-is-what-is-written-of-its-words : (s : List ℕ) (x : Section) → AllBytes s → sectionOf s ≡ SectionRead.Is x → canonicalSection s ≡ true
+    → sectionWordsMade (headerWords (flatSectionRead (sectionOf s) .header)) (commandWords (flatSectionRead (sectionOf s) .command))
+    (splicesWords (componentsAnswered s)) s (loopIn s x) ≡ made s
+a-canonical-section-is-what-is-written-of-its-words = sections-over-c.section-again
+
+-- (The words of components matter for a command that counts some, an insert by components.)
+pub uncounted-components-are-not-looked-at : (header command v w lent loop : List ℕ) → placesGiven command ≡ 0
+    → sectionWordsMade header command v lent loop ≡ sectionWordsMade header command w lent loop
+uncounted-components-are-not-looked-at = sections-over-c.uncounted
+
+-- What is made of the words of any step, with those of what stands beside it: 31 where its view lies outside, 32 where a word is over its field, 33 where the words are no
+-- descriptor's, and else what is made of the descriptor that they are (`DescriptorAnswer`, flat_item_writer/specs/ItemWords.antt)
+pub descriptor-words-are-answered : (words beside lent : List ℕ) → DescriptorAnswer words beside lent (descriptorWordsMade words beside lent)
+descriptor-words-are-answered = answered.descriptor-words-are-answered
+
+-- and that leaves one answer
+pub descriptor-answers-are-one : (words beside lent : List ℕ) (m n : Made) → DescriptorAnswer words beside lent m → DescriptorAnswer words beside lent n → m ≡ n
+descriptor-answers-are-one words beside lent m n = answered.descriptor-answers-are-one words beside lent
+
+-- and by items: each item of a canonical section is written of its words as its own bytes, which joined are its loop (`a-canonical-section-is-what-is-written-of-its-items`)
+pub the-items-of-a-canonical-section-are-written-of-their-words : (s : List ℕ) (x : Section) → AllBytes s → sectionOf s ≡ SectionRead.Is x → canonicalSection s ≡ true
+    → All (λ y. wordsMadeAt (loopIn s x) y ≡ made (runOf (loopIn s x) y)) (itemsOf (loopIn s x))
+the-items-of-a-canonical-section-are-written-of-their-words = loops-over-c.items-again
