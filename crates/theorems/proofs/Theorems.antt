@@ -206,7 +206,7 @@ a-refused-write-changes-no-byte = targets.kept
 pub an-accepted-write-changes-only-its-result : (m : Made) (target : List ℕ) (n : ℕ) → answerOf m target ≡ Written.Wrote n → ChangesOnlyResult m target n
 an-accepted-write-changes-only-its-result = targets.changed
 
--- What is made of a command, by what the command reader answers and the widths of the tables' fields: 31 and 32 by their rows, 33 exactly where the command is "a value that no
+-- What is made of a command, by what the command reader answers and the widths of the fields: 31 and 32 by their rows, 33 exactly where the command is "a value that no
 -- canonical reading has", and else the canonical payload that reads as it (`CommandMakes`, specs/Making.antt). So 01's list for 33 is no more and no less than that.
 -- (An array has 255 places, and a count is a byte.)
 pub what-is-made-of-a-command : (c : SpliceCommand) (places : List ComponentSplice) (lent : List ℕ) → length places ≡ 255 → countIn c ≤ 255 → AllBytes lent
