@@ -21,7 +21,7 @@ use Rattle.table.proofs.Structure as laws
 use Rattle.upid.specs.Upid.{checkOf}
 use Rattle.upid.proofs.Walks.{empty}
 use Rattle.descriptor.specs.Plain.{avail, dtmf, time, privateBytes}
-use Rattle.descriptor.specs.Segmentation.{componentCount, agrees, backOf, countOf, fairDetail, fairFront, frontOf, head, insertFrom, segmentation}
+use Rattle.descriptor.specs.Segmentation.{componentCount, agrees, backOf, countOf, fairDetail, fairFront, frontOf, head, insertFrom, segmentation, detailUpid}
 use Rattle.descriptor.specs.Views.{withoutView, detailViews, descriptorViews, withUpids}
 use Rattle.descriptor.specs.declared.Descriptor.{Descriptor}
 use Rattle.descriptor.specs.declared.Descriptor.the-variants.{Avail, Dtmf, Segmentation, Time, Reserved}
@@ -38,7 +38,7 @@ use Rattle.descriptor_form.specs.Same.{SameReading, withoutPlaces, bytesOfViews
 use Rattle.descriptor_form.specs.Writing.{framedMade, allZero, alone, fairReserved, accepts, fairUpid, fairSegment, segmentationMade, payloadMade, descriptorMade, tagOf, identifierOf, upidIn, upidSource, writtenDetail, writtenKind, writtenUpid}
 use Rattle.descriptor_form.proofs.Fields.{insert-fields}
 use Rattle.descriptor_form.proofs.Making.{all-fair, by-table, counted, zero-view}
-use Rattle.descriptor_laws.specs.Making.{detailView, viewIn}
+use Rattle.descriptor_laws.specs.Making.{viewIn}
 use Rattle.descriptor_laws.proofs.PlainLaws.{viewed-at}
 use Rattle.descriptor_laws.proofs.PlainTrips.{unframed}
 use Rattle.descriptor_laws.proofs.Remade.{same-make, withUpid, insert-makes, insert-seen}
@@ -52,6 +52,10 @@ pub record SameView (s : List ℕ) (v : View) (r : List ℕ) (w : View) : Type 0
   pub bytes : viewed s v ≡ viewed r w
   pub left : v .at + v .len ≤ length s
   pub right : w .at + w .len ≤ length r
+
+-- the view of a detail: the blank where it is cancelled
+abbrev pub detailView : SegmentationDetail → View
+detailView d = detailUpid d .bytes
 
 -- the same with another view
 abbrev insertAt : View → SegmentationInsert → SegmentationInsert

@@ -11,7 +11,7 @@ use Rattle.table.specs.Bits.{AllBytes}
 use Rattle.table.specs.Lent.{noView, liesIn}
 use Rattle.table.specs.Writing.{Made, made, refused}
 use Rattle.table.specs.declared.View.{View}
-use Rattle.descriptor.specs.Segmentation.{countOf, ticks, subSegment}
+use Rattle.descriptor.specs.Segmentation.{countOf, detailUpid, subSegment, ticks}
 use Rattle.descriptor.specs.Views.{byDescriptor}
 use Rattle.descriptor.specs.Whole.{wholeOf}
 use Rattle.descriptor.specs.declared.Descriptor.{Descriptor}
@@ -27,13 +27,9 @@ use Rattle.descriptor_form.specs.Writing.{framed}
 
 -- ---- 31: the view that is handed in, also where it should be blank
 
-abbrev pub detailView : SegmentationDetail → View
-detailView Cancel = noView
-detailView (Insert i) = i .«segmentation_upid» .bytes
-
 -- the blank where there is none
 abbrev pub viewIn : Descriptor → View
-viewIn d = byDescriptor (λ x. noView) (λ x. x .«dtmf_chars») (λ x. detailView (x .«descriptor_detail»)) (λ x. noView) (λ tag own. own) d
+viewIn d = byDescriptor (λ x. noView) (λ x. x .«dtmf_chars») (λ x. detailUpid (x .«descriptor_detail») .bytes) (λ x. noView) (λ tag own. own) d
 
 -- ---- 32: the numbers that are handed in, each with the bits of its field before it. 01, "Loop items"
 
@@ -74,7 +70,7 @@ pub record Payload (d : Descriptor) (identifier : List ℕ) (beside : Beside) (l
   pub reading : wholeOf tag id p .read ≡ Is again
   pub same : SameReading p again (wholeOf tag id p .identifier) (wholeOf tag id p .beside) lent d identifier beside
 
--- "31 to 36 are checked in order of number"
+-- "31 to 36 are checked in order of number". (Where there is a payload, each number was read of its field, so that 32 does not apply.)
 pub data DescriptorMakes (d : Descriptor) (identifier : List ℕ) (beside : Beside) (lent : List ℕ) : Made → Type 0 where
   -- 31: "a view reaches outside the lent bytes"
   outside : liesIn lent (viewIn d) ≡ false → DescriptorMakes d identifier beside lent (refused 31)

@@ -1,5 +1,6 @@
 -- The items of a loop that is cut into canonical descriptors, written again; and descriptors that are written, joined and read.
---     join-back      what is written of the items, joined, is the loop
+--     written-at     what is written of an item is the piece, which is the item's run
+--     every-item     what holds of each item where a piece stands holds of all
 --     one-cut        loops with the same items are cut into the same descriptors
 --     given-back     what is written of descriptors, joined, has them as its items
 use Prim.Native.Nat.{ℕ, _+_, _-_, _≤_}
@@ -24,7 +25,7 @@ use Rattle.descriptor_form.specs.Canonical.{canonicalLoop}
 use Rattle.descriptor_form.specs.Same.{bytesOfViews, countBeside}
 use Rattle.descriptor_form.specs.Writing.{descriptorMade}
 use Rattle.descriptor_laws.specs.Making.{viewIn}
-use Rattle.descriptor_laws.specs.Trips.{wholeIn, ReadAs}
+use Rattle.descriptor_laws.specs.Trips.{wholeIn, ReadAs, Handed}
 use Rattle.descriptor_laws.proofs.Alike.{SameView, NoneTold, made-told, alike-made, same-made}
 use Rattle.descriptor_laws.proofs.Theorems.{descriptor-write-read}
 use Rattle.descriptor_laws.proofs.Wholes.{whole-back}
@@ -34,7 +35,7 @@ use Rattle.items.specs.Place.{movedDescriptor}
 use Rattle.items.specs.declared.Item.{Item}
 use Rattle.items.specs.declared.Item.the-variants.{Is}
 use Rattle.items.specs.declared.reading.Reading.{Reading}
-use Rattle.loop_laws.specs.Loops.{WrittenAgain, Given, givenMade, GivenTypes, ItemBack, SameItems, ItemsBack, Pairs, over, pair}
+use Rattle.loop_laws.specs.Loops.{WrittenAgain, Given, givenMade, ItemBack, Pairs, over, pair, SameItem}
 use Rattle.loop_laws.proofs.Pieces.{Canonical, cut-canonical, At, Items, end, item, run-is, items-cut}
 use Rattle.loop_laws.proofs.Places.{moved-values, moved-count, moved-view, moved-bytes}
 
@@ -160,7 +161,7 @@ named loop o t a h d e =
     )
 
 module _ (loop other : List ℕ) (fits : length loop ≤ 4076) (fits₂ : length other ≤ 4076) where
-  pub one-cut : {o₁ o₂ : ℕ} {ts us : List (List ℕ)} {xs ys : List Listed} → Items loop fits o₁ ts xs → Items other fits₂ o₂ us ys → All AllBytes ts → All AllBytes us → SameItems loop other xs ys → ts ≡ us
+  pub one-cut : {o₁ o₂ : ℕ} {ts us : List (List ℕ)} {xs ys : List Listed} → Items loop fits o₁ ts xs → Items other fits₂ o₂ us ys → All AllBytes ts → All AllBytes us → Pairs (SameItem loop other) xs ys → ts ≡ us
   one-cut end end none none over = refl
   one-cut (item {offset = o} {t = t} a i) (item {offset = q} {t = u} b j) (more h hs) (more k ks) (pair s ss) =
       let r = s .back in
@@ -176,20 +177,20 @@ module _ (loop other : List ℕ) (fits : length loop ≤ 4076) (fits₂ : length
 abbrev Reads : List (List ℕ) → List Given → Type 0
 Reads ts gs = Pairs (λ (t : List ℕ) (g : Given). ReadAs t (g .descriptor) (g .identifier) (g .beside) (g .lent)) ts gs
 
-items-back : (loop : List ℕ) (fits : length loop ≤ 4076) {offset : ℕ} {ts : List (List ℕ)} {xs : List Listed} {gs : List Given} → Items loop fits offset ts xs → Reads ts gs → ItemsBack loop xs gs
+items-back : (loop : List ℕ) (fits : length loop ≤ 4076) {offset : ℕ} {ts : List (List ℕ)} {xs : List Listed} {gs : List Given} → Items loop fits offset ts xs → Reads ts gs → Pairs (ItemBack loop) xs gs
 items-back loop fits end over = over
 items-back loop fits (item {offset = o} {t = t} a i) (pair {y = g} r rs) = pair (given-at loop o t a g r) (items-back loop fits i rs)
 
 -- descriptors that are handed in, and the bytes that are written of each
-given-cut : {gs : List Given} {bs : List (List ℕ)} → All GivenTypes gs → Pairs (λ (g : Given) (b : List ℕ). givenMade g ≡ made b) gs bs → All Canonical bs × Reads bs gs
+given-cut : {gs : List Given} {bs : List (List ℕ)} → All (λ (g : Given). Handed (g .descriptor) (g .identifier) (g .beside) (g .lent)) gs → Pairs (λ (g : Given) (b : List ℕ). givenMade g ≡ made b) gs bs → All Canonical bs × Reads bs gs
 given-cut none over = (none, over)
 given-cut (more {x = g} h hs) (pair {y = t} e es) =
     let i = given-cut hs es in
     let r = descriptor-write-read (g .descriptor) (g .identifier) (g .beside) (g .lent) t h e in
     (more (r .1) (i .0), pair (r .0) (i .1))
 
-pub given-back : {gs : List Given} {bs : List (List ℕ)} → All GivenTypes gs → length (joined bs) ≤ 4076 → Pairs (λ (g : Given) (b : List ℕ). givenMade g ≡ made b) gs bs
-    → (canonicalLoop (joined bs) ≡ true) × ItemsBack (joined bs) (itemsOf (joined bs)) gs
+pub given-back : {gs : List Given} {bs : List (List ℕ)} → All (λ (g : Given). Handed (g .descriptor) (g .identifier) (g .beside) (g .lent)) gs → length (joined bs) ≤ 4076 → Pairs (λ (g : Given) (b : List ℕ). givenMade g ≡ made b) gs bs
+    → (canonicalLoop (joined bs) ≡ true) × Pairs (ItemBack (joined bs)) (itemsOf (joined bs)) gs
 given-back {gs} {bs} hs fits es =
     let c = given-cut hs es in
     (cut-canonical (c .0), items-back (joined bs) fits (items-cut (joined bs) fits (c .0) refl) (c .1))

@@ -20,8 +20,8 @@ use Rattle.descriptor.specs.declared.segmentation.SegmentationDetail.{Segmentat
 use Rattle.descriptor.specs.declared.segmentation.SegmentationDetail.the-variants.{Cancel, Insert}
 use Rattle.descriptor.specs.declared.segmentation.SegmentationUpid.{SegmentationUpid}
 use Rattle.descriptor_form.specs.Same.{withoutPlaces, bytesOfViews, countBeside, placelessUpid}
-use Rattle.descriptor_laws.specs.Making.{detailView, viewIn}
-use Rattle.descriptor_laws.proofs.Alike.{SameView, DetailTold, NoneTold, by-bytes, both-none, no-views}
+use Rattle.descriptor_laws.specs.Making.{viewIn}
+use Rattle.descriptor_laws.proofs.Alike.{SameView, DetailTold, NoneTold, by-bytes, both-none, no-views, detailView}
 use Rattle.descriptor_laws.proofs.PlainLaws.{viewed-at}
 use Rattle.items.specs.Place.{movedUpid, movedDescriptor}
 use Rattle.items.proofs.Places.{item-views}

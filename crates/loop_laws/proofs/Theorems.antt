@@ -12,7 +12,8 @@ use Rattle.descriptor_form.specs.Canonical.{canonicalLoop}
 use Rattle.items.proofs.Theorems.{items-cover-the-loop}
 use Rattle.items.specs.Cover.{joined, runOf}
 use Rattle.items.specs.Items.{itemsOf}
-use Rattle.loop_laws.specs.Loops.{WrittenAgain, SameItems, Given, givenMade, GivenTypes, ItemsBack, Pairs}
+use Rattle.descriptor_laws.specs.Trips.{Handed}
+use Rattle.loop_laws.specs.Loops.{WrittenAgain, Given, givenMade, Pairs, ItemBack, SameItem}
 use Rattle.loop_laws.proofs.Loops.{all-pieces, written-at, every-item, one-cut, given-back}
 use Rattle.loop_laws.proofs.Pieces.{Canonical, canonical-cut, items-cut}
 
@@ -30,7 +31,7 @@ a-canonical-loop-is-what-is-written-of-its-items loop a fits c =
 
 -- Two different canonical loops never have the same items.
 pub canonical-loops-of-the-same-items-are-one : (loop other : List ℕ) → AllBytes loop → AllBytes other → length loop ≤ 4076 → length other ≤ 4076 → canonicalLoop loop ≡ true → canonicalLoop other ≡ true
-    → SameItems loop other (itemsOf loop) (itemsOf other) → loop ≡ other
+    → Pairs (SameItem loop other) (itemsOf loop) (itemsOf other) → loop ≡ other
 canonical-loops-of-the-same-items-are-one loop other a b fits fits₂ c d same =
     let t = cut loop c in
     let u = cut other d in
@@ -39,6 +40,6 @@ canonical-loops-of-the-same-items-are-one loop other a b fits fits₂ c d same =
     sym (t .2) ∙ ap joined e ∙ u .2
 
 -- What is written of descriptors, joined in order, is a canonical loop, and its items read back as what was handed in.
-pub descriptors-written-in-order-are-the-items-of-a-canonical-loop : (gs : List Given) (bs : List (List ℕ)) → All GivenTypes gs → length (joined bs) ≤ 4076
-    → Pairs (λ (g : Given) (b : List ℕ). givenMade g ≡ made b) gs bs → (canonicalLoop (joined bs) ≡ true) × ItemsBack (joined bs) (itemsOf (joined bs)) gs
+pub descriptors-written-in-order-are-the-items-of-a-canonical-loop : (gs : List Given) (bs : List (List ℕ)) → All (λ (g : Given). Handed (g .descriptor) (g .identifier) (g .beside) (g .lent)) gs → length (joined bs) ≤ 4076
+    → Pairs (λ (g : Given) (b : List ℕ). givenMade g ≡ made b) gs bs → (canonicalLoop (joined bs) ≡ true) × Pairs (ItemBack (joined bs)) (itemsOf (joined bs)) gs
 descriptors-written-in-order-are-the-items-of-a-canonical-loop gs bs h fits e = given-back h fits e

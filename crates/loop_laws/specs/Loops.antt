@@ -7,7 +7,6 @@ use Rattle.descriptor.specs.declared.Descriptor.{Descriptor}
 use Rattle.descriptor.specs.declared.whole.Beside.{Beside}
 use Rattle.descriptor_form.specs.Same.{SameReading}
 use Rattle.descriptor_form.specs.Writing.{descriptorMade}
-use Rattle.descriptor_laws.specs.Trips.{Handed}
 use Rattle.items.specs.Cover.{runOf}
 use Rattle.items.specs.Items.{readingOf, Listed}
 use Rattle.items.specs.declared.Item.the-variants.{Is}
@@ -22,12 +21,6 @@ pub record Given : Type 0 where
 
 abbrev pub givenMade : Given → Made
 givenMade g = descriptorMade (g .descriptor) (g .identifier) (g .beside) (g .lent)
-
-abbrev pub GivenTypes : Given → Type 0
-GivenTypes g = Handed (g .descriptor) (g .identifier) (g .beside) (g .lent)
-
-abbrev pub SameGiven : Given → Given → Type 0
-SameGiven g h = SameReading (g .lent) (g .descriptor) (g .identifier) (g .beside) (h .lent) (h .descriptor) (h .identifier) (h .beside)
 
 -- the item x of a loop, as it is read, where it is the descriptor d: "The descriptor writer takes a readable item with the bytes its views refer to", which are the loop's
 abbrev pub itemGiven : List ℕ → Listed → Descriptor → Given
@@ -47,7 +40,7 @@ pub record WrittenAgain (loop : List ℕ) (x : Listed) : Type 0 where
 pub record ItemBack (loop : List ℕ) (x : Listed) (g : Given) : Type 0 where
   pub again : Descriptor
   pub is : x .step .item ≡ Is again
-  pub same : SameGiven (itemGiven loop x again) g
+  pub same : SameReading loop again (x .step .identifier) (readingOf loop (x .offset) .beside) (g .lent) (g .descriptor) (g .identifier) (g .beside)
 
 -- the item x of one loop and the item y of another are descriptors with equal readings
 pub record SameItem (loop other : List ℕ) (x y : Listed) : Type 0 where
@@ -59,9 +52,3 @@ pub record SameItem (loop other : List ℕ) (x y : Listed) : Type 0 where
 pub data Pairs {A B : Type 0} (R : A → B → Type 0) : List A → List B → Type 0 where
   over : Pairs R [] []
   pair : {x : A} {y : B} {xs : List A} {ys : List B} → R x y → Pairs R xs ys → Pairs R (x ∷ xs) (y ∷ ys)
-
-abbrev pub ItemsBack : List ℕ → List Listed → List Given → Type 0
-ItemsBack loop xs gs = Pairs (ItemBack loop) xs gs
-
-abbrev pub SameItems : List ℕ → List ℕ → List Listed → List Listed → Type 0
-SameItems loop other xs ys = Pairs (SameItem loop other) xs ys

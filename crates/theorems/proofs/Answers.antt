@@ -18,7 +18,7 @@ use Rattle.header.specs.Time.{spliceTime, notImmediate}
 use Rattle.items.specs.Items.{Listed, listed}
 use Rattle.loop_laws.proofs.Loops.{back-at}
 use Rattle.loop_laws.proofs.Pieces.{At}
-use Rattle.loop_laws.specs.Loops.{SameItem, SameItems, over, pair}
+use Rattle.loop_laws.specs.Loops.{SameItem, over, pair, Pairs}
 use Rattle.pen.specs.Written.{bytesIn}
 use Rattle.section.specs.Section.{commandType, commandBytes, privateView, sectionOf}
 use Rattle.section.specs.declared.Section.{Section}
@@ -108,7 +108,7 @@ own-item loop offset t at all =
       back = record { again = b .read; is = b .is; same = record { values = refl; bytes = refl; identifiers = refl; components = refl; eidrs = refl } };
     }
 
-own-items : (loop : List ℕ) {xs : List Listed} → All (λ (y : Listed). SameItem loop loop y y) xs → SameItems loop loop xs xs
+own-items : (loop : List ℕ) {xs : List Listed} → All (λ (y : Listed). SameItem loop loop y y) xs → Pairs (SameItem loop loop) xs xs
 own-items loop none = over
 own-items loop (more h hs) = pair h (own-items loop hs)
 

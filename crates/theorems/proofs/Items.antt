@@ -36,7 +36,8 @@ use Rattle.items.specs.declared.Step.{Step}
 use Rattle.loop_laws.proofs.Places.{run-of-run, kind-stays}
 use Rattle.upid.specs.Walk as upid-laws
 use Rattle.upid.specs.Walk.{Accepted}
-use Rattle.theorems.specs.Identifiers.{Identifier, OneRun, inLent, detailUpids, descriptorUpids, upidsOf, upidStart, besidesOf, Announced, Unsplit}
+use Rattle.items.specs.declared.Item.{Item}
+use Rattle.theorems.specs.Identifiers.{Identifier, OneRun, inLent, detailUpids, upidsOf, upidStart, besidesOf, Announced, Unsplit}
 use Rattle.theorems.proofs.Runs.{viewed-is, viewed-inside, length-viewed, length-run, lent-run, getD-run}
 use Rattle.theorems.proofs.Upids.{upidsRead, Source, sources}
 
@@ -46,7 +47,7 @@ detail-upids : (base : ℕ) (d : SegmentationDetail) → detailUpids (movedDetai
 detail-upids base SegmentationDetail.Cancel = refl
 detail-upids base (SegmentationDetail.Insert i) = refl
 
-descriptor-upids : (base : ℕ) (d : Descriptor) → descriptorUpids (movedDescriptor base d) ≡ map (movedUpid base) (descriptorUpids d)
+descriptor-upids : (base : ℕ) (d : Descriptor) → upidsOf (Item.Is (movedDescriptor base d)) ≡ map (movedUpid base) (upidsOf (Item.Is d))
 descriptor-upids base (Descriptor.Avail x) = refl
 descriptor-upids base (Descriptor.Dtmf x) = refl
 descriptor-upids base (Descriptor.Segmentation x) = detail-upids base (x .«descriptor_detail»)

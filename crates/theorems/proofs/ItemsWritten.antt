@@ -14,9 +14,9 @@ use Rattle.descriptor.specs.declared.Descriptor.{Descriptor}
 use Rattle.descriptor.specs.declared.segmentation.SegmentationDetail.{SegmentationDetail}
 use Rattle.descriptor.specs.declared.whole.Beside.{Beside}
 use Rattle.descriptor_form.specs.Canonical.{canonicalLoop}
-use Rattle.descriptor_laws.proofs.Alike.{SameView}
-use Rattle.descriptor_laws.specs.Making.{detailView, viewIn}
-use Rattle.descriptor_laws.specs.Trips.{wholeIn}
+use Rattle.descriptor_laws.proofs.Alike.{SameView, detailView}
+use Rattle.descriptor_laws.specs.Making.{viewIn}
+use Rattle.descriptor_laws.specs.Trips.{wholeIn, Handed}
 use Rattle.items.specs.Cover.{joined, runOf}
 use Rattle.items.specs.Items.{Listed, listed, itemsOf}
 use Rattle.items.specs.Place.{movedDescriptor}
@@ -26,7 +26,7 @@ use Rattle.loop_laws.proofs.Loops.{all-pieces, back-at, beside-is, written-at, 
 use Rattle.loop_laws.proofs.Pieces.{At, run-is, items-cut}
 use Rattle.loop_laws.proofs.Places.{kind-stays}
 use Rattle.loop_laws.proofs.Theorems.{cut, a-canonical-loop-is-what-is-written-of-its-items, canonical-loops-of-the-same-items-are-one, descriptors-written-in-order-are-the-items-of-a-canonical-loop}
-use Rattle.loop_laws.specs.Loops.{WrittenAgain, SameItems, Given, givenMade, GivenTypes, ItemsBack, Pairs}
+use Rattle.loop_laws.specs.Loops.{WrittenAgain, Given, givenMade, Pairs, ItemBack, SameItem}
 use Rattle.section.specs.Section.{loopBytes, sectionOf}
 use Rattle.section.specs.declared.Section.{Section}
 use Rattle.section.specs.declared.SectionRead.{SectionRead}
@@ -40,7 +40,7 @@ use Rattle.table.specs.Writing.{made}
 use Rattle.table.specs.declared.View.{View}
 use Rattle.upid.specs.Cover.{All}
 use Rattle.upid.specs.Upid.{upidOf, partsIn}
-use Rattle.theorems.specs.Identifiers.{loopIn, detailUpids, descriptorUpids, upidsOf}
+use Rattle.theorems.specs.Identifiers.{loopIn, detailUpids, upidsOf}
 use Rattle.theorems.specs.Written.{UpidHeld, heldIn, KeepsUpid}
 use Rattle.theorems.proofs.Framed.{laid}
 use Rattle.theorems.proofs.Sections.{loop-short}
@@ -76,7 +76,7 @@ module _ (p loop : List ℕ) (base : ℕ) where
       held : ℕ → List ℕ → UpidHeld
       held k b = record { kind = k; bytes = b; parts = partsIn (upidOf k b) }
 
-  descriptor-held : (d : Descriptor) → SameView p (viewIn d) loop (viewIn (movedDescriptor base d)) → map (heldIn p) (descriptorUpids d) ≡ map (heldIn loop) (descriptorUpids (movedDescriptor base d))
+  descriptor-held : (d : Descriptor) → SameView p (viewIn d) loop (viewIn (movedDescriptor base d)) → map (heldIn p) (upidsOf (Item.Is d)) ≡ map (heldIn loop) (upidsOf (Item.Is (movedDescriptor base d)))
   descriptor-held (Descriptor.Avail x) h = refl
   descriptor-held (Descriptor.Dtmf x) h = refl
   descriptor-held (Descriptor.Segmentation x) h = detail-held (x .«descriptor_detail») h
@@ -92,7 +92,7 @@ keeps-upid loop fits offset t a all =
       again = b .own;
       reading = ap (λ (p : List ℕ). wholeIn p .read) r ∙ b .alone;
       upids =
-          ap (λ (p : List ℕ). map (heldIn (drop 6 p)) (descriptorUpids (b .own))) r
+          ap (λ (p : List ℕ). map (heldIn (drop 6 p)) (upidsOf (Item.Is (b .own)))) r
           ∙ descriptor-held (drop 6 t) loop (offset + 6) (b .own) (b .view) ∙ ap (λ (i : Item). map (heldIn loop) (upidsOf i)) (sym (b .is ∙ ap Item.Is (b .moves)));
       eidr = ap (λ (p : List ℕ). wholeIn p .beside .eidr) r ∙ sym (ap (λ (c : Beside). c .eidr) (beside-is loop offset t a));
     }
@@ -111,7 +111,7 @@ keeps-upids s x a e c = each-item s x a e c (keeps-upid (loopIn s x) (loop-short
 -- ---- equal readings
 
 pub one-loop : (s r : List ℕ) (x y : Section) → AllBytes s → AllBytes r → sectionOf s ≡ SectionRead.Is x → sectionOf r ≡ SectionRead.Is y → canonicalSection s ≡ true → canonicalSection r ≡ true
-    → SameItems (loopIn s x) (loopIn r y) (itemsOf (loopIn s x)) (itemsOf (loopIn r y)) → loopBytes s ≡ loopBytes r
+    → Pairs (SameItem (loopIn s x) (loopIn r y)) (itemsOf (loopIn s x)) (itemsOf (loopIn r y)) → loopBytes s ≡ loopBytes r
 one-loop s r x y a b e f c d items =
     let l : loopIn s x ≡ loopIn r y =
     canonical-loops-of-the-same-items-are-one (loopIn s x) (loopIn r y) (all-viewed s (x .descriptors) a) (all-viewed r (y .descriptors) b) (loop-short s x e) (loop-short r y f)
@@ -119,13 +119,13 @@ one-loop s r x y a b e f c d items =
     sym (loop-here s x e) ∙ l ∙ loop-here r y f
 
 pub one-of-items : (s r : List ℕ) (x y : Section) → AllBytes s → AllBytes r → sectionOf s ≡ SectionRead.Is x → sectionOf r ≡ SectionRead.Is y → canonicalSection s ≡ true → canonicalSection r ≡ true
-    → SameAround s r → SameItems (loopIn s x) (loopIn r y) (itemsOf (loopIn s x)) (itemsOf (loopIn r y)) → s ≡ r
+    → SameAround s r → Pairs (SameItem (loopIn s x) (loopIn r y)) (itemsOf (loopIn s x)) (itemsOf (loopIn r y)) → s ≡ r
 one-of-items s r x y a b e f c d around items = no-other-section s r x y a b e f c d around (one-loop s r x y a b e f c d items)
 
 -- ---- written of descriptors, then read
 
-pub items-read : (gs : List Given) (bs : List (List ℕ)) (b : List ℕ) → All GivenTypes gs → Pairs (λ (g : Given) (b : List ℕ). givenMade g ≡ made b) gs bs
-    → (x : Section) → sectionOf b ≡ SectionRead.Is x → loopBytes b ≡ joined bs → ItemsBack (loopBytes b) (itemsOf (loopBytes b)) gs
+pub items-read : (gs : List Given) (bs : List (List ℕ)) (b : List ℕ) → All (λ (g : Given). Handed (g .descriptor) (g .identifier) (g .beside) (g .lent)) gs → Pairs (λ (g : Given) (b : List ℕ). givenMade g ≡ made b) gs bs
+    → (x : Section) → sectionOf b ≡ SectionRead.Is x → loopBytes b ≡ joined bs → Pairs (ItemBack (loopBytes b)) (itemsOf (loopBytes b)) gs
 items-read gs bs b types m x e l =
     let fits : length (joined bs) ≤ 4076 = subst (λ (l : List ℕ). length l ≤ 4076) (loop-here b x e ∙ l) (loop-short b x e) in
-    subst (λ (l : List ℕ). ItemsBack l (itemsOf l) gs) (sym l) (descriptors-written-in-order-are-the-items-of-a-canonical-loop gs bs types fits m .1)
+    subst (λ (l : List ℕ). Pairs (ItemBack l) (itemsOf l) gs) (sym l) (descriptors-written-in-order-are-the-items-of-a-canonical-loop gs bs types fits m .1)

@@ -7,7 +7,7 @@ use native.Mathlib.Omega.{arith}
 use lib.Dec.{eqb}
 use lib.ListN.{length, drop, length-take, length-drop}
 use borrow.Author.Tests.{eqb-true, eqb-false}
-use Rattle.command.specs.Command.{commandOf}
+use Rattle.command.specs.Command.{commandOf, ofPrivate}
 use Rattle.command.specs.declared.CommandRead.{CommandRead}
 use Rattle.command.specs.declared.SpliceCommand.{SpliceCommand}
 use Rattle.descriptor.specs.declared.segmentation.SegmentationUpid.{SegmentationUpid}
@@ -37,7 +37,6 @@ use Rattle.theorems.specs.Identifiers.{
   each,
   identifiersOfItem,
   loopIn,
-  identifiersOfCommand,
   identifiersOf,
   midOf,
   midsOf,
@@ -124,7 +123,7 @@ module _ (s : List ℕ) (x : Section) (e : sectionOf s ≡ SectionRead.Is x) whe
   pub loop-short : length (loopIn s x) ≤ 4076
   loop-short = omega (arith, length-run s (inSection s (x .descriptors)) loop-run, loop-size .1, laid s x e .fits, laid s x e .short)
 
-  command-runs : (k : ℕ) (c : SpliceCommand) → 14 + commandLength s ≤ length s → commandOf k (commandBytes s) ≡ CommandRead.Is c → All (OneRun s) (identifiersOfCommand s (moved 14 c))
+  command-runs : (k : ℕ) (c : SpliceCommand) → 14 + commandLength s ≤ length s → commandOf k (commandBytes s) ≡ CommandRead.Is c → All (OneRun s) (ofPrivate (λ p. inSection s (p .«private_bytes») ∷ []) [] (moved 14 c))
   unfolding moved commandBytes
   command-runs k (SpliceCommand.PrivateCommand p) h f =
       let n : p .«private_bytes» .at + p .«private_bytes» .len ≤ length (commandBytes s) = private-in (commandBytes s) k p f in
@@ -138,7 +137,7 @@ module _ (s : List ℕ) (x : Section) (e : sectionOf s ≡ SectionRead.Is x) whe
   unfolding identifiersOf
   identifiers-run =
       let l = laid s x e in
-      let c : All (OneRun s) (identifiersOfCommand s (x .command)) = rw (l .command) (command-runs _ (l .read) (omega (arith, l .fits)) (l .from)) in
+      let c : All (OneRun s) (ofPrivate (λ p. inSection s (p .«private_bytes») ∷ []) [] (x .command)) = rw (l .command) (command-runs _ (l .read) (omega (arith, l .fits)) (l .from)) in
       all-append c
       (loop-identifiers s (inSection s (x .descriptors)) loop-run loop-short)
 

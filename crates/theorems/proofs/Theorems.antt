@@ -1,5 +1,5 @@
--- The product's demands, over the definitions. A reader needs the specs of this crate beside this file; for the part on writing those of `section_writer`, `command_measure`,
--- `loop_laws` (specs/Loops.antt, the loop by its items) and `descriptor_laws` (specs/{Trips,Making}.antt, a descriptor); for the part on the C boundary
+-- The product's demands, over the definitions. A reader needs the specs of this crate beside this file; for the part on writing specs/Canonical.antt of `section_writer`,
+-- `canonical_command` and `descriptor_form`, and the specs of `pen` (Written.antt), `loop_laws` (the loop by its items) and `descriptor_laws` (a descriptor); for the part on the C boundary
 -- specs/OverC.antt and the definitions of `flat_writer`, `flat_section_writer` and `flat_item_writer`. The proofs stand in the other files of this folder. That each
 -- public contract fixes its answer is stated for each function in FixedAnswers.antt, FixedAtBoundary.antt and FixedAtWriter.antt. Assumes nothing.
 use Prim.Native.Nat.{ℕ, _≤_, _^_, _<_}
@@ -52,7 +52,7 @@ use Rattle.items.specs.Cover.{Ends, joined, runOf, TakesRest, Covered, times}
 use Rattle.items.specs.Items.{stepOf, itemsOf}
 use Rattle.loop_laws.proofs.Pieces as pieces
 use Rattle.loop_laws.proofs.Theorems as loops
-use Rattle.loop_laws.specs.Loops.{Given, givenMade, GivenTypes, WrittenAgain, Pairs, ItemsBack}
+use Rattle.loop_laws.specs.Loops.{Given, givenMade, WrittenAgain, Pairs, ItemBack}
 use Rattle.names.specs.Algorithm.{algorithmEntry, otherAlgorithm, algorithmOf, fairAlgorithm}
 use Rattle.names.specs.Command.{commandEntry, commandTypeOf, fairCommand}
 use Rattle.names.specs.Flags.{restrictionsBits}
@@ -207,7 +207,7 @@ pub an-accepted-write-changes-only-its-result : (m : Made) (target : List ℕ) (
 an-accepted-write-changes-only-its-result = targets.changed
 
 -- What is made of a command, by what the command reader answers and the widths of the fields: 31 and 32 by their rows, 33 exactly where the command is "a value that no
--- canonical reading has", and else the canonical payload that reads as it (`CommandMakes`, specs/Making.antt). So 01's list for 33 is no more and no less than that.
+-- canonical reading has", and else the canonical payload that reads as it (`CommandMakes`, specs/Making.antt). So the cases of 33 in `commandMade`, which are 01's list, are no more and no less than that.
 -- (An array has 255 places, and a count is a byte.)
 pub what-is-made-of-a-command : (c : SpliceCommand) (places : List ComponentSplice) (lent : List ℕ) → length places ≡ 255 → countIn c ≤ 255 → AllBytes lent
     → CommandMakes c places lent (commandMade c places lent)
@@ -230,7 +230,7 @@ pub what-is-made-of-a-section-is-one : (h : SpliceInfoHeader) (c : SpliceCommand
 what-is-made-of-a-section-is-one = sections-made.one-section-made
 
 -- "33 .. a value that no canonical reading has (list below)". What is made of a descriptor that is handed in is told by what is read, and by the widths of the fields (`DescriptorMakes`,
--- descriptor_laws/specs/Making.antt): 33 where no canonical payload reads as it, and else that payload in its frame. So nobody needs to believe the list, as far as it is of descriptors.
+-- descriptor_laws/specs/Making.antt): 33 where no canonical payload reads as it, and else that payload in its frame. So the cases of 33 in `descriptorMade` need no belief for what is written; that they are 01's list is read there.
 -- (What the types say of a descriptor that is handed in: `Handed`.)
 pub what-is-made-of-a-descriptor-is-told-by-what-is-read : (d : Descriptor) (identifier : List ℕ) (beside : Beside) (lent : List ℕ) → Handed d identifier beside lent
     → DescriptorMakes d identifier beside lent (descriptorMade d identifier beside lent)
@@ -265,9 +265,9 @@ pub what-is-written-reads-back : (h : SpliceInfoHeader) (c : SpliceCommand) (pla
 what-is-written-reads-back = sections-made.section-reads-as
 
 -- A loop that is the join of what is written of descriptors: these are the items that are read, in order, with equal values and equal bytes in their views. (What
--- the types say of each: `GivenTypes`.)
-pub what-is-written-of-descriptors-reads-back : (gs : List Given) (bs : List (List ℕ)) → All GivenTypes gs → Pairs (λ (g : Given) (b : List ℕ). givenMade g ≡ made b) gs bs
-    → (b : List ℕ) (x : Section) → sectionOf b ≡ SectionRead.Is x → loopBytes b ≡ joined bs → ItemsBack (loopBytes b) (itemsOf (loopBytes b)) gs
+-- the types say of each: `Handed`.)
+pub what-is-written-of-descriptors-reads-back : (gs : List Given) (bs : List (List ℕ)) → All (λ (g : Given). Handed (g .descriptor) (g .identifier) (g .beside) (g .lent)) gs → Pairs (λ (g : Given) (b : List ℕ). givenMade g ≡ made b) gs bs
+    → (b : List ℕ) (x : Section) → sectionOf b ≡ SectionRead.Is x → loopBytes b ≡ joined bs → Pairs (ItemBack (loopBytes b)) (itemsOf (loopBytes b)) gs
 what-is-written-of-descriptors-reads-back gs bs types m b x e l = items-written.items-read gs bs b types m x e l
 
 -- ---- two canonical sections

@@ -23,12 +23,13 @@ use Rattle.descriptor.specs.Whole.{besideIn, besideOf}
 use Rattle.descriptor.specs.declared.DescriptorRead.{DescriptorRead}
 use Rattle.descriptor.specs.declared.segmentation.SegmentationDetail.{SegmentationDetail}
 use Rattle.descriptor.specs.declared.segmentation.SegmentationUpid.{SegmentationUpid}
-use Rattle.theorems.specs.Identifiers.{descriptorUpids, upidStart}
+use Rattle.items.specs.declared.Item.{Item}
+use Rattle.theorems.specs.Identifiers.{upidStart, upidsOf}
 
 -- ---- each UPID of a reading
 
 abbrev pub upidsRead : DescriptorRead → List SegmentationUpid
-upidsRead (DescriptorRead.Is d) = descriptorUpids d
+upidsRead (DescriptorRead.Is d) = upidsOf (Item.Is d)
 upidsRead (DescriptorRead.Refused r) = []
 
 -- the UPID u of a payload's reading is this one, which is written there and was checked; and what stands beside it

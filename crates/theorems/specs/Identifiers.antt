@@ -54,13 +54,10 @@ abbrev pub detailUpids : SegmentationDetail → List SegmentationUpid
 detailUpids SegmentationDetail.Cancel = []
 detailUpids (SegmentationDetail.Insert i) = i .«segmentation_upid» ∷ []
 
-abbrev pub descriptorUpids : Descriptor → List SegmentationUpid
-descriptorUpids d = ofSegmentation (λ x. detailUpids (x .«descriptor_detail»)) [] d
-
 abbrev pub upidsOf : Item → List SegmentationUpid
 upidsOf Item.End = []
 upidsOf (Item.Refused r) = []
-upidsOf (Item.Is d) = descriptorUpids d
+upidsOf (Item.Is d) = ofSegmentation (λ x. detailUpids (x .«descriptor_detail»)) [] d
 
 -- the parts that `read_upid` answers of a UPID, at every level: where it is no MID there are none
 abbrev pub partsRead : ℕ → List ℕ → List Part
@@ -111,11 +108,9 @@ identifiersOfItem base loop x =
 abbrev pub loopIn : List ℕ → Section → List ℕ
 loopIn s x = viewed s (x .descriptors)
 
-abbrev pub identifiersOfCommand : List ℕ → SpliceCommand → List Identifier
-identifiersOfCommand s c = ofPrivate (λ p. inSection s (p .«private_bytes») ∷ []) [] c
-
+-- a private command's bytes, and the identifiers of each item
 unfoldable pub identifiersOf : List ℕ → Section → List Identifier
-identifiersOf s x = identifiersOfCommand s (x .command) ++ each (identifiersOfItem (x .descriptors .at) (loopIn s x)) (itemsOf (loopIn s x))
+identifiersOf s x = ofPrivate (λ p. inSection s (p .«private_bytes») ∷ []) [] (x .command) ++ each (identifiersOfItem (x .descriptors .at) (loopIn s x)) (itemsOf (loopIn s x))
 
 -- ---- the MIDs of a section
 

@@ -66,6 +66,7 @@ pub record CommandPayload (c : SpliceCommand) (places : List ComponentSplice) (l
   pub components : take (countIn again) (componentsOf p) ≡ take (countIn c) places
   pub view : viewed p (privateView again) ≡ viewed lent (privateView c)
 
+-- (Where there is a payload, each number was read of its field, so that 32 does not apply.)
 pub data CommandMakes (c : SpliceCommand) (places : List ComponentSplice) (lent : List ℕ) : Made → Type 0 where
   -- "a view reaches outside the lent bytes"
   outside : liesIn lent (privateView c) ≡ false → CommandMakes c places lent (refused 31)
@@ -86,7 +87,7 @@ pub record HasHeader (h : SpliceInfoHeader) (b : List ℕ) : Type 0 where
   pub reads : sectionOf b ≡ SectionRead.Is reading
   pub same : SameHeader (reading .header) h
 
--- and with this command and this loop
+-- and with this command and this loop. (The reading's command is this payload's, its view moved: `what-an-accepted-section-says`.)
 pub record SectionBytes (h : SpliceInfoHeader) (c : SpliceCommand) (places : List ComponentSplice) (lent loop b : List ℕ) : Type 0 where
   pub header : HasHeader h b
   -- a null and a bandwidth reservation have the same payload

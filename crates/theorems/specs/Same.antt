@@ -7,7 +7,7 @@ use lib.ListN.{take}
 use Rattle.command.specs.Command.{withView, countIn, componentsOf}
 use Rattle.command.specs.declared.SpliceCommand.{SpliceCommand}
 use Rattle.items.specs.Items.{itemsOf}
-use Rattle.loop_laws.specs.Loops.{SameItems}
+use Rattle.loop_laws.specs.Loops.{Pairs, SameItem}
 use Rattle.section.specs.Section.{commandBytes, privateView}
 use Rattle.section.specs.declared.Section.{Section}
 use Rattle.header.specs.declared.header.SpliceInfoHeader.{SpliceInfoHeader}
@@ -35,4 +35,4 @@ pub record SameSections (s : List ℕ) (x : Section) (r : List ℕ) (y : Section
   pub components : take (countIn (x .command)) (componentsOf (commandBytes s)) ≡ take (countIn (y .command)) (componentsOf (commandBytes r))
   pub bytes : viewed s (privateView (x .command)) ≡ viewed r (privateView (y .command))
   -- of the loop: its items, in order
-  pub items : SameItems (loopIn s x) (loopIn r y) (itemsOf (loopIn s x)) (itemsOf (loopIn r y))
+  pub items : Pairs (SameItem (loopIn s x) (loopIn r y)) (itemsOf (loopIn s x)) (itemsOf (loopIn r y))

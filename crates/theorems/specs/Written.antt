@@ -14,7 +14,8 @@ use Rattle.pen.specs.Written.{laterOf}
 use Rattle.table.specs.Lent.{viewed}
 use Rattle.table.specs.Writing.{Made, made}
 use Rattle.upid.specs.declared.Part.{Part}
-use Rattle.theorems.specs.Identifiers.{descriptorUpids, partsRead, upidsOf}
+use Rattle.items.specs.declared.Item.{Item}
+use Rattle.theorems.specs.Identifiers.{partsRead, upidsOf}
 
 -- a UPID with a view of lent bytes: its reported type, its bytes, and the parts, at every level, that are read of them
 pub record UpidHeld : Type 0 where
@@ -30,7 +31,7 @@ pub record KeepsUpid (loop : List ℕ) (y : Listed) : Type 0 where
   pub written : WrittenAgain loop y
   pub again : Descriptor
   pub reading : wholeIn (runOf loop y) .read ≡ DescriptorRead.Is again
-  pub upids : map (heldIn (drop 6 (runOf loop y))) (descriptorUpids again) ≡ map (heldIn loop) (upidsOf (y .step .item))
+  pub upids : map (heldIn (drop 6 (runOf loop y))) (upidsOf (Item.Is again)) ≡ map (heldIn loop) (upidsOf (y .step .item))
   pub eidr : wholeIn (runOf loop y) .beside .eidr ≡ readingOf loop (y .offset) .beside .eidr
 
 -- "an accepted one changes only the bytes of its result, which start at 0, and gives their number"
