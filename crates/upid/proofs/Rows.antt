@@ -48,6 +48,7 @@ rows =
     ∷ record { kind = 6; bytes = 1 ∷ 2 ∷ 3 ∷ 4 ∷ 5 ∷ 6 ∷ 7 ∷ 8 ∷ []; answer = refused 25 (6 ∷ 12 ∷ 8 ∷ []) }
     ∷ record { kind = 13; bytes = 0x06 ∷ 0x01 ∷ 0x00 ∷ []; answer = refused 25 (6 ∷ 12 ∷ 1 ∷ []) }
     -- "types 2, 5, 8 have 8; 3, 6, 7, 10 have 12; 4 has 32"
+    ∷ record { kind = 5; bytes = 1 ∷ []; answer = refused 25 (5 ∷ 8 ∷ 1 ∷ []) }
     ∷ record { kind = 8; bytes = 1 ∷ []; answer = refused 25 (8 ∷ 8 ∷ 1 ∷ []) }
     ∷ record { kind = 3; bytes = 1 ∷ []; answer = refused 25 (3 ∷ 12 ∷ 1 ∷ []) }
     ∷ record { kind = 7; bytes = 1 ∷ []; answer = refused 25 (7 ∷ 12 ∷ 1 ∷ []) }
@@ -67,4 +68,5 @@ unfolding rows tells numberOf valuesOf upidOf checkOf readOf walkOf _then_ plain
 rows-hold =
     more refl (more refl (more refl (more refl (more refl (more refl
     (more refl (more refl (more refl (more refl (more refl (more refl
-    (more refl (more refl (more refl (more refl (more refl (more refl none)))))))))))))))))
+    (more refl (more refl (more refl (more refl (more refl (more refl
+    (more refl none))))))))))))))))))
