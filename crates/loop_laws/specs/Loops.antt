@@ -22,17 +22,13 @@ pub record Given : Type 0 where
 abbrev pub givenMade : Given → Made
 givenMade g = descriptorMade (g .descriptor) (g .identifier) (g .beside) (g .lent)
 
--- the item x of a loop, as it is read, where it is the descriptor d: "The descriptor writer takes a readable item with the bytes its views refer to", which are the loop's
-abbrev pub itemGiven : List ℕ → Listed → Descriptor → Given
-itemGiven loop x d = record { descriptor = d; identifier = x .step .identifier; beside = readingOf loop (x .offset) .beside; lent = loop }
-
 -- ---- "Writing a reading means each item's descriptor, joined in order as the loop, then the section."
 
--- the item x of the loop is a descriptor, which is written as the very bytes that it was read of. Joined in order these are the loop (`Covered`, items/specs/Cover.antt)
+-- the item x of the loop is a descriptor, which is written, of what is read of it ("The descriptor writer takes a readable item with the bytes its views refer to"), as the very bytes that it was read of. Joined in order these are the loop (`Covered`, items/specs/Cover.antt)
 pub record WrittenAgain (loop : List ℕ) (x : Listed) : Type 0 where
   pub descriptor : Descriptor
   pub is : x .step .item ≡ Is descriptor
-  pub writes : givenMade (itemGiven loop x descriptor) ≡ made (runOf loop x)
+  pub writes : descriptorMade descriptor (x .step .identifier) (readingOf loop (x .offset) .beside) loop ≡ made (runOf loop x)
 
 -- ---- equal readings, in order
 
@@ -46,7 +42,7 @@ pub record ItemBack (loop : List ℕ) (x : Listed) (g : Given) : Type 0 where
 pub record SameItem (loop other : List ℕ) (x y : Listed) : Type 0 where
   pub that : Descriptor
   pub is : y .step .item ≡ Is that
-  pub back : ItemBack loop x (itemGiven other y that)
+  pub back : ItemBack loop x (record { descriptor = that; identifier = y .step .identifier; beside = readingOf other (y .offset) .beside; lent = other })
 
 -- R holds of two lists, one by one
 pub data Pairs {A B : Type 0} (R : A → B → Type 0) : List A → List B → Type 0 where

@@ -2,12 +2,12 @@
 --     unknown-is              a command is of an unknown type by its type alone
 --     unknown-if, unknown-only-if
 use Prim.Native.Nat.{ℕ}
-use mathlib.Core.Bool.{Bool, true, false, not, _||_}
+use mathlib.Core.Bool.{Bool, true, false}
 use mathlib.Core.List.{List}
 use mathlib.Core.Path.{_≡_, refl, ap, sym, _∙_}
 use lib.Dec.{eqb}
 use lib.ListN.{length}
-use Rattle.command.specs.Command.{private, read, empty, commandOf, numberOf}
+use Rattle.command.specs.Command.{private, read, empty, byType, commandOf, numberOf}
 use Rattle.command.specs.Insert.{insert}
 use Rattle.command.specs.declared.CommandRead.{CommandRead}
 use Rattle.command.specs.declared.SpliceCommand.{SpliceCommand}
@@ -15,7 +15,6 @@ use Rattle.header.specs.Time.{spliceTime}
 use Rattle.table.proofs.Lists.{zero-one}
 use Rattle.table.specs.Bits.{pick, bitsOf}
 use Rattle.table.specs.Table.{Answer, got, short, parse}
-use Rattle.theorems.specs.Sections.{known}
 
 abbrev Unknown : CommandRead → Bool
 Unknown r = eqb (numberOf r) 10
@@ -33,7 +32,7 @@ read-known f (got x at) = refl
 read-known f (short expected actual) = refl
 
 chain : (b₀ b₅ b₆ b₇ b₈ : Bool) (r₀ r₅ r₆ r₇ r₈ : CommandRead) → Unknown r₀ ≡ false → Unknown r₅ ≡ false → Unknown r₆ ≡ false → Unknown r₇ ≡ false → Unknown r₈ ≡ false
-    → Unknown (pick b₀ r₀ (pick b₅ r₅ (pick b₆ r₆ (pick b₇ r₇ (pick b₈ r₈ CommandRead.UnknownType))))) ≡ not (b₀ || b₅ || b₆ || b₇ || b₈)
+    → Unknown (pick b₀ r₀ (pick b₅ r₅ (pick b₆ r₆ (pick b₇ r₇ (pick b₈ r₈ CommandRead.UnknownType))))) ≡ pick b₀ false (pick b₅ false (pick b₆ false (pick b₇ false (pick b₈ false true))))
 chain true b₅ b₆ b₇ b₈ r₀ r₅ r₆ r₇ r₈ e₀ e₅ e₆ e₇ e₈ = e₀
 chain false true b₆ b₇ b₈ r₀ r₅ r₆ r₇ r₈ e₀ e₅ e₆ e₇ e₈ = e₅
 chain false false true b₇ b₈ r₀ r₅ r₆ r₇ r₈ e₀ e₅ e₆ e₇ e₈ = e₆
@@ -41,7 +40,7 @@ chain false false false true b₈ r₀ r₅ r₆ r₇ r₈ e₀ e₅ e₆ e₇ e
 chain false false false false true r₀ r₅ r₆ r₇ r₈ e₀ e₅ e₆ e₇ e₈ = e₈
 chain false false false false false r₀ r₅ r₆ r₇ r₈ e₀ e₅ e₆ e₇ e₈ = refl
 
-pub unknown-is : (kind : ℕ) (payload : List ℕ) → eqb (numberOf (commandOf kind payload)) 10 ≡ not (known kind)
+pub unknown-is : (kind : ℕ) (payload : List ℕ) → eqb (numberOf (commandOf kind payload)) 10 ≡ byType kind false false false false false true
 unfolding commandOf
 unknown-is kind payload =
     chain (eqb kind 0x00) (eqb kind 0x05) (eqb kind 0x06) (eqb kind 0x07) (eqb kind 0xff) _ _ _ _ _ (empty-known SpliceCommand.SpliceNull payload)
@@ -54,12 +53,8 @@ ten-is (CommandRead.Is c) e = zero-one cc
 ten-is CommandRead.UnknownType e = refl
 ten-is CommandRead.Malformed e = zero-one cc
 
-not-true : (b : Bool) → true ≡ not b → b ≡ false
-not-true true e = zero-one cc
-not-true false e = refl
+pub unknown-if : (kind : ℕ) (payload : List ℕ) → byType kind false false false false false true ≡ true → commandOf kind payload ≡ CommandRead.UnknownType
+unknown-if kind payload e = ten-is (commandOf kind payload) (unknown-is kind payload ∙ e)
 
-pub unknown-if : (kind : ℕ) (payload : List ℕ) → known kind ≡ false → commandOf kind payload ≡ CommandRead.UnknownType
-unknown-if kind payload e = ten-is (commandOf kind payload) (unknown-is kind payload ∙ ap not e)
-
-pub unknown-only-if : (kind : ℕ) (payload : List ℕ) → commandOf kind payload ≡ CommandRead.UnknownType → known kind ≡ false
-unknown-only-if kind payload e = not-true (known kind) (sym (ap Unknown e) ∙ unknown-is kind payload)
+pub unknown-only-if : (kind : ℕ) (payload : List ℕ) → commandOf kind payload ≡ CommandRead.UnknownType → byType kind false false false false false true ≡ true
+unknown-only-if kind payload e = sym (unknown-is kind payload) ∙ ap Unknown e

@@ -33,7 +33,6 @@ use Rattle.theorems.specs.Identifiers.{
   upidsOf,
   partsOf,
   eidrOf,
-  eidrsOf,
   each,
   identifiersOfItem,
   loopIn,
@@ -78,7 +77,7 @@ module _ (s : List ℕ) (i : Identifier) (r : OneRun s i) (fits : length (i .byt
             rw k (all-map _ (all-into (λ p a. a .unbroken) (mid-of s i r o next u f k .parts)))
         go false t = rw (only-a-mid-has-parts (u .kind) (viewed (i .bytes) (u .bytes)) (eqb-false _ _ t)) none
 
-    eidrs-run : (u : SegmentationUpid) → Found (i .bytes) o next u → All (OneRun s) (eidrsOf (i .start) (i .bytes) (listed (i .bytes) o) u)
+    eidrs-run : (u : SegmentationUpid) → Found (i .bytes) o next u → All (OneRun s) (cond (eqb (u .kind) 10) (eidrOf (i .start) (i .bytes) (listed (i .bytes) o) ∷ []) [])
     eidrs-run u f = go (eqb (u .kind) 10) refl
       where
         go : (t : Bool) → eqb (u .kind) 10 ≡ t → All (OneRun s) (cond t (eidrOf (i .start) (i .bytes) (listed (i .bytes) o) ∷ []) [])

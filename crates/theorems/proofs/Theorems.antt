@@ -3,11 +3,11 @@
 -- specs/OverC.antt and the definitions of `flat_writer`, `flat_section_writer` and `flat_item_writer`. The proofs stand in the other files of this folder. That each
 -- public contract fixes its answer is stated for each function in FixedAnswers.antt, FixedAtBoundary.antt and FixedAtWriter.antt. Assumes nothing.
 use Prim.Native.Nat.{ℕ, _≤_, _^_, _<_}
-use mathlib.Core.Bool.{true, false, not}
+use mathlib.Core.Bool.{true, false}
 use mathlib.Core.List.{List, [], _∷_, _++_, map}
 use mathlib.Core.Path.{_≡_, refl}
 use lib.ListN.{length, drop}
-use Rattle.command.specs.Command.{commandOf, componentsOf, countIn, insertCount}
+use Rattle.command.specs.Command.{commandOf, componentsOf, countIn, insertCount, byType}
 use Rattle.command.specs.Insert.{count}
 use Rattle.command.specs.declared.CommandRead.{CommandRead}
 use Rattle.command.specs.declared.SpliceCommand.{SpliceCommand}
@@ -81,7 +81,7 @@ use Rattle.theorems.specs.Numbers.{OnlyBy}
 use Rattle.theorems.specs.OverC.{componentsAnswered, splicesWords, wordsMadeAt}
 use Rattle.theorems.specs.Rows.{Holds, rows}
 use Rattle.theorems.specs.Same.{SameSections}
-use Rattle.theorems.specs.Sections.{known, EmptyCommand, spliceNull, eight, twelve, both, eightAndTwelve, Identified}
+use Rattle.theorems.specs.Sections.{EmptyCommand, spliceNull, eight, twelve, both, eightAndTwelve, Identified}
 use Rattle.theorems.specs.Written.{KeepsUpid, ChangesOnlyResult}
 use Rattle.theorems.proofs.Answers as answers
 use Rattle.theorems.proofs.CommandTypes as command-types
@@ -142,15 +142,15 @@ pub bytes-left-over-by-sub-segments-are-tolerated : (payload more : List ℕ) (x
     → descriptorOf 2 cuei (payload ++ more) ≡ descriptorOf 2 cuei payload
 bytes-left-over-by-sub-segments-are-tolerated = longer.sub-segments-on
 
--- Condition 10: "command type is none of 0x00, 0x05, 0x06, 0x07, 0xFF", whatever the payload
-pub condition-10-is-of-the-other-types : (s : List ℕ) → unknownCommand s ≡ not (known (commandType s))
+-- Condition 10: "command type is none of 0x00, 0x05, 0x06, 0x07, 0xFF" (the last case of `byType`, which lists them), whatever the payload
+pub condition-10-is-of-the-other-types : (s : List ℕ) → unknownCommand s ≡ byType (commandType s) false false false false false true
 condition-10-is-of-the-other-types s = command-types.unknown-is (commandType s) (commandBytes s)
 
 -- so the command reader gives 10 to exactly these types
-pub another-type-is-refused-by-10 : (kind : ℕ) (payload : List ℕ) → known kind ≡ false → commandOf kind payload ≡ CommandRead.UnknownType
+pub another-type-is-refused-by-10 : (kind : ℕ) (payload : List ℕ) → byType kind false false false false false true ≡ true → commandOf kind payload ≡ CommandRead.UnknownType
 another-type-is-refused-by-10 = command-types.unknown-if
 
-pub only-another-type-is-refused-by-10 : (kind : ℕ) (payload : List ℕ) → commandOf kind payload ≡ CommandRead.UnknownType → known kind ≡ false
+pub only-another-type-is-refused-by-10 : (kind : ℕ) (payload : List ℕ) → commandOf kind payload ≡ CommandRead.UnknownType → byType kind false false false false false true ≡ true
 only-another-type-is-refused-by-10 = command-types.unknown-only-if
 
 -- "A section is accepted exactly when none of 1 to 11 applies"

@@ -83,9 +83,6 @@ eidrOf base loop x = record {
   bytes = besideOf (payloadOf loop x) .eidr;
 }
 
-abbrev pub eidrsOf : ℕ → List ℕ → Listed → SegmentationUpid → List Identifier
-eidrsOf base loop x u = cond (eqb (u .kind) 10) (eidrOf base loop x ∷ []) []
-
 -- "identifier of 4", which stands beside a reserved descriptor
 abbrev pub besidesOf : ℕ → ℕ → List ℕ → Item → List Identifier
 besidesOf base offset id Item.End = []
@@ -100,7 +97,7 @@ each f (x ∷ xs) = f x ++ each f xs
 abbrev pub identifiersOfItem : ℕ → List ℕ → Listed → List Identifier
 identifiersOfItem base loop x =
     map (inLent base loop) (viewsOf (x .step .item))
-    ++ (each (λ (u : SegmentationUpid). partsOf base loop u ++ eidrsOf base loop x u) (upidsOf (x .step .item))
+    ++ (each (λ (u : SegmentationUpid). partsOf base loop u ++ cond (eqb (u .kind) 10) (eidrOf base loop x ∷ []) []) (upidsOf (x .step .item))
     ++ besidesOf base (x .offset) (x .step .identifier) (x .step .item))
 
 -- ---- of a section

@@ -1,10 +1,8 @@
--- The command types that are known. Sections that are worked out: document 01's of 18, 19 and 20 bytes, and one with a MID of two identifiers, of 8 bytes and
+-- Sections that are worked out: document 01's of 18, 19 and 20 bytes, and one with a MID of two identifiers, of 8 bytes and
 -- of 12. These are definitions.
 use Prim.Native.Nat.{ℕ}
-use mathlib.Core.Bool.{Bool, _||_}
 use mathlib.Core.List.{List, [], _∷_, _++_}
 use mathlib.Core.Path.{_≡_}
-use lib.Dec.{eqb}
 use lib.ListN.{getD}
 use Rattle.crc.specs.Crc.{crcOf}
 use Rattle.section.specs.Section.{commandLength, sectionOf}
@@ -12,10 +10,6 @@ use Rattle.section.specs.declared.Section.{Section}
 use Rattle.section.specs.declared.SectionRead.{SectionRead}
 use Rattle.table.specs.Bits.{bitsOf, field}
 use Rattle.theorems.specs.Identifiers.{Identifier, identifiersOf}
-
--- the types that refusal 10 leaves: "none of 0x00, 0x05, 0x06, 0x07, 0xFF"
-abbrev pub known : ℕ → Bool
-known kind = eqb kind 0x00 || eqb kind 0x05 || eqb kind 0x06 || eqb kind 0x07 || eqb kind 0xFF
 
 -- "Sections with right CRC and command length 0", which begin with 0xFC and are not encrypted
 pub record EmptyCommand (s : List ℕ) : Type 0 where
