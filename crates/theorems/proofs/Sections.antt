@@ -57,7 +57,7 @@ module _ {A : Type 0} {P : A → Type 0} where
   all-each f g none = none
   all-each f g (more {x = x} q qs) = all-append (g x q) (all-each f g qs)
 
-each-item : {P : Listed → Type 0} {loop : List ℕ} {offset : ℕ} {xs : List Listed} → ((o : ℕ) → o < length loop → P (listed loop o)) → Walked loop offset xs → All P xs
+pub each-item : {P : Listed → Type 0} {loop : List ℕ} {offset : ℕ} {xs : List Listed} → ((o : ℕ) → o < length loop → P (listed loop o)) → Walked loop offset xs → All P xs
 each-item f stop = none
 each-item f (step {offset = o} inside e t w) = more (f o inside) (each-item f w)
 

@@ -2,11 +2,11 @@
 -- `canonical_command` and `descriptor_form`, and the specs of `pen` (Written.antt), `loop_laws` (the loop by its items) and `descriptor_laws` (a descriptor); for the part on the C boundary
 -- specs/OverC.antt and the definitions of `flat_writer`, `flat_section_writer` and `flat_item_writer`. The proofs stand in the other files of this folder. That each
 -- public contract fixes its answer is stated for each function in FixedAnswers.antt, FixedAtBoundary.antt and FixedAtWriter.antt. Assumes nothing.
-use Prim.Native.Nat.{ℕ, _≤_, _^_, _<_}
+use Prim.Native.Nat.{ℕ, _+_, _≤_, _^_, _<_}
 use mathlib.Core.Bool.{true, false}
 use mathlib.Core.List.{List, [], _∷_, _++_, map}
 use mathlib.Core.Path.{_≡_, refl}
-use lib.ListN.{length, drop}
+use lib.ListN.{length, drop, getD}
 use Rattle.command.specs.Command.{commandOf, componentsOf, countIn, insertCount, byType}
 use Rattle.command.specs.Insert.{count}
 use Rattle.command.specs.declared.CommandRead.{CommandRead}
@@ -24,6 +24,7 @@ use Rattle.descriptor.specs.declared.DescriptorRead.{DescriptorRead}
 use Rattle.descriptor.specs.declared.segmentation.SegmentationDescriptor.{SegmentationDescriptor}
 use Rattle.descriptor.specs.declared.segmentation.SegmentationDetail.{SegmentationDetail}
 use Rattle.descriptor.specs.declared.segmentation.SegmentationInsert.{SegmentationInsert}
+use Rattle.descriptor.specs.declared.segmentation.SegmentationUpid.{SegmentationUpid}
 use Rattle.descriptor.specs.declared.segmentation.SubSegment.{SubSegment}
 use Rattle.descriptor.specs.declared.segmentation.SubSegments.{SubSegments}
 use Rattle.descriptor.specs.declared.whole.Beside.{Beside}
@@ -49,7 +50,8 @@ use Rattle.header.specs.declared.header.SpliceInfoHeader.{SpliceInfoHeader}
 use Rattle.header.specs.declared.time.AdjustedTime.{AdjustedTime}
 use Rattle.header.specs.declared.time.SpliceTime.{SpliceTime}
 use Rattle.items.specs.Cover.{Ends, joined, runOf, TakesRest, Covered, times}
-use Rattle.items.specs.Items.{stepOf, itemsOf}
+use Rattle.items.specs.Items.{stepOf, readingOf, itemsOf}
+use Rattle.items.specs.declared.Item.{Item}
 use Rattle.loop_laws.proofs.Pieces as pieces
 use Rattle.loop_laws.proofs.Theorems as loops
 use Rattle.loop_laws.specs.Loops.{Given, givenMade, WrittenAgain, Pairs, ItemBack}
@@ -75,19 +77,23 @@ use Rattle.table.specs.Writing.{Made, made}
 use Rattle.upid.specs.Cover.{All, whole, Once}
 use Rattle.upid.proofs.Answers as upids
 use Rattle.upid.specs.Upid.{checkOf, listOf, unlessRefused}
-use Rattle.theorems.specs.Identifiers.{OneRun, inSection, partsRead, loopIn, identifiersOf, midsOf, Unsplit}
+use Rattle.theorems.specs.Identifiers.{OneRun, inSection, inLent, partsRead, loopIn, identifiersOf, midsOf, Unsplit}
+use Rattle.theorems.specs.Listing.{ListsItem, ListsCommand}
 use Rattle.theorems.specs.Making.{CommandMakes, SectionBytes, SectionMakes}
 use Rattle.theorems.specs.Numbers.{OnlyBy}
 use Rattle.theorems.specs.OverC.{componentsAnswered, splicesWords, wordsMadeAt}
 use Rattle.theorems.specs.Rows.{Holds, rows}
 use Rattle.theorems.specs.Same.{SameSections}
 use Rattle.theorems.specs.Sections.{EmptyCommand, spliceNull, eight, twelve, both, eightAndTwelve, Identified}
+use Rattle.theorems.specs.Whole.{WholeUpid, upidAt, WholeAt, WholeCommand}
+use Rattle.theorems.specs.Writable.{Writable}
 use Rattle.theorems.specs.Written.{KeepsUpid, ChangesOnlyResult}
 use Rattle.theorems.proofs.Answers as answers
 use Rattle.theorems.proofs.CommandTypes as command-types
 use Rattle.theorems.proofs.CommandsMade as commands-made
 use Rattle.theorems.proofs.Framed as framed
 use Rattle.theorems.proofs.ItemsWritten as items-written
+use Rattle.theorems.proofs.Listing as listing
 use Rattle.theorems.proofs.LoopsOverC as loops-over-c
 use Rattle.theorems.proofs.Numbers as numbers
 use Rattle.theorems.proofs.RowsHold as rows-hold
@@ -96,7 +102,9 @@ use Rattle.theorems.proofs.SectionsMade as sections-made
 use Rattle.theorems.proofs.Targets as targets
 use Rattle.theorems.proofs.SectionsOverC as sections-over-c
 use Rattle.theorems.proofs.Tolerated as tolerated
+use Rattle.theorems.proofs.Whole as whole-runs
 use Rattle.theorems.proofs.Worked as worked
+use Rattle.theorems.proofs.Writable as writable
 use Rattle.theorems.proofs.WrittenBack as written-back
 
 -- ---- acceptance
@@ -171,6 +179,41 @@ what-an-accepted-section-says = framed.says
 -- of refusal 24; every part of a MID, at every level; an EIDR; the identifier beside a reserved descriptor.
 pub every-identifier-is-one-run-of-the-section : (s : List ℕ) (x : Section) → sectionOf s ≡ SectionRead.Is x → All (OneRun s) (identifiersOf s x)
 every-identifier-is-one-run-of-the-section = sections.identifiers-run
+
+-- and it is the whole run that the section's own bytes announce (specs/Whole.antt). The station's question first: the UPID of every segmentation descriptor, at whatever
+-- offset of the loop it is read, is of the type and has exactly the bytes that its head says, which stands behind the fields before it.
+pub every-upid-of-the-section-is-whole : (s : List ℕ) (x : Section) → sectionOf s ≡ SectionRead.Is x → (offset : ℕ) (d : SegmentationDescriptor) (i : SegmentationInsert)
+    → stepOf (loopIn s x) offset .item ≡ Item.Is (Descriptor.Segmentation d) → d .«descriptor_detail» ≡ SegmentationDetail.Insert i → AllBytes s
+    → WholeUpid s (upidAt s (x .descriptors .at + offset + 6)) (x .descriptors .at) (loopIn s x) (readingOf (loopIn s x) offset .beside .eidr) (i .«segmentation_upid»)
+every-upid-of-the-section-is-whole = whole-runs.whole-upid
+
+-- and where it is a MID, it is not split
+pub no-mid-that-is-read-is-split : (s : List ℕ) (x : Section) → sectionOf s ≡ SectionRead.Is x → (offset : ℕ) (d : SegmentationDescriptor) (i : SegmentationInsert)
+    → stepOf (loopIn s x) offset .item ≡ Item.Is (Descriptor.Segmentation d) → d .«descriptor_detail» ≡ SegmentationDetail.Insert i
+    → i .«segmentation_upid» .kind ≡ 13 → Unsplit s (inLent (x .descriptors .at) (loopIn s x) (i .«segmentation_upid» .bytes))
+no-mid-that-is-read-is-split = whole-runs.whole-mid
+
+-- So of every item: DTMF characters, UPID with EIDR, private bytes and identifier of a reserved descriptor, the text of refusal 24; at any offset, and so of each item of the loop
+pub every-identifier-of-an-item-is-whole : (s : List ℕ) (x : Section) → sectionOf s ≡ SectionRead.Is x → AllBytes s → (offset : ℕ) → WholeAt s x offset (readingOf (loopIn s x) offset)
+every-identifier-of-an-item-is-whole = whole-runs.whole-at
+
+pub every-identifier-of-the-loop-is-whole : (s : List ℕ) (x : Section) → sectionOf s ≡ SectionRead.Is x → AllBytes s
+    → All (λ y. (y .step ≡ readingOf (loopIn s x) (y .offset) .step) × WholeAt s x (y .offset) (readingOf (loopIn s x) (y .offset))) (itemsOf (loopIn s x))
+every-identifier-of-the-loop-is-whole = whole-runs.whole-items
+
+-- and of a command: its private bytes
+pub the-private-bytes-of-the-section-are-whole : (s : List ℕ) (x : Section) → sectionOf s ≡ SectionRead.Is x → WholeCommand s (x .command)
+the-private-bytes-of-the-section-are-whole = whole-runs.whole-command
+
+-- so a reader that cuts one is not the definition's: of a UPID of type 15 with 20 bytes announced twelve are not the whole
+pub a-cut-upid-is-not-whole : (s : List ℕ) (h base : ℕ) (loop beside : List ℕ) (u : SegmentationUpid) → u .kind ≡ 15 → u .bytes .len ≡ 12 → getD s (h + 1) 0 ≡ 20
+    → WholeUpid s h base loop beside u → ⊥
+a-cut-upid-is-not-whole = whole-runs.a-cut-upid-is-not-whole
+
+-- and the list of identifiers above leaves none out (specs/Listing.antt)
+pub the-list-of-identifiers-is-complete : (s : List ℕ) (x : Section)
+    → All (λ y. ListsItem (identifiersOf s x) (x .descriptors .at) (loopIn s x) y (y .step .item)) (itemsOf (loopIn s x)) × ListsCommand (identifiersOf s x) s (x .command)
+the-list-of-identifiers-is-complete s x = (listing.lists-items s x, listing.lists-command s x)
 
 -- (The parts of a UPID, as `read_upid` answers them: those of its walk, and none of what is refused)
 pub the-parts-that-are-read : (kind : ℕ) (bytes : List ℕ) → partsRead kind bytes ≡ unlessRefused (checkOf kind bytes) (listOf kind 1 0 bytes)
@@ -258,6 +301,11 @@ a-canonical-section-is-what-is-written-of-its-reading = written-back.section-bac
 pub a-canonical-section-is-what-is-written-of-its-items : (s : List ℕ) (x : Section) → AllBytes s → sectionOf s ≡ SectionRead.Is x → canonicalSection s ≡ true
     → All (WrittenAgain (loopIn s x)) (itemsOf (loopIn s x)) × (joined (map (runOf (loopIn s x)) (itemsOf (loopIn s x))) ≡ loopIn s x)
 a-canonical-section-is-what-is-written-of-its-items s x a e c = items-written.loop-written s x e a c
+
+-- What is read can be written: of every item of an accepted section that is read as a descriptor, canonical or not, bytes are made, and these are a canonical descriptor that reads as
+-- it. So 33 is of no value that a reader answers.
+pub what-is-read-can-be-written : (s : List ℕ) (x : Section) → AllBytes s → sectionOf s ≡ SectionRead.Is x → (offset : ℕ) (d : Descriptor) → stepOf (loopIn s x) offset .item ≡ Item.Is d → Writable (loopIn s x) offset d
+what-is-read-can-be-written s x a e = writable.section-written s x a
 
 -- "reading what the writer wrote gives what it was handed": the header; the command, with its components and the bytes of its view; and the loop. And what is written is canonical.
 pub what-is-written-reads-back : (h : SpliceInfoHeader) (c : SpliceCommand) (places : List ComponentSplice) (lent loop : List ℕ) → length places ≡ 255 → countIn c ≤ 255 → AllBytes lent → AllBytes loop

@@ -1,6 +1,7 @@
 pub mod Ranges
 pub mod Laws
 pub mod Walks
+pub mod Lister
 pub mod Cutting
 pub mod Tree
 pub mod Answers

@@ -1,9 +1,9 @@
--- Laws of the two walks of a MID, which meet its parts at a place `at` of its bytes. Assumes nothing.
---     read-end, read-head, read-short, read-stop, read-on    a turn of the first walk
+-- Laws of a walk of a MID that meets its parts at a place `at` of its bytes, and of a list of parts. (The walk that fills the list: Lister.antt.) Assumes nothing.
+--     read-end, read-head, read-short, read-stop, read-on    a turn of the walk
 --     grown-nil, grown-more, grown-blank                     a list grows by one run of parts after the other
---     sound, sound-turn, grown-turn, grown-room              a turn of the second walk, over what the first accepted
+--     sound                                                  a turn over what was accepted
 --     answer-refused, answer-fine                            the answer
-use Prim.Native.Nat.{ℕ, zero, suc, _+_, _*_, _-_, _≤_, _<_}
+use Prim.Native.Nat.{ℕ, zero, suc, _+_, _-_, _≤_, _<_}
 use mathlib.Core.Path.{_≡_, refl, sym, ap, _∙_}
 use mathlib.Core.List.{List, [], _∷_, _++_}
 use native.Mathlib.Omega.{arith}
@@ -12,7 +12,7 @@ use native.Mathlib.Numerals.{add-one}
 use lib.ListN.{length, take, drop, getD, set, replicate, length-replicate, length-append, length-take, length-drop, drop-of-length-le}
 use lib.Seq.{sets, sets-eq, drop-cons, drop-drop}
 use borrow.Author.Tests.{lt-ltb, le-ltb, ne-eqb}
-use Rattle.upid.specs.Upid.{_then_, readOf, listOf, reportedOf, listed, checkOf, eidrOf, unlessRefused, upidOf}
+use Rattle.upid.specs.Upid.{_then_, readOf, listOf, listed, checkOf, eidrOf, unlessRefused, upidOf}
 use Rattle.upid.specs.Walk.{grown, Accepted}
 use Rattle.upid.specs.declared.Part.{Part}
 use Rattle.upid.specs.declared.PartList.{PartList}
@@ -20,7 +20,7 @@ use Rattle.upid.specs.declared.Refusal.{Refusal}
 use Rattle.upid.specs.declared.Refusal.the-variants.{Short}
 use Rattle.upid.specs.declared.UpidRead.{UpidRead}
 use Rattle.upid.specs.declared.UpidRead.the-variants.{Fine, Refused}
-use Rattle.upid.proofs.Laws.{read-nil, read-one, read-more, list-nil, list-more, list-mid, list-plain, few, then-both, then-off, then-on, by-cases}
+use Rattle.upid.proofs.Laws.{read-nil, read-one, read-more, list-nil, then-off, then-on, by-cases}
 
 -- ---- a MID from a place `at` of its bytes on
 
@@ -29,7 +29,7 @@ at-one s at h l =
     let none : length s ≤ suc at = omega arith in
     drop-cons s at 0 h ∙ ap (λ (r : List ℕ). getD s at 0 ∷ r) (drop-of-length-le s none)
 
-at-more : (s : List ℕ) (at : ℕ) → at < length s → 2 ≤ length s - at → drop at s ≡ getD s at 0 ∷ (getD s (at + 1) 0 ∷ drop (at + 2) s)
+pub at-more : (s : List ℕ) (at : ℕ) → at < length s → 2 ≤ length s - at → drop at s ≡ getD s at 0 ∷ (getD s (at + 1) 0 ∷ drop (at + 2) s)
 at-more s at h l =
     let h2 : suc at < length s = omega arith in
     let e : at + 2 ≡ suc (suc at) = omega arith in
@@ -80,12 +80,6 @@ module _ (start at n : ℕ) (s : List ℕ) (inside : at < length s) (head : 2 �
         → inner ≡ Fine k → readOf 13 (start + at) (drop at s) ≡ readOf 13 (start + (at + 2 + n)) (drop (at + 2 + n) s)
     read-on inner k e f = read-turn ∙ then-on _ _ k (sym e ∙ f)
 
-    pub list-turn : (level : ℕ) → listOf 13 level (start + at) (drop at s) ≡
-        record { kind = reportedOf (getD s at 0); level = level; start = start + (at + 2); len = getD s (at + 1) 0 }
-        ∷ (listOf (getD s at 0) (level + 1) (start + (at + 2)) (take (at + 2 + n - (at + 2)) (drop (at + 2) s))
-        ++ listOf 13 level (start + (at + 2 + n)) (drop (at + 2 + n) s))
-    list-turn level = rw (at-more s at inside head, list-more, ← en, here, there, whole, drop-drop)
-
 -- ---- a list that grows
 
 sets-append {ℓ} : {A : Type ℓ} (l : List A) (i : ℕ) (xs ys : List A) → sets l i (xs ++ ys) ≡ sets (sets l i xs) (i + length xs) ys
@@ -118,7 +112,7 @@ grown-blank ps h =
     let e : 0 + length ps ≡ length ps = zero-add (length ps) in
     rw (e, sets-front 127 _ ps h)
 
--- ---- the second walk, over bytes that the first accepted
+-- ---- bytes that were accepted
 
 -- a head is whole, and so is its payload
 pub sound : (start at : ℕ) (s : List ℕ) → at < length s → Accepted (readOf 13 start (drop at s))
@@ -130,63 +124,10 @@ sound start at s inside a =
     (λ short. absurd (rw (read-short start at (getD s (at + 1) 0) s inside head refl short) at a))
     (λ present. (head, present)))
 
-pub grown-plain : (k level start : ℕ) (bytes : List ℕ) (w : PartList) → (k ≡ 13 → ⊥) → grown w (listOf k level start bytes) ≡ w
-grown-plain k level start bytes w h = rw (list-plain k level start bytes h) (grown-nil w)
-
-pub grown-mid : (k level start : ℕ) (bytes : List ℕ) (w : PartList) → k ≡ 13 → grown w (listOf k level start bytes) ≡ grown w (listOf 13 level start bytes)
-grown-mid k level start bytes w h = rw (list-mid k level start bytes h)
-
-pub grown-end : (level start at : ℕ) (s : List ℕ) (w : PartList) → length s ≤ at → grown w (listOf 13 level start (drop at s)) ≡ w
-grown-end level start at s w h = rw (list-end level start at s h) (grown-nil w)
-
 -- a list with one part more
-stored : (w : PartList) (p : Part) → record { parts = set (w .parts) (w .count) p; count = w .count + 1 } ≡ grown w (p ∷ [])
+pub stored : (w : PartList) (p : Part) → record { parts = set (w .parts) (w .count) p; count = w .count + 1 } ≡ grown w (p ∷ [])
 unfolding grown
 stored w p = refl
-
-grown-count : (w w1 : PartList) (ps : List Part) → w1 ≡ grown w ps → w1 .count ≡ w .count + length ps
-unfolding grown
-grown-count w w1 ps e = rw e
-
--- one turn: the part, then those inside it
-module _ (start at n level : ℕ) (s : List ℕ) (inside : at < length s) (sound : (2 ≤ length s - at) × (getD s (at + 1) 0 ≤ length s - (at + 2)))
-    (en : n ≡ getD s (at + 1) 0) where
-  present : n ≤ length s - (at + 2)
-  present = omega arith
-
-  pub sound-turn : Accepted (readOf 13 (start + at) (drop at s))
-      → Accepted (readOf (getD s at 0) (start + (at + 2)) (take (at + 2 + n - (at + 2)) (drop (at + 2) s)))
-      × Accepted (readOf 13 (start + (at + 2 + n)) (drop (at + 2 + n) s))
-  sound-turn a = then-both _ _ (rw (read-turn start at n s inside (sound .0) en present) at a)
-
-  pub part-length : length (take (at + 2 + n - (at + 2)) (drop (at + 2) s)) ≡ n
-  part-length = inner-length start at n s inside (sound .0) en present
-
-  module _ (w w2 : PartList) (r : ℕ) (er : r ≡ reportedOf (getD s at 0)) where
-    abbrev one : Part
-    one = record { kind = r; level = level; start = start + (at + 2); len = getD s (at + 1) 0 }
-
-    abbrev inner : List Part
-    inner = listOf (getD s at 0) (level + 1) (start + (at + 2)) (take (at + 2 + n - (at + 2)) (drop (at + 2) s))
-
-    module _ (e : w2 ≡ grown (record { parts = set (w .parts) (w .count) one; count = w .count + 1 }) inner) where
-      both : w2 ≡ grown (grown w (one ∷ [])) inner
-      both = rw (← (stored w one)) e
-
-      pub grown-turn : grown w (listOf 13 level (start + at) (drop at s)) ≡ grown w2 (listOf 13 level (start + (at + 2 + n)) (drop (at + 2 + n) s))
-      grown-turn =
-          rw (list-turn start at n s inside (sound .0) en present level, ← er)
-          (grown-more w (one ∷ []) _ ∙ rw (grown-more, ← both))
-
-      pub grown-room : 2 * w2 .count ≤ 2 * w .count + 2 + n
-      grown-room =
-          omega (
-            arith,
-            grown-count (grown w (one ∷ [])) w2 _ both,
-            grown-count w (grown w (one ∷ [])) (one ∷ []) refl,
-            part-length,
-            few (getD s at 0) (level + 1) (start + (at + 2)) (take (at + 2 + n - (at + 2)) (drop (at + 2) s)),
-          )
 
 -- ---- the answer
 
@@ -212,10 +153,6 @@ module _ (k : ℕ) (bytes id : List ℕ) (read : UpidRead) (list : PartList) (er
   unfolding upidOf unlessRefused
   answer-refused r e el = rw (eid, el, ← eread, e)
 
-  pub answer-fine : (q : ℕ) (w : PartList) → read ≡ Fine q → w ≡ listed [] → list ≡ grown w (listOf k 1 0 bytes)
-      → record { read = read; eidr = id; list = list } ≡ upidOf k bytes
+  pub answer-fine : (q : ℕ) → read ≡ Fine q → list ≡ listed (listOf k 1 0 bytes) → record { read = read; eidr = id; list = list } ≡ upidOf k bytes
   unfolding upidOf unlessRefused
-  answer-fine q w e ew el =
-      let a : Accepted (checkOf k bytes) = rw (← eread, e) tt in
-      let n : length (listOf k 1 0 bytes) ≤ 127 = omega (arith, few k 1 0 bytes, check-short k bytes a) in
-      rw (eid, el, ew, ← eread, e, grown-blank _ n)
+  answer-fine q e el = rw (eid, el, ← eread, e)

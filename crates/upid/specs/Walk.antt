@@ -1,11 +1,11 @@
 -- What the contracts of private functions and the laws of this crate say. No public contract cites this. Assumes nothing: these are definitions.
-use Prim.Native.Nat.{ℕ, _+_, _*_, _-_, _≤_}
-use mathlib.Core.List.{List, [], _∷_}
+use Prim.Native.Nat.{ℕ, zero, suc, _+_, _-_, _≤_}
+use mathlib.Core.List.{List, [], _∷_, _++_}
 use mathlib.Core.Path.{_≡_}
-use lib.ListN.{length, getD, replicate}
+use lib.ListN.{length, take, drop, getD, replicate}
 use lib.Seq.{sets}
 use Rattle.upid.specs.Text.{State, wants, broken, _to_, tail}
-use Rattle.upid.specs.Upid.{readOf, reportedOf}
+use Rattle.upid.specs.Upid.{readOf, listOf, reportedOf}
 use Rattle.upid.specs.declared.Part.{Part}
 use Rattle.upid.specs.declared.PartList.{PartList}
 use Rattle.upid.specs.declared.UpidRead.{UpidRead}
@@ -34,9 +34,22 @@ pub record Announced (top : List ℕ) (p : Part) : Type 0 where
   pub behind : 2 ≤ p .start
   pub inside : p .start + p .len ≤ length top
 
--- a payload was accepted if it is a MID, there is room for the parts that so many bytes can have, and no number grows too large
-pub record Room (kind start level : ℕ) (bytes : List ℕ) (w : PartList) : Type 0 where
-  pub accepted : kind ≡ 13 → Accepted (readOf kind start bytes)
-  pub short : start + length bytes ≤ 255
-  pub shallow : 2 * level + length bytes ≤ 257
-  pub places : 2 * w .count + length bytes ≤ 255
+-- The MIDs that are open at the place `at` of s, the innermost of which ends at `ends`' place level - 1 and is followed by the rest of the one before it:
+-- what is left of each was accepted.
+unfoldable pub Open : List ℕ → List ℕ → ℕ → ℕ → Type 0
+Open s ends zero at = Unit {0}
+Open s ends (suc m) at =
+    (at ≤ getD ends m 0)
+    × (getD ends m 0 ≤ length s)
+    × Accepted (readOf 13 at (drop at (take (getD ends m 0) s)))
+    × Open s ends m (getD ends m 0)
+
+-- the parts that are left of them
+unfoldable pub pending : List ℕ → List ℕ → ℕ → ℕ → List Part
+pending s ends zero at = []
+pending s ends (suc m) at = listOf 13 (suc m) at (drop at (take (getD ends m 0) s)) ++ pending s ends m (getD ends m 0)
+
+-- a UPID was accepted if it is a MID, and is short enough for its parts to have their places
+pub record Listable (kind : ℕ) (bytes : List ℕ) : Type 0 where
+  pub accepted : kind ≡ 13 → Accepted (readOf kind 0 bytes)
+  pub short : length bytes ≤ 255

@@ -86,7 +86,7 @@ pub fn read_upid(kind: u8, bytes: &[u8]) -> Upid
         UpidRead::Fine(_) => Upid {
             read,
             eidr: held,
-            list: list_parts(kind, bytes, 0, 1, blank()),
+            list: list_parts(kind, bytes),
         },
     }
 }

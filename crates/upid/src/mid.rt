@@ -4,7 +4,7 @@ ghost use mathlib.Core.List.{[]};
 ghost use Prim.Native.Nat.{_+_, _≤_, _<_};
 ghost use lib.ListN.{length};
 ghost use Rattle.upid.specs.Upid.{readOf, listOf, listed};
-ghost use Rattle.upid.specs.Walk.{grown, Room};
+ghost use Rattle.upid.specs.Walk.{Listable};
 use crate::Part;
 use crate::PartList;
 use crate::Refusal;
@@ -78,32 +78,46 @@ pub(crate) fn blank() -> PartList
     }
 }
 
-// The parts of a payload that was accepted, after those of `w`; there are none where it is no MID. `level` is that of its direct parts.
-pub(crate) fn list_parts(kind: u8, s: &[u8], start: usize, level: u8, w: PartList) -> PartList
-    requires { ⌜ Room kind start level (now s) w ⌝ }
-    ensures { λ r. ⌜ r ≡ grown w (listOf kind level start (now (s .entry))) ⌝ }
+// The parts of a UPID that was accepted; there are none where it is no MID. It goes by byte order and not by calling itself, so that its need of stack is the
+// same at every depth: `ends` has the place where each open MID ends, the top one's first, and the `level` of them that are open give the level of the next part.
+pub(crate) fn list_parts(kind: u8, s: &[u8]) -> PartList
+    requires { ⌜ Listable kind (now s) ⌝ }
+    ensures { λ r. ⌜ r ≡ listed (listOf kind 1 0 (now (s .entry))) ⌝ }
 {
+    let mut out = blank();
     if kind != 13 {
-        return w;
+        return out;
     }
-    let mut out = w;
+    let mut ends = [0u8; 128];
+    ends[0] = s.len() as u8;
+    let mut level: usize = 1;
     let mut at: usize = 0;
-    while at < s.len() {
+    'walk: while 0 < level {
+        let open = level - 1;
+        let end = wide(ends[open]);
+        if at == end {
+            level = open;
+            continue 'walk;
+        }
         let k = s[at];
         let l = s[at + 1];
         let from = at + 2;
         let to = from + wide(l);
-        let place = start + from;
         let count = out.count;
         out.parts[count] = Part {
             kind: reported(k),
-            level,
-            start: place as u8,
+            level: level as u8,
+            start: from as u8,
             len: l,
         };
         out.count = count + 1;
-        out = list_parts(k, &s[from..to], place, level + 1, out);
-        at = to;
+        if k != 13 {
+            at = to;
+            continue 'walk;
+        }
+        ends[level] = to as u8;
+        level += 1;
+        at = from;
     }
     out
 }
