@@ -1,7 +1,9 @@
 //! Links `libscte35.a`, the proved functions: code for x86-64 Linux, which `rt staticlib scte35` or `host/archive` makes of this repository.
 //!
-//! It is looked for in the folder SCTE35_LIB names; where that is not set, in the repository's target/staticlib, then in scupirtadu/lib of the user's cache folder.
+//! It is looked for in the folder SCTE35_LIB names; where that is not set, in the repository's target/staticlib, then where `host/archive` keeps what it made: the folder
+//! that was used last.
 use std::env;
+use std::fs;
 use std::path::{Path, PathBuf};
 use std::process::exit;
 
@@ -22,8 +24,22 @@ fn folders() -> Vec<PathBuf> {
     }
     let here = PathBuf::from(env::var_os("CARGO_MANIFEST_DIR").expect("set by cargo"));
     let repository = here.ancestors().nth(2).map(|root| root.join("target/staticlib"));
-    let cache = set("XDG_CACHE_HOME").or_else(|| set("HOME").map(|home| home.join(".cache"))).map(|cache| cache.join("scupirtadu/lib"));
-    repository.into_iter().chain(cache).collect()
+    repository.into_iter().chain(kept()).collect()
+}
+
+/// What `host/archive` keeps, the folder that was used last first; where it keeps nothing, the place where it would be.
+fn kept() -> Vec<PathBuf> {
+    let cache = set("XDG_CACHE_HOME").or_else(|| set("HOME").map(|home| home.join(".cache"))).map(|cache| cache.join("scupirtadu"));
+    let Some(place) = set("HOST_CACHE").or(cache).map(|cache| cache.join("archive")) else { return vec![] };
+    let mut folders: Vec<PathBuf> = fs::read_dir(&place).into_iter().flatten().flatten().map(|entry| entry.path()).collect();
+    folders.retain(|folder| folder.join("libscte35.a").is_file());
+    folders.sort_by_key(|folder| std::cmp::Reverse(fs::metadata(folder).and_then(|m| m.modified()).ok()));
+    folders.truncate(1);
+    if folders.is_empty() {
+        vec![place.join("*")]
+    } else {
+        folders
+    }
 }
 
 fn main() {
