@@ -69,13 +69,13 @@ impl Trips {
 
     /// What the C functions read is what they write: every item its descriptor, the loop of these, the section.
     fn back_by_words(&mut self, s: &[u8]) -> Result<Vec<u8>, u64> {
-        let read = raw::section(s, 0);
+        let read = raw::read_section(s, 0);
         let descriptors = &s[read.descriptors.at as usize..][..read.descriptors.len as usize];
         let mut target = [0x55; 4096];
         let (mut joined, mut offset) = (vec![], 0);
         while offset < descriptors.len() {
-            let (step, beside) = (raw::step(descriptors, offset), raw::item_components(descriptors, offset));
-            let answer = raw::write_descriptor(step.words(), beside.words(), descriptors, &mut target);
+            let (step, beside) = (raw::read_item(descriptors, offset), raw::read_item_components(descriptors, offset));
+            let answer = raw::write_descriptor_words(step.words(), beside.words(), descriptors, &mut target);
             if answer.refusal != 0 {
                 return Err(answer.refusal);
             }
@@ -83,8 +83,8 @@ impl Trips {
             offset = step.next as usize;
         }
         // of the bytes up to the command's end
-        let components = raw::insert_components(&s[..14 + read.header.splice_command_length as usize], 14);
-        let answer = raw::write_section(read.header.words(), read.command.words(), components.words(), s, &joined, &mut target);
+        let components = raw::read_insert_components(&s[..14 + read.header.splice_command_length as usize], 14);
+        let answer = raw::write_section_words(read.header.words(), read.command.words(), components.words(), s, &joined, &mut target);
         if answer.refusal != 0 {
             return Err(answer.refusal);
         }
@@ -103,13 +103,13 @@ impl Trips {
     // ---- the canonical form
 
     fn is(&mut self, what: &'static str, bytes: &[u8], expected: bool) {
-        let (by_words, by_values): (fn(&[u8], usize) -> u64, fn(&[u8]) -> bool) = match what {
+        let (by_words, by_values): (fn(&[u8], usize) -> bool, fn(&[u8]) -> bool) = match what {
             "section" => (raw::is_canonical_section, scte35::is_canonical_section),
             "loop" => (raw::is_canonical_loop, scte35::is_canonical_loop),
             _ => (raw::is_canonical_descriptor, scte35::is_canonical_descriptor),
         };
         self.count("canonical", format!("{what}: {}", if expected { "yes" } else { "no" }));
-        self.expect(by_words(bytes, 0) == u64::from(expected), || {
+        self.expect(by_words(bytes, 0) == expected, || {
             format!("canonical {what}? {}, not {expected}: {}", by_words(bytes, 0), hex(bytes))
         });
         self.expect(by_values(bytes) == expected, || format!("canonical {what}, by Rust: {}", hex(bytes)));
@@ -117,7 +117,7 @@ impl Trips {
             // behind others, which are not looked at
             let before = self.rng.below(9);
             let all = [&self.rng.bytes(before)[..], bytes].concat();
-            self.expect(by_words(&all, before) == u64::from(expected), || format!("canonical {what} from {before} on: {}", hex(&all)));
+            self.expect(by_words(&all, before) == expected, || format!("canonical {what} from {before} on: {}", hex(&all)));
         }
     }
 
@@ -136,7 +136,7 @@ impl Trips {
         for (k, d) in x.descriptors.iter().enumerate() {
             self.is("descriptor", d, x.which != Some(k));
         }
-        let read = raw::section(&x.section, 0);
+        let read = raw::read_section(&x.section, 0);
         self.expect(read.refusal == 0, || format!("{}: section {} is refused, {}", way.name, hex(&x.section), read.refusal));
         let same = scte35::read_section(&x.section).ok().zip(scte35::read_section(&whole.section.bytes).ok()).map(|(a, b)| a.reads_as(&b));
         self.expect(same == Some(way.same_reading), || format!("{}: section {} reads the same: {same:?}", way.name, hex(&x.section)));
