@@ -505,7 +505,7 @@ struct scte35_written {
 /*
  * A command's payload.
  * Takes the words of struct scte35_command and of struct scte35_insert_components (of these the places up to the insert's own count are looked at, no other),
- * the bytes that its view names, the target. Refuses with 31 to 34, 36. Stack: 25 KB.
+ * the bytes that its view names, the target. Refuses with 31 to 33, 36. Stack: 25 KB.
  */
 struct scte35_written scte35_write_command_words(const uint64_t *command, size_t command_words, const uint64_t *components, size_t components_words,
                                                  const uint8_t *lent, size_t lent_length, uint8_t *target, size_t target_length);
