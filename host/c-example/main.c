@@ -1,4 +1,5 @@
-/* main HEX: what a section says, and whether it is what is written of its reading. Ends with 1 where a canonical section is not. */
+/* main HEX: what a section says, and whether it is what is written of its reading. Ends with 1 where a canonical section is not, with 2 where HEX is not pairs of
+ * hexadecimal digits, with 3 where the section is refused. */
 #include <inttypes.h>
 #include <stdio.h>
 #include <string.h>
@@ -93,22 +94,37 @@ static struct scte35_written write_back(const uint8_t *s, size_t n, const struct
     return scte35_write_section(&x->header, &x->command, &components, s, n, loop, items.length, target, room);
 }
 
+/* The bytes that pairs of hexadecimal digits say, as many as there is room for: their number; -1 where the text is something else. */
+static long unhex(const char *text, uint8_t *bytes, size_t room)
+{
+    static const char digits[] = "0123456789abcdefABCDEF";
+    size_t n = strlen(text);
+    if (n % 2 || strspn(text, digits) != n)
+        return -1;
+    if (n / 2 < room)
+        room = n / 2;
+    for (size_t i = 0; i < room; i++)
+        sscanf(text + 2 * i, "%2hhx", &bytes[i]);
+    return (long)room;
+}
+
 int main(int argc, char **argv)
 {
     static uint8_t s[SCTE35_MAX_SECTION + 1]; /* one more than is read */
-    size_t n = argc == 2 ? strlen(argv[1]) / 2 : 0;
-    if (n > sizeof s)
-        n = sizeof s;
-    for (size_t i = 0; i < n; i++)
-        sscanf(argv[1] + 2 * i, "%2hhx", &s[i]);
+    long length = argc == 2 ? unhex(argv[1], s, sizeof s) : -1;
+    if (length < 0) {
+        fprintf(stderr, "one section, as pairs of hexadecimal digits\n");
+        return 2;
+    }
     if (scte35_abi() != SCTE35_ABI) {
         fprintf(stderr, "libscte35.a and scte35.h don't belong together\n");
         return 2;
     }
+    size_t n = (size_t)length;
     struct scte35_section x = scte35_read_section(s, n, 0);
     if (x.refusal) {
         printf("refused %" PRIu64 " %s: %s\n", x.refusal, scte35_refusal_name(x.refusal), scte35_refusal_text(x.refusal));
-        return 0;
+        return 3;
     }
     print_command(x.command);
     const uint8_t *loop = scte35_loop_bytes(s, &x);
