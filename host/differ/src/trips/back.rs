@@ -60,10 +60,38 @@ impl Trips {
         let back = self.back_by_values(s);
         self.expect(back.as_ref() == Ok(s), || format!("section {} goes back to {back:?} by values", hex(s)));
         self.count("canonical sections", "there and back");
+        self.identifiers(&whole);
         self.canonical(&whole);
         let way = &WAYS[self.rng.below(WAYS.len())];
         if let Some(spoilt) = (way.put)(&whole, &mut self.rng) {
             self.spoilt(&whole, way, &spoilt);
+        }
+    }
+
+    /// The section's identifiers are those that it was built of, in their order; each lies at its place, behind its type as written and its length.
+    fn identifiers(&mut self, whole: &Whole) {
+        let s = &whole.section.bytes;
+        let Ok(section) = scte35::read_section(s) else { return };
+        let mut built: Vec<(Option<u8>, usize, &[u8])> = vec![];
+        if let Command::Private { bytes, .. } = &whole.command {
+            built.push((None, 0, bytes));
+        }
+        for x in &whole.items {
+            match x {
+                Item::Dtmf { chars: bytes, .. } | Item::Reserved { bytes, .. } => built.push((None, 0, bytes)),
+                Item::Segmentation { detail: Some(Segmentation { upid, .. }), .. } if upid.kind != 0 => {
+                    built.push((Some(upid.kind), 0, &upid.bytes));
+                    built.extend(upid.parts.iter().map(|p| (Some(p.kind), p.level, &upid.bytes[p.start..][..p.length])));
+                }
+                _ => {}
+            }
+        }
+        let found: Vec<_> = section.identifiers().map(|i| (i.upid_type.map(|t| t.id()), i.level, i.bytes)).collect();
+        self.expect(found == built, || format!("section {} has the identifiers {found:?}, built of {built:?}", hex(s)));
+        for i in section.identifiers() {
+            let behind = i.written_type().map_or(true, |t| s[i.at - 2..i.at] == [t.id(), i.len() as u8]);
+            self.expect(behind && s.get(i.at..i.at + i.len()) == Some(i.bytes), || format!("section {}: {i:?} is not there", hex(s)));
+            self.count("identifiers at their place", format!("{:?}", i.kind));
         }
     }
 
@@ -109,9 +137,7 @@ impl Trips {
             _ => (raw::is_canonical_descriptor, scte35::is_canonical_descriptor),
         };
         self.count("canonical", format!("{what}: {}", if expected { "yes" } else { "no" }));
-        self.expect(by_words(bytes, 0) == expected, || {
-            format!("canonical {what}? {}, not {expected}: {}", by_words(bytes, 0), hex(bytes))
-        });
+        self.expect(by_words(bytes, 0) == expected, || format!("canonical {what}? {}, not {expected}: {}", by_words(bytes, 0), hex(bytes)));
         self.expect(by_values(bytes) == expected, || format!("canonical {what}, by Rust: {}", hex(bytes)));
         if self.rng.one_in(8) {
             // behind others, which are not looked at
