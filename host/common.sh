@@ -18,7 +18,7 @@ target=x86_64-unknown-linux-gnu
 parts='
 host/Cargo.toml Cargo.toml
 host/.cargo .cargo
-host/scte35 scte35
+rust/scte35 scte35
 host/differ differ
 host/standins standins
 host/crate crate
