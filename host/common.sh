@@ -51,7 +51,7 @@ ready() {
     mkdir -p "$build/rust"
     local part
     for part in scte35 differ standins crate; do rm -rf "$build/rust/$part"; done
-    cp -Rp "$host/Cargo.toml" "$host/.cargo" "$host/scte35" "$host/differ" "$host/standins" "$host/crate" "$build/rust/"
+    cp -Rp "$host/Cargo.toml" "$host/.cargo" "$root/rust/scte35" "$host/differ" "$host/standins" "$host/crate" "$build/rust/"
     take_text
 }
 

@@ -1,6 +1,6 @@
 //! The port's answers, through its Rust interface, as `answer`'s.
 use crate::answer::*;
-use scte35::{ItemRefusal, SpliceDescriptor, SpliceDescriptors};
+use scte35::{SpliceDescriptor, SpliceDescriptors};
 
 fn time(t: scte35::SpliceTime) -> Time {
     match t {
@@ -30,6 +30,7 @@ fn command_of(c: scte35::SpliceCommand<'_>) -> Command {
         scte35::SpliceCommand::TimeSignal(t) => Command::TimeSignal(time(t)),
         scte35::SpliceCommand::PrivateCommand { identifier, private_bytes } => Command::Private { identifier, bytes: private_bytes.to_vec() },
         scte35::SpliceCommand::SpliceInsert(i) => Command::Insert { event: i.splice_event_id, reserved: i.reserved, detail: i.detail.map(insert) },
+        other => unreachable!("a command that the comparison does not know: {other:?}"),
     }
 }
 
@@ -47,30 +48,29 @@ fn insert(x: scte35::InsertDetail) -> Insert {
     }
 }
 
-fn refusal(r: ItemRefusal<'_>) -> Refusal {
+/// A refusal of what was read from `lent`.
+fn refusal(r: scte35::Refusal, lent: &[u8]) -> Refusal {
     match r {
-        ItemRefusal::TooLong => Refusal::TooLong,
-        ItemRefusal::NotEnoughData { expected, actual } => Refusal::NotEnoughData { expected, actual },
-        ItemRefusal::InvalidDescriptorLength => Refusal::DescriptorLength,
-        ItemRefusal::UntypedBytes => Refusal::Untyped,
-        ItemRefusal::NotText { kind, bytes } => Refusal::NotText { kind: kind.id(), bytes: bytes.to_vec() },
-        ItemRefusal::WrongLength { kind, expected, actual } => Refusal::WrongLength { kind: kind.id(), expected, actual },
+        scte35::Refusal::InputTooLong => Refusal::TooLong,
+        scte35::Refusal::NotEnoughData { expected, actual, .. } => Refusal::NotEnoughData { expected, actual },
+        scte35::Refusal::InvalidDescriptorLength { .. } => Refusal::DescriptorLength,
+        scte35::Refusal::UpidLengthTypeMismatch { .. } => Refusal::Untyped,
+        scte35::Refusal::InvalidUpidContent { upid_type, at, len, .. } => {
+            Refusal::NotText { kind: upid_type.id(), bytes: lent[at..][..len].to_vec() }
+        }
+        scte35::Refusal::InvalidUpidLength { upid_type, expected, actual, .. } => Refusal::WrongLength { kind: upid_type.id(), expected, actual },
+        other => unreachable!("no item is refused by {other}"),
     }
 }
 
 fn upid_of(u: scte35::Upid<'_>) -> Upid {
-    let parts = match &u {
-        scte35::Upid::Mid(mid) => {
-            mid.parts.iter().map(|p| Part { kind: p.kind.id(), level: p.level, start: p.start, length: p.bytes.len() }).collect()
-        }
-        _ => vec![],
-    };
-    Upid { kind: u.kind().id(), length: u.bytes().len(), bytes: u.bytes().to_vec(), parts }
+    let parts = u.parts().iter().map(|p| Part { kind: p.upid_type.id(), level: p.level, start: p.start, length: p.bytes.len() }).collect();
+    Upid { kind: u.upid_type().id(), length: u.bytes().len(), bytes: u.bytes().to_vec(), parts }
 }
 
-fn item(x: Result<SpliceDescriptor<'_>, ItemRefusal<'_>>) -> Item {
-    match x {
-        Err(r) => Item::Refused(refusal(r)),
+fn item(x: scte35::Item<'_>, lent: &[u8]) -> Item {
+    match x.item {
+        Err(r) => Item::Refused(refusal(r, lent)),
         Ok(SpliceDescriptor::Avail { provider_avail_id }) => Item::Avail(provider_avail_id),
         Ok(SpliceDescriptor::Dtmf { preroll, dtmf_chars }) => Item::Dtmf { preroll, chars: dtmf_chars.to_vec() },
         Ok(SpliceDescriptor::Time { tai_seconds, tai_nanoseconds, utc_offset }) => {
@@ -107,8 +107,8 @@ pub fn section(data: &[u8]) -> (Section, &[u8]) {
     match scte35::read_section(data) {
         Err(r) => (Section::Refused(r.number()), &[]),
         Ok(s) => {
-            let items = s.descriptors.into_iter().map(item).collect();
-            (Section::Accepted { header: header_of(&s.header), command: command_of(s.command), items }, s.descriptors.0)
+            let lent = s.descriptors.bytes();
+            (Section::Accepted { header: header_of(&s.header), command: command_of(s.command), items: items(lent) }, lent)
         }
     }
 }
@@ -119,16 +119,16 @@ pub fn header(data: &[u8]) -> Option<Header> {
 }
 
 pub fn step(data: &[u8], offset: usize) -> Step {
-    let t = scte35::step(data, offset);
-    Step { item: t.item.map(item), next: t.next }
+    let t = scte35::read_item(SpliceDescriptors::new(data), offset);
+    Step { item: t.item.map(|x| item(x, data)), next: t.next }
 }
 
 pub fn items(data: &[u8]) -> Vec<Item> {
-    SpliceDescriptors(data).into_iter().map(item).collect()
+    SpliceDescriptors::new(data).into_iter().map(|x| item(x, data)).collect()
 }
 
 pub fn upid(kind: u8, bytes: &[u8]) -> Result<Upid, Refusal> {
-    scte35::read_upid(scte35::SegmentationUpidType::from_type(kind), bytes).map(upid_of).map_err(refusal)
+    scte35::read_upid(scte35::SegmentationUpidType::from_type(kind), bytes).map(upid_of).map_err(|r| refusal(r, bytes))
 }
 
 pub fn command(kind: u8, payload: &[u8]) -> Command {

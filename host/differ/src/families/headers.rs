@@ -75,7 +75,7 @@ fn flagged<T: Debug>(
     run: &mut Run,
     what: &'static str,
     n: u8,
-    mine: Result<impl Debug, scte35::NotInField>,
+    mine: Result<impl Debug, scte35::Refusal>,
     their: impl FnOnce() -> T + std::panic::UnwindSafe,
 ) {
     let their = catch_unwind(their);

@@ -1,22 +1,22 @@
 //! Values as those of the Rust interface.
 use crate::answer::*;
 use scte35::{
-    ComponentSplice, DeliveryRestrictions, DeviceRestrictions, EncryptionAlgorithm, InsertDetail, Mid, ModeComponent, NetworkIndicator, ReturnMode,
+    ComponentSplice, DeliveryRestrictions, DeviceRestrictions, EncryptionAlgorithm, InsertDetail, ModeComponent, NetworkIndicator, ReturnMode,
     SegmentationDetail, SegmentationTypeId, SegmentationUpidType, SpliceCommand, SpliceCommandType, SpliceDescriptor, SpliceDuration,
     SpliceInfoHeader, SpliceInsert, SpliceTime, SubSegments,
 };
 
 pub fn header(h: &Header) -> SpliceInfoHeader {
-    SpliceInfoHeader {
-        protocol_version: h.protocol_version,
-        encrypted_packet: h.encrypted,
-        encryption_algorithm: EncryptionAlgorithm::from_id(h.algorithm),
-        pts_adjustment: h.pts_adjustment,
-        cw_index: h.cw_index,
-        tier: h.tier,
-        splice_command_length: h.command_length,
-        splice_command_type: SpliceCommandType::from_id(h.command_type),
-    }
+    let mut header = SpliceInfoHeader::default();
+    header.protocol_version = h.protocol_version;
+    header.encrypted_packet = h.encrypted;
+    header.encryption_algorithm = EncryptionAlgorithm::from_id(h.algorithm);
+    header.pts_adjustment = h.pts_adjustment;
+    header.cw_index = h.cw_index;
+    header.tier = h.tier;
+    header.splice_command_length = h.command_length;
+    header.splice_command_type = SpliceCommandType::from_id(h.command_type);
+    header
 }
 
 fn time(t: Time) -> SpliceTime {
@@ -61,20 +61,14 @@ pub fn command(c: &Command) -> SpliceCommand<'_> {
 
 fn upid(u: &Upid) -> scte35::Upid<'_> {
     let bytes = &u.bytes[..];
-    let part = |p: &Part| scte35::Part {
-        kind: SegmentationUpidType::from_type(p.kind),
-        level: p.level,
-        start: p.start,
-        bytes: &bytes[p.start..][..p.length],
-    };
     match (SegmentationUpidType::from_type(u.kind), std::str::from_utf8(bytes), bytes.try_into()) {
         (SegmentationUpidType::NotUsed, ..) if bytes.is_empty() => scte35::Upid::None,
-        (SegmentationUpidType::MID, ..) => scte35::Upid::Mid(Mid { bytes, parts: u.parts.iter().map(part).collect() }),
+        (upid_type @ SegmentationUpidType::MID, ..) => scte35::read_upid(upid_type, bytes).expect("drawn so that it is read"),
         (SegmentationUpidType::EIDR, _, Ok(bytes)) => scte35::Upid::Eidr(bytes),
-        (kind @ (SegmentationUpidType::ISCIDeprecated | SegmentationUpidType::AdID | SegmentationUpidType::TID), Ok(text), _) => {
-            scte35::Upid::Text { kind, text }
+        (upid_type @ (SegmentationUpidType::ISCIDeprecated | SegmentationUpidType::AdID | SegmentationUpidType::TID), Ok(text), _) => {
+            scte35::Upid::Text { upid_type, text }
         }
-        (kind, ..) => scte35::Upid::Bytes { kind, bytes },
+        (upid_type, ..) => scte35::Upid::Bytes { upid_type, bytes },
     }
 }
 

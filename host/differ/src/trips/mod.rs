@@ -15,7 +15,7 @@ pub mod words;
 
 use crate::answer::hex;
 use crate::rng::Rng;
-use scte35::{raw, WriteRefusal};
+use scte35::{raw, Refusal};
 use std::collections::BTreeMap;
 use words::{CommandWords, ItemWords};
 
@@ -30,7 +30,7 @@ pub struct Trips {
 }
 
 /// An answer of the Rust interface as that of the C function.
-fn flat(answer: Result<usize, WriteRefusal>) -> raw::Written {
+fn flat(answer: Result<usize, Refusal>) -> raw::Written {
     match answer {
         Ok(length) => raw::Written { refusal: 0, length: length as u64 },
         Err(r) => raw::Written { refusal: r.number().into(), length: 0 },

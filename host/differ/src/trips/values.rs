@@ -49,11 +49,7 @@ impl Trips {
         let s = &whole.section.bytes;
         let room = self.room(s.len());
         let by_words = self.by_section(&header, &words, &descriptors, Ok(s), room);
-        let value = scte35::Section {
-            header: api::header(&whole.header),
-            command: api::command(&whole.command),
-            descriptors: scte35::SpliceDescriptors(&descriptors),
-        };
+        let value = scte35::Section::new(api::header(&whole.header), api::command(&whole.command), scte35::SpliceDescriptors::new(&descriptors));
         let by_values = self.written(|| format!("{value:?}"), Ok(s), room, |target| flat(scte35::write_section(&value, target)));
         for bytes in [by_words, by_values].into_iter().flatten() {
             self.reads_as(&bytes, &whole.header, &whole.command, &whole.items);

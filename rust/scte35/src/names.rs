@@ -1,15 +1,19 @@
 //! Named numbers of the standard. A number without a name keeps its value.
+//!
+//! Lines of the form `NAME = NUMBER,` are compared with the Rattle sources by host/layout.
 
 macro_rules! named {
     ($(#[$doc:meta])* $name:ident, $from:ident, $to:ident { $($variant:ident = $number:literal),* $(,)? } $other:ident) => {
         $(#[$doc])*
         #[derive(Debug, Clone, Copy, PartialEq, Eq, Hash)]
         pub enum $name {
-            $($variant,)*
+            $(#[doc = stringify!($number)] $variant,)*
+            /// Any other number.
             $other(u8),
         }
 
         impl $name {
+            /// What the number means.
             pub fn $from(number: u8) -> Self {
                 match number {
                     $($number => $name::$variant,)*
@@ -17,10 +21,19 @@ macro_rules! named {
                 }
             }
 
+            /// The number.
             pub fn $to(self) -> u8 {
                 match self {
                     $($name::$variant => $number,)*
                     $name::$other(n) => n,
+                }
+            }
+
+            /// The name, as it is written here; that of a number without one is "Reserved".
+            pub fn name(self) -> &'static str {
+                match self {
+                    $($name::$variant => stringify!($variant),)*
+                    $name::$other(_) => stringify!($other),
                 }
             }
         }
@@ -98,15 +111,22 @@ named! {
 /// encryption_algorithm: 4 to 31 are reserved, 32 and over private.
 #[derive(Debug, Clone, Copy, PartialEq, Eq, Hash)]
 pub enum EncryptionAlgorithm {
+    /// 0
     None,
+    /// 1
     DesEcb,
+    /// 2
     DesCbc,
+    /// 3
     TripleDesEde3Ecb,
+    /// 4 to 31
     Reserved(u8),
+    /// 32 and over; a header's field has 6 bits, so it reads 32 to 63
     Private(u8),
 }
 
 impl EncryptionAlgorithm {
+    /// What the number means.
     pub fn from_id(id: u8) -> Self {
         match id {
             0 => Self::None,
@@ -118,6 +138,7 @@ impl EncryptionAlgorithm {
         }
     }
 
+    /// The number.
     pub fn id(self) -> u8 {
         match self {
             Self::None => 0,
@@ -125,6 +146,18 @@ impl EncryptionAlgorithm {
             Self::DesCbc => 2,
             Self::TripleDesEde3Ecb => 3,
             Self::Reserved(id) | Self::Private(id) => id,
+        }
+    }
+
+    /// The name, as it is written here.
+    pub fn name(self) -> &'static str {
+        match self {
+            Self::None => "None",
+            Self::DesEcb => "DesEcb",
+            Self::DesCbc => "DesCbc",
+            Self::TripleDesEde3Ecb => "TripleDesEde3Ecb",
+            Self::Reserved(_) => "Reserved",
+            Self::Private(_) => "Private",
         }
     }
 }

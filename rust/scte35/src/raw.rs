@@ -4,9 +4,16 @@
 // Each struct is words and nothing else, so all bits 0 is one, and it is a slice of words.
 macro_rules! words {
     ($($(#[$doc:meta])* $name:ident { $($field:ident: $type:ty),* $(,)? })*) => {
-        $($(#[$doc])* #[repr(C)] #[derive(Debug, Clone, Copy, PartialEq, Eq)] pub struct $name { $(pub $field: $type),* }
+        $($(#[$doc])*
+        #[doc = concat!("`", stringify!($name), "`, as the header file has it.")]
+        #[repr(C)]
+        #[derive(Debug, Clone, Copy, PartialEq, Eq)]
+        pub struct $name {
+            $(#[doc = concat!("`", stringify!($field), "`")] pub $field: $type),*
+        }
 
         impl $name {
+            /// All words 0.
             pub const ZERO: Self = unsafe { std::mem::zeroed() };
 
             /// The words one after the other, as the writers take them.
@@ -14,6 +21,7 @@ macro_rules! words {
                 unsafe { std::slice::from_raw_parts(std::ptr::from_ref(self).cast(), words::<Self>()) }
             }
 
+            /// The words, to be changed.
             pub fn words_mut(&mut self) -> &mut [u64] {
                 unsafe { std::slice::from_raw_parts_mut(std::ptr::from_mut(self).cast(), words::<Self>()) }
             }
@@ -162,7 +170,8 @@ extern "C" {
 
 macro_rules! over_bytes {
     ($($name:ident = $function:ident -> $answer:ty;)*) => {
-        $(#[inline]
+        $(#[doc = concat!("`", stringify!($function), "`")]
+        #[inline]
         pub fn $name(s: &[u8], at: usize) -> $answer {
             unsafe { $function(s.as_ptr(), s.len(), at) }
         })*
@@ -171,7 +180,8 @@ macro_rules! over_bytes {
 
 macro_rules! of_numbers {
     ($($name:ident = $function:ident;)*) => {
-        $(#[inline]
+        $(#[doc = concat!("`", stringify!($function), "`")]
+        #[inline]
         pub fn $name(n: u8) -> Number {
             unsafe { $function(n) }
         })*
@@ -200,21 +210,25 @@ of_numbers! {
     device_restrictions = scte35_device_restrictions;
 }
 
+/// `scte35_command`
 #[inline]
 pub fn command(kind: u8, s: &[u8], at: usize) -> Command {
     unsafe { scte35_command(kind, s.as_ptr(), s.len(), at) }
 }
 
+/// `scte35_upid`
 #[inline]
 pub fn upid(kind: u8, s: &[u8], at: usize) -> Upid {
     unsafe { scte35_upid(kind, s.as_ptr(), s.len(), at) }
 }
 
+/// `scte35_adjusted_time`
 #[inline]
 pub fn adjusted_time(kind: u64, ticks: u64, pts_adjustment: u64) -> AdjustedTime {
     unsafe { scte35_adjusted_time(kind, ticks, pts_adjustment) }
 }
 
+/// `scte35_write_command`
 #[inline]
 pub fn write_command(command: &[u64], components: &[u64], lent: &[u8], target: &mut [u8]) -> Written {
     unsafe {
@@ -231,6 +245,7 @@ pub fn write_command(command: &[u64], components: &[u64], lent: &[u8], target: &
     }
 }
 
+/// `scte35_write_descriptor`
 #[inline]
 pub fn write_descriptor(step: &[u64], beside: &[u64], lent: &[u8], target: &mut [u8]) -> Written {
     unsafe {
@@ -247,6 +262,7 @@ pub fn write_descriptor(step: &[u64], beside: &[u64], lent: &[u8], target: &mut 
     }
 }
 
+/// `scte35_write_section`
 #[inline]
 pub fn write_section(header: &[u64], command: &[u64], components: &[u64], lent: &[u8], descriptors: &[u8], target: &mut [u8]) -> Written {
     unsafe {

@@ -1,19 +1,44 @@
 //! The splice header, and times.
 use crate::names::{EncryptionAlgorithm, SpliceCommandType};
 use crate::raw;
-use crate::refusal::{HeaderTooShort, TimeTooLarge};
+use crate::refusal::Refusal;
 
+/// The splice header. To make one, start from `SpliceInfoHeader::default()` and set its fields.
 #[derive(Debug, Clone, Copy, PartialEq, Eq, Hash)]
+#[non_exhaustive]
 pub struct SpliceInfoHeader {
+    /// 0 in every edition so far
     pub protocol_version: u8,
+    /// an encrypted section is neither read nor written; a header alone is read
     pub encrypted_packet: bool,
+    /// 6 bits; looked at only where the packet is encrypted
     pub encryption_algorithm: EncryptionAlgorithm,
-    /// 33 bits, in ticks of 90 kHz
+    /// 33 bits, in ticks of 90 kHz: to be added to every time of the section
     pub pts_adjustment: u64,
+    /// which control word; looked at only where the packet is encrypted
     pub cw_index: u8,
+    /// 12 bits; 0xFFF: any tier
     pub tier: u16,
+    /// the bytes of the command's payload; a writer works them out
     pub splice_command_length: u16,
+    /// the command's type; a writer works it out
     pub splice_command_type: SpliceCommandType,
+}
+
+/// Version 0, not encrypted, no adjustment, control word 0, any tier; a null command of no bytes.
+impl Default for SpliceInfoHeader {
+    fn default() -> Self {
+        SpliceInfoHeader {
+            protocol_version: 0,
+            encrypted_packet: false,
+            encryption_algorithm: EncryptionAlgorithm::None,
+            pts_adjustment: 0,
+            cw_index: 0,
+            tier: 0xFFF,
+            splice_command_length: 0,
+            splice_command_type: SpliceCommandType::SpliceNull,
+        }
+    }
 }
 
 impl SpliceInfoHeader {
@@ -31,18 +56,21 @@ impl SpliceInfoHeader {
     }
 }
 
-/// Reads the splice header in the first 11 bytes.
-pub fn read_header(bytes: &[u8]) -> Result<SpliceInfoHeader, HeaderTooShort> {
+/// Reads the splice header in the first 11 bytes. Refused with `Refusal::NoHeader` where they are fewer.
+pub fn read_header(bytes: &[u8]) -> Result<SpliceInfoHeader, Refusal> {
     let h = raw::header(bytes, 0);
     match h.refusal {
         0 => Ok(SpliceInfoHeader::of(&h)),
-        _ => Err(HeaderTooShort),
+        n => Err(Refusal::answered(n, [0; 3])),
     }
 }
 
+/// A splice_time, or that the splice is immediate.
 #[derive(Debug, Clone, Copy, PartialEq, Eq, Hash)]
 pub enum SpliceTime {
+    /// splice_immediate_flag is set, and so there is no splice_time
     Immediate,
+    /// time_specified_flag is 0
     Unspecified,
     /// 33 bits, in ticks of 90 kHz
     At(u64),
@@ -57,8 +85,8 @@ impl SpliceTime {
         }
     }
 
-    /// The time with its section's adjustment added, where one is specified.
-    pub fn adjusted(self, pts_adjustment: u64) -> Result<Option<u64>, TimeTooLarge> {
+    /// The time with its section's adjustment added, where one is specified. Refused with `Refusal::TooLarge` where either has more than 33 bits.
+    pub fn adjusted(self, pts_adjustment: u64) -> Result<Option<u64>, Refusal> {
         let (kind, ticks) = match self {
             SpliceTime::Immediate => (1, 0),
             SpliceTime::Unspecified => (2, 0),
@@ -68,7 +96,7 @@ impl SpliceTime {
         match (answer.refusal, answer.kind) {
             (0, 3) => Ok(Some(answer.ticks)),
             (0, _) => Ok(None),
-            _ => Err(TimeTooLarge),
+            (n, _) => Err(Refusal::answered(n, [0; 3])),
         }
     }
 }

@@ -6,12 +6,24 @@ fn unhex(digits: &str) -> Vec<u8> {
     (0..digits.len() / 2).map(|i| u8::from_str_radix(&digits[2 * i..2 * i + 2], 16).unwrap()).collect()
 }
 
-fn items(bytes: &[u8]) -> Vec<Result<SpliceDescriptor<'_>, ItemRefusal<'_>>> {
-    SpliceDescriptors(bytes).into_iter().collect()
+fn items(bytes: &[u8]) -> Vec<Result<SpliceDescriptor<'_>, Refusal>> {
+    SpliceDescriptors::new(bytes).into_iter().map(|x| x.item).collect()
 }
 
-fn lacks(expected: usize, actual: usize) -> ItemRefusal<'static> {
-    ItemRefusal::NotEnoughData { expected, actual }
+fn refused(number: u64, values: [u64; 3]) -> Refusal {
+    Refusal::from_words(number, values).expect("a number of a refusal")
+}
+
+fn lacks(expected: u64, actual: u64) -> Refusal {
+    refused(21, [expected, actual, 0])
+}
+
+fn step(bytes: &[u8], offset: usize) -> (Option<Result<SpliceDescriptor<'_>, Refusal>>, usize) {
+    let step = read_item(SpliceDescriptors::new(bytes), offset);
+    if let Some(item) = &step.item {
+        assert_eq!((item.offset, item.offset + item.len), (offset, step.next.max(offset)));
+    }
+    (step.item.map(|x| x.item), step.next)
 }
 
 const CUEI: &str = "43 55 45 49";
@@ -29,7 +41,7 @@ fn loops() {
     d[1] = 255;
     assert_eq!(items(&d), vec![Err(lacks(257, 0))]);
     d.push(7);
-    assert_eq!(items(&d), vec![Err(ItemRefusal::InvalidDescriptorLength)]);
+    assert_eq!(items(&d), vec![Err(refused(22, [0; 3]))]);
     let dtmf = unhex(&format!("01 07 {CUEI} B1 3F 34"));
     assert_eq!(items(&dtmf), vec![Ok(SpliceDescriptor::Dtmf { preroll: 177, dtmf_chars: &[0x34] })]);
 }
@@ -37,16 +49,16 @@ fn loops() {
 #[test]
 fn steps() {
     let bytes = unhex(&format!("00 08 {CUEI} 00 00 01 35 05 02 AA BB 09 00 00"));
-    assert_eq!(step(&bytes, 0), Step { item: Some(Ok(SpliceDescriptor::Avail { provider_avail_id: 309 })), next: 10 });
-    assert_eq!(step(&bytes, 10), Step { item: Some(Err(lacks(6, 4))), next: 14 });
-    assert_eq!(step(&bytes, 14), Step { item: Some(Err(lacks(2, 0))), next: 17 });
+    assert_eq!(step(&bytes, 0), (Some(Ok(SpliceDescriptor::Avail { provider_avail_id: 309 })), 10));
+    assert_eq!(step(&bytes, 10), (Some(Err(lacks(6, 4))), 14));
+    assert_eq!(step(&bytes, 14), (Some(Err(lacks(2, 0))), 17));
     for offset in [17, 18, usize::MAX] {
-        assert_eq!(step(&bytes, offset), Step { item: None, next: 17 });
+        assert_eq!(step(&bytes, offset), (None, 17));
     }
-    assert_eq!(step(&[0; 4077], 5000), Step { item: Some(Err(ItemRefusal::TooLong)), next: 4077 });
-    assert_eq!(items(&[0; 4077]), vec![Err(ItemRefusal::TooLong)]);
+    assert_eq!(step(&[0; 4077], 5000), (Some(Err(Refusal::InputTooLong)), 4077));
+    assert_eq!(items(&[0; 4077]), vec![Err(Refusal::InputTooLong)]);
     // the end stays the end
-    let mut over = SpliceDescriptors(&bytes).into_iter();
+    let mut over = SpliceDescriptors::new(&bytes).into_iter();
     assert_eq!(over.by_ref().count(), 3);
     assert_eq!((over.next(), over.offset()), (None, 17));
 }
@@ -56,23 +68,23 @@ fn identifiers() {
     // rows h, i, j
     let read = |bytes| read_upid(SegmentationUpidType::MID, bytes);
     let Ok(Upid::Mid(mid)) = read(&[13, 2, 13, 0]) else { panic!("a MID") };
-    let part = |level, start, bytes: &'static [u8]| Part { kind: SegmentationUpidType::MID, level, start, bytes };
-    assert_eq!(mid.parts, vec![part(1, 2, &[13, 0]), part(2, 4, &[])]);
-    assert_eq!(read(&[0, 0]), Err(ItemRefusal::UntypedBytes));
+    let parts: Vec<_> = mid.parts().iter().map(|p| (p.upid_type, p.level, p.start, p.bytes)).collect();
+    assert_eq!(parts, vec![(SegmentationUpidType::MID, 1, 2, &[13, 0][..]), (SegmentationUpidType::MID, 2, 4, &[])]);
+    assert_eq!(read(&[0, 0]), Err(refused(23, [0; 3])));
     assert_eq!(read(&[8, 3, 1, 2]), Err(lacks(3, 2)));
     assert_eq!(read(&[8]), Err(lacks(1, 0)));
     // text, lengths, what is held by value
     let text = read_upid(SegmentationUpidType::AdID, b"ABCD0001000H");
-    assert_eq!(text, Ok(Upid::Text { kind: SegmentationUpidType::AdID, text: "ABCD0001000H" }));
+    assert_eq!(text, Ok(Upid::Text { upid_type: SegmentationUpidType::AdID, text: "ABCD0001000H" }));
     let broken = read_upid(SegmentationUpidType::ISCIDeprecated, b"ABCD\xFF234");
-    assert_eq!(broken, Err(ItemRefusal::NotText { kind: SegmentationUpidType::ISCIDeprecated, bytes: b"ABCD\xFF234" }));
+    assert_eq!(broken, Err(refused(24, [2, 0, 8])));
     let short = read_upid(SegmentationUpidType::ISAN, &[0; 8]);
-    assert_eq!(short, Err(ItemRefusal::WrongLength { kind: SegmentationUpidType::ISAN, expected: 12, actual: 8 }));
+    assert_eq!(short, Err(refused(25, [6, 12, 8])));
     let isan = read_upid(SegmentationUpidType::ISANDeprecated, &[1; 8]);
-    assert_eq!(isan, Ok(Upid::Bytes { kind: SegmentationUpidType::ISAN, bytes: &[1; 8] }));
+    assert_eq!(isan, Ok(Upid::Bytes { upid_type: SegmentationUpidType::ISAN, bytes: &[1; 8] }));
     assert_eq!(read_upid(SegmentationUpidType::EIDR, &[2; 12]), Ok(Upid::Eidr([2; 12])));
     assert_eq!(read_upid(SegmentationUpidType::URI, &[]), Ok(Upid::None));
-    assert_eq!(read_upid(SegmentationUpidType::Reserved(200), &[3; 256]), Err(ItemRefusal::TooLong));
+    assert_eq!(read_upid(SegmentationUpidType::Reserved(200), &[3; 256]), Err(Refusal::InputTooLong));
 }
 
 #[test]
@@ -81,7 +93,7 @@ fn commands() {
     let signal = |bytes| read_command(SpliceCommandType::TimeSignal, bytes);
     assert_eq!(signal(&[0xFF; 5]), Ok(SpliceCommand::TimeSignal(SpliceTime::At(8_589_934_591))));
     assert_eq!(signal(&[0x7F]), Ok(SpliceCommand::TimeSignal(SpliceTime::Unspecified)));
-    assert_eq!(signal(&[]), Err(SectionRefusal::MalformedCommand));
+    assert_eq!(signal(&[]), Err(Refusal::MalformedCommand));
     let [one, other] = [0x0F, 0x1F].map(|flags| [0, 0, 0, 1, 0x7F, flags, 0, 0, 0, 0, 0]);
     let insert = |bytes| read_command(SpliceCommandType::SpliceInsert, bytes);
     assert_eq!(insert(&one), insert(&other));
@@ -90,7 +102,7 @@ fn commands() {
     let tagged = |component_tag, splice_time| ComponentSplice { component_tag, splice_time };
     assert_eq!(detail.splice_mode, SpliceMode::Components(vec![tagged(5, SpliceTime::Unspecified), tagged(6, SpliceTime::At(1))]));
     assert_eq!((detail.unique_program_id, detail.avail_num, detail.avails_expected), (3, 4, 5));
-    assert_eq!(read_command(SpliceCommandType::SpliceSchedule, &[]), Err(SectionRefusal::UnknownCommand));
+    assert_eq!(read_command(SpliceCommandType::SpliceSchedule, &[]), Err(Refusal::UnknownCommand));
 }
 
 #[test]
@@ -100,7 +112,7 @@ fn segmentation() {
     let plain = unhex("00 00 00 2A 7F BF 00 00 10 01 01");
     let detail = |bytes: &[u8]| match items(bytes).remove(0) {
         Ok(SpliceDescriptor::Segmentation { segmentation_event_id: 42, detail: Some(d) }) => Ok((d.segmentation_type_id, d.sub_segments)),
-        Err(ItemRefusal::NotEnoughData { expected, actual }) => Err((expected, actual)),
+        Err(Refusal::NotEnoughData { expected, actual, .. }) => Err((expected, actual)),
         other => panic!("{other:?}"),
     };
     assert_eq!(detail(&framed(&plain)), Ok((SegmentationTypeId::ProgramStart, None)));
@@ -134,12 +146,11 @@ fn sections() {
     assert_eq!(detail.network_indicator, NetworkIndicator::Out);
     assert_eq!(detail.splice_mode, SpliceMode::Program(SpliceTime::At(1_936_310_318)));
     assert_eq!(detail.duration, Some(SpliceDuration { return_mode: ReturnMode::Automatic, duration: 5_426_421 }));
-    let found: Vec<_> = section.descriptors.into_iter().collect();
-    assert_eq!(found, vec![Ok(SpliceDescriptor::Avail { provider_avail_id: 309 })]);
+    assert_eq!(items(section.descriptors.bytes()), vec![Ok(SpliceDescriptor::Avail { provider_avail_id: 309 })]);
     assert_eq!(crc(&sample), 0);
     // refusals, by number
-    let number = |bytes: &[u8]| read_section(bytes).map_err(SectionRefusal::number).err();
-    assert_eq!([SectionRefusal::TooShort, SectionRefusal::MalformedCommand].map(SectionRefusal::number), [1, 11]);
+    let number = |bytes: &[u8]| read_section(bytes).map_err(Refusal::number).err();
+    assert_eq!([Refusal::SectionTooShort, Refusal::MalformedCommand].map(Refusal::number), [1, 11]);
     assert_eq!(number(&sample[..2]), Some(1));
     assert_eq!(number(&[0; 4097]), Some(2));
     assert_eq!(number(&[0; 40]), Some(3));
@@ -152,7 +163,7 @@ fn sections() {
 
 #[test]
 fn headers_and_times() {
-    assert_eq!(read_header(&[0; 10]), Err(HeaderTooShort));
+    assert_eq!(read_header(&[0; 10]), Err(Refusal::NoHeader));
     let h = read_header(&unhex("01 C3 00 00 00 05 06 AB CD EF FF 99")).expect("eleven bytes");
     assert_eq!((h.protocol_version, h.encrypted_packet, h.pts_adjustment, h.cw_index), (1, true, 4_294_967_301, 6));
     assert_eq!((h.tier, h.splice_command_length), (0xABC, 0xDEF));
@@ -160,21 +171,22 @@ fn headers_and_times() {
     assert_eq!(SpliceTime::At(8_589_934_591).adjusted(8_589_934_591), Ok(Some(17_179_869_182)));
     assert_eq!(SpliceTime::Unspecified.adjusted(1), Ok(None));
     assert_eq!(SpliceTime::Immediate.adjusted(1), Ok(None));
-    assert_eq!(SpliceTime::At(1 << 33).adjusted(0), Err(TimeTooLarge));
-    assert_eq!(SpliceTime::Unspecified.adjusted(1 << 33), Err(TimeTooLarge));
+    assert_eq!(SpliceTime::At(1 << 33).adjusted(0), Err(Refusal::TooLarge));
+    assert_eq!(SpliceTime::Unspecified.adjusted(1 << 33), Err(Refusal::TooLarge));
     assert_eq!(raw::adjusted_time(2, 1 << 40, 0).refusal, 32);
     // of a section: of a time signal and of an insert by program
-    let null = SpliceInfoHeader { pts_adjustment: 5, ..h };
-    let section = |command| Section { header: null, command, descriptors: SpliceDescriptors(&[]) };
+    let mut header = SpliceInfoHeader::default();
+    header.pts_adjustment = 5;
+    let section = |command| Section::new(header, command, SpliceDescriptors::new(&[]));
     assert_eq!(section(SpliceCommand::TimeSignal(SpliceTime::At(7))).adjusted_time(), Ok(Some(12)));
-    assert_eq!(section(SpliceCommand::TimeSignal(SpliceTime::At(1 << 33))).adjusted_time(), Err(TimeTooLarge));
+    assert_eq!(section(SpliceCommand::TimeSignal(SpliceTime::At(1 << 33))).adjusted_time(), Err(Refusal::TooLarge));
     assert_eq!(section(SpliceCommand::TimeSignal(SpliceTime::Unspecified)).adjusted_time(), Ok(None));
     assert_eq!(section(SpliceCommand::SpliceNull).adjusted_time(), Ok(None));
     let payload = unhex("4800008F 7F EF FE7369C02E FE0052CCF5 0000 00 00");
     let mut sample = section(read_command(SpliceCommandType::SpliceInsert, &payload).expect("an insert"));
     assert_eq!(sample.adjusted_time(), Ok(Some(1_936_310_323)));
     sample.header.pts_adjustment = 1 << 33;
-    assert_eq!(sample.adjusted_time(), Err(TimeTooLarge));
+    assert_eq!(sample.adjusted_time(), Err(Refusal::TooLarge));
 }
 
 #[test]
@@ -184,9 +196,9 @@ fn numbers() {
         assert_eq!(SpliceCommandType::from_id(n).id(), n);
         assert_eq!(SegmentationUpidType::from_type(n).id(), n);
         assert_eq!(SegmentationTypeId::from_id(n).id(), n);
-        assert_eq!(NetworkIndicator::from_flag(n).map(NetworkIndicator::flag), if n < 2 { Ok(n) } else { Err(NotInField(n)) });
-        assert_eq!(ReturnMode::from_flag(n).map(ReturnMode::flag), if n < 2 { Ok(n) } else { Err(NotInField(n)) });
-        assert_eq!(DeviceRestrictions::from_bits(n).map(DeviceRestrictions::bits), if n < 4 { Ok(n) } else { Err(NotInField(n)) });
+        assert_eq!(NetworkIndicator::from_flag(n).map(NetworkIndicator::flag), if n < 2 { Ok(n) } else { Err(Refusal::NotInField) });
+        assert_eq!(ReturnMode::from_flag(n).map(ReturnMode::flag), if n < 2 { Ok(n) } else { Err(Refusal::NotInField) });
+        assert_eq!(DeviceRestrictions::from_bits(n).map(DeviceRestrictions::bits), if n < 4 { Ok(n) } else { Err(Refusal::NotInField) });
     }
     // which name has which number: host/layout compares that with the Rattle sources; these are the flags of a reading
     assert_eq!(NetworkIndicator::from_flag(1), Ok(NetworkIndicator::Out));
@@ -212,4 +224,82 @@ fn offsets() {
             assert_eq!(raw::crc(&long, past), 0xFFFF_FFFF);
         }
     }
+}
+
+/// Every identifier of a section, with its place in it: the incident's MID, an EIDR behind components and a duration, DTMF, an ISAN of 8 bytes, a reserved descriptor and private
+/// bytes.
+#[test]
+fn identifiers_and_places() {
+    let sample =
+        unhex("FC303F000000000000FFFFF00506FE0000000000290227435545490000002A7FBF0D1808081122334455667788030C414243443132333435363738100101A86A17BC");
+    let section = read_section(&sample).expect("the incident's cue");
+    let found: Vec<_> = section.identifiers().map(|i| (i.kind, i.item, i.part, i.level, i.upid_type.map(|t| t.id()), i.at, i.len())).collect();
+    let (upid, part) = (IdentifierKind::Upid, IdentifierKind::Part);
+    assert_eq!(found, [(upid, Some(0), 0, 0, Some(13), 35, 24), (part, Some(0), 1, 1, Some(8), 37, 8), (part, Some(0), 2, 1, Some(3), 47, 12)]);
+    for i in section.identifiers() {
+        assert_eq!(i.bytes, &sample[i.at..][..i.len()]);
+        assert_eq!((i.written_type().map(|t| t.id()), i.len()), (Some(sample[i.at - 2]), sample[i.at - 1].into()));
+    }
+    assert_eq!(section.identifiers().last().and_then(|i| i.text().map(str::to_string)), Some("ABCD12345678".to_string()));
+
+    let descriptors = [
+        unhex(&format!("01 08 {CUEI} B1 5F 34 35")),
+        unhex(&format!("02 27 {CUEI} 00 00 00 07 7F 55 01 09 FF 00 00 00 05 00 00 00 00 63 0A 0C 01 02 03 04 05 06 07 08 09 0A 0B 0C 34 02 03")),
+        unhex(&format!("02 17 {CUEI} 00 00 00 07 7F BF 05 08 01 02 03 04 05 06 07 08 34 02 03")),
+        unhex(&format!("02 1B {CUEI} 00 00 00 07 7F BF 0D 0C 05 08 01 02 03 04 05 06 07 08 09 00 34 02 03")),
+        unhex("09 06 41 42 43 44 07 08"),
+        unhex(&format!("02 0F {CUEI} 00 00 00 07 7F BF 03 00 34 02 03")),
+        unhex(&format!("00 03 {CUEI}")),
+    ]
+    .concat();
+    let mut whole = unhex("FC 30 00 00 00 00 00 00 00 00 FF F0 06 FF 00 00 00 01 AA BB 00");
+    whole.push(descriptors.len() as u8);
+    whole.extend(&descriptors);
+    whole.extend(crc(&whole).to_be_bytes());
+    let section = read_section(&whole).expect("closed by its CRC");
+    assert_eq!((section.descriptors.at(), section.descriptors.bytes()), (22, &descriptors[..]));
+    let found: Vec<_> = section.identifiers().collect();
+    for i in &found {
+        assert_eq!(i.bytes, &whole[i.at..][..i.len()]);
+        if let Some(written) = i.written_type() {
+            assert_eq!((written.id(), i.len()), (whole[i.at - 2], whole[i.at - 1].into()));
+            assert_eq!(
+                read_upid(written, i.bytes).map(|u| u.upid_type()),
+                if i.len() == 0 { Ok(SegmentationUpidType::NotUsed) } else { Ok(i.upid_type.unwrap()) }
+            );
+        }
+    }
+    let kinds: Vec<_> = found.iter().map(|i| (i.kind, i.upid_type.map(|t| t.id()), i.written_type().map(|t| t.id()), i.len())).collect();
+    let expected = [
+        (IdentifierKind::PrivateBytes, None, None, 2),
+        (IdentifierKind::DtmfChars, None, None, 2),
+        (upid, Some(10), Some(10), 12),
+        (upid, Some(6), Some(5), 8),
+        (upid, Some(13), Some(13), 12),
+        (part, Some(6), Some(5), 8),
+        (part, Some(9), Some(9), 0),
+        (IdentifierKind::ReservedBytes, None, None, 2),
+    ];
+    assert_eq!(kinds, expected);
+    // of a loop alone, places count from its first byte
+    let alone: Vec<_> = SpliceDescriptors::new(&descriptors).iter().flat_map(|x| x.identifiers().collect::<Vec<_>>()).collect();
+    assert_eq!(alone.iter().map(|i| i.at + 22).collect::<Vec<_>>(), found[1..].iter().map(|i| i.at).collect::<Vec<_>>());
+}
+
+#[test]
+fn refusals_in_words() {
+    assert_eq!(lacks(4, 0).to_string(), "not enough data: 4 expected, 0 there (refusal 21)");
+    assert_eq!(refused(24, [3, 26, 12]).to_string(), "UPID text that is not UTF-8: 12 bytes at 26, of type 3 (refusal 24)");
+    assert_eq!(refused(25, [6, 12, 8]).to_string(), "UPID of wrong length: 8 bytes of type 6, 12 expected (refusal 25)");
+    assert_eq!(Refusal::OtherTable.to_string(), "the first byte is not 0xFC (refusal 3)");
+    // a number, its values and its name stand for one refusal
+    let numbers: Vec<u64> = (0..100).filter(|n| Refusal::from_words(*n, [0; 3]).is_some()).collect();
+    assert_eq!(numbers, (1..=12).chain(21..=25).chain(31..=36).collect::<Vec<_>>());
+    for n in numbers {
+        let refusal = refused(n, [2, 3, 4]);
+        assert_eq!(u64::from(refusal.number()), n);
+        assert_eq!(refused(n, refusal.values()), refusal);
+        assert!(format!("{refusal:?}").starts_with(refusal.name()));
+    }
+    assert_eq!(Refusal::from_words(u64::MAX, [0; 3]), None);
 }

@@ -3,58 +3,91 @@
 use crate::command::{InsertDetail, SpliceCommand, SpliceInsert, SpliceMode};
 use crate::header::{SpliceInfoHeader, SpliceTime};
 use crate::items::{ModeComponent, SegmentationDetail, SpliceDescriptor, SpliceDescriptors};
-use crate::names::{EncryptionAlgorithm, SegmentationTypeId, SegmentationUpidType};
+use crate::names::{EncryptionAlgorithm, SegmentationTypeId};
 use crate::raw;
-use crate::refusal::WriteRefusal;
+use crate::refusal::Refusal;
 use crate::upid::{read_upid, Upid};
-use crate::{Section, MAX_DESCRIPTOR, MAX_LOOP};
+use crate::{Section, MAX_DESCRIPTOR, MAX_LOOP, MAX_SECTION};
 
 /// Writes a command's payload from the target's first byte on; says how many bytes that are.
-pub fn write_command(command: &SpliceCommand<'_>, target: &mut [u8]) -> Result<usize, WriteRefusal> {
+pub fn write_command(command: &SpliceCommand<'_>, target: &mut [u8]) -> Result<usize, Refusal> {
     let (words, components, lent) = of_command(command);
     written(true, target, |target| raw::write_command(words.words(), &components, lent, target))
 }
 
+/// The same, as bytes of their own.
+pub fn write_command_to_vec(command: &SpliceCommand<'_>) -> Result<Vec<u8>, Refusal> {
+    to_vec(MAX_SECTION, |target| write_command(command, target))
+}
+
 /// Writes a whole descriptor from the target's first byte on; says how many bytes that are.
-pub fn write_descriptor(descriptor: &SpliceDescriptor<'_>, target: &mut [u8]) -> Result<usize, WriteRefusal> {
+pub fn write_descriptor(descriptor: &SpliceDescriptor<'_>, target: &mut [u8]) -> Result<usize, Refusal> {
     let mut step = raw::Step::ZERO;
     let mut beside = raw::ItemComponents::ZERO;
     let lent = of_descriptor(descriptor, &mut step, &mut beside);
     written(is_read(descriptor), target, |target| raw::write_descriptor(step.words(), beside.words(), lent, target))
 }
 
+/// The same, as bytes of their own.
+pub fn write_descriptor_to_vec(descriptor: &SpliceDescriptor<'_>) -> Result<Vec<u8>, Refusal> {
+    to_vec(MAX_DESCRIPTOR, |target| write_descriptor(descriptor, target))
+}
+
 /// Writes descriptors one behind the other, as a section's loop, from the target's first byte on; says how many bytes that are.
-pub fn write_loop(descriptors: &[SpliceDescriptor<'_>], target: &mut [u8]) -> Result<usize, WriteRefusal> {
+pub fn write_loop(descriptors: &[SpliceDescriptor<'_>], target: &mut [u8]) -> Result<usize, Refusal> {
     // a refusal leaves the target as it was, though descriptors before the refused one would fit
+    let all = write_loop_to_vec(descriptors)?;
+    target.get_mut(..all.len()).ok_or(Refusal::TargetTooShort)?.copy_from_slice(&all);
+    Ok(all.len())
+}
+
+/// The same, as bytes of their own. They may be more than a section's loop has room for.
+pub fn write_loop_to_vec(descriptors: &[SpliceDescriptor<'_>]) -> Result<Vec<u8>, Refusal> {
     let mut all = vec![];
     for descriptor in descriptors {
         let mut one = [0; MAX_DESCRIPTOR];
         let length = write_descriptor(descriptor, &mut one)?;
         all.extend_from_slice(&one[..length]);
     }
-    target.get_mut(..all.len()).ok_or(WriteRefusal::TargetTooShort)?.copy_from_slice(&all);
-    Ok(all.len())
+    Ok(all)
 }
 
 /// Writes a whole section from the target's first byte on, around a loop of canonical descriptors; says how many bytes that are. The header's command
 /// length and type are not looked at: they are worked out, as is all else that the section's other parts determine.
-pub fn write_section(section: &Section<'_>, target: &mut [u8]) -> Result<usize, WriteRefusal> {
+pub fn write_section(section: &Section<'_>, target: &mut [u8]) -> Result<usize, Refusal> {
     let header = of_header(&section.header);
     let (words, components, lent) = of_command(&section.command);
     let algorithm = section.header.encryption_algorithm;
     let read = algorithm == EncryptionAlgorithm::from_id(algorithm.id());
-    written(read, target, |target| raw::write_section(header.words(), words.words(), &components, lent, section.descriptors.0, target))
+    written(read, target, |target| raw::write_section(header.words(), words.words(), &components, lent, section.descriptors.bytes(), target))
+}
+
+/// The same, as bytes of their own.
+pub fn write_section_to_vec(section: &Section<'_>) -> Result<Vec<u8>, Refusal> {
+    to_vec(MAX_SECTION, |target| write_section(section, target))
+}
+
+fn to_vec(room: usize, write: impl FnOnce(&mut [u8]) -> Result<usize, Refusal>) -> Result<Vec<u8>, Refusal> {
+    let mut target = vec![0; room];
+    let length = write(&mut target)?;
+    target.truncate(length);
+    Ok(target)
 }
 
 impl Section<'_> {
     /// Writes what was read: each item's descriptor, in order, as the loop, and the section around them. Of a canonical section that is the section
     /// itself, byte for byte; of any other, the canonical one that reads the same. A section with a refused item is not written
-    /// (`WriteRefusal::NotCanonical`).
-    pub fn write_back(&self, target: &mut [u8]) -> Result<usize, WriteRefusal> {
-        let items: Vec<_> = self.descriptors.into_iter().collect::<Result<_, _>>().map_err(|_| WriteRefusal::NotCanonical)?;
+    /// (`Refusal::Unwritable`).
+    pub fn write_back(&self, target: &mut [u8]) -> Result<usize, Refusal> {
+        let items: Vec<_> = self.descriptors.iter().map(|x| x.item).collect::<Result<_, _>>().map_err(|_| Refusal::Unwritable)?;
         let mut descriptors = [0; MAX_LOOP];
         let length = write_loop(&items, &mut descriptors)?;
-        write_section(&Section { descriptors: SpliceDescriptors(&descriptors[..length]), ..self.clone() }, target)
+        write_section(&Section { descriptors: SpliceDescriptors::new(&descriptors[..length]), ..self.clone() }, target)
+    }
+
+    /// The same, as bytes of their own.
+    pub fn write_back_to_vec(&self) -> Result<Vec<u8>, Refusal> {
+        to_vec(MAX_SECTION, |target| self.write_back(target))
     }
 }
 
@@ -63,7 +96,7 @@ pub fn is_canonical_section(bytes: &[u8]) -> bool {
     raw::is_canonical_section(bytes, 0) == 1
 }
 
-/// Is it a loop of canonical descriptors, or of none? It may have any length, though `step` refuses one over 4,076 bytes.
+/// Is it a loop of canonical descriptors, or of none? It may have any length, though `read_item` refuses one over 4,076 bytes.
 pub fn is_canonical_loop(bytes: &[u8]) -> bool {
     raw::is_canonical_loop(bytes, 0) == 1
 }
@@ -75,13 +108,13 @@ pub fn is_canonical_descriptor(bytes: &[u8]) -> bool {
 
 /// The proved writer's answer. A value that no reader gives (`read` is false), though words can't tell, is refused as not canonical: behind what is
 /// looked at before that, and the target is not handed on.
-fn written(read: bool, target: &mut [u8], write: impl FnOnce(&mut [u8]) -> raw::Written) -> Result<usize, WriteRefusal> {
+fn written(read: bool, target: &mut [u8], write: impl FnOnce(&mut [u8]) -> raw::Written) -> Result<usize, Refusal> {
     let answer = write(if read { target } else { &mut [] });
     match answer.refusal {
-        n @ (31 | 32) => Err(WriteRefusal::ALL[n as usize - 31]),
-        _ if !read => Err(WriteRefusal::NotCanonical),
+        n @ (31 | 32) => Err(Refusal::answered(n, [0; 3])),
+        _ if !read => Err(Refusal::Unwritable),
         0 => Ok(answer.length as usize),
-        n => Err(WriteRefusal::ALL[n as usize - 31]),
+        n => Err(Refusal::answered(n, [0; 3])),
     }
 }
 
@@ -233,7 +266,7 @@ fn of_segmentation<'a>(detail: &'a SegmentationDetail<'_>, s: &mut raw::Segmenta
         let (sub_segment_num, sub_segments_expected) = (x.sub_segment_num.into(), x.sub_segments_expected.into());
         s.sub_segments = raw::SubSegments { present: 1, sub_segment_num, sub_segments_expected };
     }
-    s.segmentation_upid_type = detail.segmentation_upid.kind().id().into();
+    s.segmentation_upid_type = detail.segmentation_upid.upid_type().id().into();
     if let Upid::Eidr(bytes) = detail.segmentation_upid {
         beside.eidr = bytes.map(u64::from);
         return &[];
@@ -247,10 +280,5 @@ fn is_read(descriptor: &SpliceDescriptor<'_>) -> bool {
     let SpliceDescriptor::Segmentation { detail: Some(detail), .. } = descriptor else { return true };
     let type_id = detail.segmentation_type_id;
     let upid = &detail.segmentation_upid;
-    // both kinds of ISAN are read as one, and told apart by length
-    let kind = match (upid.kind(), upid.bytes().len()) {
-        (SegmentationUpidType::ISAN, 8) => SegmentationUpidType::ISANDeprecated,
-        (kind, _) => kind,
-    };
-    type_id == SegmentationTypeId::from_id(type_id.id()) && read_upid(kind, upid.bytes()).as_ref() == Ok(upid)
+    type_id == SegmentationTypeId::from_id(type_id.id()) && read_upid(upid.written_type(), upid.bytes()).as_ref() == Ok(upid)
 }

@@ -20,11 +20,17 @@ fn closed(mut section: Vec<u8>) -> Vec<u8> {
     section
 }
 
-fn back(bytes: &[u8]) -> Result<Vec<u8>, Box<dyn std::error::Error>> {
-    let mut target = vec![0; MAX_SECTION];
-    let length = read_section(bytes)?.write_back(&mut target)?;
-    target.truncate(length);
-    Ok(target)
+fn back(bytes: &[u8]) -> Result<Vec<u8>, Refusal> {
+    let mut target = [0; MAX_SECTION];
+    let section = read_section(bytes)?;
+    let length = section.write_back(&mut target)?;
+    assert_eq!(section.write_back_to_vec(), Ok(target[..length].to_vec()));
+    Ok(target[..length].to_vec())
+}
+
+/// The section with another loop.
+fn around<'a>(section: &Section<'a>, descriptors: &'a [u8]) -> Section<'a> {
+    Section::new(section.header, section.command.clone(), SpliceDescriptors::new(descriptors))
 }
 
 #[test]
@@ -55,21 +61,21 @@ fn readings() {
     let [first, second] = [&first, &second].map(|s| read_section(s).expect("a sample of the standard"));
     // a spare byte in the loop's descriptor
     let spare = unhex("00 09 43 55 45 49 00 00 01 35 FF");
-    let mut spared = Section { descriptors: SpliceDescriptors(&spare), ..second.clone() };
+    let mut spared = around(&second, &spare);
     assert!(spared != second && spared.reads_as(&second));
     spared.header.splice_command_length = 9;
     spared.header.splice_command_type = SpliceCommandType::SpliceNull;
     assert!(spared.reads_as(&second) && second.reads_as(&spared));
     spared.header.tier = 1;
     assert!(!spared.reads_as(&second));
-    assert!(!Section { command: first.command.clone(), ..second.clone() }.reads_as(&second));
-    for other in [&[][..], &unhex("00 08 43 55 45 49 00 00 01 36"), &[second.descriptors.0; 2].concat()] {
-        assert!(!Section { descriptors: SpliceDescriptors(other), ..second.clone() }.reads_as(&second));
+    assert!(!Section::new(second.header, first.command.clone(), second.descriptors).reads_as(&second));
+    for other in [&[][..], &unhex("00 08 43 55 45 49 00 00 01 36"), &[second.descriptors.bytes(); 2].concat()] {
+        assert!(!around(&second, other).reads_as(&second));
     }
     // a refused item is not written
-    let cut = Section { descriptors: SpliceDescriptors(&spare[..9]), ..second.clone() };
-    assert_eq!(cut.write_back(&mut [0; MAX_SECTION]), Err(WriteRefusal::NotCanonical));
-    assert_eq!(second.write_back(&mut [0; 49]), Err(WriteRefusal::TargetTooShort));
+    let cut = around(&second, &spare[..9]);
+    assert_eq!(cut.write_back(&mut [0; MAX_SECTION]), Err(Refusal::Unwritable));
+    assert_eq!(second.write_back(&mut [0; 49]), Err(Refusal::TargetTooShort));
 }
 
 #[test]
@@ -81,18 +87,22 @@ fn loops() {
     assert_eq!(target[..20], bytes);
     assert_eq!(target[20..], [0x55; 4]);
     assert_eq!(write_loop(&[], &mut []), Ok(0));
+    assert_eq!(write_loop_to_vec(&[avail(1), avail(2)]), Ok(bytes.clone()));
+    // more than a section has room for: as a loop alone it is written
+    assert_eq!(write_loop_to_vec(&vec![avail(1); 500]).map(|all| all.len()), Ok(5000));
     // refused: no byte is written, not even of those before the refused one
     let mut target = [0x55; 24];
     let long = SpliceDescriptor::Dtmf { preroll: 1, dtmf_chars: b"12345678" };
-    assert_eq!(write_loop(&[avail(1), long], &mut target), Err(WriteRefusal::TooLarge));
-    assert_eq!(write_loop(&[avail(1), avail(2)], &mut target[..19]), Err(WriteRefusal::TargetTooShort));
+    assert_eq!(write_loop(&[avail(1), long], &mut target), Err(Refusal::TooLarge));
+    assert_eq!(write_loop(&[avail(1), avail(2)], &mut target[..19]), Err(Refusal::TargetTooShort));
     assert_eq!(target, [0x55; 24]);
 }
 
-fn write(command: &SpliceCommand<'_>) -> Result<Vec<u8>, WriteRefusal> {
+fn write(command: &SpliceCommand<'_>) -> Result<Vec<u8>, Refusal> {
     let mut target = [0x55; 40];
     let length = write_command(command, &mut target)?;
     assert!(target[length..].iter().all(|b| *b == 0x55));
+    assert_eq!(write_command_to_vec(command).as_deref(), Ok(&target[..length]));
     Ok(target[..length].to_vec())
 }
 
@@ -108,13 +118,13 @@ fn commands() {
     assert_eq!(write(&SpliceCommand::BandwidthReservation), Ok(vec![]));
     assert_eq!(write(&SpliceCommand::PrivateCommand { identifier: 1, private_bytes: &[7, 8] }), Ok(vec![0, 0, 0, 1, 7, 8]));
     // refusals
-    assert_eq!(write(&SpliceCommand::TimeSignal(SpliceTime::At(1 << 33))), Err(WriteRefusal::TooLarge));
-    assert_eq!(write(&SpliceCommand::TimeSignal(SpliceTime::Immediate)), Err(WriteRefusal::NotCanonical));
-    assert_eq!(write(&SpliceCommand::PrivateCommand { identifier: 1, private_bytes: &[0; 37] }), Err(WriteRefusal::TargetTooShort));
+    assert_eq!(write(&SpliceCommand::TimeSignal(SpliceTime::At(1 << 33))), Err(Refusal::TooLarge));
+    assert_eq!(write(&SpliceCommand::TimeSignal(SpliceTime::Immediate)), Err(Refusal::Unwritable));
+    assert_eq!(write(&SpliceCommand::PrivateCommand { identifier: 1, private_bytes: &[0; 37] }), Err(Refusal::TargetTooShort));
     let insert = |reserved| SpliceCommand::SpliceInsert(SpliceInsert { splice_event_id: 1, reserved, detail: None });
     assert_eq!(write(&insert(127)), Ok(vec![0, 0, 0, 1, 0xFF]));
-    assert_eq!(write(&insert(126)), Err(WriteRefusal::NotCanonical));
-    assert_eq!(write(&insert(128)), Err(WriteRefusal::TooLarge));
+    assert_eq!(write(&insert(126)), Err(Refusal::Unwritable));
+    assert_eq!(write(&insert(128)), Err(Refusal::TooLarge));
 }
 
 #[test]
@@ -122,18 +132,19 @@ fn descriptors() {
     let write = |descriptor: &SpliceDescriptor<'_>| {
         let mut target = [0x55; 300];
         let answer = write_descriptor(descriptor, &mut target);
+        assert_eq!(write_descriptor_to_vec(descriptor), answer.map(|length| target[..length].to_vec()));
         assert!(target[answer.unwrap_or(0)..].iter().all(|b| *b == 0x55));
         answer.map(|length| target[..length].to_vec())
     };
     // row g
     assert_eq!(write(&SpliceDescriptor::Dtmf { preroll: 177, dtmf_chars: b"4" }), Ok(unhex("01 07 43 55 45 49 B1 3F 34")));
-    assert_eq!(write(&SpliceDescriptor::Dtmf { preroll: 177, dtmf_chars: b"12345678" }), Err(WriteRefusal::TooLarge));
+    assert_eq!(write(&SpliceDescriptor::Dtmf { preroll: 177, dtmf_chars: b"12345678" }), Err(Refusal::TooLarge));
     let reserved = |tag, private_bytes| SpliceDescriptor::Reserved { tag, identifier: *b"CUEI", private_bytes };
-    assert_eq!(write(&reserved(3, &[])), Err(WriteRefusal::NotCanonical));
+    assert_eq!(write(&reserved(3, &[])), Err(Refusal::Unwritable));
     assert_eq!(write(&reserved(4, &[])), Ok(unhex("04 04 43 55 45 49")));
     // row d, and one byte more
     assert_eq!(write(&reserved(9, &[7; 250])).map(|d| d.len()), Ok(256));
-    assert_eq!(write(&reserved(9, &[7; 251])), Err(WriteRefusal::TooLong));
+    assert_eq!(write(&reserved(9, &[7; 251])), Err(Refusal::ResultTooLong));
     // an ISAN of eight bytes is of the older type
     let segment = |segmentation_upid| SpliceDescriptor::Segmentation {
         segmentation_event_id: 42,
@@ -150,16 +161,16 @@ fn descriptors() {
     };
     // row n
     assert_eq!(write(&segment(Upid::None)), Ok(unhex("02 0F 43 55 45 49 00 00 00 2A 7F BF 00 00 10 01 01")));
-    let isan = Upid::Bytes { kind: SegmentationUpidType::ISAN, bytes: &[1; 8] };
+    let isan = Upid::Bytes { upid_type: SegmentationUpidType::ISAN, bytes: &[1; 8] };
     assert_eq!(write(&segment(isan)).map(|d| d[12..14].to_vec()), Ok(vec![5, 8]));
     let eidr = write(&segment(Upid::Eidr([1, 2, 3, 4, 5, 6, 7, 8, 9, 10, 11, 12]))).expect("written");
     assert_eq!(eidr[12..26], [10, 12, 1, 2, 3, 4, 5, 6, 7, 8, 9, 10, 11, 12]);
     // what no reader gives
-    let wrong = Upid::Bytes { kind: SegmentationUpidType::AdID, bytes: b"ABCD0001000H" };
-    assert_eq!(write(&segment(wrong)), Err(WriteRefusal::NotCanonical));
-    assert_eq!(write(&segment(Upid::Text { kind: SegmentationUpidType::AdID, text: "ABCD0001000" })), Err(WriteRefusal::NotCanonical));
-    let named = Upid::Bytes { kind: SegmentationUpidType::Reserved(8), bytes: &[1; 8] };
-    assert_eq!(write(&segment(named)), Err(WriteRefusal::NotCanonical));
+    let wrong = Upid::Bytes { upid_type: SegmentationUpidType::AdID, bytes: b"ABCD0001000H" };
+    assert_eq!(write(&segment(wrong)), Err(Refusal::Unwritable));
+    assert_eq!(write(&segment(Upid::Text { upid_type: SegmentationUpidType::AdID, text: "ABCD0001000" })), Err(Refusal::Unwritable));
+    let named = Upid::Bytes { upid_type: SegmentationUpidType::Reserved(8), bytes: &[1; 8] };
+    assert_eq!(write(&segment(named)), Err(Refusal::Unwritable));
 }
 
 #[test]
@@ -169,28 +180,34 @@ fn sections() {
     let write = |section: &Section<'_>, room: usize| {
         let mut target = vec![0x55; room];
         let answer = write_section(section, &mut target);
+        if room == MAX_SECTION {
+            assert_eq!(write_section_to_vec(section), answer.map(|length| target[..length].to_vec()));
+        }
         assert!(target[answer.unwrap_or(0)..].iter().all(|b| *b == 0x55));
         answer
     };
     assert_eq!(write(&section, 4096), Ok(sample.len()));
     assert_eq!(write(&section, sample.len()), Ok(sample.len()));
-    assert_eq!(write(&section, sample.len() - 1), Err(WriteRefusal::TargetTooShort));
-    let with = |header| Section { header, ..section.clone() };
-    assert_eq!(write(&with(SpliceInfoHeader { tier: 4096, ..section.header }), 4096), Err(WriteRefusal::TooLarge));
-    assert_eq!(write(&with(SpliceInfoHeader { encrypted_packet: true, ..section.header }), 4096), Err(WriteRefusal::NotCanonical));
-    let algorithm = |encryption_algorithm| with(SpliceInfoHeader { encryption_algorithm, ..section.header });
+    assert_eq!(write(&section, sample.len() - 1), Err(Refusal::TargetTooShort));
+    let with = |change: &dyn Fn(&mut SpliceInfoHeader)| {
+        let mut changed = section.clone();
+        change(&mut changed.header);
+        changed
+    };
+    assert_eq!(write(&with(&|h| h.tier = 4096), 4096), Err(Refusal::TooLarge));
+    assert_eq!(write(&with(&|h| h.encrypted_packet = true), 4096), Err(Refusal::Unwritable));
+    let algorithm = |algorithm| with(&|h| h.encryption_algorithm = algorithm);
     assert_eq!(write(&algorithm(EncryptionAlgorithm::Private(32)), 4096), Ok(sample.len()));
-    assert_eq!(write(&algorithm(EncryptionAlgorithm::Private(31)), 4096), Err(WriteRefusal::NotCanonical));
-    assert_eq!(write(&algorithm(EncryptionAlgorithm::Private(64)), 4096), Err(WriteRefusal::TooLarge));
-    assert_eq!(write(&algorithm(EncryptionAlgorithm::Reserved(3)), 4096), Err(WriteRefusal::NotCanonical));
+    assert_eq!(write(&algorithm(EncryptionAlgorithm::Private(31)), 4096), Err(Refusal::Unwritable));
+    assert_eq!(write(&algorithm(EncryptionAlgorithm::Private(64)), 4096), Err(Refusal::TooLarge));
+    assert_eq!(write(&algorithm(EncryptionAlgorithm::Reserved(3)), 4096), Err(Refusal::Unwritable));
     // command length and type are worked out
-    let other = SpliceInfoHeader { splice_command_length: 9, splice_command_type: SpliceCommandType::SpliceNull, ..section.header };
-    assert_eq!(write(&with(other), 4096), Ok(sample.len()));
-    let around = |descriptors| Section { descriptors: SpliceDescriptors(descriptors), ..section.clone() };
-    assert_eq!(write(&around(&[0; 4057]), 4096), Err(WriteRefusal::TooLong));
-    assert_eq!(write(&around(&[0; 7]), 4096), Err(WriteRefusal::LoopNotCanonical));
-    assert!(is_canonical_loop(&[]) && is_canonical_loop(section.descriptors.0) && is_canonical_descriptor(section.descriptors.0));
+    let other = with(&|h| (h.splice_command_length, h.splice_command_type) = (9, SpliceCommandType::SpliceNull));
+    assert_eq!(write(&other, 4096), Ok(sample.len()));
+    assert_eq!(write(&around(&section, &[0; 4057]), 4096), Err(Refusal::ResultTooLong));
+    assert_eq!(write(&around(&section, &[0; 7]), 4096), Err(Refusal::LoopNotCanonical));
+    assert!(is_canonical_loop(&[]) && is_canonical_loop(section.descriptors.bytes()) && is_canonical_descriptor(section.descriptors.bytes()));
     assert!(!is_canonical_descriptor(&[]) && !is_canonical_loop(&[0; 7]) && !is_canonical_section(&[]));
-    assert_eq!(WriteRefusal::OutsideLent.number(), 31);
-    assert_eq!(WriteRefusal::TargetTooShort.number(), 36);
+    assert_eq!(Refusal::OutsideLent.number(), 31);
+    assert_eq!(Refusal::TargetTooShort.number(), 36);
 }

@@ -2,51 +2,80 @@
 use crate::flags::{NetworkIndicator, ReturnMode};
 use crate::header::SpliceTime;
 use crate::raw;
-use crate::refusal::SectionRefusal;
+use crate::refusal::Refusal;
 use crate::view;
 
+/// A splice command. More may come.
 #[derive(Debug, Clone, PartialEq, Eq, Hash)]
+#[non_exhaustive]
 pub enum SpliceCommand<'a> {
+    /// splice_null
     SpliceNull,
+    /// splice_insert
     SpliceInsert(SpliceInsert),
+    /// time_signal
     TimeSignal(SpliceTime),
+    /// bandwidth_reservation
     BandwidthReservation,
-    PrivateCommand { identifier: u32, private_bytes: &'a [u8] },
+    /// private_command
+    PrivateCommand {
+        /// four bytes as one number, the first highest
+        identifier: u32,
+        /// all that follows them
+        private_bytes: &'a [u8],
+    },
 }
 
+/// A splice_insert.
 #[derive(Debug, Clone, PartialEq, Eq, Hash)]
 pub struct SpliceInsert {
+    /// the event's number
     pub splice_event_id: u32,
-    /// the seven bits after the cancel indicator
+    /// the seven bits after the cancel indicator; a writer takes 127 only
     pub reserved: u8,
     /// none: the event is cancelled
     pub detail: Option<InsertDetail>,
 }
 
+/// What an insert says that is not cancelled.
 #[derive(Debug, Clone, PartialEq, Eq, Hash)]
 pub struct InsertDetail {
+    /// out of the network or back to it
     pub network_indicator: NetworkIndicator,
+    /// the whole program, or component by component; and when
     pub splice_mode: SpliceMode,
+    /// the break's duration, where it is given
     pub duration: Option<SpliceDuration>,
+    /// unique_program_id
     pub unique_program_id: u16,
+    /// avail_num
     pub avail_num: u8,
+    /// avails_expected
     pub avails_expected: u8,
 }
 
+/// What is spliced, and when.
 #[derive(Debug, Clone, PartialEq, Eq, Hash)]
 pub enum SpliceMode {
+    /// the whole program
     Program(SpliceTime),
+    /// these components; 255 at most, all immediate or none
     Components(Vec<ComponentSplice>),
 }
 
+/// A component of an insert.
 #[derive(Debug, Clone, Copy, PartialEq, Eq, Hash)]
 pub struct ComponentSplice {
+    /// which component
     pub component_tag: u8,
+    /// its time
     pub splice_time: SpliceTime,
 }
 
+/// A break_duration.
 #[derive(Debug, Clone, Copy, PartialEq, Eq, Hash)]
 pub struct SpliceDuration {
+    /// whether the break ends by itself
     pub return_mode: ReturnMode,
     /// 33 bits, in ticks of 90 kHz
     pub duration: u64,
@@ -105,11 +134,11 @@ fn mode(m: &raw::Mode, lent: &[u8], at: usize) -> SpliceMode {
     SpliceMode::Components(list.components[..list.count as usize].iter().map(component).collect())
 }
 
-/// Reads a command of that type from its payload alone. Refused for its type or as malformed.
-pub fn read_command(kind: crate::SpliceCommandType, payload: &[u8]) -> Result<SpliceCommand<'_>, SectionRefusal> {
-    let c = raw::command(kind.id(), payload, 0);
+/// Reads a command of that type from its payload alone. Refused with `Refusal::UnknownCommand` or `Refusal::MalformedCommand`.
+pub fn read_command(command_type: crate::SpliceCommandType, payload: &[u8]) -> Result<SpliceCommand<'_>, Refusal> {
+    let c = raw::command(command_type.id(), payload, 0);
     match c.refusal {
         0 => Ok(SpliceCommand::of(&c, payload, 0, 0)),
-        n => Err(SectionRefusal::ALL[n as usize - 1]),
+        n => Err(Refusal::answered(n, [0; 3])),
     }
 }
