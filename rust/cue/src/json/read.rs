@@ -162,7 +162,8 @@ fn descriptor(n: usize, value: Value, loop_: &mut Vec<u8>) -> Made<Option<Value>
                 false => {
                     let upid_type;
                     (upid_type, bytes, parts) = upid(&mut x)?;
-                    Some(segmentation(&mut x, upid_of(upid_type, &bytes, &x.path)?)?)
+                    let upid = upid_of(upid_type, &bytes, &x.path)?;
+                    Some(segmentation(&mut x, upid)?)
                 }
             };
             SpliceDescriptor::Segmentation { segmentation_event_id, detail }

@@ -5,7 +5,7 @@ use crate::json::{Accepted, Refused};
 use crate::layout::{self, descriptor_name, text_of, type_of};
 use crate::names::{self, named, time};
 use crate::text::{plain, Hex, Quoted};
-use crate::verbs::make::{self, To};
+use crate::verbs::make;
 use clap::{Arg, ArgAction, ArgMatches, Command};
 use scte35::{
     Identifier, InsertDetail, Item, Refusal, Section, SegmentationDetail, SpliceCommand, SpliceDescriptor, SpliceInsert, SpliceMode, SpliceTime,
