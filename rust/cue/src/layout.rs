@@ -8,6 +8,7 @@ use scte35::{
     Identifier, IdentifierKind, InsertDetail, Item, Refusal, Section, SegmentationDetail, SegmentationUpidType, SpliceCommand, SpliceDescriptor, SpliceInsert, SpliceMode,
     SpliceTime,
 };
+use std::fmt::Display;
 
 /// Where a section's command begins.
 pub const COMMAND_AT: usize = 14;
@@ -34,7 +35,8 @@ pub struct Row {
     pub kind: Kind,
     /// the field or the fields that share the bytes
     pub name: String,
-    pub value: String,
+    /// each with its value
+    pub label: String,
 }
 
 /// The part of the bytes that begins at a place; what lies past the end is not there.
@@ -102,24 +104,27 @@ pub fn type_of(x: &Identifier<'_>) -> String {
 pub fn rows(bytes: &[u8], section: &Section<'_>) -> Vec<Row> {
     let mut walk = Walk { rows: vec![], at: 0, end: bytes.len(), depth: 0, identifiers: 0 };
     let header = &section.header;
-    walk.heading("splice_info_section", format!("{} bytes", bytes.len()));
-    walk.depth = 1;
+    walk.heading("splice_info_section", bytes.len());
     walk.field(1, "table_id", "");
-    walk.field(2, "section_syntax_indicator, private_indicator, reserved, section_length", "");
+    walk.fields(2, &[("section_syntax_indicator", &""), ("private_indicator", &""), ("reserved", &""), ("section_length", &"")]);
     walk.field(1, "protocol_version", header.protocol_version);
-    let adjustment = format!("0, {}, {}", header.encryption_algorithm.id(), time(header.pts_adjustment));
-    walk.field(5, "encrypted_packet, encryption_algorithm, pts_adjustment", adjustment);
+    walk.fields(
+        5,
+        &[
+            ("encrypted_packet", &u8::from(header.encrypted_packet)),
+            ("encryption_algorithm", &header.encryption_algorithm.id()),
+            ("pts_adjustment", &time(header.pts_adjustment)),
+        ],
+    );
     walk.field(1, "cw_index", header.cw_index);
-    walk.field(3, "tier, splice_command_length", format!("{}, {}", header.tier, header.splice_command_length));
+    walk.fields(3, &[("tier", &header.tier), ("splice_command_length", &header.splice_command_length)]);
     let command = header.splice_command_type.id();
     walk.field(1, "splice_command_type", named(command.into(), names::command(command)));
-    walk.depth = 0;
-    walk.heading(names::command(command), format!("{} bytes", header.splice_command_length));
-    walk.depth = 1;
+    walk.heading(names::command(command), header.splice_command_length.into());
     walk.command(&section.command, COMMAND_AT + usize::from(header.splice_command_length));
-    walk.depth = 0;
     let descriptors = section.descriptors;
     walk.spare(descriptors.at().saturating_sub(2));
+    walk.depth = 0;
     walk.field(2, "descriptor_loop_length", descriptors.bytes().len());
     for (n, item) in descriptors.iter().enumerate() {
         walk.item(n + 1, &item, descriptors.at());
@@ -140,25 +145,33 @@ struct Walk {
 }
 
 impl Walk {
-    fn row(&mut self, len: usize, kind: Kind, name: &str, value: String) {
+    fn row(&mut self, len: usize, kind: Kind, name: String, label: String) {
         let len = len.min(self.end.saturating_sub(self.at));
-        self.rows.push(Row { at: self.at, len, depth: self.depth, kind, name: name.into(), value });
+        self.rows.push(Row { at: self.at, len, depth: self.depth, kind, name, label });
         self.at += len;
     }
 
-    fn heading(&mut self, name: &str, value: impl ToString) {
-        self.row(0, Kind::Field, name, value.to_string());
+    /// What follows stands below it.
+    fn heading(&mut self, name: &str, len: usize) {
+        self.depth = 0;
+        self.row(0, Kind::Field, name.into(), format!("{name}, {}", names::bytes(len)));
+        self.depth = 1;
     }
 
-    fn field(&mut self, len: usize, name: &str, value: impl ToString) {
-        if len > 0 {
-            self.row(len, Kind::Field, name, value.to_string());
-        }
+    fn field(&mut self, len: usize, name: &str, value: impl Display) {
+        self.fields(len, &[(name, &value)]);
     }
 
-    fn identifier(&mut self, len: usize, name: &str, value: String) {
+    /// Fields that share bytes, each with its value; an empty one is not shown.
+    fn fields(&mut self, len: usize, all: &[(&str, &dyn Display)]) {
+        let name: Vec<&str> = all.iter().map(|(name, _)| *name).collect();
+        let label: Vec<String> = all.iter().map(|(name, value)| format!("{name} {value}").trim_end().into()).collect();
+        self.row(len, Kind::Field, name.join(", "), label.join(", "));
+    }
+
+    fn identifier(&mut self, len: usize, name: &str, text: &str) {
         if len > 0 {
-            self.row(len, Kind::Identifier(self.identifiers), name, value);
+            self.row(len, Kind::Identifier(self.identifiers), name.into(), format!("{name} {text}").trim_end().into());
             self.identifiers += 1;
         }
     }
@@ -167,7 +180,7 @@ impl Walk {
     fn spare(&mut self, until: usize) {
         let len = until.saturating_sub(self.at);
         if len > 0 {
-            self.row(len, Kind::Spare, "spare", String::new());
+            self.row(len, Kind::Spare, "spare".into(), "spare".into());
         }
     }
 
@@ -176,8 +189,8 @@ impl Walk {
             SpliceCommand::SpliceInsert(x) => self.insert(x),
             SpliceCommand::TimeSignal(t) => self.time(*t),
             SpliceCommand::PrivateCommand { identifier, private_bytes } => {
-                self.field(4, "identifier", format!("{identifier:#010X}"));
-                self.identifier(private_bytes.len(), "private_byte", String::new());
+                self.field(4, "identifier", format_args!("{identifier:#010X}"));
+                self.identifier(private_bytes.len(), "private_byte", "");
             }
             _ => {}
         }
@@ -186,24 +199,32 @@ impl Walk {
 
     fn time(&mut self, t: SpliceTime) {
         match t {
-            SpliceTime::At(ticks) => self.field(5, "time_specified_flag, pts_time", format!("1, {}", time(ticks))),
-            SpliceTime::Unspecified => self.field(1, "time_specified_flag", 0),
+            SpliceTime::At(ticks) => self.fields(5, &[("time_specified_flag", &1), ("reserved", &""), ("pts_time", &time(ticks))]),
+            SpliceTime::Unspecified => self.fields(1, &[("time_specified_flag", &0), ("reserved", &"")]),
             SpliceTime::Immediate => {}
         }
     }
 
     fn insert(&mut self, x: &SpliceInsert) {
         self.field(4, "splice_event_id", x.splice_event_id);
-        self.field(1, "splice_event_cancel_indicator, reserved", format!("{}, {}", u8::from(x.detail.is_none()), x.reserved));
-        let Some(x) = &x.detail else { return };
-        self.insert_detail(x);
+        self.fields(1, &[("splice_event_cancel_indicator", &u8::from(x.detail.is_none())), ("reserved", &x.reserved)]);
+        if let Some(x) = &x.detail {
+            self.insert_detail(x);
+        }
     }
 
     fn insert_detail(&mut self, x: &InsertDetail) {
         let program = matches!(x.splice_mode, SpliceMode::Program(_));
-        let flags = [x.network_indicator.flag() == 1, program, x.duration.is_some(), is_immediate(&x.splice_mode)].map(u8::from);
-        let names = "out_of_network_indicator, program_splice_flag, duration_flag, splice_immediate_flag, reserved";
-        self.field(1, names, format!("{}, {}, {}, {}", flags[0], flags[1], flags[2], flags[3]));
+        self.fields(
+            1,
+            &[
+                ("out_of_network_indicator", &x.network_indicator.flag()),
+                ("program_splice_flag", &u8::from(program)),
+                ("duration_flag", &u8::from(x.duration.is_some())),
+                ("splice_immediate_flag", &u8::from(is_immediate(&x.splice_mode))),
+                ("reserved", &""),
+            ],
+        );
         match &x.splice_mode {
             SpliceMode::Program(t) => self.time(*t),
             SpliceMode::Components(list) => {
@@ -215,7 +236,7 @@ impl Walk {
             }
         }
         if let Some(d) = x.duration {
-            self.field(5, "auto_return, reserved, duration", format!("{}, {}", d.return_mode.flag(), time(d.duration)));
+            self.fields(5, &[("auto_return", &d.return_mode.flag()), ("reserved", &""), ("duration", &time(d.duration))]);
         }
         self.field(2, "unique_program_id", x.unique_program_id);
         self.field(1, "avail_num", x.avail_num);
@@ -224,18 +245,15 @@ impl Walk {
 
     fn item(&mut self, n: usize, item: &Item<'_>, base: usize) {
         let (place, section_end) = (base + item.offset, self.end);
-        self.depth = 0;
         self.spare(place);
         self.end = (place + item.len).min(section_end);
         match &item.item {
             Err(refusal) => {
-                self.heading(&format!("item {n}"), format!("{} bytes, refused", item.len));
-                self.depth = 1;
+                self.heading(&format!("item {n}, refused"), item.len);
                 self.refused(*refusal, base);
             }
             Ok(descriptor) => {
-                self.heading(&format!("item {n}: {}", descriptor_name(descriptor)), format!("{} bytes", item.len));
-                self.depth = 1;
+                self.heading(&format!("item {n}: {}", descriptor_name(descriptor)), item.len);
                 self.descriptor(descriptor, item);
             }
         }
@@ -243,17 +261,15 @@ impl Walk {
         self.end = section_end;
     }
 
-    /// The text of a refusal 24 is handed back, and so one of the identifiers.
+    /// The text of a refusal 24 is handed back, and so is one of the identifiers.
     fn refused(&mut self, refusal: Refusal, base: usize) {
-        let all = self.end - self.at;
-        match refusal {
-            Refusal::InvalidUpidContent { at, len, .. } => {
-                let before = (base + at).saturating_sub(self.at);
-                self.row(before, Kind::Refused, "refused", refusal.to_string());
-                self.identifier(len, "text", String::new());
-                self.row(self.end - self.at, Kind::Refused, "refused", String::new());
-            }
-            _ => self.row(all, Kind::Refused, "refused", refusal.to_string()),
+        if let Refusal::InvalidUpidContent { at, len, .. } = refusal {
+            let before = (base + at).saturating_sub(self.at);
+            self.row(before, Kind::Refused, "refused".into(), refusal.to_string());
+            self.identifier(len, "text that is not UTF-8", "");
+            self.row(self.end - self.at, Kind::Refused, "refused".into(), "the rest of the item".into());
+        } else {
+            self.row(self.end - self.at, Kind::Refused, "refused".into(), refusal.to_string());
         }
     }
 
@@ -272,11 +288,11 @@ impl Walk {
             SpliceDescriptor::Avail { provider_avail_id } => self.field(4, "provider_avail_id", provider_avail_id),
             SpliceDescriptor::Dtmf { preroll, dtmf_chars } => {
                 self.field(1, "preroll", preroll);
-                self.field(1, "dtmf_count, reserved", dtmf_chars.len());
+                self.fields(1, &[("dtmf_count", &dtmf_chars.len()), ("reserved", &"")]);
             }
             SpliceDescriptor::Segmentation { segmentation_event_id, detail } => {
                 self.field(4, "segmentation_event_id", segmentation_event_id);
-                self.field(1, "segmentation_event_cancel_indicator, reserved", u8::from(detail.is_none()));
+                self.fields(1, &[("segmentation_event_cancel_indicator", &u8::from(detail.is_none())), ("reserved", &"")]);
                 if let Some(detail) = detail {
                     self.segmentation(detail, item);
                 }
@@ -289,29 +305,17 @@ impl Walk {
             SpliceDescriptor::Reserved { .. } => {}
         }
         if let (SpliceDescriptor::Dtmf { .. } | SpliceDescriptor::Reserved { .. }, Some(x)) = (x, item.identifiers().next()) {
-            self.identifier(x.len(), &type_of(&x), quoted(&x));
+            self.spare(x.at);
+            self.identifier(x.len(), &type_of(&x), &quoted(&x));
         }
     }
 
     fn segmentation(&mut self, x: &SegmentationDetail<'_>, item: &Item<'_>) {
-        let flags = [x.components.is_none(), x.segmentation_duration.is_some(), x.delivery_restrictions.is_none()].map(u8::from);
-        let names = "program_segmentation_flag, segmentation_duration_flag, delivery_not_restricted_flag";
-        let values = format!("{}, {}, {}", flags[0], flags[1], flags[2]);
-        match x.delivery_restrictions {
-            None => self.field(1, &format!("{names}, reserved"), values),
-            Some(r) => {
-                let bits = [r.web_delivery_allowed, r.no_regional_blackout, r.archive_allowed].map(u8::from);
-                self.field(
-                    1,
-                    &format!("{names}, web_delivery_allowed_flag, no_regional_blackout_flag, archive_allowed_flag, device_restrictions"),
-                    format!("{values}, {}, {}, {}, {}", bits[0], bits[1], bits[2], r.device_restrictions.bits()),
-                );
-            }
-        }
+        self.flags(x);
         if let Some(list) = &x.components {
             self.field(1, "component_count", list.len());
             for c in list {
-                self.field(6, "component_tag, reserved, pts_offset", format!("{}, {}", c.component_tag, time(c.pts_offset)));
+                self.fields(6, &[("component_tag", &c.component_tag), ("reserved", &""), ("pts_offset", &time(c.pts_offset))]);
             }
         }
         if let Some(ticks) = x.segmentation_duration {
@@ -328,6 +332,26 @@ impl Walk {
         }
     }
 
+    fn flags(&mut self, x: &SegmentationDetail<'_>) {
+        let (program, duration) = (u8::from(x.components.is_none()), u8::from(x.segmentation_duration.is_some()));
+        let (first, second) = (("program_segmentation_flag", &program as &dyn Display), ("segmentation_duration_flag", &duration as &dyn Display));
+        match x.delivery_restrictions {
+            None => self.fields(1, &[first, second, ("delivery_not_restricted_flag", &1), ("reserved", &"")]),
+            Some(r) => self.fields(
+                1,
+                &[
+                    first,
+                    second,
+                    ("delivery_not_restricted_flag", &0),
+                    ("web_delivery_allowed_flag", &u8::from(r.web_delivery_allowed)),
+                    ("no_regional_blackout_flag", &u8::from(r.no_regional_blackout)),
+                    ("archive_allowed_flag", &u8::from(r.archive_allowed)),
+                    ("device_restrictions", &r.device_restrictions.bits()),
+                ],
+            ),
+        }
+    }
+
     /// Every identifier that is no MID as one row, at the place that the library gives it; type and length stand before each.
     fn upid(&mut self, item: &Item<'_>) {
         if item.identifiers().next().is_none() {
@@ -337,12 +361,11 @@ impl Walk {
         let depth = self.depth;
         for x in item.identifiers() {
             self.depth = depth + x.level;
-            let (first, second) = if x.level == 0 { ("segmentation_upid_type", "segmentation_upid_length") } else { ("type", "length") };
             self.spare(x.at.saturating_sub(2));
-            self.field(1, first, type_of(&x));
-            self.field(1, second, x.len());
+            self.field(1, "segmentation_upid_type", type_of(&x));
+            self.field(1, if x.level == 0 { "segmentation_upid_length" } else { "length" }, x.len());
             if x.upid_type != Some(SegmentationUpidType::MID) {
-                self.identifier(x.len(), if x.level == 0 { "segmentation_upid" } else { "identifier" }, quoted(&x));
+                self.identifier(x.len(), "segmentation_upid", &quoted(&x));
             }
         }
         self.depth = depth;

@@ -107,6 +107,11 @@ pub fn segmentation_type(id: u8) -> &'static str {
     }
 }
 
+/// `1 byte`, `2 bytes`
+pub fn bytes(n: usize) -> String {
+    format!("{n} byte{}", if n == 1 { "" } else { "s" })
+}
+
 /// Ticks of 90 kHz as `h:mm:ss.mmm`, rounded down.
 pub fn clock(ticks: u64) -> String {
     let milliseconds = ticks / 90;
@@ -132,7 +137,7 @@ mod tests {
         // the last of 33 bits, and of 34
         assert_eq!(clock(8_589_934_591), "26:30:43.717");
         assert_eq!(clock(17_179_869_182), "53:01:27.435");
-        assert_eq!(clock(u64::MAX), "56935086:24:45.463");
+        assert_eq!(clock(u64::MAX), "56934395289:13:37.240");
     }
 
     /// A number has a name here exactly where the library says that it is a named one.

@@ -4,3 +4,6 @@ mod write;
 
 pub use read::{section, Fault};
 pub use write::{Accepted, Refused};
+
+#[cfg(test)]
+pub mod tests;

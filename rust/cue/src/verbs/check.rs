@@ -2,6 +2,7 @@
 use crate::console::{Console, REFUSED};
 use crate::input;
 use crate::layout::{self, Kind};
+use crate::names;
 use clap::{ArgMatches, Command};
 use scte35::Section;
 use std::io::{self, Write};
@@ -44,7 +45,7 @@ fn first_fault(bytes: &[u8], section: &Section<'_>) -> String {
     faults.extend(section.descriptors.iter().enumerate().find_map(|(n, item)| item_fault(bytes, section, n + 1, &item)));
     let end = section.descriptors.at() + section.descriptors.bytes().len();
     if end + 4 < bytes.len() {
-        faults.push((end, format!("{} spare bytes at {end}, before CRC_32", bytes.len() - 4 - end)));
+        faults.push((end, format!("{} spare at {end}, before CRC_32", names::bytes(bytes.len() - 4 - end))));
     }
     // the bits before section_length, and it, too, where nothing else differs in length
     if let Ok(written) = section.write_back_to_vec() {
@@ -85,7 +86,7 @@ fn difference(bytes: &[u8], section: &Section<'_>, at: usize, len: usize, writte
         return Some((at + k, byte(bytes, section, at + k, written[k])));
     }
     let spare = own.len().checked_sub(written.len()).filter(|n| *n > 0)?;
-    Some((at + written.len(), format!("{spare} spare bytes at {}, in {what}", at + written.len())))
+    Some((at + written.len(), format!("{} spare at {}, in {what}", names::bytes(spare), at + written.len())))
 }
 
 /// A byte with the field that it belongs to, and what the canonical form has there.
@@ -93,4 +94,46 @@ fn byte(bytes: &[u8], section: &Section<'_>, at: usize, canonical: u8) -> String
     let rows = layout::rows(bytes, section);
     let name = rows.iter().find(|row| row.at <= at && at < row.at + row.len && row.kind != Kind::Spare).map_or("spare", |row| row.name.as_str());
     format!("byte {at} is {:02X}, canonical {canonical:02X}: {name}", layout::part(bytes, at, 1).first().copied().unwrap_or(0))
+}
+
+#[cfg(test)]
+mod tests {
+    use crate::verbs::tests::*;
+
+    #[test]
+    fn canonical() {
+        let line = "accepted; canonical; written back: the same bytes\n";
+        assert_eq!(stdout(&["check", INCIDENT, NULL]), format!("cue 1: {line}cue 2: {line}"));
+    }
+
+    #[test]
+    fn the_first_thing_that_is_not_canonical() {
+        for (digits, fault, written) in [
+            // the bits before section_length, it, and what stands before the CRC
+            (with_crc("FC001100000000000000FFF000000000"), "byte 1 is 00, canonical 30: section_syntax_indicator, ", "other bytes, 20 for 20"),
+            (with_crc("FC301200000000000000FFF000000000"), "byte 2 is 12, canonical 11: section_syntax_indicator, ", "other bytes, 20 for 20"),
+            (with_crc("FC301300000000000000FFF000000000AABB"), "2 bytes spare at 16, before CRC_32", "other bytes, 20 for 22"),
+            // a command's reserved bits, and bytes behind it
+            (of_command(6, "F800000000"), "byte 14 is F8, canonical FE: time_specified_flag, reserved, pts_time", "other bytes, 25 for 25"),
+            (of_command(6, "FE00000000AA"), "1 byte spare at 19, in the command", "other bytes, 25 for 26"),
+            (of_command(5, "000000010F5F00010000"), "reserved bits at 18: a value that no canonical section has (refusal 33)", "refused: "),
+            // a descriptor's
+            (around("000943554549 00000135 AA"), "1 byte spare at 27, in item 1", "other bytes"),
+            (around(&with_upid("0800")), "byte 29 is 08, canonical 00: segmentation_upid_type", "other bytes"),
+            (around("00084355454900000135000443554549"), "item 2 at 27 is refused: not enough data: 4 expected, 0 there (refusal 21)", "refused: "),
+        ] {
+            let said = stdout(&["check", &digits]);
+            assert!(said.starts_with("cue 1: accepted; not canonical (") && said.contains(fault), "{said}");
+            assert!(said.contains(&format!("; written back: {written}")), "{said}");
+        }
+    }
+
+    #[test]
+    fn refused() {
+        for (number, digits) in refused_sections() {
+            let output = cue(&["check", "--as", "hex", &digits]).output().unwrap();
+            assert_eq!((output.status.code(), output.stderr.len()), (Some(1), 0));
+            assert!(String::from_utf8(output.stdout).unwrap().ends_with(&format!("(refusal {number})\n")));
+        }
+    }
 }

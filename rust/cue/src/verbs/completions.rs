@@ -21,3 +21,20 @@ pub fn run(words: &ArgMatches, console: &mut Console) -> io::Result<()> {
     clap_complete::generate(shell, &mut crate::command(), "cue", &mut script);
     console.out.write_all(&script)
 }
+
+#[cfg(test)]
+mod tests {
+    use crate::verbs::tests::{cue, stdout};
+
+    #[test]
+    fn each_shell() {
+        for (shell, first) in [("bash", "_cue()"), ("zsh", "#compdef cue"), ("fish", "complete -c cue")] {
+            let script = stdout(&["completions", shell]);
+            assert!(script.starts_with(first), "{script}");
+            for verb in crate::verbs::ALL {
+                assert!(script.contains(verb.name), "{shell} {}", verb.name);
+            }
+        }
+        cue(&["completions", "tcsh"]).assert().code(2);
+    }
+}

@@ -60,3 +60,46 @@ fn line(console: &mut Console, cue: u64, item: &str, x: &Identifier<'_>) -> io::
         None => writeln!(console.out),
     }
 }
+
+#[cfg(test)]
+mod tests {
+    use crate::verbs::tests::*;
+
+    #[test]
+    fn the_incident() {
+        let expected = "1 1 0 13 13 35 24 08081122334455667788030C414243443132333435363738
+1 1 1 8 8 37 8 1122334455667788
+1 1 1 3 3 47 12 414243443132333435363738 \"ABCD12345678\"
+";
+        assert_eq!(stdout(&["identifiers", INCIDENT]), expected);
+    }
+
+    #[test]
+    fn every_kind() {
+        let descriptors = [
+            with_upid("0508 1122334455667788"),
+            with_upid("0A0C 112233445566778899AABBCC"),
+            with_upid("0800"),
+            "010743554549B13F34".into(),
+            "090441424344".into(),
+            "090541424344AA".into(),
+            with_upid("030C FF4243443132333435363738"),
+        ];
+        let expected = "1 1 0 6 5 31 8 1122334455667788
+1 2 0 10 10 56 12 112233445566778899AABBCC
+1 4 0 DTMF_char - 96 1 34 \"4\"
+1 5 0 private_byte - 103 0 -
+1 6 0 private_byte - 109 1 AA
+1 7 - refused 3 124 12 FF4243443132333435363738
+";
+        assert_eq!(stdout(&["identifiers", &around(&descriptors.concat())]), expected);
+        assert_eq!(stdout(&["identifiers", &of_command(255, "41424344 AABB")]), "1 command 0 private_byte - 18 2 AABB\n");
+        assert_eq!(stdout(&["identifiers", NULL]), "");
+    }
+
+    #[test]
+    fn refused() {
+        let said = stderr(&["identifiers", NULL, "FC30", INCIDENT], 1);
+        assert_eq!(said, "cue 2: refused: section under 3 bytes (refusal 1)\n");
+    }
+}

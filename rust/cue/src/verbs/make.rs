@@ -160,3 +160,209 @@ fn one(value: Value, to: To, number: &mut u64, console: &mut Console) -> io::Res
         }
     }
 }
+
+#[cfg(test)]
+mod tests {
+    use crate::json::tests::{object, Random};
+    use crate::verbs::tests::*;
+    use serde_json::{json, Value};
+
+    fn shown(cue: &str) -> Value {
+        serde_json::from_str(&stdout(&["show", "--json", cue])).unwrap()
+    }
+
+    /// What is printed, said, and the status, for these words and this input.
+    fn made(words: &[&str], input: &str) -> (String, String, i32) {
+        let output = cue(words).write_stdin(input).output().unwrap();
+        let text = |bytes| String::from_utf8(bytes).unwrap();
+        (text(output.stdout), text(output.stderr), output.status.code().unwrap_or(-1))
+    }
+
+    #[test]
+    fn what_was_shown_is_made_again() {
+        for digits in [INCIDENT, NULL] {
+            let line = stdout(&["show", "--json", digits]);
+            assert_eq!(made(&["make", "--to", "hex"], &line), (format!("{digits}\n"), String::new(), 0));
+            assert_eq!(stdout(&["make", "--to", "hex", &line]), format!("{digits}\n"));
+            let (base64, _, _) = made(&["make"], &line);
+            assert_eq!(stdout(&["show", "--json", base64.trim_end()]), line);
+            let raw = cue(&["make", "--to", "raw"]).write_stdin(line).output().unwrap().stdout;
+            assert_eq!(raw, hex::decode(digits).unwrap());
+        }
+    }
+
+    #[test]
+    fn one_or_many_on_a_line_or_several() {
+        let (one, two) = (shown(INCIDENT), shown(NULL));
+        let expected = format!("{INCIDENT}\n{NULL}\n");
+        for text in [
+            format!("{one}\n{two}\n"),
+            format!("{one}{two}"),
+            format!("{one:#}\n{two:#}"),
+            format!("\n\n  {one:#}\n{two}\n\n"),
+            format!("[{one},\n{two}]"),
+        ] {
+            assert_eq!(made(&["make", "--to", "hex", "-"], &text), (expected.clone(), String::new(), 0), "{text}");
+        }
+    }
+
+    #[test]
+    fn edited() {
+        let mut cue = shown(INCIDENT);
+        cue["tier"] = 1.into();
+        cue["descriptors"][0]["segmentation_descriptor"]["segmentation_type_id"] = 17.into();
+        let (digits, _, status) = made(&["make", "--to", "hex"], &cue.to_string());
+        assert_eq!(status, 0);
+        let again = shown(digits.trim_end());
+        assert_eq!((&again["tier"], &again["descriptors"][0]["segmentation_descriptor"]["segmentation_type_id"]), (&json!(1), &json!(17)));
+        // an identifier by its text alone
+        let upid = json!({ "segmentation_upid_type": 3, "text": "ABCD12345679" });
+        cue["descriptors"][0]["segmentation_descriptor"]["segmentation_upid"] = upid;
+        let (digits, _, _) = made(&["make", "--to", "hex"], &cue.to_string());
+        assert!(stdout(&["identifiers", digits.trim_end()]).ends_with("414243443132333435363739 \"ABCD12345679\"\n"));
+    }
+
+    /// Each name that is left out, and one too many, is named.
+    #[test]
+    fn names_are_named() {
+        let cue = shown(INCIDENT);
+        let fault = |cue: &Value| {
+            let (_, said, status) = made(&["make"], &cue.to_string());
+            assert_eq!(status, 2, "{said}");
+            said
+        };
+        for name in ["protocol_version", "encrypted_packet", "encryption_algorithm", "pts_adjustment", "cw_index", "tier", "descriptors"] {
+            let mut cue = cue.clone();
+            cue.as_object_mut().unwrap().remove(name);
+            assert_eq!(fault(&cue), format!("cue 1: {name}: missing\n"));
+        }
+        let of = "descriptors[0].segmentation_descriptor";
+        let inside = cue["descriptors"][0]["segmentation_descriptor"].as_object().unwrap();
+        for name in inside.keys() {
+            let mut cue = cue.clone();
+            cue["descriptors"][0]["segmentation_descriptor"].as_object_mut().unwrap().remove(name);
+            assert_eq!(fault(&cue), format!("cue 1: {of}.{name}: missing\n"));
+        }
+        let mut more = cue.clone();
+        more["descriptors"][0]["segmentation_descriptor"]["segment"] = 1.into();
+        assert_eq!(fault(&more), format!("cue 1: {of}.segment: unknown here, or left out by a flag\n"));
+        let mut more = cue.clone();
+        more["Tier"] = 1.into();
+        assert_eq!(fault(&more), "cue 1: Tier: unknown here, or left out by a flag\n");
+        let mut two = cue.clone();
+        two["splice_null"] = json!({});
+        assert_eq!(fault(&two), "cue 1: splice_null beside time_signal: one of them is too many\n");
+        let mut none = cue.clone();
+        none.as_object_mut().unwrap().remove("time_signal");
+        assert!(fault(&none).starts_with("cue 1: missing: one of splice_null, splice_insert, "));
+        none["splice_schedule"] = json!({});
+        assert_eq!(fault(&none), "cue 1: splice_schedule: unknown here, or left out by a flag\n");
+    }
+
+    #[test]
+    fn values_are_of_their_kind() {
+        let cue = shown(INCIDENT);
+        let with = |path: &str, value: Value| {
+            let mut cue = cue.clone();
+            *cue.pointer_mut(path).unwrap() = value;
+            let (_, said, status) = made(&["make"], &cue.to_string());
+            (said, status)
+        };
+        let words = |text: &str| (format!("cue 1: {text}\n"), 2);
+        assert_eq!(with("/tier", json!("1")), words("tier: no whole number from 0 on"));
+        assert_eq!(with("/tier", json!(-1)), words("tier: no whole number from 0 on"));
+        assert_eq!(with("/tier", json!(1.5)), words("tier: no whole number from 0 on"));
+        assert_eq!(with("/encrypted_packet", json!(0)), words("encrypted_packet: neither true nor false"));
+        assert_eq!(with("/descriptors", json!({})), words("descriptors: not a list"));
+        assert_eq!(with("/descriptors/0", json!(1)), words("descriptors[0]: not an object"));
+        let upid = "/descriptors/0/segmentation_descriptor/segmentation_upid";
+        let name = "descriptors[0].segmentation_descriptor.segmentation_upid";
+        assert_eq!(with(&format!("{upid}/hex"), json!("0")), words(&format!("{name}.hex: not hexadecimal: Odd number of digits")));
+        assert_eq!(with(&format!("{upid}/hex"), json!(1)), words(&format!("{name}.hex: not a string")));
+        // parts say what the MID's own bytes say
+        let parts = format!("{name}.parts[1]: not what the MID's own hex has there; change that, and leave parts out");
+        assert_eq!(with(&format!("{upid}/parts/1/hex"), json!("00")), words(&format!("{name}.parts[1].text: not the text of hex: change both, or leave one of them out")));
+        assert_eq!(with(&format!("{upid}/parts/1"), json!({ "level": 1, "segmentation_upid_type": 3, "text": "ABCD12345679" })), words(&parts));
+        assert_eq!(with(&format!("{upid}/parts"), json!([cue.pointer(&format!("{upid}/parts/0")).unwrap()])), words(&parts));
+    }
+
+    /// The library's refusals, in words with their number.
+    #[test]
+    fn refused() {
+        let cue = shown(INCIDENT);
+        let with = |path: &str, value: Value| {
+            let mut cue = cue.clone();
+            *cue.pointer_mut(path).unwrap() = value;
+            let (printed, said, status) = made(&["make"], &cue.to_string());
+            assert_eq!((printed.as_str(), status), ("", 1), "{said}");
+            assert!(said.starts_with("cue 1: not written"), "{said}");
+            let (_, number) = said.trim_end().rsplit_once("(refusal ").unwrap();
+            number.trim_end_matches(')').parse::<u8>().unwrap()
+        };
+        let upid = "/descriptors/0/segmentation_descriptor/segmentation_upid";
+        let of = |upid_type: u8, hex: &str| json!({ "segmentation_upid_type": upid_type, "hex": hex });
+        assert_eq!(with("/tier", json!(4096)), 32);
+        assert_eq!(with("/tier", json!(70000)), 32);
+        assert_eq!(with("/cw_index", json!(256)), 32);
+        assert_eq!(with("/pts_adjustment", json!(1u64 << 33)), 32);
+        assert_eq!(with(upid, of(9, &"00".repeat(256))), 32);
+        assert_eq!(with("/encrypted_packet", json!(true)), 33);
+        assert_eq!(with(upid, of(5, "1122334455667788")), 33);
+        assert_eq!(with(upid, of(9, "")), 33);
+        assert_eq!(with(upid, of(9, &"00".repeat(240))), 34);
+        assert_eq!(with(upid, of(8, "11")), 25);
+        assert_eq!(with(upid, of(3, "FF4243443132333435363738")), 24);
+        assert_eq!(with(upid, of(0, "11")), 23);
+        assert_eq!(with(upid, of(13, "0803")), 21);
+        let device = json!({ "segmentation_event_id": 1, "segmentation_event_cancel_indicator": false, "program_segmentation_flag": true,
+            "segmentation_duration_flag": false, "delivery_not_restricted_flag": false, "web_delivery_allowed_flag": true, "no_regional_blackout_flag": true,
+            "archive_allowed_flag": true, "device_restrictions": 4, "segmentation_upid": of(0, ""), "segmentation_type_id": 0, "segment_num": 0, "segments_expected": 0 });
+        assert_eq!(with("/descriptors/0/segmentation_descriptor", device), 12);
+        let many: Vec<Value> = (0..500).map(|n| json!({ "avail_descriptor": { "provider_avail_id": n } })).collect();
+        assert_eq!(with("/descriptors", many.into()), 34);
+        // what was refused when it was read
+        let output = super::super::tests::cue(&["show", "--json", "FC30"]).output().unwrap();
+        let (_, said, status) = made(&["make"], &String::from_utf8(output.stdout).unwrap());
+        assert_eq!((said.as_str(), status), ("cue 1: not written, the cue was refused (1) when it was read: a value that no canonical section has (refusal 33)\n", 1));
+        let item = stdout(&["show", "--json", &around("000443554549")]);
+        let (_, said, status) = made(&["make"], &item);
+        assert!(said.starts_with("cue 1: not written, descriptors[0] was refused (21) when it was read") && status == 1, "{said}");
+    }
+
+    #[test]
+    fn no_json() {
+        let null = shown(NULL);
+        // a line that is none is one cue, and those behind it are made
+        let (printed, said, status) = made(&["make", "--to", "hex"], &format!("{null}\nhello\n{null}\n{{\"cue\":\n{null}\n{{"));
+        assert_eq!(printed, format!("{NULL}\n{NULL}\n{NULL}\n"));
+        let starts: Vec<_> = said.lines().map(|line| line.split(": ").take(2).collect::<Vec<_>>().join(": ")).collect();
+        assert_eq!((starts, status), (vec!["cue 2: no JSON".to_string(), "cue 4: no JSON".into(), "cue 6: no JSON".into()], 2));
+        for text in ["1", "null", "\"x\""] {
+            assert_eq!(made(&["make"], text).1, "cue 1: not an object\n");
+        }
+        // deeper than is read
+        assert_eq!(made(&["make"], &"[".repeat(100_000)).2, 2);
+        assert_eq!(made(&["make"], &"{\"a\":".repeat(100_000)).2, 2);
+        cue(&["make", "@/nowhere/at/all"]).assert().code(2);
+    }
+
+    /// 10,000 random sections, made of JSON, are shown and made again by the program itself: the same bytes, and the same JSON.
+    #[test]
+    fn there_and_back() {
+        let mut random = Random(21);
+        let lines: String = (0..10_000).map(|_| format!("{}\n", object(&mut random))).collect();
+        let made = |words: &[&str], input: &str| {
+            let output = cue(words).write_stdin(input).output().unwrap();
+            assert_eq!((output.status.code(), String::from_utf8_lossy(&output.stderr).as_ref()), (Some(0), ""), "{words:?}");
+            String::from_utf8(output.stdout).unwrap()
+        };
+        let digits = made(&["make", "--to", "hex"], &lines);
+        let shown = made(&["show", "--json", "-"], &digits);
+        assert_eq!(digits.lines().count(), 10_000);
+        assert!(made(&["make", "--to", "hex"], &shown) == digits, "other bytes");
+        let base64 = made(&["make"], &shown);
+        assert!(made(&["show", "--json", "-"], &base64) == shown, "other JSON");
+        let checked = made(&["check", "-"], &base64);
+        assert_eq!(checked.lines().filter(|line| line.ends_with(": accepted; canonical; written back: the same bytes")).count(), 10_000);
+    }
+}

@@ -80,7 +80,7 @@ fn colour(kind: Kind) -> ColorSpec {
 fn dump(out: &mut impl WriteColor, bytes: &[u8], rows: &[Row]) -> io::Result<()> {
     for row in rows {
         let lead = "  ".repeat(row.depth);
-        let label = if row.value.is_empty() { row.name.clone() } else { format!("{} {}", row.name, row.value) };
+        let label = &row.label;
         if row.len == 0 {
             out.set_color(ColorSpec::new().set_bold(true))?;
             write!(out, "{:53}{lead}{label}", "")?;
@@ -116,6 +116,7 @@ code, .dump, td:nth-child(-n+2) { font-family: ui-monospace, Consolas, 'DejaVu S
 .dump th { padding: 0 .8em 0 0; text-align: right; color: #6b6b6b; font-weight: normal; }
 .fields { border-collapse: collapse; }
 .fields td { padding: .1em .9em .1em 0; vertical-align: top; }
+.fields td:nth-child(-n+2) { white-space: nowrap; }
 .fields td:first-child { color: #6b6b6b; text-align: right; }
 .fields .head td { padding-top: .5em; font-weight: 600; }
 .fields span { padding: .1em .35em; border-radius: .25em; }
@@ -143,7 +144,7 @@ fn cue_as_page(page: &mut String, number: u64, bytes: &[u8], rows: &[Row]) {
     bytes_as_page(page, bytes, rows);
     page.push_str("<table class=\"fields\">\n");
     for row in rows {
-        let label = format!("{} {}", escaped(&row.name), escaped(&row.value));
+        let label = escaped(&row.label);
         let lead = format!("padding-left:{}em", row.depth);
         if row.len == 0 {
             let _ = writeln!(page, "<tr class=\"head\"><td><td><td style=\"{lead}\">{label}</tr>");
@@ -170,4 +171,62 @@ fn bytes_as_page(page: &mut String, bytes: &[u8], rows: &[Row]) {
         page.push_str("</tr>\n");
     }
     page.push_str("</table>\n");
+}
+
+#[cfg(test)]
+mod tests {
+    use crate::verbs::tests::{around, cue, stdout, with_upid, INCIDENT};
+
+    #[test]
+    fn the_incident() {
+        let shown = stdout(&["map", INCIDENT]);
+        let lines: Vec<&str> = shown.lines().collect();
+        assert_eq!(lines.len(), 30);
+        assert!(lines[22].starts_with("  37 11 22 33 44 55 66 77 88      "), "{}", lines[22]);
+        assert!(lines[25].ends_with("      segmentation_upid \"ABCD12345678\""), "{}", lines[25]);
+        assert!(!shown.contains('\x1b'));
+    }
+
+    #[test]
+    fn an_identifier_is_one_coloured_run() {
+        let shown = stdout(&["map", "--color", "always", INCIDENT]);
+        for run in ["11 22 33 44 55 66 77 88", "41 42 43 44 31 32 33 34 35 36 37 38"] {
+            let (before, after) = shown.split_once(run).expect("unbroken");
+            assert!(before.ends_with('m') && after.starts_with("\x1b[0m"));
+        }
+    }
+
+    #[test]
+    fn a_page_stands_alone() {
+        let page = stdout(&["map", "--html", "-", INCIDENT]);
+        assert!(page.starts_with("<!DOCTYPE html>") && page.ends_with("</html>\n"));
+        for foreign in ["http:", "https:", "<script", "<link", "src=", "url("] {
+            assert!(!page.contains(foreign), "{foreign}");
+        }
+        // eight bytes of the first identifier and twelve of the second, in the dump
+        assert_eq!(page.matches("<td class=\"i0\"").count(), 8);
+        assert_eq!(page.matches("<td class=\"i1\"").count(), 12);
+        assert!(page.contains("<span class=\"i0\">11 22 33 44 55 66 77 88</span>"));
+    }
+
+    #[test]
+    fn a_page_is_written_to_a_file() {
+        let file = std::env::temp_dir().join(format!("cue-map-{}.html", std::process::id()));
+        cue(&["map", "--html", file.to_str().unwrap(), INCIDENT]).assert().success().stdout("");
+        assert!(std::fs::read_to_string(&file).unwrap().contains("ABCD12345678"));
+        std::fs::remove_file(file).unwrap();
+        cue(&["map", "--html", "/nowhere/at/all", INCIDENT]).assert().code(2);
+    }
+
+    #[test]
+    fn text_of_a_cue_is_no_markup() {
+        // an Ad-ID of twelve characters: <b>&"x"</b>!
+        let page = stdout(&["map", "--html", "-", &around(&with_upid("030C 3C623E262278223C2F623E21"))]);
+        assert!(page.contains("&lt;b&gt;&amp;") && !page.contains("<b>"), "{page}");
+    }
+
+    #[test]
+    fn refused() {
+        cue(&["map", "FC3011"]).assert().code(1).stdout("");
+    }
 }

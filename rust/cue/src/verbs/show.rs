@@ -75,7 +75,7 @@ impl Page {
 
     fn section(&mut self, cue: &Cue<'_>, section: &Section<'_>) {
         let header = &section.header;
-        self.heading(format_args!("cue {}: splice_info_section, {} bytes", cue.number, cue.bytes.len()));
+        self.heading(format_args!("cue {}: splice_info_section, {}", cue.number, names::bytes(cue.bytes.len())));
         self.field("protocol_version", header.protocol_version);
         self.field("encrypted_packet", u8::from(header.encrypted_packet));
         let algorithm = header.encryption_algorithm.id();
@@ -85,7 +85,7 @@ impl Page {
         self.field("tier", format_args!("{} ({:#05X})", header.tier, header.tier));
         let command = header.splice_command_type.id();
         self.field("splice_command_type", named(command.into(), names::command(command)));
-        self.heading(format_args!("{}, {} bytes at {}", names::command(command), header.splice_command_length, layout::COMMAND_AT));
+        self.heading(format_args!("{}, {} at {}", names::command(command), names::bytes(header.splice_command_length.into()), layout::COMMAND_AT));
         self.command(section);
         let descriptors = section.descriptors;
         for (n, item) in descriptors.iter().enumerate() {
@@ -148,15 +148,15 @@ impl Page {
         let place = base + item.offset;
         match &item.item {
             Err(refusal) => {
-                self.heading(format_args!("item {n}, {} bytes at {place}: refused, {} {}", item.len, refusal.number(), refusal.name()));
+                self.heading(format_args!("item {n}, {} at {place}: refused, {} {}", names::bytes(item.len), refusal.number(), refusal.name()));
                 self.field("refused:", refusal);
                 self.field("bytes", Hex(layout::part(section, place, item.len)));
                 if let Refusal::InvalidUpidContent { at, len, .. } = refusal {
-                    self.field("its text", format_args!("{len} bytes at {}: {}", base + at, Hex(layout::part(section, base + at, *len))));
+                    self.field("its text", format_args!("{} at {}: {}", names::bytes(*len), base + at, Hex(layout::part(section, base + at, *len))));
                 }
             }
             Ok(descriptor) => {
-                self.heading(format_args!("item {n}, {} bytes at {place}: {}", item.len, descriptor_name(descriptor)));
+                self.heading(format_args!("item {n}, {} at {place}: {}", names::bytes(item.len), descriptor_name(descriptor)));
                 self.descriptor(descriptor, item);
             }
         }
@@ -238,7 +238,7 @@ impl Page {
         let (on, off) = if self.colour { ("\x1b[36m", "\x1b[0m") } else { ("", "") };
         let type_ = x.upid_type.map_or(String::new(), |_| format!("type {}, ", type_of(x)));
         let text = text_of(x).map_or(String::new(), |text| format!(" {}", Quoted(text)));
-        self.field(name, format_args!("{type_}{} bytes at {}: {on}{}{text}{off}", x.len(), x.at, Hex(x.bytes)));
+        self.field(name, format_args!("{type_}{} at {}: {on}{}{text}{off}", names::bytes(x.len()), x.at, Hex(x.bytes)));
     }
 }
 
@@ -274,5 +274,186 @@ impl Display for FormatIdentifier {
     fn fmt(&self, f: &mut fmt::Formatter<'_>) -> fmt::Result {
         write!(f, "{}", Hex(&self.0))?;
         plain(&self.0).map_or(Ok(()), |text| write!(f, " {}", Quoted(text)))
+    }
+}
+
+#[cfg(test)]
+mod tests {
+    use crate::verbs::tests::*;
+    use serde_json::{json, Value};
+
+    const FIRST: &str = "/DA0AAAAAAAA///wBQb+cr0AUAAeAhxDVUVJSAAAjn/PAAGlmbAICAAAAAAsoKGKNAIAmsnRfg==";
+
+    /// The JSON of one cue.
+    fn shown(cue: &str) -> Value {
+        serde_json::from_str(&stdout(&["show", "--json", cue])).unwrap()
+    }
+
+    #[test]
+    fn the_standards_first_sample() {
+        let expected = "cue 1: splice_info_section, 55 bytes
+  protocol_version 0
+  encrypted_packet 0
+  encryption_algorithm 0 (none)
+  pts_adjustment 0 (0:00:00.000)
+  cw_index 255
+  tier 4095 (0xFFF)
+  splice_command_type 6 (time_signal)
+time_signal, 5 bytes at 14
+  splice_time 1924989008 (5:56:28.766), adjusted 1924989008 (5:56:28.766)
+item 1, 30 bytes at 21: segmentation_descriptor
+  segmentation_event_id 1207959694 (0x4800008E)
+  segmentation_event_cancel_indicator 0
+  program_segmentation_flag 1
+  delivery_not_restricted_flag 0
+  web_delivery_allowed_flag 0
+  no_regional_blackout_flag 1
+  archive_allowed_flag 1
+  device_restrictions 3 (none)
+  segmentation_duration 27630000 (0:05:07.000)
+  segmentation_upid type 8 (TI), 8 bytes at 40: 000000002CA0A18A
+  segmentation_type_id 52 (Provider Placement Opportunity Start)
+  segment_num 2
+  segments_expected 0
+";
+        assert_eq!(stdout(&["show", FIRST]), expected);
+    }
+
+    #[test]
+    fn a_mid_is_a_tree() {
+        assert!(stdout(&["show", INCIDENT]).contains(
+            "
+  segmentation_upid type 13 (MID), 24 bytes at 35: 08081122334455667788030C414243443132333435363738
+  ├─ type 8 (TI), 8 bytes at 37: 1122334455667788
+  └─ type 3 (Ad-ID), 12 bytes at 47: 414243443132333435363738 \"ABCD12345678\"
+"
+        ));
+        // a MID inside a MID, and a part behind it
+        let page = stdout(&["show", &around(&with_upid("0D16 0D0A 0808 1122334455667788 0808 1122334455667788"))]);
+        let tree: Vec<&str> = page.lines().filter(|line| line.contains("─ ")).collect();
+        assert_eq!(
+            tree,
+            [
+                "  ├─ type 13 (MID), 10 bytes at 33: 08081122334455667788",
+                "  │  └─ type 8 (TI), 8 bytes at 35: 1122334455667788",
+                "  └─ type 8 (TI), 8 bytes at 45: 1122334455667788"
+            ]
+        );
+    }
+
+    #[test]
+    fn the_deepest_mid_of_a_loop() {
+        // 119 heads, each of a MID around the rest: 238 bytes, and 16 more are the longest descriptor
+        let heads: String = (0..119).map(|k| format!("0D{:02X}", 2 * (118 - k))).collect();
+        let cue = around(&with_upid(&format!("0DEE{heads}")));
+        let parts = &shown(&cue)["descriptors"][0]["segmentation_descriptor"]["segmentation_upid"]["parts"];
+        assert_eq!(parts.as_array().map(Vec::len), Some(119));
+        assert_eq!(parts[118]["level"], 119);
+        assert_eq!(stdout(&["show", &cue]).lines().filter(|line| line.contains("─ ")).count(), 119);
+    }
+
+    #[test]
+    fn times_are_adjusted() {
+        // pts_adjustment 1, time 2
+        let cue = with_crc("FC3016 00 0000000001 FF FFF005 06 FE00000002 0000");
+        assert!(stdout(&["show", &cue]).contains("splice_time 2 (0:00:00.000), adjusted 3 (0:00:00.000)"));
+        assert_eq!(shown(&cue)["time_signal"]["splice_time"], json!({ "time_specified_flag": true, "pts_time": 2, "adjusted": 3 }));
+    }
+
+    #[test]
+    fn every_command() {
+        assert_eq!(shown(NULL)["splice_null"], json!({}));
+        assert_eq!(shown(&of_command(7, ""))["bandwidth_reservation"], json!({}));
+        let private = shown(&of_command(255, "43554549 AABB"));
+        assert_eq!(private["private_command"]["private_byte"], json!({ "place": 18, "length": 2, "hex": "AABB" }));
+        assert_eq!(private["private_command"]["identifier"]["text"], "CUEI");
+        let text = stdout(&["show", &of_command(255, "43554549 AABB")]);
+        assert!(text.contains("  identifier 43554549 \"CUEI\"\n  private_byte 2 bytes at 18: AABB\n"), "{text}");
+        let cancelled = shown(&of_command(5, "00000001 FF"));
+        assert_eq!(cancelled["splice_insert"]["splice_event_cancel_indicator"], true);
+        let components = of_command(5, "00000001 7F AF 02 01 FE00000001 02 7F FE00000064 0001 00 00");
+        assert_eq!(shown(&components)["splice_insert"]["components"][1], json!({ "component_tag": 2, "splice_time": { "time_specified_flag": false } }));
+        let text = stdout(&["show", &components]);
+        assert!(text.contains("  program_splice_flag 0, 2 components\n    component_tag 1: 1 (0:00:00.000)"), "{text}");
+        let immediate = of_command(5, "00000001 7F DF 0001 00 00");
+        assert_eq!(shown(&immediate)["splice_insert"]["splice_immediate_flag"], true);
+        assert!(stdout(&["show", &of_command(5, "00000001 00 5F 0001 00 00")]).contains("reserved 0 (canonical: 127)"));
+    }
+
+    #[test]
+    fn every_descriptor() {
+        let of = |descriptor: &str| shown(&around(descriptor))["descriptors"][0].clone();
+        assert_eq!(of("0008 43554549 00000135")["avail_descriptor"]["provider_avail_id"], 309);
+        assert_eq!(of("0107 43554549 B13F34")["DTMF_descriptor"]["DTMF_char"], json!({ "place": 25, "length": 1, "hex": "34", "text": "4" }));
+        assert_eq!(of("0209 43554549 00000001 FF")["segmentation_descriptor"]["segmentation_event_cancel_indicator"], true);
+        assert_eq!(of("0310 43554549 000000000001 00000002 0003")["time_descriptor"], json!({ "TAI_seconds": 1, "TAI_ns": 2, "UTC_offset": 3 }));
+        assert_eq!(of("0906 43554549 AABB")["splice_descriptor"]["private_byte"]["hex"], "AABB");
+        assert_eq!(of("0904 41424344")["splice_descriptor"]["identifier"]["text"], "ABCD");
+    }
+
+    #[test]
+    fn types_as_written() {
+        let upid = |upid: &str| shown(&around(&with_upid(upid)))["descriptors"][0]["segmentation_descriptor"]["segmentation_upid"].clone();
+        let isan = upid("0508 1122334455667788");
+        assert_eq!((&isan["segmentation_upid_type"], &isan["type_as_written"]), (&json!(6), &json!(5)));
+        assert_eq!(upid("0800"), json!({ "segmentation_upid_type": 0, "type_as_written": 8, "place": 31, "length": 0, "hex": "" }));
+        let eidr = upid("0A0C 112233445566778899AABBCC");
+        assert_eq!((&eidr["place"], &eidr["hex"]), (&json!(31), &json!("112233445566778899AABBCC")));
+        assert_eq!(upid("0F04 75726E3A")["text"], "urn:");
+        assert_eq!(upid("0F04 7572FF3A").get("text"), None);
+    }
+
+    #[test]
+    fn every_refusal_of_a_section() {
+        for (number, digits) in refused_sections() {
+            let said = stderr(&["show", "--as", "hex", &digits], 1);
+            assert!(said.starts_with("cue 1: refused: ") && said.ends_with(&format!("(refusal {number})\n")), "{said}");
+            let output = cue(&["show", "--json", "--as", "hex", &digits]).output().unwrap();
+            let line: Value = serde_json::from_slice(&output.stdout).unwrap();
+            assert_eq!(line["refusal"]["number"], number);
+            assert!(line["refusal"]["name"].is_string() && line["refusal"]["text"].is_string());
+        }
+    }
+
+    #[test]
+    fn every_refusal_of_an_item() {
+        for (number, item, words) in refused_items() {
+            // and the rest goes on, where the item does not end the loop
+            let cue = around(&format!("{item}{}", if number == 22 { "" } else { "00084355454900000135" }));
+            let text = stdout(&["show", &cue]);
+            assert!(text.contains(&format!(": refused, {number} ")) && text.contains(words), "{text}");
+            assert!(number == 22 || text.contains("provider_avail_id 309"), "{text}");
+            let line = shown(&cue);
+            assert_eq!(line["descriptors"][0]["refusal"]["number"], number);
+            assert_eq!(line["descriptors"][0]["hex"], item.as_str());
+        }
+        let text = shown(&around(&with_upid("030C FF4243443132333435363738")));
+        let refusal = &text["descriptors"][0]["refusal"];
+        assert_eq!((&refusal["place"], &refusal["hex"]), (&json!(31), &json!("FF4243443132333435363738")));
+    }
+
+    #[test]
+    fn text_is_harmless() {
+        // an Ad-ID with a control character
+        let cue = around(&with_upid("030C 1B5B324A3132333435363738"));
+        assert!(!stdout(&["show", &cue]).contains('\x1b'));
+        assert!(!stdout(&["identifiers", &cue]).contains('\x1b'));
+        assert!(!stdout(&["map", &cue]).contains('\x1b'));
+    }
+
+    #[test]
+    fn bytes_alone() {
+        let base64 = stdout(&["show", "--to", "base64", FIRST]);
+        assert_eq!(base64.trim_end(), FIRST);
+        assert_eq!(stdout(&["show", "--to", "hex", FIRST]), stdout(&["show", "--to", "hex", &base64]));
+        let raw = cue(&["show", "--to", "raw", NULL]).output().unwrap().stdout;
+        assert_eq!(raw, hex::decode(NULL).unwrap());
+        cue(&["show", "--to", "hex", "-"]).write_stdin(raw).assert().success().stdout(format!("{NULL}\n"));
+    }
+
+    #[test]
+    fn colours() {
+        assert!(!stdout(&["show", INCIDENT]).contains('\x1b'));
+        assert!(stdout(&["--color", "always", "show", INCIDENT]).contains("\x1b[36m1122334455667788\x1b[0m"));
     }
 }
