@@ -19,12 +19,16 @@ fn command() -> Command {
     Command::new("cue")
         .version(env!("CARGO_PKG_VERSION"))
         .about("Reads, shows, checks and makes SCTE 35 cues, by proved code")
+        // examples stay on one line each
+        .term_width(0)
         .after_help(
-            "A CUE is base64 (either alphabet, padded or not), hexadecimal (with or without 0x, blanks, colons), @FILE, or - for standard input: a cue a line, or \
-             one cue as raw bytes.\n\n\
-             Exit status: 0 where all cues were accepted, 1 where one was refused, 2 for wrong words or input that is no cue's text.\n\n\
+            "A CUE is base64 (either alphabet, padded or not), hexadecimal (with or without 0x, blanks, colons),\n\
+             @FILE, or - for standard input: a cue a line, or one cue as raw bytes.\n\n\
+             Exit status: 0 where all cues were accepted, 1 where one was refused, 2 for wrong words or input that\n\
+             is no cue's text.\n\n\
              Example:\n  cue show /DA0AAAAAAAA///wBQb+cr0AUAAeAhxDVUVJSAAAjn/PAAGlmbAICAAAAAAsoKGKNAIAmsnRfg==",
         )
+        .propagate_version(true)
         .subcommand_required(true)
         .arg_required_else_help(true)
         .arg(

@@ -217,3 +217,25 @@ fn rows_cover(bytes: &[u8], section: &scte35::Section<'_>) {
         assert_eq!(layout::part(bytes, x.at, x.len()), x.bytes);
     }
 }
+
+/// Real output, of every kind of cue, command, item and refusal, is as docs/cue.schema.json says.
+#[test]
+fn output_is_held_to_the_schema() {
+    use crate::verbs::tests::{around, cue, refused_items, refused_sections};
+    let mut random = Random(35);
+    let objects: String = (0..500).map(|_| format!("{}\n", object(&mut random))).collect();
+    let made = cue(&["make", "--to", "hex"]).write_stdin(objects).output().unwrap();
+    let mut cues = String::from_utf8(made.stdout).unwrap();
+    for (_, digits) in refused_sections() {
+        cues += &format!("{digits}\n");
+    }
+    for (_, item, _) in refused_items() {
+        cues += &format!("{}\n", around(&item));
+    }
+    let count = cues.lines().count();
+    let shown = cue(&["show", "--json", "--as", "hex", "-"]).write_stdin(cues).output().unwrap().stdout;
+    let here = std::path::Path::new(env!("CARGO_MANIFEST_DIR"));
+    let held = assert_cmd::Command::new("/usr/bin/python3").arg(here.join("tests/held.py")).arg(here.join("../../docs/cue.schema.json")).write_stdin(shown).output();
+    let held = held.expect("python3, with python3-jsonschema");
+    assert_eq!(String::from_utf8_lossy(&held.stdout).trim_end(), count.to_string(), "{}", String::from_utf8_lossy(&held.stderr));
+}

@@ -9,11 +9,10 @@ use std::io::{self, Write};
 
 pub fn words(command: Command) -> Command {
     input::words(command).about("Prints a line for each identifier: where it lies, and its bytes").after_help(
-        "A line has: the cue; the item, counted from 1, or `command`; the level, 0 for a UPID itself and 1 for a direct part of a MID; the type, or what it is; \
-         the type as written; the place in the section, counted from 0; the length; the bytes; the text, where it is text. Fields are separated by one blank; \
-         `-` stands for none.\n\n\
-         Example:\n  cue identifiers FC303F000000000000FFFFF00506FE00000000002902274355454900\
-         00002A7FBF0D1808081122334455667788030C414243443132333435363738100101A86A17BC",
+        "A line has, with one blank between: the cue; the item, counted from 1, or `command`; the level, 0 for a\n\
+         UPID itself and 1 for a direct part of a MID; the type, or what it is; the type as written; the place in\n\
+         the section, counted from 0; the length; the bytes; the text, where it is text. `-` stands for none.\n\n\
+         Example:\n  cue identifiers /DA/AAAAAAAA///wBQb+AAAAAAApAidDVUVJAAAAKn+/DRgICBEiM0RVZneIAwxBQkNEMTIzNDU2NzgQAQGoahe8",
     )
 }
 

@@ -54,11 +54,12 @@ pub fn words(command: Command) -> Command {
         )
         .arg(to().default_value("base64").help("How the cue is printed"))
         .after_help(
-            "Lengths, the command's type and the CRC are worked out; lengths, places, adjusted times and `type_as_written` may be left out. An identifier is taken from `hex`, \
-             or from `text` where `hex` is left out. Raw cues follow one another without a mark between them.\n\n\
+            "Lengths, the command's type and the CRC are worked out; lengths, places, adjusted times and\n\
+             `type_as_written` may be left out. An identifier is taken from `hex`, or from `text` where `hex` is left\n\
+             out. Raw cues follow one another without a mark between them.\n\n\
              Examples:\n  \
              cue show --json FC301100000000000000FFF0000000007A4FBFFF | cue make --to hex\n  \
-             cue show --json FC301100000000000000FFF0000000007A4FBFFF | sed s/tier.:4095/tier\\\":1/ | cue make | cue show -",
+             cue show --json FC301100000000000000FFF0000000007A4FBFFF | sed 's/4095/1/' | cue make | cue show -",
         )
 }
 
