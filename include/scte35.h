@@ -1,20 +1,32 @@
 /*
- * Reading and writing SCTE 35 sections: the functions of libscte35.a (rt staticlib scte35), for x86-64 Linux.
+ * Reading and writing SCTE 35 sections: the functions of libscte35.a (rt staticlib scte35), for x86-64 Linux. C11 and C++11.
  *
- * Every function takes any bytes and any numbers, and returns. `s` points to `n` bytes that the function only reads; nothing is kept. Where a length
- * is 0 its pointer may be NULL. A reader at an offset reads s[at] .. s[n - 1], and nothing where `at` lies past the end.
+ * Every function takes any bytes and any numbers, and returns. There are no globals and no allocation; nothing is kept between calls; any thread may
+ * call any function at any time.
  *
- * A reader answers a struct of 64-bit words (scte35_crc and scte35_is_canonical_* a bare number). The first word, `refusal`, is 0 where it read;
- * otherwise it is a number of enum scte35_refusal, `values` are those named there, and every other word is 0 (but a step's `next` and its item's kind).
+ * `s` points to `n` bytes that the function only reads. Where a length is 0 its pointer may be NULL. A reader at an offset reads s[at] .. s[n - 1], and
+ * nothing where `at` lies past the end.
+ *
+ * A reader answers a struct of 64-bit words. The first word, `refusal`, is 0 where it read; otherwise it is a number of enum scte35_refusal, `values` are
+ * those named there, and every other word is 0 (but a step's `next` and its item's kind).
  *
  * Named numbers (types, algorithms, flags) are their numbers. What belongs to another kind of command or item is 0. A view names bytes by place: it
- * counts from s[at], those of a step from the loop's first byte. A kind that has no view has 0, 0 there; a view of no bytes keeps its place.
+ * counts from s[at], those of a step from the loop's first byte. A kind that has no view has 0, 0 there; a view of no bytes keeps its place. Four bytes that
+ * are an identifier stand as one number, the first byte highest.
  *
  * A writer takes the same structs, so that what was read is written back as it is; see "writing" below.
+ *
+ * "Stack" is the most that a call takes of it, with the answer's struct not counted; rounded up to a whole KB, measured of the compiled code
+ * (host/c-interface/run measures it again, and fails where more is taken).
+ *
+ * Names: functions begin with a verb (scte35_read_section), structs are nouns (struct scte35_section), and a constant bears its family's name
+ * (SCTE35_ITEM_END). New words of a struct go to its end; where that, or anything else, would break a program that was built with this header, SCTE35_ABI
+ * grows.
  */
 #ifndef SCTE35_H
 #define SCTE35_H
 
+#include <stdbool.h>
 #include <stddef.h>
 #include <stdint.h>
 
@@ -22,97 +34,156 @@
 extern "C" {
 #endif
 
+#define SCTE35_VERSION "0.2.0"
+
+/* ---- this header and the archive */
+
+enum { SCTE35_ABI = 1 };
+
+/* The SCTE35_ABI of the header that the archive belongs to. Where it differs from SCTE35_ABI here, call nothing else. Stack: 1 KB. */
+uint32_t scte35_abi(void);
+
 /* ---- refusals; docs/REFUSALS.md has more of each
  *
- * 1 to 12 and 31 to 36 are looked at in order of number, and the first that applies is the answer. 21 to 25 refuse an item or a UPID, never the
- * section; of them it is the first fault in layout order.
+ * 1 to 11 are of a section; 5 of a header alone, too, 10 and 11 of a command alone, 2 of a loop or a UPID. 12 is of a number that should be a flag's. 21 to 25
+ * are of an item or a UPID, never of the section around it. 31 to 36 are of a value that is to be written; 32 of a time that is to be adjusted, too.
+ *
+ * 1 to 12 and 31 to 36 are looked at in order of number, and the first that applies is the answer. Of 21 to 25 it is the first fault in layout order.
+ *
+ * Values: of 21 the bytes expected and the actual ones; of 24 the type as written, and the text as a view: place and length; of 25 the type as written, the
+ * length expected and the actual one.
+ *
+ * 33 also refuses words that are no value's: those of a refusal or of a loop's end, or that no reader gives.
  */
 
-enum scte35_refusal {
-    SCTE35_ACCEPTED = 0,
+/* each as X(constant, number, name, text), in order of number */
+#define SCTE35_EACH_REFUSAL(X) \
+    X(SECTION_TOO_SHORT, 1, "SectionTooShort", "section under 3 bytes") \
+    X(INPUT_TOO_LONG, 2, "InputTooLong", "section over 4,096 bytes, loop over 4,076, or UPID over 255") \
+    X(OTHER_TABLE, 3, "OtherTable", "the first byte is not 0xFC") \
+    X(WRONG_CRC, 4, "WrongCrc", "the CRC over all bytes is not 0") \
+    X(NO_HEADER, 5, "NoHeader", "section under 18 bytes, or a header alone under 11") \
+    X(ENCRYPTED, 6, "Encrypted", "the encrypted bit is set") \
+    X(COMMAND_TOO_LONG, 7, "CommandTooLong", "the command's length exceeds the bytes after the header, CRC excluded") \
+    X(NO_LOOP_LENGTH, 8, "NoLoopLength", "fewer than 2 bytes follow the command") \
+    X(LOOP_TOO_LONG, 9, "LoopTooLong", "the loop's length exceeds the bytes that follow it, CRC excluded") \
+    X(UNKNOWN_COMMAND, 10, "UnknownCommand", "the command's type is none that is read") \
+    X(MALFORMED_COMMAND, 11, "MalformedCommand", "the command's payload is malformed") \
+    X(NOT_IN_FIELD, 12, "NotInField", "a flag over 1, or device restrictions over 3") \
+    X(NOT_ENOUGH_DATA, 21, "NotEnoughData", "not enough data") \
+    X(INVALID_DESCRIPTOR_LENGTH, 22, "InvalidDescriptorLength", "the descriptor's length is 255, and it fits") \
+    X(UPID_LENGTH_TYPE_MISMATCH, 23, "UpidLengthTypeMismatch", "a part of type 0 inside a MID, or a nonempty UPID of type 0") \
+    X(INVALID_UPID_CONTENT, 24, "InvalidUpidContent", "UPID text that is not UTF-8") \
+    X(INVALID_UPID_LENGTH, 25, "InvalidUpidLength", "UPID of wrong length") \
+    X(OUTSIDE_LENT, 31, "OutsideLent", "a view reaches outside the lent bytes") \
+    X(TOO_LARGE, 32, "TooLarge", "a number or a count exceeds its field, or there are more than 7 DTMF characters or 255 bytes of a UPID") \
+    X(UNWRITABLE, 33, "Unwritable", "a value that no canonical section has") \
+    X(RESULT_TOO_LONG, 34, "ResultTooLong", "a descriptor's length over 254, or a section over 4,096 bytes") \
+    X(LOOP_NOT_CANONICAL, 35, "LoopNotCanonical", "the descriptor loop that is handed in is not canonical") \
+    X(TARGET_TOO_SHORT, 36, "TargetTooShort", "the target is shorter than the result")
 
-    /* of a section; 5 is of a header alone, too, 10 and 11 of a command alone, 2 of a loop or a UPID */
-    SCTE35_SECTION_TOO_SHORT = 1, /* section under 3 bytes */
-    SCTE35_INPUT_TOO_LONG = 2, /* section over 4,096 bytes, loop over 4,076, or UPID over 255 */
-    SCTE35_OTHER_TABLE = 3, /* the first byte is not 0xFC */
-    SCTE35_WRONG_CRC = 4, /* the CRC over all bytes is not 0 */
-    SCTE35_NO_HEADER = 5, /* section under 18 bytes; a header alone under 11 */
-    SCTE35_ENCRYPTED = 6, /* the encrypted bit is set */
-    SCTE35_COMMAND_TOO_LONG = 7, /* the command's length exceeds the bytes after the header, CRC excluded */
-    SCTE35_NO_LOOP_LENGTH = 8, /* fewer than 2 bytes follow the command */
-    SCTE35_LOOP_TOO_LONG = 9, /* the loop's length + 2 exceeds those bytes */
-    SCTE35_UNKNOWN_COMMAND = 10, /* the command's type is none of 0x00, 0x05, 0x06, 0x07, 0xFF */
-    SCTE35_MALFORMED_COMMAND = 11, /* the command's payload is malformed */
+#define SCTE35_AS_CONSTANT(constant, number, name, text) SCTE35_REFUSAL_##constant = number,
+enum scte35_refusal { SCTE35_REFUSAL_NONE = 0, SCTE35_EACH_REFUSAL(SCTE35_AS_CONSTANT) };
+#undef SCTE35_AS_CONSTANT
 
-    /* of a number that should be a flag's */
-    SCTE35_NOT_IN_FIELD = 12, /* a flag over 1, device restrictions over 3 */
+/* The name of a refusal by its number, the same as in Rust and in the docs: "SectionTooShort". Of 0 it is "None", of a number that is none "Unknown". */
+static inline const char *scte35_refusal_name(uint64_t refusal)
+{
+#define SCTE35_AS_NAME(constant, number, name, text) case number: return name;
+    switch (refusal) {
+    case 0: return "None";
+    SCTE35_EACH_REFUSAL(SCTE35_AS_NAME)
+    default: return "Unknown";
+    }
+#undef SCTE35_AS_NAME
+}
 
-    /* of an item or a UPID */
-    SCTE35_NOT_ENOUGH_DATA = 21, /* not enough data. values: expected, actual */
-    SCTE35_INVALID_DESCRIPTOR_LENGTH = 22, /* the descriptor's length is 255, and it fits */
-    SCTE35_UNTYPED_BYTES = 23, /* a part of type 0 inside a MID, or a nonempty UPID of type 0 */
-    SCTE35_NOT_TEXT = 24, /* UPID text that is not UTF-8. values: type, and its bytes as a view: at, len */
-    SCTE35_WRONG_LENGTH = 25, /* UPID of wrong length. values: type as written, expected, actual */
+/* What a refusal means, in words. */
+static inline const char *scte35_refusal_text(uint64_t refusal)
+{
+#define SCTE35_AS_TEXT(constant, number, name, text) case number: return text;
+    switch (refusal) {
+    case 0: return "not refused";
+    SCTE35_EACH_REFUSAL(SCTE35_AS_TEXT)
+    default: return "no number of a refusal";
+    }
+#undef SCTE35_AS_TEXT
+}
 
-    /* of a value that is to be written; 32 is of a time that is to be adjusted, too */
-    SCTE35_OUTSIDE_LENT = 31, /* a view reaches outside the lent bytes */
-    SCTE35_TOO_LARGE = 32, /* a number or count exceeds its field; more than 7 DTMF characters or 255 bytes of a UPID */
-    SCTE35_NOT_CANONICAL = 33, /* a value that no canonical section has, or words that are no value's: those of a refusal or of a loop's end, or that no reader gives */
-    SCTE35_RESULT_TOO_LONG = 34, /* a descriptor's length over 254, or a section over 4,096 bytes */
-    SCTE35_LOOP_NOT_CANONICAL = 35, /* the loop that is lent is not canonical */
-    SCTE35_TARGET_TOO_SHORT = 36 /* the target is shorter than the result */
-};
-
-/* ---- sizes in bytes: the longest that is read or written, and so a target's length that is always enough */
+/* ---- limits: the longest that is read or written, and so a target's length that is always enough; the most places of an array */
 
 enum {
     SCTE35_MAX_SECTION = 4096,
     SCTE35_MAX_LOOP = 4076,
     SCTE35_MAX_DESCRIPTOR = 256, /* tag, length, and the 254 that the length may be */
     SCTE35_MAX_UPID = 255,
-    SCTE35_COMMAND_AT = 14 /* where a section's command begins: behind 3 bytes of common header and 11 of splice header */
+    SCTE35_MAX_COMPONENTS = 255, /* of an insert, or of a segmentation descriptor */
+    SCTE35_MAX_PARTS = 127 /* of a MID, at all levels together */
 };
+
+/* where a section's command begins: behind 3 bytes of common header and 11 of splice header */
+enum { SCTE35_PLACE_COMMAND = 14 };
 
 struct scte35_view {
     uint64_t at;
     uint64_t len;
 };
 
-enum { SCTE35_NO_TIME = 0, SCTE35_IMMEDIATE = 1, SCTE35_UNSPECIFIED = 2, SCTE35_AT = 3 };
+enum scte35_time_kind { SCTE35_TIME_NONE = 0, SCTE35_TIME_IMMEDIATE = 1, SCTE35_TIME_UNSPECIFIED = 2, SCTE35_TIME_AT = 3 };
 
 struct scte35_time {
     uint64_t kind; /* as above; a writer refuses one over 3 with 32 */
-    uint64_t ticks; /* of 90 kHz, of kind SCTE35_AT */
+    uint64_t ticks; /* of 90 kHz, of kind SCTE35_TIME_AT */
 };
 
 /* ---- the splice header: 11 bytes */
 
+enum scte35_algorithm {
+    SCTE35_ALGORITHM_NONE = 0,
+    SCTE35_ALGORITHM_DES_ECB = 1,
+    SCTE35_ALGORITHM_DES_CBC = 2,
+    SCTE35_ALGORITHM_TRIPLE_DES_EDE3_ECB = 3
+};
+
 struct scte35_header {
-    uint64_t refusal; /* 5 */
+    uint64_t refusal;
     uint64_t protocol_version;
     uint64_t encrypted_packet;
-    uint64_t encryption_algorithm;
-    uint64_t pts_adjustment;
+    uint64_t encryption_algorithm; /* those above are named, 4 to 31 reserved, 32 to 63 private */
+    uint64_t pts_adjustment; /* ticks of 90 kHz, 33 bits */
     uint64_t cw_index;
     uint64_t tier;
     uint64_t splice_command_length;
     uint64_t splice_command_type;
 };
 
-struct scte35_header scte35_header(const uint8_t *s, size_t n, size_t at);
+/*
+ * The splice header alone.
+ * Takes the 11 bytes from the offset on; others may follow. Refuses with 5. Stack: 1 KB.
+ */
+struct scte35_header scte35_read_header(const uint8_t *s, size_t n, size_t at);
 
 /* ---- commands */
+
+enum scte35_command_type {
+    SCTE35_COMMAND_SPLICE_NULL = 0,
+    SCTE35_COMMAND_SPLICE_SCHEDULE = 4, /* refused with 10 */
+    SCTE35_COMMAND_SPLICE_INSERT = 5,
+    SCTE35_COMMAND_TIME_SIGNAL = 6,
+    SCTE35_COMMAND_BANDWIDTH_RESERVATION = 7,
+    SCTE35_COMMAND_PRIVATE_COMMAND = 255
+};
 
 struct scte35_mode {
     uint64_t program_splice_flag;
     struct scte35_time splice_time; /* by program */
-    uint64_t component_count; /* by components: see scte35_insert_components */
+    uint64_t component_count; /* by components: see scte35_read_insert_components */
 };
 
 struct scte35_break {
     uint64_t duration_flag;
     uint64_t auto_return;
-    uint64_t duration;
+    uint64_t duration; /* ticks of 90 kHz, 33 bits */
 };
 
 struct scte35_insert {
@@ -127,25 +198,20 @@ struct scte35_insert {
     uint64_t avails_expected;
 };
 
-enum {
-    SCTE35_SPLICE_NULL = 0,
-    SCTE35_SPLICE_INSERT = 5,
-    SCTE35_TIME_SIGNAL = 6,
-    SCTE35_BANDWIDTH_RESERVATION = 7,
-    SCTE35_PRIVATE_COMMAND = 255
-};
-
 struct scte35_command {
-    uint64_t refusal; /* 10, 11 */
-    uint64_t splice_command_type; /* as above */
+    uint64_t refusal;
+    uint64_t splice_command_type; /* enum scte35_command_type */
     struct scte35_insert insert; /* of an insert */
     struct scte35_time splice_time; /* of a time signal */
-    uint64_t identifier; /* of a private command, as its bytes */
+    uint64_t identifier; /* of a private command: four bytes as one number, the first highest */
     struct scte35_view private_bytes;
 };
 
-/* the command of a type, whose payload begins at the offset and goes to the end */
-struct scte35_command scte35_command(uint8_t type, const uint8_t *s, size_t n, size_t at);
+/*
+ * A command alone.
+ * Takes the command's type, and its payload from the offset to the end. Refuses with 10, 11. Stack: 1 KB.
+ */
+struct scte35_command scte35_read_command(uint8_t command_type, const uint8_t *s, size_t n, size_t at);
 
 struct scte35_component_splice {
     uint64_t component_tag;
@@ -153,31 +219,101 @@ struct scte35_component_splice {
 };
 
 struct scte35_insert_components {
-    uint64_t refusal; /* 11 */
+    uint64_t refusal;
     uint64_t count; /* past it: tag 0, time unspecified */
     struct scte35_component_splice components[255];
 };
 
-/* the components of an insert, whose payload begins at the offset and goes to the end. A section's command begins at byte 14 and ends before byte
- * 14 + splice_command_length, so those of an accepted section's insert are scte35_insert_components(s, 14 + splice_command_length, 14) */
-struct scte35_insert_components scte35_insert_components(const uint8_t *s, size_t n, size_t at);
+/*
+ * The components of an insert.
+ * Takes the insert's payload from the offset to the end. Refuses with 11. Stack: 25 KB.
+ * Of a section that was read, scte35_read_section_components calls it with the right places.
+ */
+struct scte35_insert_components scte35_read_insert_components(const uint8_t *s, size_t n, size_t at);
 
 /* ---- sections */
 
 struct scte35_section {
-    uint64_t refusal; /* 1 to 11; those of the header and the command are 0 */
+    uint64_t refusal; /* those of the header and the command are 0 */
     struct scte35_header header;
     struct scte35_command command;
-    struct scte35_view descriptors; /* the loop, for scte35_step */
+    struct scte35_view descriptors; /* the loop: see scte35_loop_bytes */
 };
 
-/* the section that begins at the offset and goes to the end */
-struct scte35_section scte35_section(const uint8_t *s, size_t n, size_t at);
+/*
+ * A section.
+ * Takes the bytes from the offset to the end: all of the section, from its table id to its CRC. Refuses with 1 to 11. Stack: 1 KB.
+ */
+struct scte35_section scte35_read_section(const uint8_t *s, size_t n, size_t at);
 
-/* the CRC of the bytes from the offset on: 0 for a whole section */
+/* The first byte of the loop of a section that was read at offset 0 of `s`; it has x->descriptors.len bytes. For scte35_read_item. */
+static inline const uint8_t *scte35_loop_bytes(const uint8_t *s, const struct scte35_section *x)
+{
+    return x->descriptors.len ? s + x->descriptors.at : NULL;
+}
+
+/* The components of the insert of a section that was read at offset 0 of `s`. Of another command the answer is refused (11) or says nothing. */
+static inline struct scte35_insert_components scte35_read_section_components(const uint8_t *s, const struct scte35_section *x)
+{
+    return scte35_read_insert_components(s, SCTE35_PLACE_COMMAND + x->header.splice_command_length, SCTE35_PLACE_COMMAND);
+}
+
+/*
+ * The CRC of ISO/IEC 13818-1, Annex A: of the bytes from the offset on; 0 for a whole section. Refuses nothing. Stack: 1 KB.
+ */
 uint32_t scte35_crc(const uint8_t *s, size_t n, size_t at);
 
 /* ---- the items of a loop */
+
+enum scte35_upid_type {
+    SCTE35_UPID_NOT_USED = 0,
+    SCTE35_UPID_USER_DEFINED_DEPRECATED = 1,
+    SCTE35_UPID_ISCI_DEPRECATED = 2,
+    SCTE35_UPID_AD_ID = 3,
+    SCTE35_UPID_UMID = 4,
+    SCTE35_UPID_ISAN_DEPRECATED = 5, /* 8 bytes; reported as 6 */
+    SCTE35_UPID_ISAN = 6, /* 12 bytes */
+    SCTE35_UPID_TID = 7,
+    SCTE35_UPID_TI = 8,
+    SCTE35_UPID_ADI = 9,
+    SCTE35_UPID_EIDR = 10,
+    SCTE35_UPID_ATSC = 11,
+    SCTE35_UPID_MPU = 12,
+    SCTE35_UPID_MID = 13,
+    SCTE35_UPID_ADS = 14,
+    SCTE35_UPID_URI = 15
+};
+
+enum scte35_segmentation_type {
+    SCTE35_SEGMENTATION_NOT_INDICATED = 0x00,
+    SCTE35_SEGMENTATION_CONTENT_IDENTIFICATION = 0x01,
+    SCTE35_SEGMENTATION_PROGRAM_START = 0x10,
+    SCTE35_SEGMENTATION_PROGRAM_END = 0x11,
+    SCTE35_SEGMENTATION_PROGRAM_EARLY_TERMINATION = 0x12,
+    SCTE35_SEGMENTATION_PROGRAM_BREAKAWAY = 0x13,
+    SCTE35_SEGMENTATION_PROGRAM_RESUMPTION = 0x14,
+    SCTE35_SEGMENTATION_PROGRAM_RUNOVER_PLANNED = 0x15,
+    SCTE35_SEGMENTATION_PROGRAM_RUNOVER_UNPLANNED = 0x16,
+    SCTE35_SEGMENTATION_PROGRAM_OVERLAP_START = 0x17,
+    SCTE35_SEGMENTATION_PROGRAM_BLACKOUT_OVERRIDE = 0x18,
+    SCTE35_SEGMENTATION_PROGRAM_START_IN_PROGRESS = 0x19,
+    SCTE35_SEGMENTATION_CHAPTER_START = 0x20,
+    SCTE35_SEGMENTATION_CHAPTER_END = 0x21,
+    SCTE35_SEGMENTATION_BREAK_START = 0x22,
+    SCTE35_SEGMENTATION_BREAK_END = 0x23,
+    SCTE35_SEGMENTATION_PROVIDER_ADVERTISEMENT_START = 0x30,
+    SCTE35_SEGMENTATION_PROVIDER_ADVERTISEMENT_END = 0x31,
+    SCTE35_SEGMENTATION_DISTRIBUTOR_ADVERTISEMENT_START = 0x32,
+    SCTE35_SEGMENTATION_DISTRIBUTOR_ADVERTISEMENT_END = 0x33,
+    SCTE35_SEGMENTATION_PROVIDER_PLACEMENT_OPPORTUNITY_START = 0x34,
+    SCTE35_SEGMENTATION_PROVIDER_PLACEMENT_OPPORTUNITY_END = 0x35,
+    SCTE35_SEGMENTATION_DISTRIBUTOR_PLACEMENT_OPPORTUNITY_START = 0x36,
+    SCTE35_SEGMENTATION_DISTRIBUTOR_PLACEMENT_OPPORTUNITY_END = 0x37,
+    SCTE35_SEGMENTATION_UNSCHEDULED_EVENT_START = 0x40,
+    SCTE35_SEGMENTATION_UNSCHEDULED_EVENT_END = 0x41,
+    SCTE35_SEGMENTATION_NETWORK_START = 0x50,
+    SCTE35_SEGMENTATION_NETWORK_END = 0x51
+};
 
 struct scte35_restrictions {
     uint64_t web_delivery_allowed_flag;
@@ -199,10 +335,10 @@ struct scte35_segmentation {
     uint64_t segmentation_duration_flag;
     uint64_t delivery_not_restricted_flag;
     struct scte35_restrictions delivery_restrictions;
-    uint64_t component_count; /* see scte35_item_components */
-    uint64_t segmentation_duration;
-    uint64_t segmentation_upid_type; /* as reported: 0 for none, 6 for both kinds of ISAN */
-    uint64_t segmentation_type_id;
+    uint64_t component_count; /* see scte35_read_item_components */
+    uint64_t segmentation_duration; /* ticks of 90 kHz, 40 bits */
+    uint64_t segmentation_upid_type; /* as reported: 0 for none, 6 for both kinds of ISAN; see scte35_item_written_type */
+    uint64_t segmentation_type_id; /* enum scte35_segmentation_type */
     uint64_t segment_num;
     uint64_t segments_expected;
     struct scte35_sub_segments sub_segments;
@@ -214,15 +350,15 @@ struct scte35_time_descriptor {
     uint64_t utc_offset;
 };
 
-enum {
-    SCTE35_END = 0,
-    SCTE35_AVAIL = 1,
-    SCTE35_DTMF = 2,
-    SCTE35_CANCELLED_SEGMENTATION = 3,
-    SCTE35_SEGMENTATION = 4,
-    SCTE35_TIME = 5,
-    SCTE35_RESERVED = 6,
-    SCTE35_REFUSED = 7
+enum scte35_item_kind {
+    SCTE35_ITEM_END = 0,
+    SCTE35_ITEM_AVAIL = 1,
+    SCTE35_ITEM_DTMF = 2,
+    SCTE35_ITEM_CANCELLED_SEGMENTATION = 3,
+    SCTE35_ITEM_SEGMENTATION = 4,
+    SCTE35_ITEM_TIME = 5,
+    SCTE35_ITEM_RESERVED = 6,
+    SCTE35_ITEM_REFUSED = 7
 };
 
 struct scte35_item {
@@ -232,19 +368,53 @@ struct scte35_item {
     struct scte35_segmentation segmentation;
     struct scte35_time_descriptor time;
     uint64_t splice_descriptor_tag; /* of a reserved descriptor */
-    struct scte35_view bytes; /* DTMF characters; a UPID (none and EIDR have no view); the bytes of a reserved descriptor */
+    struct scte35_view bytes; /* DTMF characters; a UPID (none and EIDR have no view); the bytes of a reserved descriptor: see scte35_item_bytes */
 };
 
 struct scte35_step {
-    uint64_t refusal; /* 2, 21 to 25 */
+    uint64_t refusal;
     uint64_t values[3];
     uint64_t next; /* the offset of the next item */
-    uint64_t identifier; /* of a reserved descriptor, as its bytes; that of the others is "CUEI" */
+    uint64_t identifier; /* of a reserved descriptor: four bytes as one number, the first highest; that of the others is "CUEI" */
     struct scte35_item item;
 };
 
-/* the item at an offset of a loop, of which s is the first byte */
-struct scte35_step scte35_step(const uint8_t *s, size_t n, size_t offset);
+/*
+ * The item at an offset of a loop.
+ * Takes all of the loop, and the offset. Answers the item and the offset of the next one; at the loop's end or past it SCTE35_ITEM_END. A refused item
+ * ends the loop (`next` is its length) or is passed over. Refuses with 2, 21 to 25. Stack: 16 KB.
+ */
+struct scte35_step scte35_read_item(const uint8_t *s, size_t n, size_t offset);
+
+/* The bytes that an item's view names, in the loop that it was read from: item->bytes.len of them. NULL where there are none. */
+static inline const uint8_t *scte35_item_bytes(const uint8_t *descriptors, const struct scte35_item *item)
+{
+    return item->bytes.len ? descriptors + item->bytes.at : NULL;
+}
+
+/* The type that stands before the bytes of a UPID or a part, by its reported type and its length: of an ISAN of 8 bytes 5, where 6 is reported. It is the
+ * one to hand to scte35_read_upid. */
+static inline uint8_t scte35_written_upid_type(uint64_t upid_type, uint64_t len)
+{
+    if (upid_type == SCTE35_UPID_ISAN && len == 8)
+        return SCTE35_UPID_ISAN_DEPRECATED;
+    return (uint8_t)upid_type;
+}
+
+/* The same of an item's UPID. (That of an empty UPID is 0, whichever type stands there.) */
+static inline uint8_t scte35_item_written_type(const struct scte35_item *item)
+{
+    return scte35_written_upid_type(item->segmentation.segmentation_upid_type, item->bytes.len);
+}
+
+/* Where in the loop the UPID's bytes begin, of an item of kind SCTE35_ITEM_SEGMENTATION that was read at an offset of it; an EIDR's too, which has no view. */
+static inline size_t scte35_item_upid_at(const struct scte35_item *item, size_t offset)
+{
+    const struct scte35_segmentation *s = &item->segmentation;
+    /* tag, length, "CUEI"; event id, cancel bit, flags; count and components; duration; the UPID's type and length */
+    size_t components = s->program_segmentation_flag ? 0 : 1 + 6 * (size_t)s->component_count;
+    return offset + 6 + 6 + components + (s->segmentation_duration_flag ? 5 : 0) + 2;
+}
 
 struct scte35_component {
     uint64_t component_tag;
@@ -252,138 +422,184 @@ struct scte35_component {
 };
 
 struct scte35_item_components {
-    uint64_t refusal; /* as that of the step */
+    uint64_t refusal;
     uint64_t values[3];
     uint64_t count; /* all zero past it */
     struct scte35_component components[255];
     uint64_t eidr[12]; /* a byte in each; all zero where the UPID is no EIDR */
 };
 
-/* the components and the EIDR of the item at an offset of a loop; none where it is no segmentation descriptor */
-struct scte35_item_components scte35_item_components(const uint8_t *s, size_t n, size_t offset);
+/*
+ * What stands beside an item: the components and the EIDR of a segmentation descriptor; none of any other.
+ * Takes all of the loop, and the item's offset. Refuses as scte35_read_item does. Stack: 28 KB.
+ */
+struct scte35_item_components scte35_read_item_components(const uint8_t *s, size_t n, size_t offset);
 
 /* ---- UPIDs */
 
 struct scte35_part {
-    uint64_t type; /* as reported */
+    uint64_t upid_type; /* as reported: see scte35_part_written_type */
     uint64_t level; /* 1 for the direct parts of the top MID */
-    uint64_t start; /* of its payload in the top UPID */
+    uint64_t start; /* of its payload in the top UPID: see scte35_part_bytes */
     uint64_t len;
 };
 
 struct scte35_upid {
-    uint64_t refusal; /* 2, 21, 23 to 25 */
+    uint64_t refusal;
     uint64_t values[3];
-    uint64_t type; /* as reported */
+    uint64_t upid_type; /* as reported */
     uint64_t eidr[12]; /* a byte in each; all zero where the UPID is no EIDR */
     uint64_t count; /* of a MID's parts, each before those inside it; all zero past it */
     struct scte35_part parts[127];
 };
 
-/* the UPID of a type as written, whose bytes begin at the offset and go to the end */
-struct scte35_upid scte35_upid(uint8_t type, const uint8_t *s, size_t n, size_t at);
+/*
+ * A UPID, and the parts of a MID.
+ * Takes the type as written, and the UPID's bytes from the offset to the end. Refuses with 2, 21, 23 to 25. Stack: 22 KB, for a MID 128 levels deep.
+ */
+struct scte35_upid scte35_read_upid(uint8_t upid_type, const uint8_t *s, size_t n, size_t at);
+
+/* The bytes of a part, in the UPID that was read: part->len of them. NULL where there are none. */
+static inline const uint8_t *scte35_part_bytes(const uint8_t *upid, const struct scte35_part *part)
+{
+    return part->len ? upid + part->start : NULL;
+}
+
+/* The type that stands before the part's bytes: of an ISAN of 8 bytes 5, where 6 is reported. */
+static inline uint8_t scte35_part_written_type(const struct scte35_part *part)
+{
+    return scte35_written_upid_type(part->upid_type, part->len);
+}
 
 /* ---- writing
  *
- * From C call scte35_put_command, scte35_put_descriptor and scte35_put_section (below), which take the readers' structs. All that they do is to hand
- * these on as words to scte35_write_command, scte35_write_descriptor and scte35_write_section, the functions of the library.
+ * scte35_write_command, scte35_write_descriptor and scte35_write_section take the readers' structs. All that they do is to hand these on as words to
+ * scte35_write_command_words, .., the functions of the library.
  *
  * A writer also takes the bytes that their views refer to (`lent`), and a target, which must not overlap anything else that is handed in. It writes
- * target[0] .. target[length - 1] and no other byte; where it refuses, no byte at all. A word past the end of what is handed in counts as 0.
+ * target[0] .. target[length - 1] and no other byte; where it refuses, no byte at all.
  *
  * What is written is canonical: every reserved bit is 1, no byte is spare, and all lengths, the command's type and the CRC are worked out.
  *
- * To write back a section that was read, x = scte35_section(s, n, 0), with its loop d = s + x.descriptors.at of k = x.descriptors.len bytes:
+ * To write back a section that was read, x = scte35_read_section(s, n, 0), with its loop d = scte35_loop_bytes(s, &x) of k = x.descriptors.len bytes:
  *
  *   1. for each item, with the offset at which it stands,
- *          step = scte35_step(d, k, offset), beside = scte35_item_components(d, k, offset),
- *          scte35_put_descriptor(&step, &beside, d, k, ..), each behind the one before, into `loop`
- *   2. components = scte35_insert_components(s, 14 + x.header.splice_command_length, 14), which are looked at only where the command counts some
- *   3. scte35_put_section(&x.header, &x.command, &components, s, n, loop, its length, ..)
+ *          step = scte35_read_item(d, k, offset), beside = scte35_read_item_components(d, k, offset),
+ *          scte35_write_descriptor(&step, &beside, d, k, ..), each behind the one before, into `loop`
+ *   2. components = scte35_read_section_components(s, &x), which are looked at only where the command counts some
+ *   3. scte35_write_section(&x.header, &x.command, &components, s, n, loop, its length, ..)
  *
  * Of a canonical section the result is the section itself, byte for byte. host/c-example/main.c has this as a program.
  */
 
 struct scte35_written {
-    uint64_t refusal; /* the first of 31 to 36 that applies */
+    uint64_t refusal;
     uint64_t length; /* how many bytes were written */
 };
 
-/* a command's payload. Of the components the places up to the insert's own count are looked at, no other word */
-struct scte35_written scte35_write_command(const uint64_t *command, size_t command_words, const uint64_t *components, size_t components_words,
-                                           const uint8_t *lent, size_t lent_length, uint8_t *target, size_t target_length);
+/*
+ * The writers over words: those of the structs, in their order. A word past the end of what is handed in counts as 0, and words past the struct's end
+ * are not looked at.
+ */
 
-/* an item's descriptor. Of the step its refusal, values and next offset are not looked at; of what stands beside it the places up to the item's own
- * count are, and the EIDR */
-struct scte35_written scte35_write_descriptor(const uint64_t *step, size_t step_words, const uint64_t *beside, size_t beside_words,
-                                              const uint8_t *lent, size_t lent_length, uint8_t *target, size_t target_length);
+/*
+ * A command's payload.
+ * Takes the words of struct scte35_command and of struct scte35_insert_components (of these the places up to the insert's own count are looked at, no other),
+ * the bytes that its view names, the target. Refuses with 31 to 33, 36. Stack: 25 KB.
+ */
+struct scte35_written scte35_write_command_words(const uint64_t *command, size_t command_words, const uint64_t *components, size_t components_words,
+                                                 const uint8_t *lent, size_t lent_length, uint8_t *target, size_t target_length);
 
-/* a section around a loop of canonical descriptors. The header's command length and type are not looked at */
-struct scte35_written scte35_write_section(const uint64_t *header, size_t header_words, const uint64_t *command, size_t command_words,
-                                           const uint64_t *components, size_t components_words, const uint8_t *lent, size_t lent_length,
-                                           const uint8_t *descriptors, size_t descriptors_length, uint8_t *target, size_t target_length);
+/*
+ * An item's descriptor.
+ * Takes the words of struct scte35_step (of these refusal, values and next are not looked at) and of struct scte35_item_components (of these the places up to
+ * the item's own count, and the EIDR), the bytes that its view names, the target. Refuses with 31 to 34, 36. Stack: 37 KB.
+ */
+struct scte35_written scte35_write_descriptor_words(const uint64_t *step, size_t step_words, const uint64_t *beside, size_t beside_words,
+                                                    const uint8_t *lent, size_t lent_length, uint8_t *target, size_t target_length);
 
-/* 1 where all bytes from the offset on are a canonical section, a loop of canonical descriptors (or of none), or one canonical descriptor; else 0. A
- * loop of any length may be canonical, though scte35_step refuses one over 4,076 bytes */
-uint64_t scte35_is_canonical_section(const uint8_t *s, size_t n, size_t at);
-uint64_t scte35_is_canonical_loop(const uint8_t *s, size_t n, size_t at);
-uint64_t scte35_is_canonical_descriptor(const uint8_t *s, size_t n, size_t at);
+/*
+ * A section around a loop of canonical descriptors.
+ * Takes the words of struct scte35_header (of these the command's length and type are not looked at) and those of scte35_write_command_words, the bytes that
+ * the command's view names, the loop, the target. Refuses with 31 to 36. Stack: 38 KB.
+ */
+struct scte35_written scte35_write_section_words(const uint64_t *header, size_t header_words, const uint64_t *command, size_t command_words,
+                                                 const uint64_t *components, size_t components_words, const uint8_t *lent, size_t lent_length,
+                                                 const uint8_t *descriptors, size_t descriptors_length, uint8_t *target, size_t target_length);
 
-/* ---- writing from C: the same writers over the structs. `components` and `beside` may be NULL: all their words count as 0. So NULL serves where none are
- * counted and the UPID is no EIDR: an insert that counts components is refused (33), but an item that counts some, or has an EIDR, is written with zeros */
+/*
+ * The same over the structs; they refuse with the same numbers and need the same stack. `components` and `beside` may be NULL: all their words count as 0. So
+ * NULL serves where none are counted and the UPID is no EIDR: an insert that counts components is refused (33), but an item that counts some, or has an EIDR,
+ * is written with zeros.
+ */
 
 /* the words of a struct of this file */
 #define SCTE35_ALL_WORDS(x) (const uint64_t *)(x), (x) ? sizeof *(x) / sizeof(uint64_t) : 0
 
-static inline struct scte35_written scte35_put_command(const struct scte35_command *command, const struct scte35_insert_components *components,
-                                                       const uint8_t *lent, size_t lent_length, uint8_t *target, size_t target_length)
+static inline struct scte35_written scte35_write_command(const struct scte35_command *command, const struct scte35_insert_components *components,
+                                                         const uint8_t *lent, size_t lent_length, uint8_t *target, size_t target_length)
 {
-    return scte35_write_command(SCTE35_ALL_WORDS(command), SCTE35_ALL_WORDS(components), lent, lent_length, target, target_length);
+    return scte35_write_command_words(SCTE35_ALL_WORDS(command), SCTE35_ALL_WORDS(components), lent, lent_length, target, target_length);
 }
 
-static inline struct scte35_written scte35_put_descriptor(const struct scte35_step *step, const struct scte35_item_components *beside,
-                                                          const uint8_t *lent, size_t lent_length, uint8_t *target, size_t target_length)
+static inline struct scte35_written scte35_write_descriptor(const struct scte35_step *step, const struct scte35_item_components *beside,
+                                                            const uint8_t *lent, size_t lent_length, uint8_t *target, size_t target_length)
 {
-    return scte35_write_descriptor(SCTE35_ALL_WORDS(step), SCTE35_ALL_WORDS(beside), lent, lent_length, target, target_length);
+    return scte35_write_descriptor_words(SCTE35_ALL_WORDS(step), SCTE35_ALL_WORDS(beside), lent, lent_length, target, target_length);
 }
 
-static inline struct scte35_written scte35_put_section(const struct scte35_header *header, const struct scte35_command *command,
-                                                       const struct scte35_insert_components *components, const uint8_t *lent, size_t lent_length,
-                                                       const uint8_t *descriptors, size_t descriptors_length, uint8_t *target, size_t target_length)
+static inline struct scte35_written scte35_write_section(const struct scte35_header *header, const struct scte35_command *command,
+                                                         const struct scte35_insert_components *components, const uint8_t *lent, size_t lent_length,
+                                                         const uint8_t *descriptors, size_t descriptors_length, uint8_t *target, size_t target_length)
 {
-    return scte35_write_section(SCTE35_ALL_WORDS(header), SCTE35_ALL_WORDS(command), SCTE35_ALL_WORDS(components), lent, lent_length,
-                                descriptors, descriptors_length, target, target_length);
+    return scte35_write_section_words(SCTE35_ALL_WORDS(header), SCTE35_ALL_WORDS(command), SCTE35_ALL_WORDS(components), lent, lent_length,
+                                      descriptors, descriptors_length, target, target_length);
 }
 
 #undef SCTE35_ALL_WORDS
 
+/*
+ * Whether all bytes from the offset on are a canonical section, a loop of canonical descriptors (or of none), or one canonical descriptor. A loop of any
+ * length may be canonical, though scte35_read_item refuses one over 4,076 bytes. Refuse nothing. Stack: 16 KB.
+ */
+bool scte35_is_canonical_section(const uint8_t *s, size_t n, size_t at);
+bool scte35_is_canonical_loop(const uint8_t *s, size_t n, size_t at);
+bool scte35_is_canonical_descriptor(const uint8_t *s, size_t n, size_t at);
+
 /* ---- numbers */
 
 struct scte35_adjusted_time {
-    uint64_t refusal; /* 32 */
-    uint64_t kind; /* SCTE35_NO_TIME or SCTE35_AT */
+    uint64_t refusal;
+    uint64_t kind; /* SCTE35_TIME_NONE or SCTE35_TIME_AT */
     uint64_t ticks;
 };
 
-/* kind SCTE35_AT is a time, and its ticks plus the adjustment are answered (34 bits, they don't wrap round); any other kind has none. Whatever the
- * kind, ticks or pts_adjustment over 33 bits: 32 */
-struct scte35_adjusted_time scte35_adjusted_time(uint64_t kind, uint64_t ticks, uint64_t pts_adjustment);
+/*
+ * A time with its section's adjustment.
+ * Takes a time's kind and ticks, and a header's adjustment. Kind SCTE35_TIME_AT is a time, and its ticks plus the adjustment are answered (34 bits, they don't
+ * wrap round); any other kind has none. Refuses with 32, whatever the kind, where ticks or pts_adjustment have more than 33 bits. Stack: 1 KB.
+ */
+struct scte35_adjusted_time scte35_adjust_time(uint64_t kind, uint64_t ticks, uint64_t pts_adjustment);
 
-enum { SCTE35_CLASS_NAMED = 0, SCTE35_CLASS_RESERVED = 1, SCTE35_CLASS_PRIVATE = 2 };
+enum scte35_class { SCTE35_CLASS_NAMED = 0, SCTE35_CLASS_RESERVED = 1, SCTE35_CLASS_PRIVATE = 2 };
 
 struct scte35_number {
-    uint64_t refusal; /* 12, of the last three */
+    uint64_t refusal;
     uint64_t class_; /* as above */
     uint64_t number;
 };
 
-struct scte35_number scte35_algorithm(uint8_t n);
-struct scte35_number scte35_command_type(uint8_t n);
-struct scte35_number scte35_upid_type(uint8_t n);
-struct scte35_number scte35_segmentation_type(uint8_t n);
-struct scte35_number scte35_network_indicator(uint8_t n);
-struct scte35_number scte35_return_mode(uint8_t n);
-struct scte35_number scte35_device_restrictions(uint8_t n);
+/*
+ * Whether a number has a name, is reserved or private.
+ * Each takes the number. The last three refuse with 12; the others refuse nothing. Stack: 1 KB.
+ */
+struct scte35_number scte35_classify_algorithm(uint8_t n);
+struct scte35_number scte35_classify_command_type(uint8_t n);
+struct scte35_number scte35_classify_upid_type(uint8_t n);
+struct scte35_number scte35_classify_segmentation_type(uint8_t n);
+struct scte35_number scte35_classify_network_indicator(uint8_t n);
+struct scte35_number scte35_classify_return_mode(uint8_t n);
+struct scte35_number scte35_classify_device_restrictions(uint8_t n);
 
 #if defined(__cplusplus) && __cplusplus >= 201103L
 #define SCTE35_WORDS(type, words) static_assert(sizeof(struct type) == 8 * (words), #type)

@@ -1,4 +1,5 @@
-/* main HEX: what a section says, and whether it is what is written of its reading. Ends with 1 where a canonical section is not. */
+/* main HEX: what a section says, and whether it is what is written of its reading. Ends with 1 where a canonical section is not, with 2 where HEX is not pairs of
+ * hexadecimal digits, with 3 where the section is refused. */
 #include <inttypes.h>
 #include <stdio.h>
 #include <string.h>
@@ -9,16 +10,16 @@ static void print_time(struct scte35_time t)
 {
     static const char *const words[] = {"none", "immediate", "unspecified", "at"};
     printf(" %s", words[t.kind]);
-    if (t.kind == SCTE35_AT)
+    if (t.kind == SCTE35_TIME_AT)
         printf(" %" PRIu64, t.ticks);
 }
 
 static void print_command(struct scte35_command c)
 {
     printf("command %" PRIu64, c.splice_command_type);
-    if (c.splice_command_type == SCTE35_TIME_SIGNAL)
+    if (c.splice_command_type == SCTE35_COMMAND_TIME_SIGNAL)
         print_time(c.splice_time);
-    if (c.splice_command_type == SCTE35_SPLICE_INSERT) {
+    if (c.splice_command_type == SCTE35_COMMAND_SPLICE_INSERT) {
         printf(" event %" PRIu64, c.insert.splice_event_id);
         if (c.insert.splice_event_cancel_indicator)
             printf(" cancelled");
@@ -32,32 +33,35 @@ static void print_command(struct scte35_command c)
     printf("\n");
 }
 
+static void print_bytes(const char *before, const uint8_t *bytes, uint64_t n)
+{
+    for (uint64_t i = 0; i < n; i++)
+        printf("%s%02x", i ? "" : before, bytes[i]);
+}
+
 static void print_item(const uint8_t *loop, struct scte35_step x)
 {
     printf("item %" PRIu64, x.item.kind);
-    if (x.item.kind == SCTE35_REFUSED)
-        printf(" refused %" PRIu64 " (%" PRIu64 ", %" PRIu64 ", %" PRIu64 ")", x.refusal, x.values[0], x.values[1], x.values[2]);
-    if (x.item.kind == SCTE35_SEGMENTATION)
-        printf(" event %" PRIu64 " type %" PRIu64 " UPID type %" PRIu64, x.item.segmentation.segmentation_event_id, x.item.segmentation.segmentation_type_id,
-               x.item.segmentation.segmentation_upid_type);
-    for (uint64_t i = 0; i < x.item.bytes.len; i++)
-        printf("%s%02x", i ? "" : " ", loop[x.item.bytes.at + i]);
+    if (x.item.kind == SCTE35_ITEM_REFUSED)
+        printf(" refused %" PRIu64 " (%" PRIu64 ", %" PRIu64 ", %" PRIu64 "): %s", x.refusal, x.values[0], x.values[1], x.values[2], scte35_refusal_text(x.refusal));
+    if (x.item.kind == SCTE35_ITEM_SEGMENTATION)
+        printf(" event %" PRIu64 " type %" PRIu64 " UPID type %d", x.item.segmentation.segmentation_event_id, x.item.segmentation.segmentation_type_id,
+               scte35_item_written_type(&x.item));
+    print_bytes(" ", scte35_item_bytes(loop, &x.item), x.item.bytes.len);
     printf("\n");
 }
-
-enum { mid_type = 13 };
 
 /* The parts of a MID, at every level: the type and the bytes of each. */
 static void print_parts(const uint8_t *loop, struct scte35_step x)
 {
-    if (x.item.segmentation.segmentation_upid_type != mid_type)
+    if (x.item.segmentation.segmentation_upid_type != SCTE35_UPID_MID)
         return;
-    const uint8_t *mid = loop + x.item.bytes.at;
-    struct scte35_upid u = scte35_upid(mid_type, mid, x.item.bytes.len, 0);
+    const uint8_t *mid = scte35_item_bytes(loop, &x.item);
+    struct scte35_upid u = scte35_read_upid(SCTE35_UPID_MID, mid, x.item.bytes.len, 0);
     for (uint64_t i = 0; i < u.count; i++) {
-        printf("%*spart of type %" PRIu64 " ", (int)(4 * u.parts[i].level), "", u.parts[i].type);
-        for (uint64_t k = 0; k < u.parts[i].len; k++)
-            printf("%02x", mid[u.parts[i].start + k]);
+        const struct scte35_part *part = &u.parts[i];
+        printf("%*spart of type %d", (int)(4 * part->level), "", scte35_part_written_type(part));
+        print_bytes(" ", scte35_part_bytes(mid, part), part->len);
         printf("\n");
     }
 }
@@ -67,9 +71,9 @@ static struct scte35_written write_loop(const uint8_t *loop, size_t n, uint8_t *
 {
     struct scte35_written all = {0, 0};
     for (uint64_t at = 0; at < n;) {
-        struct scte35_step item = scte35_step(loop, n, at);
-        struct scte35_item_components beside = scte35_item_components(loop, n, at);
-        struct scte35_written one = scte35_put_descriptor(&item, &beside, loop, n, target + all.length, room - all.length);
+        struct scte35_step item = scte35_read_item(loop, n, at);
+        struct scte35_item_components beside = scte35_read_item_components(loop, n, at);
+        struct scte35_written one = scte35_write_descriptor(&item, &beside, loop, n, target + all.length, room - all.length);
         if (one.refusal)
             return one;
         all.length += one.length;
@@ -82,32 +86,50 @@ static struct scte35_written write_loop(const uint8_t *loop, size_t n, uint8_t *
 static struct scte35_written write_back(const uint8_t *s, size_t n, const struct scte35_section *x, uint8_t *target, size_t room)
 {
     static uint8_t loop[SCTE35_MAX_LOOP];
-    struct scte35_written items = write_loop(s + x->descriptors.at, x->descriptors.len, loop, sizeof loop);
+    struct scte35_written items = write_loop(scte35_loop_bytes(s, x), x->descriptors.len, loop, sizeof loop);
     if (items.refusal)
         return items;
-    /* of the bytes up to the command's end; those of a command without components are not looked at */
-    size_t end = SCTE35_COMMAND_AT + x->header.splice_command_length;
-    struct scte35_insert_components components = scte35_insert_components(s, end, SCTE35_COMMAND_AT);
-    return scte35_put_section(&x->header, &x->command, &components, s, n, loop, items.length, target, room);
+    /* those of a command without components are not looked at */
+    struct scte35_insert_components components = scte35_read_section_components(s, x);
+    return scte35_write_section(&x->header, &x->command, &components, s, n, loop, items.length, target, room);
+}
+
+/* The bytes that pairs of hexadecimal digits say, as many as there is room for: their number; -1 where the text is something else. */
+static long unhex(const char *text, uint8_t *bytes, size_t room)
+{
+    static const char digits[] = "0123456789abcdefABCDEF";
+    size_t n = strlen(text);
+    if (n % 2 || strspn(text, digits) != n)
+        return -1;
+    if (n / 2 < room)
+        room = n / 2;
+    for (size_t i = 0; i < room; i++)
+        sscanf(text + 2 * i, "%2hhx", &bytes[i]);
+    return (long)room;
 }
 
 int main(int argc, char **argv)
 {
     static uint8_t s[SCTE35_MAX_SECTION + 1]; /* one more than is read */
-    size_t n = argc == 2 ? strlen(argv[1]) / 2 : 0;
-    if (n > sizeof s)
-        n = sizeof s;
-    for (size_t i = 0; i < n; i++)
-        sscanf(argv[1] + 2 * i, "%2hhx", &s[i]);
-    struct scte35_section x = scte35_section(s, n, 0);
+    long length = argc == 2 ? unhex(argv[1], s, sizeof s) : -1;
+    if (length < 0) {
+        fprintf(stderr, "one section, as pairs of hexadecimal digits\n");
+        return 2;
+    }
+    if (scte35_abi() != SCTE35_ABI) {
+        fprintf(stderr, "libscte35.a and scte35.h don't belong together\n");
+        return 2;
+    }
+    size_t n = (size_t)length;
+    struct scte35_section x = scte35_read_section(s, n, 0);
     if (x.refusal) {
-        printf("refused %" PRIu64 "\n", x.refusal);
-        return 0;
+        printf("refused %" PRIu64 " %s: %s\n", x.refusal, scte35_refusal_name(x.refusal), scte35_refusal_text(x.refusal));
+        return 3;
     }
     print_command(x.command);
-    const uint8_t *loop = s + x.descriptors.at;
+    const uint8_t *loop = scte35_loop_bytes(s, &x);
     for (uint64_t at = 0; at < x.descriptors.len;) {
-        struct scte35_step item = scte35_step(loop, x.descriptors.len, at);
+        struct scte35_step item = scte35_read_item(loop, x.descriptors.len, at);
         print_item(loop, item);
         print_parts(loop, item);
         at = item.next;
@@ -115,9 +137,9 @@ int main(int argc, char **argv)
     static uint8_t target[SCTE35_MAX_SECTION];
     struct scte35_written w = write_back(s, n, &x, target, sizeof target);
     int same = !w.refusal && w.length == n && !memcmp(target, s, n);
-    int canonical = scte35_is_canonical_section(s, n, 0) == 1;
+    int canonical = scte35_is_canonical_section(s, n, 0);
     if (w.refusal)
-        printf("writing refused %" PRIu64 "\n", w.refusal);
+        printf("writing refused %" PRIu64 ": %s\n", w.refusal, scte35_refusal_text(w.refusal));
     else
         printf("written back: %s; the section read is %scanonical\n", same ? "the same" : "another", canonical ? "" : "not ");
     return same != canonical;

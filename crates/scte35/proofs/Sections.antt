@@ -1,4 +1,4 @@
--- The flat section, command by command: what `scte35_section` builds is the flat form of the section's reading.
+-- The flat section, command by command: what `scte35_read_section` builds is the flat form of the section's reading.
 use Prim.Native.Nat.{ℕ, _-_}
 use mathlib.Core.List.{List}
 use mathlib.Core.Path.{_≡_, refl, ap, sym, _∙_}

@@ -51,6 +51,7 @@ use section::read_command_part;
 use section::read_frame;
 use upid::read_upid;
 
+pub mod abi;
 pub mod canonical;
 pub mod numbers;
 pub mod writing;
@@ -67,7 +68,7 @@ pub(crate) fn rest(s: &[u8], at: usize) -> &[u8]
 }
 
 #[no_mangle]
-pub extern "C" fn scte35_header(s: &[u8], at: usize) -> FlatHeader
+pub extern "C" fn scte35_read_header(s: &[u8], at: usize) -> FlatHeader
     ensures { λ r. ⌜ r ≡ flatHeaderRead (headerOf (drop at (now (s .entry)))) ⌝ }
 {
     read_flat_header(rest(s, at))
@@ -75,7 +76,7 @@ pub extern "C" fn scte35_header(s: &[u8], at: usize) -> FlatHeader
 
 // Header and loop are read as numbers, and each command into its flat form, with a return in each arm: answers that meet behind a match are held word by word.
 #[no_mangle]
-pub extern "C" fn scte35_section(s: &[u8], at: usize) -> FlatSection
+pub extern "C" fn scte35_read_section(s: &[u8], at: usize) -> FlatSection
     ensures { λ r. ⌜ r ≡ flatSectionRead (sectionOf (drop at (now (s .entry)))) ⌝ }
 {
     let t = rest(s, at);
@@ -119,7 +120,7 @@ pub extern "C" fn scte35_section(s: &[u8], at: usize) -> FlatSection
 
 // The command of a type, in its payload.
 #[no_mangle]
-pub extern "C" fn scte35_command(kind: u8, s: &[u8], at: usize) -> FlatCommand
+pub extern "C" fn scte35_read_command(kind: u8, s: &[u8], at: usize) -> FlatCommand
     ensures { λ r. ⌜ r ≡ flatCommandRead (commandOf kind (drop at (now (s .entry)))) ⌝ }
 {
     flat_command_read(read_command(kind, rest(s, at)))
@@ -127,7 +128,7 @@ pub extern "C" fn scte35_command(kind: u8, s: &[u8], at: usize) -> FlatCommand
 
 // The components of an insert, in its payload.
 #[no_mangle]
-pub extern "C" fn scte35_insert_components(s: &[u8], at: usize) -> FlatSplices
+pub extern "C" fn scte35_read_insert_components(s: &[u8], at: usize) -> FlatSplices
     ensures { λ r. ⌜ r ≡ flatSplices (commandOf 0x05 (drop at (now (s .entry)))) (componentsOf (drop at (now (s .entry)))) ⌝ }
 {
     let payload = rest(s, at);
@@ -136,7 +137,7 @@ pub extern "C" fn scte35_insert_components(s: &[u8], at: usize) -> FlatSplices
 
 // The item at an offset of a loop.
 #[no_mangle]
-pub extern "C" fn scte35_step(s: &[u8], offset: usize) -> FlatStep
+pub extern "C" fn scte35_read_item(s: &[u8], offset: usize) -> FlatStep
     ensures { λ r. ⌜ r ≡ flatStep (stepOf (now (s .entry)) offset) ⌝ }
 {
     flat_step(step(s, offset))
@@ -144,7 +145,7 @@ pub extern "C" fn scte35_step(s: &[u8], offset: usize) -> FlatStep
 
 // What stands beside that item.
 #[no_mangle]
-pub extern "C" fn scte35_item_components(s: &[u8], offset: usize) -> FlatBeside
+pub extern "C" fn scte35_read_item_components(s: &[u8], offset: usize) -> FlatBeside
     ensures { λ r. ⌜ r ≡ flatBeside (readingOf (now (s .entry)) offset) ⌝ }
 {
     flat_beside(read_item(s, offset))
@@ -152,7 +153,7 @@ pub extern "C" fn scte35_item_components(s: &[u8], offset: usize) -> FlatBeside
 
 // The UPID of a type, in all bytes from the offset on.
 #[no_mangle]
-pub extern "C" fn scte35_upid(kind: u8, s: &[u8], at: usize) -> FlatUpid
+pub extern "C" fn scte35_read_upid(kind: u8, s: &[u8], at: usize) -> FlatUpid
     ensures { λ r. ⌜ r ≡ flatUpid (upidOf kind (drop at (now (s .entry)))) ⌝ }
 {
     flat_upid(read_upid(kind, rest(s, at)))
@@ -180,7 +181,7 @@ fn time_from(kind: u64, ticks: u64) -> SpliceTime
 
 // A time of kind 3 with its adjustment; any other kind is no time.
 #[no_mangle]
-pub extern "C" fn scte35_adjusted_time(kind: u64, ticks: u64, pts_adjustment: u64) -> FlatAdjusted
+pub extern "C" fn scte35_adjust_time(kind: u64, ticks: u64, pts_adjustment: u64) -> FlatAdjusted
     ensures { λ r. ⌜ r ≡ flatAdjusted (adjustedOf (timeHanded kind ticks) «pts_adjustment») ⌝ }
 {
     flat_adjusted(adjusted_time(time_from(kind, ticks), pts_adjustment))

@@ -45,7 +45,7 @@ fn refused() -> FlatNumber
 }
 
 #[no_mangle]
-pub extern "C" fn scte35_algorithm(n: u8) -> FlatNumber
+pub extern "C" fn scte35_classify_algorithm(n: u8) -> FlatNumber
     ensures { λ r. ⌜ r ≡ flatName algorithmEntry (algorithmOf n) ⌝ }
 {
     let x = EncryptionAlgorithm::from_id(n);
@@ -57,7 +57,7 @@ pub extern "C" fn scte35_algorithm(n: u8) -> FlatNumber
 }
 
 #[no_mangle]
-pub extern "C" fn scte35_command_type(n: u8) -> FlatNumber
+pub extern "C" fn scte35_classify_command_type(n: u8) -> FlatNumber
     ensures { λ r. ⌜ r ≡ flatName commandEntry (commandTypeOf n) ⌝ }
 {
     let x = SpliceCommandType::from_id(n);
@@ -68,7 +68,7 @@ pub extern "C" fn scte35_command_type(n: u8) -> FlatNumber
 }
 
 #[no_mangle]
-pub extern "C" fn scte35_upid_type(n: u8) -> FlatNumber
+pub extern "C" fn scte35_classify_upid_type(n: u8) -> FlatNumber
     ensures { λ r. ⌜ r ≡ flatName upidTypeEntry (upidTypeOf n) ⌝ }
 {
     let x = SegmentationUpidType::from_type(n);
@@ -79,7 +79,7 @@ pub extern "C" fn scte35_upid_type(n: u8) -> FlatNumber
 }
 
 #[no_mangle]
-pub extern "C" fn scte35_segmentation_type(n: u8) -> FlatNumber
+pub extern "C" fn scte35_classify_segmentation_type(n: u8) -> FlatNumber
     ensures { λ r. ⌜ r ≡ flatName segmentationEntry (segmentationOf n) ⌝ }
 {
     let x = SegmentationTypeId::from_id(n);
@@ -90,7 +90,7 @@ pub extern "C" fn scte35_segmentation_type(n: u8) -> FlatNumber
 }
 
 #[no_mangle]
-pub extern "C" fn scte35_network_indicator(n: u8) -> FlatNumber
+pub extern "C" fn scte35_classify_network_indicator(n: u8) -> FlatNumber
     ensures { λ r. ⌜ r ≡ flatAnswer networkFlag (networkOf n) ⌝ }
 {
     match NetworkIndicator::from_flag(n) {
@@ -100,7 +100,7 @@ pub extern "C" fn scte35_network_indicator(n: u8) -> FlatNumber
 }
 
 #[no_mangle]
-pub extern "C" fn scte35_return_mode(n: u8) -> FlatNumber
+pub extern "C" fn scte35_classify_return_mode(n: u8) -> FlatNumber
     ensures { λ r. ⌜ r ≡ flatAnswer returnFlag (returnOf n) ⌝ }
 {
     match ReturnMode::from_flag(n) {
@@ -110,7 +110,7 @@ pub extern "C" fn scte35_return_mode(n: u8) -> FlatNumber
 }
 
 #[no_mangle]
-pub extern "C" fn scte35_device_restrictions(n: u8) -> FlatNumber
+pub extern "C" fn scte35_classify_device_restrictions(n: u8) -> FlatNumber
     ensures { λ r. ⌜ r ≡ flatAnswer restrictionsBits (restrictionsOf n) ⌝ }
 {
     match DeviceRestrictions::from_bits(n) {

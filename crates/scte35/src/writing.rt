@@ -12,7 +12,7 @@ use flat_writer::commands::write_command_words;
 
 // A command's payload: the words of a command and of its components, and the bytes that its view names.
 #[no_mangle]
-pub extern "C" fn scte35_write_command(
+pub extern "C" fn scte35_write_command_words(
     command: &[u64],
     components: &[u64],
     lent: &[u8],
@@ -26,7 +26,7 @@ pub extern "C" fn scte35_write_command(
 
 // A descriptor: the words of a step and of what stands beside its item, and the bytes that its view names.
 #[no_mangle]
-pub extern "C" fn scte35_write_descriptor(
+pub extern "C" fn scte35_write_descriptor_words(
     step: &[u64],
     beside: &[u64],
     lent: &[u8],
@@ -40,7 +40,7 @@ pub extern "C" fn scte35_write_descriptor(
 
 // A section: the words of a header, of a command and of its components, the bytes that the command's view names, and the loop's bytes.
 #[no_mangle]
-pub extern "C" fn scte35_write_section(
+pub extern "C" fn scte35_write_section_words(
     header: &[u64],
     command: &[u64],
     components: &[u64],

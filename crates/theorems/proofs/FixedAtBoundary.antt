@@ -29,25 +29,25 @@ use Rattle.flat_writer.proofs.commands.write_command_words.Reads as write-comma
 use Rattle.flat_item_writer.proofs.descriptor_refusal.Reads as descriptor-refusal
 use Rattle.flat_item_writer.proofs.write_descriptor_words.Reads as write-descriptor-words
 use Rattle.flat_section_writer.proofs.write_section_words.Reads as write-section-words
-use Rattle.scte35.proofs.scte35_header.Reads as scte35-header
-use Rattle.scte35.proofs.scte35_section.Reads as scte35-section
-use Rattle.scte35.proofs.scte35_command.Reads as scte35-command
-use Rattle.scte35.proofs.scte35_insert_components.Reads as scte35-insert-components
-use Rattle.scte35.proofs.scte35_step.Reads as scte35-step
-use Rattle.scte35.proofs.scte35_item_components.Reads as scte35-item-components
-use Rattle.scte35.proofs.scte35_upid.Reads as scte35-upid
+use Rattle.scte35.proofs.scte35_read_header.Reads as scte35-read-header
+use Rattle.scte35.proofs.scte35_read_section.Reads as scte35-read-section
+use Rattle.scte35.proofs.scte35_read_command.Reads as scte35-read-command
+use Rattle.scte35.proofs.scte35_read_insert_components.Reads as scte35-read-insert-components
+use Rattle.scte35.proofs.scte35_read_item.Reads as scte35-read-item
+use Rattle.scte35.proofs.scte35_read_item_components.Reads as scte35-read-item-components
+use Rattle.scte35.proofs.scte35_read_upid.Reads as scte35-read-upid
 use Rattle.scte35.proofs.scte35_crc.Reads as scte35-crc
-use Rattle.scte35.proofs.scte35_adjusted_time.Reads as scte35-adjusted-time
-use Rattle.scte35.proofs.numbers.scte35_algorithm.Reads as scte35-algorithm
-use Rattle.scte35.proofs.numbers.scte35_command_type.Reads as scte35-command-type
-use Rattle.scte35.proofs.numbers.scte35_upid_type.Reads as scte35-upid-type
-use Rattle.scte35.proofs.numbers.scte35_segmentation_type.Reads as scte35-segmentation-type
-use Rattle.scte35.proofs.numbers.scte35_network_indicator.Reads as scte35-network-indicator
-use Rattle.scte35.proofs.numbers.scte35_return_mode.Reads as scte35-return-mode
-use Rattle.scte35.proofs.numbers.scte35_device_restrictions.Reads as scte35-device-restrictions
-use Rattle.scte35.proofs.writing.scte35_write_command.Reads as scte35-write-command
-use Rattle.scte35.proofs.writing.scte35_write_descriptor.Reads as scte35-write-descriptor
-use Rattle.scte35.proofs.writing.scte35_write_section.Reads as scte35-write-section
+use Rattle.scte35.proofs.scte35_adjust_time.Reads as scte35-adjust-time
+use Rattle.scte35.proofs.numbers.scte35_classify_algorithm.Reads as scte35-classify-algorithm
+use Rattle.scte35.proofs.numbers.scte35_classify_command_type.Reads as scte35-classify-command-type
+use Rattle.scte35.proofs.numbers.scte35_classify_upid_type.Reads as scte35-classify-upid-type
+use Rattle.scte35.proofs.numbers.scte35_classify_segmentation_type.Reads as scte35-classify-segmentation-type
+use Rattle.scte35.proofs.numbers.scte35_classify_network_indicator.Reads as scte35-classify-network-indicator
+use Rattle.scte35.proofs.numbers.scte35_classify_return_mode.Reads as scte35-classify-return-mode
+use Rattle.scte35.proofs.numbers.scte35_classify_device_restrictions.Reads as scte35-classify-device-restrictions
+use Rattle.scte35.proofs.writing.scte35_write_command_words.Reads as scte35-write-command-words
+use Rattle.scte35.proofs.writing.scte35_write_descriptor_words.Reads as scte35-write-descriptor-words
+use Rattle.scte35.proofs.writing.scte35_write_section_words.Reads as scte35-write-section-words
 use Rattle.scte35.proofs.canonical.scte35_is_canonical_section.Reads as scte35-is-canonical-section
 use Rattle.scte35.proofs.canonical.scte35_is_canonical_loop.Reads as scte35-is-canonical-loop
 use Rattle.scte35.proofs.canonical.scte35_is_canonical_descriptor.Reads as scte35-is-canonical-descriptor
@@ -154,71 +154,71 @@ write-section-words-fixes-the-target = record { takes-any = λ κ a. tt; seen = 
 
 -- ---- scte35: the exported functions
 
-pub scte35-header-is-fixed : Fixed scte35-header.Asked scte35-header.Learnt
-scte35-header-is-fixed = record { takes-any = λ κ a. tt; one-answer = λ κ a x y e f p q. p ∙ sym q }
+pub scte35-read-header-is-fixed : Fixed scte35-read-header.Asked scte35-read-header.Learnt
+scte35-read-header-is-fixed = record { takes-any = λ κ a. tt; one-answer = λ κ a x y e f p q. p ∙ sym q }
 
-pub scte35-section-is-fixed : Fixed scte35-section.Asked scte35-section.Learnt
-scte35-section-is-fixed = record { takes-any = λ κ a. tt; one-answer = λ κ a x y e f p q. p ∙ sym q }
+pub scte35-read-section-is-fixed : Fixed scte35-read-section.Asked scte35-read-section.Learnt
+scte35-read-section-is-fixed = record { takes-any = λ κ a. tt; one-answer = λ κ a x y e f p q. p ∙ sym q }
 
-pub scte35-command-is-fixed : Fixed scte35-command.Asked scte35-command.Learnt
-scte35-command-is-fixed = record { takes-any = λ κ a. tt; one-answer = λ κ a x y e f p q. p ∙ sym q }
+pub scte35-read-command-is-fixed : Fixed scte35-read-command.Asked scte35-read-command.Learnt
+scte35-read-command-is-fixed = record { takes-any = λ κ a. tt; one-answer = λ κ a x y e f p q. p ∙ sym q }
 
-pub scte35-insert-components-is-fixed : Fixed scte35-insert-components.Asked scte35-insert-components.Learnt
-scte35-insert-components-is-fixed = record { takes-any = λ κ a. tt; one-answer = λ κ a x y e f p q. p ∙ sym q }
+pub scte35-read-insert-components-is-fixed : Fixed scte35-read-insert-components.Asked scte35-read-insert-components.Learnt
+scte35-read-insert-components-is-fixed = record { takes-any = λ κ a. tt; one-answer = λ κ a x y e f p q. p ∙ sym q }
 
-pub scte35-step-is-fixed : Fixed scte35-step.Asked scte35-step.Learnt
-scte35-step-is-fixed = record { takes-any = λ κ a. tt; one-answer = λ κ a x y e f p q. p ∙ sym q }
+pub scte35-read-item-is-fixed : Fixed scte35-read-item.Asked scte35-read-item.Learnt
+scte35-read-item-is-fixed = record { takes-any = λ κ a. tt; one-answer = λ κ a x y e f p q. p ∙ sym q }
 
-pub scte35-item-components-is-fixed : Fixed scte35-item-components.Asked scte35-item-components.Learnt
-scte35-item-components-is-fixed = record { takes-any = λ κ a. tt; one-answer = λ κ a x y e f p q. p ∙ sym q }
+pub scte35-read-item-components-is-fixed : Fixed scte35-read-item-components.Asked scte35-read-item-components.Learnt
+scte35-read-item-components-is-fixed = record { takes-any = λ κ a. tt; one-answer = λ κ a x y e f p q. p ∙ sym q }
 
-pub scte35-upid-is-fixed : Fixed scte35-upid.Asked scte35-upid.Learnt
-scte35-upid-is-fixed = record { takes-any = λ κ a. tt; one-answer = λ κ a x y e f p q. p ∙ sym q }
+pub scte35-read-upid-is-fixed : Fixed scte35-read-upid.Asked scte35-read-upid.Learnt
+scte35-read-upid-is-fixed = record { takes-any = λ κ a. tt; one-answer = λ κ a x y e f p q. p ∙ sym q }
 
 pub scte35-crc-is-fixed : Fixed scte35-crc.Asked scte35-crc.Learnt
 scte35-crc-is-fixed = record { takes-any = λ κ a. tt; one-answer = λ κ a x y e f p q. p ∙ sym q }
 
-pub scte35-adjusted-time-is-fixed : Fixed scte35-adjusted-time.Asked scte35-adjusted-time.Learnt
-scte35-adjusted-time-is-fixed = record { takes-any = λ κ a. tt; one-answer = λ κ a x y e f p q. p ∙ sym q }
+pub scte35-adjust-time-is-fixed : Fixed scte35-adjust-time.Asked scte35-adjust-time.Learnt
+scte35-adjust-time-is-fixed = record { takes-any = λ κ a. tt; one-answer = λ κ a x y e f p q. p ∙ sym q }
 
-pub scte35-algorithm-is-fixed : Fixed scte35-algorithm.Asked scte35-algorithm.Learnt
-scte35-algorithm-is-fixed = record { takes-any = λ κ a. tt; one-answer = λ κ a x y e f p q. p ∙ sym q }
+pub scte35-classify-algorithm-is-fixed : Fixed scte35-classify-algorithm.Asked scte35-classify-algorithm.Learnt
+scte35-classify-algorithm-is-fixed = record { takes-any = λ κ a. tt; one-answer = λ κ a x y e f p q. p ∙ sym q }
 
-pub scte35-command-type-is-fixed : Fixed scte35-command-type.Asked scte35-command-type.Learnt
-scte35-command-type-is-fixed = record { takes-any = λ κ a. tt; one-answer = λ κ a x y e f p q. p ∙ sym q }
+pub scte35-classify-command-type-is-fixed : Fixed scte35-classify-command-type.Asked scte35-classify-command-type.Learnt
+scte35-classify-command-type-is-fixed = record { takes-any = λ κ a. tt; one-answer = λ κ a x y e f p q. p ∙ sym q }
 
-pub scte35-upid-type-is-fixed : Fixed scte35-upid-type.Asked scte35-upid-type.Learnt
-scte35-upid-type-is-fixed = record { takes-any = λ κ a. tt; one-answer = λ κ a x y e f p q. p ∙ sym q }
+pub scte35-classify-upid-type-is-fixed : Fixed scte35-classify-upid-type.Asked scte35-classify-upid-type.Learnt
+scte35-classify-upid-type-is-fixed = record { takes-any = λ κ a. tt; one-answer = λ κ a x y e f p q. p ∙ sym q }
 
-pub scte35-segmentation-type-is-fixed : Fixed scte35-segmentation-type.Asked scte35-segmentation-type.Learnt
-scte35-segmentation-type-is-fixed = record { takes-any = λ κ a. tt; one-answer = λ κ a x y e f p q. p ∙ sym q }
+pub scte35-classify-segmentation-type-is-fixed : Fixed scte35-classify-segmentation-type.Asked scte35-classify-segmentation-type.Learnt
+scte35-classify-segmentation-type-is-fixed = record { takes-any = λ κ a. tt; one-answer = λ κ a x y e f p q. p ∙ sym q }
 
-pub scte35-network-indicator-is-fixed : Fixed scte35-network-indicator.Asked scte35-network-indicator.Learnt
-scte35-network-indicator-is-fixed = record { takes-any = λ κ a. tt; one-answer = λ κ a x y e f p q. p ∙ sym q }
+pub scte35-classify-network-indicator-is-fixed : Fixed scte35-classify-network-indicator.Asked scte35-classify-network-indicator.Learnt
+scte35-classify-network-indicator-is-fixed = record { takes-any = λ κ a. tt; one-answer = λ κ a x y e f p q. p ∙ sym q }
 
-pub scte35-return-mode-is-fixed : Fixed scte35-return-mode.Asked scte35-return-mode.Learnt
-scte35-return-mode-is-fixed = record { takes-any = λ κ a. tt; one-answer = λ κ a x y e f p q. p ∙ sym q }
+pub scte35-classify-return-mode-is-fixed : Fixed scte35-classify-return-mode.Asked scte35-classify-return-mode.Learnt
+scte35-classify-return-mode-is-fixed = record { takes-any = λ κ a. tt; one-answer = λ κ a x y e f p q. p ∙ sym q }
 
-pub scte35-device-restrictions-is-fixed : Fixed scte35-device-restrictions.Asked scte35-device-restrictions.Learnt
-scte35-device-restrictions-is-fixed = record { takes-any = λ κ a. tt; one-answer = λ κ a x y e f p q. p ∙ sym q }
+pub scte35-classify-device-restrictions-is-fixed : Fixed scte35-classify-device-restrictions.Asked scte35-classify-device-restrictions.Learnt
+scte35-classify-device-restrictions-is-fixed = record { takes-any = λ κ a. tt; one-answer = λ κ a x y e f p q. p ∙ sym q }
 
-pub scte35-write-command-is-fixed : Fixed scte35-write-command.Asked scte35-write-command.Learnt
-scte35-write-command-is-fixed = record { takes-any = λ κ a. tt; one-answer = λ κ a x y e f p q. p .0 ∙ sym (q .0) }
+pub scte35-write-command-words-is-fixed : Fixed scte35-write-command-words.Asked scte35-write-command-words.Learnt
+scte35-write-command-words-is-fixed = record { takes-any = λ κ a. tt; one-answer = λ κ a x y e f p q. p .0 ∙ sym (q .0) }
 
-pub scte35-write-command-fixes-the-target : FixedIn scte35-write-command.Asked scte35-write-command.Learnt (λ κ answer after. now (after .1 .1 .1 .0))
-scte35-write-command-fixes-the-target = record { takes-any = λ κ a. tt; seen = λ κ a x y e f p q. p .1 ∙ sym (q .1) }
+pub scte35-write-command-words-fixes-the-target : FixedIn scte35-write-command-words.Asked scte35-write-command-words.Learnt (λ κ answer after. now (after .1 .1 .1 .0))
+scte35-write-command-words-fixes-the-target = record { takes-any = λ κ a. tt; seen = λ κ a x y e f p q. p .1 ∙ sym (q .1) }
 
-pub scte35-write-descriptor-is-fixed : Fixed scte35-write-descriptor.Asked scte35-write-descriptor.Learnt
-scte35-write-descriptor-is-fixed = record { takes-any = λ κ a. tt; one-answer = λ κ a x y e f p q. p .0 ∙ sym (q .0) }
+pub scte35-write-descriptor-words-is-fixed : Fixed scte35-write-descriptor-words.Asked scte35-write-descriptor-words.Learnt
+scte35-write-descriptor-words-is-fixed = record { takes-any = λ κ a. tt; one-answer = λ κ a x y e f p q. p .0 ∙ sym (q .0) }
 
-pub scte35-write-descriptor-fixes-the-target : FixedIn scte35-write-descriptor.Asked scte35-write-descriptor.Learnt (λ κ answer after. now (after .1 .1 .1 .0))
-scte35-write-descriptor-fixes-the-target = record { takes-any = λ κ a. tt; seen = λ κ a x y e f p q. p .1 ∙ sym (q .1) }
+pub scte35-write-descriptor-words-fixes-the-target : FixedIn scte35-write-descriptor-words.Asked scte35-write-descriptor-words.Learnt (λ κ answer after. now (after .1 .1 .1 .0))
+scte35-write-descriptor-words-fixes-the-target = record { takes-any = λ κ a. tt; seen = λ κ a x y e f p q. p .1 ∙ sym (q .1) }
 
-pub scte35-write-section-is-fixed : Fixed scte35-write-section.Asked scte35-write-section.Learnt
-scte35-write-section-is-fixed = record { takes-any = λ κ a. tt; one-answer = λ κ a x y e f p q. p .0 ∙ sym (q .0) }
+pub scte35-write-section-words-is-fixed : Fixed scte35-write-section-words.Asked scte35-write-section-words.Learnt
+scte35-write-section-words-is-fixed = record { takes-any = λ κ a. tt; one-answer = λ κ a x y e f p q. p .0 ∙ sym (q .0) }
 
-pub scte35-write-section-fixes-the-target : FixedIn scte35-write-section.Asked scte35-write-section.Learnt (λ κ answer after. now (after .1 .1 .1 .1 .1 .0))
-scte35-write-section-fixes-the-target = record { takes-any = λ κ a. tt; seen = λ κ a x y e f p q. p .1 ∙ sym (q .1) }
+pub scte35-write-section-words-fixes-the-target : FixedIn scte35-write-section-words.Asked scte35-write-section-words.Learnt (λ κ answer after. now (after .1 .1 .1 .1 .1 .0))
+scte35-write-section-words-fixes-the-target = record { takes-any = λ κ a. tt; seen = λ κ a x y e f p q. p .1 ∙ sym (q .1) }
 
 pub scte35-is-canonical-section-is-fixed : Fixed scte35-is-canonical-section.Asked scte35-is-canonical-section.Learnt
 scte35-is-canonical-section-is-fixed = record { takes-any = λ κ a. tt; one-answer = λ κ a x y e f p q. p ∙ sym q }

@@ -426,8 +426,8 @@ pub section-answers-are-one : (header command components lent loop : List ℕ) �
     → SectionAnswer header command components lent loop m → SectionAnswer header command components lent loop n → m ≡ n
 section-answers-are-one = section-answers.one-answer
 
--- Demand 2 over C: writing the words that are read of a canonical section gives its bytes: its header's and its command's, as `scte35_section` answers them
--- (without the header's last two, the command's length and type, which are not looked at), those of its components, as `scte35_insert_components` answers them, and its loop as it stands in the section
+-- Demand 2 over C: writing the words that are read of a canonical section gives its bytes: its header's and its command's, as `scte35_read_section` answers them
+-- (without the header's last two, the command's length and type, which are not looked at), those of its components, as `scte35_read_insert_components` answers them, and its loop as it stands in the section
 pub a-canonical-section-is-what-is-written-of-its-words : (s : List ℕ) (x : Section) → AllBytes s → sectionOf s ≡ SectionRead.Is x → canonicalSection s ≡ true
     → sectionWordsMade (headerWords (flatSectionRead (sectionOf s) .header)) (commandWords (flatSectionRead (sectionOf s) .command))
     (splicesWords (componentsAnswered s)) s (loopIn s x) ≡ made s

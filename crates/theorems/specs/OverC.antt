@@ -21,7 +21,7 @@ use Rattle.theorems.specs.Identifiers.{each}
 abbrev pub splicesWords : FlatSplices → List ℕ
 splicesWords s = s .refusal ∷ s .count ∷ placesWords (s .components)
 
--- what `scte35_insert_components` answers, at byte 14, of a section's bytes up to its command's end
+-- what `scte35_read_insert_components` answers, at byte 14, of a section's bytes up to its command's end
 abbrev pub componentsAnswered : List ℕ → FlatSplices
 componentsAnswered s =
     let payload : List ℕ = drop 14 (take (14 + commandLength s) s) in

@@ -129,14 +129,14 @@ fn mode(m: &raw::Mode, lent: &[u8], at: usize) -> SpliceMode {
     if m.component_count == 0 {
         return SpliceMode::Components(vec![]);
     }
-    let list = raw::insert_components(lent, at);
+    let list = raw::read_insert_components(lent, at);
     let component = |c: &raw::ComponentSplice| ComponentSplice { component_tag: c.component_tag as u8, splice_time: SpliceTime::of(&c.splice_time) };
     SpliceMode::Components(list.components[..list.count as usize].iter().map(component).collect())
 }
 
 /// Reads a command of that type from its payload alone. Refused with `Refusal::UnknownCommand` or `Refusal::MalformedCommand`.
 pub fn read_command(command_type: crate::SpliceCommandType, payload: &[u8]) -> Result<SpliceCommand<'_>, Refusal> {
-    let c = raw::command(command_type.id(), payload, 0);
+    let c = raw::read_command(command_type.id(), payload, 0);
     match c.refusal {
         0 => Ok(SpliceCommand::of(&c, payload, 0, 0)),
         n => Err(Refusal::answered(n, [0; 3])),

@@ -44,7 +44,7 @@ fn named<T: Copy>(answer: raw::Number, names: &[T]) -> Result<T, Refusal> {
 impl NetworkIndicator {
     /// What the flag means; over 1 it is no flag (`Refusal::NotInField`).
     pub fn from_flag(n: u8) -> Result<Self, Refusal> {
-        named(raw::network_indicator(n), &[Self::In, Self::Out])
+        named(raw::classify_network_indicator(n), &[Self::In, Self::Out])
     }
 
     /// out_of_network_indicator
@@ -56,7 +56,7 @@ impl NetworkIndicator {
 impl ReturnMode {
     /// What the flag means; over 1 it is no flag (`Refusal::NotInField`).
     pub fn from_flag(n: u8) -> Result<Self, Refusal> {
-        named(raw::return_mode(n), &[Self::Manual, Self::Automatic])
+        named(raw::classify_return_mode(n), &[Self::Manual, Self::Automatic])
     }
 
     /// auto_return
@@ -71,7 +71,7 @@ impl DeviceRestrictions {
 
     /// What the two bits mean; over 3 they are not two (`Refusal::NotInField`).
     pub fn from_bits(n: u8) -> Result<Self, Refusal> {
-        named(raw::device_restrictions(n), &Self::ALL)
+        named(raw::classify_device_restrictions(n), &Self::ALL)
     }
 
     /// device_restrictions

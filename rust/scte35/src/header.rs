@@ -58,7 +58,7 @@ impl SpliceInfoHeader {
 
 /// Reads the splice header in the first 11 bytes. Refused with `Refusal::NoHeader` where they are fewer.
 pub fn read_header(bytes: &[u8]) -> Result<SpliceInfoHeader, Refusal> {
-    let h = raw::header(bytes, 0);
+    let h = raw::read_header(bytes, 0);
     match h.refusal {
         0 => Ok(SpliceInfoHeader::of(&h)),
         n => Err(Refusal::answered(n, [0; 3])),
@@ -92,7 +92,7 @@ impl SpliceTime {
             SpliceTime::Unspecified => (2, 0),
             SpliceTime::At(ticks) => (3, ticks),
         };
-        let answer = raw::adjusted_time(kind, ticks, pts_adjustment);
+        let answer = raw::adjust_time(kind, ticks, pts_adjustment);
         match (answer.refusal, answer.kind) {
             (0, 3) => Ok(Some(answer.ticks)),
             (0, _) => Ok(None),

@@ -137,7 +137,7 @@ pub struct Step<'a> {
 /// Reads the item at an offset of a loop. A loop of more than 4,076 bytes is refused at every offset.
 pub fn read_item(descriptors: SpliceDescriptors<'_>, offset: usize) -> Step<'_> {
     let lent = descriptors.bytes;
-    let t = raw::step(lent, offset);
+    let t = raw::read_item(lent, offset);
     let next = t.next as usize;
     let item = match t.item.kind {
         0 => return Step { item: None, next },
@@ -199,7 +199,7 @@ fn detail<'a>(s: &raw::Segmentation, bytes: &'a [u8], lent: &[u8], offset: usize
 /// The components and the EIDR of the item at an offset. By itself, since the answer takes 4 KB of the stack and most items have neither.
 #[inline(never)]
 fn beside(lent: &[u8], offset: usize) -> (Vec<ModeComponent>, [u8; 12]) {
-    let list = raw::item_components(lent, offset);
+    let list = raw::read_item_components(lent, offset);
     let component = |c: &raw::Component| ModeComponent { component_tag: c.component_tag as u8, pts_offset: c.pts_offset };
     (list.components[..list.count as usize].iter().map(component).collect(), list.eidr.map(|b| b as u8))
 }

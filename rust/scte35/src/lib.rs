@@ -144,7 +144,7 @@ impl<'a> Section<'a> {
 /// Reads a whole section, from its table id to its CRC. Refused with the first of 1 to 11 that applies (`Refusal::SectionTooShort` to
 /// `Refusal::MalformedCommand`).
 pub fn read_section(bytes: &[u8]) -> Result<Section<'_>, Refusal> {
-    let s = raw::section(bytes, 0);
+    let s = raw::read_section(bytes, 0);
     match s.refusal {
         0 => Ok(Section {
             header: SpliceInfoHeader::of(&s.header),

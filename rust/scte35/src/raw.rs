@@ -102,24 +102,25 @@ words! {
     Step { refusal: u64, values: [u64; 3], next: u64, identifier: u64, item: Item }
     Component { component_tag: u64, pts_offset: u64 }
     ItemComponents { refusal: u64, values: [u64; 3], count: u64, components: [Component; 255], eidr: [u64; 12] }
-    Part { kind: u64, level: u64, start: u64, len: u64 }
-    Upid { refusal: u64, values: [u64; 3], kind: u64, eidr: [u64; 12], count: u64, parts: [Part; 127] }
+    Part { upid_type: u64, level: u64, start: u64, len: u64 }
+    Upid { refusal: u64, values: [u64; 3], upid_type: u64, eidr: [u64; 12], count: u64, parts: [Part; 127] }
     AdjustedTime { refusal: u64, kind: u64, ticks: u64 }
     Number { refusal: u64, class: u64, number: u64 }
     Written { refusal: u64, length: u64 }
 }
 
 extern "C" {
-    fn scte35_header(s: *const u8, n: usize, at: usize) -> Header;
-    fn scte35_section(s: *const u8, n: usize, at: usize) -> Section;
-    fn scte35_command(kind: u8, s: *const u8, n: usize, at: usize) -> Command;
-    fn scte35_insert_components(s: *const u8, n: usize, at: usize) -> InsertComponents;
-    fn scte35_step(s: *const u8, n: usize, offset: usize) -> Step;
-    fn scte35_item_components(s: *const u8, n: usize, offset: usize) -> ItemComponents;
-    fn scte35_upid(kind: u8, s: *const u8, n: usize, at: usize) -> Upid;
+    fn scte35_abi() -> u32;
+    fn scte35_read_header(s: *const u8, n: usize, at: usize) -> Header;
+    fn scte35_read_section(s: *const u8, n: usize, at: usize) -> Section;
+    fn scte35_read_command(command_type: u8, s: *const u8, n: usize, at: usize) -> Command;
+    fn scte35_read_insert_components(s: *const u8, n: usize, at: usize) -> InsertComponents;
+    fn scte35_read_item(s: *const u8, n: usize, offset: usize) -> Step;
+    fn scte35_read_item_components(s: *const u8, n: usize, offset: usize) -> ItemComponents;
+    fn scte35_read_upid(upid_type: u8, s: *const u8, n: usize, at: usize) -> Upid;
     fn scte35_crc(s: *const u8, n: usize, at: usize) -> u32;
-    fn scte35_adjusted_time(kind: u64, ticks: u64, pts_adjustment: u64) -> AdjustedTime;
-    fn scte35_write_command(
+    fn scte35_adjust_time(kind: u64, ticks: u64, pts_adjustment: u64) -> AdjustedTime;
+    fn scte35_write_command_words(
         command: *const u64,
         command_words: usize,
         components: *const u64,
@@ -129,7 +130,7 @@ extern "C" {
         target: *mut u8,
         target_length: usize,
     ) -> Written;
-    fn scte35_write_descriptor(
+    fn scte35_write_descriptor_words(
         step: *const u64,
         step_words: usize,
         beside: *const u64,
@@ -139,7 +140,7 @@ extern "C" {
         target: *mut u8,
         target_length: usize,
     ) -> Written;
-    fn scte35_write_section(
+    fn scte35_write_section_words(
         header: *const u64,
         header_words: usize,
         command: *const u64,
@@ -153,16 +154,16 @@ extern "C" {
         target: *mut u8,
         target_length: usize,
     ) -> Written;
-    fn scte35_is_canonical_section(s: *const u8, n: usize, at: usize) -> u64;
-    fn scte35_is_canonical_loop(s: *const u8, n: usize, at: usize) -> u64;
-    fn scte35_is_canonical_descriptor(s: *const u8, n: usize, at: usize) -> u64;
-    fn scte35_algorithm(n: u8) -> Number;
-    fn scte35_command_type(n: u8) -> Number;
-    fn scte35_upid_type(n: u8) -> Number;
-    fn scte35_segmentation_type(n: u8) -> Number;
-    fn scte35_network_indicator(n: u8) -> Number;
-    fn scte35_return_mode(n: u8) -> Number;
-    fn scte35_device_restrictions(n: u8) -> Number;
+    fn scte35_is_canonical_section(s: *const u8, n: usize, at: usize) -> bool;
+    fn scte35_is_canonical_loop(s: *const u8, n: usize, at: usize) -> bool;
+    fn scte35_is_canonical_descriptor(s: *const u8, n: usize, at: usize) -> bool;
+    fn scte35_classify_algorithm(n: u8) -> Number;
+    fn scte35_classify_command_type(n: u8) -> Number;
+    fn scte35_classify_upid_type(n: u8) -> Number;
+    fn scte35_classify_segmentation_type(n: u8) -> Number;
+    fn scte35_classify_network_indicator(n: u8) -> Number;
+    fn scte35_classify_return_mode(n: u8) -> Number;
+    fn scte35_classify_device_restrictions(n: u8) -> Number;
 }
 
 // Each of these functions takes any bytes and any numbers, reads nothing but what is lent, writes nothing but a target's bytes, keeps
@@ -189,50 +190,56 @@ macro_rules! of_numbers {
 }
 
 over_bytes! {
-    header = scte35_header -> Header;
-    section = scte35_section -> Section;
-    insert_components = scte35_insert_components -> InsertComponents;
-    step = scte35_step -> Step;
-    item_components = scte35_item_components -> ItemComponents;
+    read_header = scte35_read_header -> Header;
+    read_section = scte35_read_section -> Section;
+    read_insert_components = scte35_read_insert_components -> InsertComponents;
+    read_item = scte35_read_item -> Step;
+    read_item_components = scte35_read_item_components -> ItemComponents;
     crc = scte35_crc -> u32;
-    is_canonical_section = scte35_is_canonical_section -> u64;
-    is_canonical_loop = scte35_is_canonical_loop -> u64;
-    is_canonical_descriptor = scte35_is_canonical_descriptor -> u64;
+    is_canonical_section = scte35_is_canonical_section -> bool;
+    is_canonical_loop = scte35_is_canonical_loop -> bool;
+    is_canonical_descriptor = scte35_is_canonical_descriptor -> bool;
 }
 
 of_numbers! {
-    algorithm = scte35_algorithm;
-    command_type = scte35_command_type;
-    upid_type = scte35_upid_type;
-    segmentation_type = scte35_segmentation_type;
-    network_indicator = scte35_network_indicator;
-    return_mode = scte35_return_mode;
-    device_restrictions = scte35_device_restrictions;
+    classify_algorithm = scte35_classify_algorithm;
+    classify_command_type = scte35_classify_command_type;
+    classify_upid_type = scte35_classify_upid_type;
+    classify_segmentation_type = scte35_classify_segmentation_type;
+    classify_network_indicator = scte35_classify_network_indicator;
+    classify_return_mode = scte35_classify_return_mode;
+    classify_device_restrictions = scte35_classify_device_restrictions;
 }
 
-/// `scte35_command`
+/// `scte35_abi`: that of the archive. Where it is not `ABI`, call nothing else.
 #[inline]
-pub fn command(kind: u8, s: &[u8], at: usize) -> Command {
-    unsafe { scte35_command(kind, s.as_ptr(), s.len(), at) }
+pub fn abi() -> u32 {
+    unsafe { scte35_abi() }
 }
 
-/// `scte35_upid`
+/// `scte35_read_command`
 #[inline]
-pub fn upid(kind: u8, s: &[u8], at: usize) -> Upid {
-    unsafe { scte35_upid(kind, s.as_ptr(), s.len(), at) }
+pub fn read_command(command_type: u8, s: &[u8], at: usize) -> Command {
+    unsafe { scte35_read_command(command_type, s.as_ptr(), s.len(), at) }
 }
 
-/// `scte35_adjusted_time`
+/// `scte35_read_upid`
 #[inline]
-pub fn adjusted_time(kind: u64, ticks: u64, pts_adjustment: u64) -> AdjustedTime {
-    unsafe { scte35_adjusted_time(kind, ticks, pts_adjustment) }
+pub fn read_upid(upid_type: u8, s: &[u8], at: usize) -> Upid {
+    unsafe { scte35_read_upid(upid_type, s.as_ptr(), s.len(), at) }
 }
 
-/// `scte35_write_command`
+/// `scte35_adjust_time`
 #[inline]
-pub fn write_command(command: &[u64], components: &[u64], lent: &[u8], target: &mut [u8]) -> Written {
+pub fn adjust_time(kind: u64, ticks: u64, pts_adjustment: u64) -> AdjustedTime {
+    unsafe { scte35_adjust_time(kind, ticks, pts_adjustment) }
+}
+
+/// `scte35_write_command_words`
+#[inline]
+pub fn write_command_words(command: &[u64], components: &[u64], lent: &[u8], target: &mut [u8]) -> Written {
     unsafe {
-        scte35_write_command(
+        scte35_write_command_words(
             command.as_ptr(),
             command.len(),
             components.as_ptr(),
@@ -245,11 +252,11 @@ pub fn write_command(command: &[u64], components: &[u64], lent: &[u8], target: &
     }
 }
 
-/// `scte35_write_descriptor`
+/// `scte35_write_descriptor_words`
 #[inline]
-pub fn write_descriptor(step: &[u64], beside: &[u64], lent: &[u8], target: &mut [u8]) -> Written {
+pub fn write_descriptor_words(step: &[u64], beside: &[u64], lent: &[u8], target: &mut [u8]) -> Written {
     unsafe {
-        scte35_write_descriptor(
+        scte35_write_descriptor_words(
             step.as_ptr(),
             step.len(),
             beside.as_ptr(),
@@ -262,11 +269,11 @@ pub fn write_descriptor(step: &[u64], beside: &[u64], lent: &[u8], target: &mut 
     }
 }
 
-/// `scte35_write_section`
+/// `scte35_write_section_words`
 #[inline]
-pub fn write_section(header: &[u64], command: &[u64], components: &[u64], lent: &[u8], descriptors: &[u8], target: &mut [u8]) -> Written {
+pub fn write_section_words(header: &[u64], command: &[u64], components: &[u64], lent: &[u8], descriptors: &[u8], target: &mut [u8]) -> Written {
     unsafe {
-        scte35_write_section(
+        scte35_write_section_words(
             header.as_ptr(),
             header.len(),
             command.as_ptr(),
@@ -282,6 +289,9 @@ pub fn write_section(header: &[u64], command: &[u64], components: &[u64], lent: 
         )
     }
 }
+
+/// `SCTE35_ABI` of the header file that these declarations follow.
+pub const ABI: u32 = 1;
 
 const fn words<T>() -> usize {
     std::mem::size_of::<T>() / 8

@@ -108,7 +108,7 @@ impl<'a> Upid<'a> {
         match SegmentationUpidType::from_type(upid_type) {
             SegmentationUpidType::NotUsed => Upid::None,
             SegmentationUpidType::EIDR => Upid::Eidr(eidr),
-            SegmentationUpidType::MID => Upid::Mid(Mid { bytes, parts: parts(&raw::upid(13, bytes, 0), bytes) }),
+            SegmentationUpidType::MID => Upid::Mid(Mid { bytes, parts: parts(&raw::read_upid(13, bytes, 0), bytes) }),
             upid_type @ (SegmentationUpidType::ISCIDeprecated | SegmentationUpidType::AdID | SegmentationUpidType::TID) => {
                 Upid::Text { upid_type, text: std::str::from_utf8(bytes).expect("taken for text by the reader") }
             }
@@ -127,7 +127,7 @@ pub(crate) fn written_type(reported: SegmentationUpidType, len: usize) -> Segmen
 
 fn parts<'a>(u: &raw::Upid, bytes: &'a [u8]) -> Vec<Part<'a>> {
     let part = |p: &raw::Part| Part {
-        upid_type: SegmentationUpidType::from_type(p.kind as u8),
+        upid_type: SegmentationUpidType::from_type(p.upid_type as u8),
         level: p.level as usize,
         start: p.start as usize,
         bytes: &bytes[p.start as usize..][..p.len as usize],
@@ -138,10 +138,10 @@ fn parts<'a>(u: &raw::Upid, bytes: &'a [u8]) -> Vec<Part<'a>> {
 /// Reads a UPID of the type as written from all of `bytes`. Refused with `Refusal::InputTooLong`, `NotEnoughData`, `UpidLengthTypeMismatch`,
 /// `InvalidUpidContent` or `InvalidUpidLength`.
 pub fn read_upid(written_type: SegmentationUpidType, bytes: &[u8]) -> Result<Upid<'_>, Refusal> {
-    let u = raw::upid(written_type.id(), bytes, 0);
+    let u = raw::read_upid(written_type.id(), bytes, 0);
     match u.refusal {
-        0 if u.kind == 13 => Ok(Upid::Mid(Mid { bytes, parts: parts(&u, bytes) })),
-        0 => Ok(Upid::of(u.kind as u8, bytes, u.eidr.map(|b| b as u8))),
+        0 if u.upid_type == 13 => Ok(Upid::Mid(Mid { bytes, parts: parts(&u, bytes) })),
+        0 => Ok(Upid::of(u.upid_type as u8, bytes, u.eidr.map(|b| b as u8))),
         n => Err(Refusal::answered(n, u.values)),
     }
 }

@@ -12,7 +12,7 @@ use crate::{Section, MAX_DESCRIPTOR, MAX_LOOP, MAX_SECTION};
 /// Writes a command's payload from the target's first byte on; says how many bytes that are.
 pub fn write_command(command: &SpliceCommand<'_>, target: &mut [u8]) -> Result<usize, Refusal> {
     let (words, components, lent) = of_command(command);
-    written(true, target, |target| raw::write_command(words.words(), &components, lent, target))
+    written(true, target, |target| raw::write_command_words(words.words(), &components, lent, target))
 }
 
 /// The same, as bytes of their own.
@@ -25,7 +25,7 @@ pub fn write_descriptor(descriptor: &SpliceDescriptor<'_>, target: &mut [u8]) ->
     let mut step = raw::Step::ZERO;
     let mut beside = raw::ItemComponents::ZERO;
     let lent = of_descriptor(descriptor, &mut step, &mut beside);
-    written(is_read(descriptor), target, |target| raw::write_descriptor(step.words(), beside.words(), lent, target))
+    written(is_read(descriptor), target, |target| raw::write_descriptor_words(step.words(), beside.words(), lent, target))
 }
 
 /// The same, as bytes of their own.
@@ -59,7 +59,7 @@ pub fn write_section(section: &Section<'_>, target: &mut [u8]) -> Result<usize, 
     let (words, components, lent) = of_command(&section.command);
     let algorithm = section.header.encryption_algorithm;
     let read = algorithm == EncryptionAlgorithm::from_id(algorithm.id());
-    written(read, target, |target| raw::write_section(header.words(), words.words(), &components, lent, section.descriptors.bytes(), target))
+    written(read, target, |target| raw::write_section_words(header.words(), words.words(), &components, lent, section.descriptors.bytes(), target))
 }
 
 /// The same, as bytes of their own.
@@ -93,17 +93,17 @@ impl Section<'_> {
 
 /// Is it a canonical section: accepted, every reserved bit 1, no spare byte, no refused item?
 pub fn is_canonical_section(bytes: &[u8]) -> bool {
-    raw::is_canonical_section(bytes, 0) == 1
+    raw::is_canonical_section(bytes, 0)
 }
 
 /// Is it a loop of canonical descriptors, or of none? It may have any length, though `read_item` refuses one over 4,076 bytes.
 pub fn is_canonical_loop(bytes: &[u8]) -> bool {
-    raw::is_canonical_loop(bytes, 0) == 1
+    raw::is_canonical_loop(bytes, 0)
 }
 
 /// Is it one canonical descriptor?
 pub fn is_canonical_descriptor(bytes: &[u8]) -> bool {
-    raw::is_canonical_descriptor(bytes, 0) == 1
+    raw::is_canonical_descriptor(bytes, 0)
 }
 
 /// The proved writer's answer. A value that no reader gives (`read` is false), though words can't tell, is refused as not canonical: behind what is

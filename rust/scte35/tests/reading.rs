@@ -173,7 +173,7 @@ fn headers_and_times() {
     assert_eq!(SpliceTime::Immediate.adjusted(1), Ok(None));
     assert_eq!(SpliceTime::At(1 << 33).adjusted(0), Err(Refusal::TooLarge));
     assert_eq!(SpliceTime::Unspecified.adjusted(1 << 33), Err(Refusal::TooLarge));
-    assert_eq!(raw::adjusted_time(2, 1 << 40, 0).refusal, 32);
+    assert_eq!(raw::adjust_time(2, 1 << 40, 0).refusal, 32);
     // of a section: of a time signal and of an insert by program
     let mut header = SpliceInfoHeader::default();
     header.pts_adjustment = 5;
@@ -206,21 +206,26 @@ fn numbers() {
     assert_eq!(DeviceRestrictions::from_bits(3), Ok(DeviceRestrictions::None));
 }
 
+#[test]
+fn the_archive_is_the_headers() {
+    assert_eq!(raw::abi(), raw::ABI);
+}
+
 /// The C functions take an offset: what stands before it is not read, and views count from it.
 #[test]
 fn offsets() {
     let sample = unhex("FC302F000000000000FFFFF014054800008F7FEFFE7369C02EFE0052CCF500000000000A0008435545490000013562DBA30A");
     for before in [0, 1, 3, 5000] {
         let long = [vec![0x55; before], sample.clone()].concat();
-        assert_eq!(raw::section(&long, before), raw::section(&sample, 0));
-        assert_eq!(raw::header(&long, before + 3), raw::header(&sample[3..], 0));
-        assert_eq!(raw::command(5, &long, before + 14), raw::command(5, &sample[14..], 0));
-        assert_eq!(raw::insert_components(&long, before + 14), raw::insert_components(&sample[14..], 0));
-        assert_eq!(raw::upid(13, &long, before + 40), raw::upid(13, &sample[40..], 0));
+        assert_eq!(raw::read_section(&long, before), raw::read_section(&sample, 0));
+        assert_eq!(raw::read_header(&long, before + 3), raw::read_header(&sample[3..], 0));
+        assert_eq!(raw::read_command(5, &long, before + 14), raw::read_command(5, &sample[14..], 0));
+        assert_eq!(raw::read_insert_components(&long, before + 14), raw::read_insert_components(&sample[14..], 0));
+        assert_eq!(raw::read_upid(13, &long, before + 40), raw::read_upid(13, &sample[40..], 0));
         assert_eq!(raw::crc(&long, before), 0);
         for past in [long.len(), long.len() + 1, usize::MAX] {
-            assert_eq!(raw::section(&long, past), raw::section(&[], 0));
-            assert_eq!(raw::upid(13, &long, past), raw::upid(13, &[], 0));
+            assert_eq!(raw::read_section(&long, past), raw::read_section(&[], 0));
+            assert_eq!(raw::read_upid(13, &long, past), raw::read_upid(13, &[], 0));
             assert_eq!(raw::crc(&long, past), 0xFFFF_FFFF);
         }
     }

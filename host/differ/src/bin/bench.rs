@@ -9,13 +9,13 @@ use std::time::Instant;
 #[no_mangle]
 #[inline(never)]
 fn bench_here(section: &[u8]) {
-    let read = scte35::raw::section(section, 0);
+    let read = scte35::raw::read_section(section, 0);
     black_box(&read);
     let place = read.descriptors;
     let descriptors = &section[place.at as usize..][..place.len as usize];
     let mut offset = 0;
     while offset < descriptors.len() {
-        let step = scte35::raw::step(descriptors, offset);
+        let step = scte35::raw::read_item(descriptors, offset);
         black_box(&step);
         offset = step.next as usize;
     }
@@ -24,7 +24,7 @@ fn bench_here(section: &[u8]) {
 #[no_mangle]
 #[inline(never)]
 fn bench_section(section: &[u8]) {
-    black_box(&scte35::raw::section(section, 0));
+    black_box(&scte35::raw::read_section(section, 0));
 }
 
 #[no_mangle]
@@ -74,12 +74,12 @@ struct Read {
 
 impl Read {
     fn new(section: Vec<u8>) -> Read {
-        let head = scte35::raw::section(&section, 0);
-        let components = scte35::raw::insert_components(&section[..14 + head.header.splice_command_length as usize], 14);
+        let head = scte35::raw::read_section(&section, 0);
+        let components = scte35::raw::read_insert_components(&section[..14 + head.header.splice_command_length as usize], 14);
         let mut read = Read { section, head, components, items: vec![] };
         let mut offset = 0;
         while offset < read.descriptors().len() {
-            let (step, beside) = (scte35::raw::step(read.descriptors(), offset), scte35::raw::item_components(read.descriptors(), offset));
+            let (step, beside) = (scte35::raw::read_item(read.descriptors(), offset), scte35::raw::read_item_components(read.descriptors(), offset));
             offset = step.next as usize;
             read.items.push((step, beside));
         }
@@ -98,10 +98,10 @@ impl Read {
 fn bench_write(read: &Read, joined: &mut [u8; 4096], target: &mut [u8; 4096]) -> u64 {
     let mut end = 0;
     for (step, beside) in &read.items {
-        end += scte35::raw::write_descriptor(step.words(), beside.words(), read.descriptors(), &mut joined[end..]).length as usize;
+        end += scte35::raw::write_descriptor_words(step.words(), beside.words(), read.descriptors(), &mut joined[end..]).length as usize;
     }
     let (header, command, components) = (read.head.header.words(), read.head.command.words(), read.components.words());
-    scte35::raw::write_section(header, command, components, &read.section, &joined[..end], target).length
+    scte35::raw::write_section_words(header, command, components, &read.section, &joined[..end], target).length
 }
 
 /// Nanoseconds a turn, of the best round.

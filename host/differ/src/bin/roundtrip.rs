@@ -16,6 +16,7 @@ fn wanted() -> Vec<(&'static str, String)> {
     add("answers", &["written", "refused 31", "refused 32", "refused 33", "refused 34", "refused 35", "refused 36"]);
     let commands = ["null", "bandwidth reservation", "private", "time signal", "insert cancelled", "insert by program", "insert by components"];
     add("commands", &commands);
+    add("identifiers at their place", &["PrivateBytes", "DtmfChars", "Upid", "Part", "ReservedBytes"]);
     add("insert components", &["none", "1 to 253", "254", "255"]);
     add("items", &["avail", "dtmf", "cancel", "segment", "time", "reserved"]);
     add(

@@ -59,10 +59,10 @@ fn classes(run: &mut Run, n: u8) {
         _ => 0,
     };
     let pairs = [
-        ("algorithm's class", scte35::raw::algorithm(n), format!("{:?}", scte35_reader::EncryptionAlgorithm::from_id(n))),
-        ("command type's class", scte35::raw::command_type(n), format!("{:?}", scte35_reader::SpliceCommandType::from_id(n))),
-        ("UPID type's class", scte35::raw::upid_type(n), format!("{:?}", scte35_reader::SegmentationUpidType::from_type(n))),
-        ("segmentation type's class", scte35::raw::segmentation_type(n), format!("{:?}", scte35_reader::SegmentationTypeId::from_id(n))),
+        ("algorithm's class", scte35::raw::classify_algorithm(n), format!("{:?}", scte35_reader::EncryptionAlgorithm::from_id(n))),
+        ("command type's class", scte35::raw::classify_command_type(n), format!("{:?}", scte35_reader::SpliceCommandType::from_id(n))),
+        ("UPID type's class", scte35::raw::classify_upid_type(n), format!("{:?}", scte35_reader::SegmentationUpidType::from_type(n))),
+        ("segmentation type's class", scte35::raw::classify_segmentation_type(n), format!("{:?}", scte35_reader::SegmentationTypeId::from_id(n))),
     ];
     for (what, mine, their) in pairs {
         let their = scte35::raw::Number { refusal: 0, class: class(their), number: n.into() };

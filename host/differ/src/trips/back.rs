@@ -60,6 +60,7 @@ impl Trips {
         let back = self.back_by_values(s);
         self.expect(back.as_ref() == Ok(s), || format!("section {} goes back to {back:?} by values", hex(s)));
         self.count("canonical sections", "there and back");
+        self.identifiers(&whole);
         self.canonical(&whole);
         let way = &WAYS[self.rng.below(WAYS.len())];
         if let Some(spoilt) = (way.put)(&whole, &mut self.rng) {
@@ -67,15 +68,42 @@ impl Trips {
         }
     }
 
+    /// The section's identifiers are those that it was built of, in their order; each lies at its place, behind its type as written and its length.
+    fn identifiers(&mut self, whole: &Whole) {
+        let s = &whole.section.bytes;
+        let Ok(section) = scte35::read_section(s) else { return };
+        let mut built: Vec<(Option<u8>, usize, &[u8])> = vec![];
+        if let Command::Private { bytes, .. } = &whole.command {
+            built.push((None, 0, bytes));
+        }
+        for x in &whole.items {
+            match x {
+                Item::Dtmf { chars: bytes, .. } | Item::Reserved { bytes, .. } => built.push((None, 0, bytes)),
+                Item::Segmentation { detail: Some(Segmentation { upid, .. }), .. } if upid.kind != 0 => {
+                    built.push((Some(upid.kind), 0, &upid.bytes));
+                    built.extend(upid.parts.iter().map(|p| (Some(p.kind), p.level, &upid.bytes[p.start..][..p.length])));
+                }
+                _ => {}
+            }
+        }
+        let found: Vec<_> = section.identifiers().map(|i| (i.upid_type.map(|t| t.id()), i.level, i.bytes)).collect();
+        self.expect(found == built, || format!("section {} has the identifiers {found:?}, built of {built:?}", hex(s)));
+        for i in section.identifiers() {
+            let behind = i.written_type().map_or(true, |t| s[i.at - 2..i.at] == [t.id(), i.len() as u8]);
+            self.expect(behind && s.get(i.at..i.at + i.len()) == Some(i.bytes), || format!("section {}: {i:?} is not there", hex(s)));
+            self.count("identifiers at their place", format!("{:?}", i.kind));
+        }
+    }
+
     /// What the C functions read is what they write: every item its descriptor, the loop of these, the section.
     fn back_by_words(&mut self, s: &[u8]) -> Result<Vec<u8>, u64> {
-        let read = raw::section(s, 0);
+        let read = raw::read_section(s, 0);
         let descriptors = &s[read.descriptors.at as usize..][..read.descriptors.len as usize];
         let mut target = [0x55; 4096];
         let (mut joined, mut offset) = (vec![], 0);
         while offset < descriptors.len() {
-            let (step, beside) = (raw::step(descriptors, offset), raw::item_components(descriptors, offset));
-            let answer = raw::write_descriptor(step.words(), beside.words(), descriptors, &mut target);
+            let (step, beside) = (raw::read_item(descriptors, offset), raw::read_item_components(descriptors, offset));
+            let answer = raw::write_descriptor_words(step.words(), beside.words(), descriptors, &mut target);
             if answer.refusal != 0 {
                 return Err(answer.refusal);
             }
@@ -83,8 +111,8 @@ impl Trips {
             offset = step.next as usize;
         }
         // of the bytes up to the command's end
-        let components = raw::insert_components(&s[..14 + read.header.splice_command_length as usize], 14);
-        let answer = raw::write_section(read.header.words(), read.command.words(), components.words(), s, &joined, &mut target);
+        let components = raw::read_insert_components(&s[..14 + read.header.splice_command_length as usize], 14);
+        let answer = raw::write_section_words(read.header.words(), read.command.words(), components.words(), s, &joined, &mut target);
         if answer.refusal != 0 {
             return Err(answer.refusal);
         }
@@ -103,21 +131,19 @@ impl Trips {
     // ---- the canonical form
 
     fn is(&mut self, what: &'static str, bytes: &[u8], expected: bool) {
-        let (by_words, by_values): (fn(&[u8], usize) -> u64, fn(&[u8]) -> bool) = match what {
+        let (by_words, by_values): (fn(&[u8], usize) -> bool, fn(&[u8]) -> bool) = match what {
             "section" => (raw::is_canonical_section, scte35::is_canonical_section),
             "loop" => (raw::is_canonical_loop, scte35::is_canonical_loop),
             _ => (raw::is_canonical_descriptor, scte35::is_canonical_descriptor),
         };
         self.count("canonical", format!("{what}: {}", if expected { "yes" } else { "no" }));
-        self.expect(by_words(bytes, 0) == u64::from(expected), || {
-            format!("canonical {what}? {}, not {expected}: {}", by_words(bytes, 0), hex(bytes))
-        });
+        self.expect(by_words(bytes, 0) == expected, || format!("canonical {what}? {}, not {expected}: {}", by_words(bytes, 0), hex(bytes)));
         self.expect(by_values(bytes) == expected, || format!("canonical {what}, by Rust: {}", hex(bytes)));
         if self.rng.one_in(8) {
             // behind others, which are not looked at
             let before = self.rng.below(9);
             let all = [&self.rng.bytes(before)[..], bytes].concat();
-            self.expect(by_words(&all, before) == u64::from(expected), || format!("canonical {what} from {before} on: {}", hex(&all)));
+            self.expect(by_words(&all, before) == expected, || format!("canonical {what} from {before} on: {}", hex(&all)));
         }
     }
 
@@ -136,7 +162,7 @@ impl Trips {
         for (k, d) in x.descriptors.iter().enumerate() {
             self.is("descriptor", d, x.which != Some(k));
         }
-        let read = raw::section(&x.section, 0);
+        let read = raw::read_section(&x.section, 0);
         self.expect(read.refusal == 0, || format!("{}: section {} is refused, {}", way.name, hex(&x.section), read.refusal));
         let same = scte35::read_section(&x.section).ok().zip(scte35::read_section(&whole.section.bytes).ok()).map(|(a, b)| a.reads_as(&b));
         self.expect(same == Some(way.same_reading), || format!("{}: section {} reads the same: {same:?}", way.name, hex(&x.section)));

@@ -100,14 +100,14 @@ impl Trips {
         let command = trimmed(&mut self.rng, x.command.words());
         let components = trimmed(&mut self.rng, x.components.words());
         let told = || format!("command {:?}, components {:?}, lent {}", x.command.words(), components, hex(&x.lent));
-        self.written(told, expected, room, |target| raw::write_command(command, components, &x.lent, target))
+        self.written(told, expected, room, |target| raw::write_command_words(command, components, &x.lent, target))
     }
 
     pub fn by_item(&mut self, x: &ItemWords, expected: Result<&[u8], u64>, room: usize) -> Option<Vec<u8>> {
         let step = trimmed(&mut self.rng, x.step.words());
         let beside = trimmed(&mut self.rng, x.beside.words());
         let told = || format!("step {:?}, beside {:?}, lent {}", x.step.words(), beside, hex(&x.lent));
-        self.written(told, expected, room, |target| raw::write_descriptor(step, beside, &x.lent, target))
+        self.written(told, expected, room, |target| raw::write_descriptor_words(step, beside, &x.lent, target))
     }
 
     pub fn by_section(
@@ -125,6 +125,6 @@ impl Trips {
             let (h, c) = (h.words(), x.command.words());
             format!("header {h:?}, command {c:?}, components {components:?}, lent {}, loop {}", hex(&x.lent), hex(descriptors))
         };
-        self.written(told, expected, room, |target| raw::write_section(header, command, components, &x.lent, descriptors, target))
+        self.written(told, expected, room, |target| raw::write_section_words(header, command, components, &x.lent, descriptors, target))
     }
 }

@@ -2,7 +2,6 @@
 use mathlib.Core.Path.{_≡_, ap, sym, _∙_}
 use borrow.Author.Needs.{needs}
 use Rattle.section_writer.specs.Canonical.{canonicalSection}
-use Rattle.table.specs.Table.{flagNumber}
 use Rattle.scte35.proofs.canonical.scte35_is_canonical_section.Statement.{statement}
 use Rattle.scte35.proofs.canonical.scte35_is_canonical_section.Tie as tie
 
@@ -12,11 +11,8 @@ rest-requires c κs = search needs
 is-canonical-section-requires : tie.Need-is-canonical-section-requires
 is-canonical-section-requires c κs = search needs
 
-flat-flag-requires : tie.Need-flat-flag-requires
-flat-flag-requires c κs = search needs
-
 returns : tie.Need-returns
-returns c = c .flat-flag .ensures ∙ ap flagNumber (c .before .is-canonical-section .ensures ∙ ap canonicalSection (c .before .before .rest .ensures))
+returns c = c .is-canonical-section .ensures ∙ ap canonicalSection (c .before .rest .ensures)
 
 pub scte35-is-canonical-section-spec : {M : Type 1} → statement M
-scte35-is-canonical-section-spec = tie.close (tie.spec rest-requires is-canonical-section-requires flat-flag-requires returns)
+scte35-is-canonical-section-spec = tie.close (tie.spec rest-requires is-canonical-section-requires returns)

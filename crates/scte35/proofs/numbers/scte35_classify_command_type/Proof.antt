@@ -1,0 +1,46 @@
+-- `scte35::numbers::scte35_classify_command_type` meets its contract. Assumes nothing.
+use mathlib.Core.Path.{_≡_, ap, sym, _∙_}
+use denote.Enum.Declared.{tagOf}
+use borrow.Author.Needs.{needs}
+use Rattle.names.specs.declared.command.SpliceCommandType.the-variants.{Reserved}
+use Rattle.names.specs.Command.{commands, commandTypeOf}
+use Rattle.names.proofs.command.SpliceCommandType.{the-type}
+use Rattle.names.proofs.Commands.{sound}
+use Rattle.scte35.proofs.Names.{of-name, of-number}
+use Rattle.scte35.proofs.numbers.scte35_classify_command_type.Statement.{statement}
+use Rattle.scte35.proofs.numbers.scte35_classify_command_type.Tie as tie
+
+from-id-requires : tie.Need-from-id-requires
+from-id-requires c κs = search needs
+
+enum-known-x : tie.Need-enum-known-x
+enum-known-x c = search needs
+
+classed-requires : tie.Need-classed-requires
+classed-requires c κs = search needs
+
+id-requires : tie.Need-id-requires
+id-requires c κs = search needs
+
+classed-requires-2 : tie.Need-classed-requires-2
+classed-requires-2 c κs = search needs
+
+returns : tie.Need-returns
+unfolding commandTypeOf
+returns c = c .classed .ensures ∙ of-number commands (c .before .before .before .before .before .args .n) _ (Reserved (c .before .before .x .given .0 .0)) (c .before .before .before .before .from-id .ensures) (c .before .before .x .given .1)
+
+returns-2 : tie.Need-returns-2
+unfolding commandTypeOf
+returns-2 c = c .classed2 .ensures ∙ of-name commands (tagOf the-type) sound (c .before .before .before .before .args .n) _ (c .before .before .before .from-id .ensures) (c .before .before .match .keys2) _ (c .before .id .ensures)
+
+pub scte35-classify-command-type-spec : {M : Type 1} → statement M
+scte35-classify-command-type-spec =
+    tie.close
+    (tie.spec
+    from-id-requires
+    enum-known-x
+    classed-requires
+    id-requires
+    classed-requires-2
+    returns
+    returns-2)
