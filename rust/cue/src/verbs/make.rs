@@ -334,7 +334,7 @@ mod tests {
     fn no_json() {
         let null = shown(NULL);
         // a line that is none is one cue, and those behind it are made
-        let (printed, said, status) = made(&["make", "--to", "hex"], &format!("{null}\nhello\n{null}\n{{\"cue\":\n{null}\n{{"));
+        let (printed, said, status) = made(&["make", "--to", "hex"], &format!("{null}\nhello\n{null}\n{{\"cue\":1,\n{null}\n{{"));
         assert_eq!(printed, format!("{NULL}\n{NULL}\n{NULL}\n"));
         let starts: Vec<_> = said.lines().map(|line| line.split(": ").take(2).collect::<Vec<_>>().join(": ")).collect();
         assert_eq!((starts, status), (vec!["cue 2: no JSON".to_string(), "cue 4: no JSON".into(), "cue 6: no JSON".into()], 2));
