@@ -222,7 +222,9 @@ impl Display for NoCue {
             NoCue::OddDigits(n) => write!(f, "not hexadecimal: an odd number of digits, {n}"),
             NoCue::Character(form, c, at) => write!(f, "not {form}: '{}' as its character {at}", c.escape_ascii()),
             NoCue::Base64(base64::DecodeError::InvalidLength) => f.write_str("not base64: characters are missing"),
-            NoCue::Base64(base64::DecodeError::InvalidLastSymbol(..)) => f.write_str("not base64: its last character has bits set that belong to no byte"),
+            NoCue::Base64(base64::DecodeError::InvalidLastSymbol(..)) => {
+                f.write_str("not base64: its last character has bits set that belong to no byte")
+            }
             NoCue::Base64(base64::DecodeError::InvalidByte(at, c)) => write!(f, "not base64: '{}' as its character {}", c.escape_ascii(), at + 1),
         }
     }
@@ -351,8 +353,19 @@ mod tests {
     fn each_form_is_guessed() {
         let bytes = Ok(vec![0xFC, 0x30, 0x25, 0xFF, 0xFB]);
         for text in [
-            "FC3025FFFB", "fc3025fffb", "0xFC3025FFFB", "0Xfc3025fffb", "FC 30 25 FF FB", "FC:30:25:FF:FB", "0xFC 0x30 0x25 0xFF 0xFB", "/DAl//s=", "/DAl//s", "_DAl__s",
-            "_DAl__s=", " FC3025FFFB\r", "/DAl\n//s=",
+            "FC3025FFFB",
+            "fc3025fffb",
+            "0xFC3025FFFB",
+            "0Xfc3025fffb",
+            "FC 30 25 FF FB",
+            "FC:30:25:FF:FB",
+            "0xFC 0x30 0x25 0xFF 0xFB",
+            "/DAl//s=",
+            "/DAl//s",
+            "_DAl__s",
+            "_DAl__s=",
+            " FC3025FFFB\r",
+            "/DAl\n//s=",
         ] {
             assert_eq!(decoded(text.as_bytes(), Form::Guess), bytes, "{text}");
         }

@@ -1,12 +1,12 @@
 //! Which field of the standard each byte of an accepted section belongs to: what `cue map` shows, and how `cue check` names a byte.
 //!
-//! Nothing is read here. What is there, where the command, the items and the identifiers lie and how long they are is what the library answered; the lengths of the fields
-//! between them are those of the standard's tables. A byte that no field claims is spare.
+//! Nothing is read here. What is there, where the command, the items and the identifiers lie and how long they are is what the library answered; the
+//! lengths of the fields between them are those of the standard's tables. A byte that no field claims is spare.
 use crate::names::{self, named, time};
 use crate::text::{plain, Quoted};
 use scte35::{
-    Identifier, IdentifierKind, InsertDetail, Item, Refusal, Section, SegmentationDetail, SegmentationUpidType, SpliceCommand, SpliceDescriptor, SpliceInsert, SpliceMode,
-    SpliceTime,
+    Identifier, IdentifierKind, InsertDetail, Item, Refusal, Section, SegmentationDetail, SegmentationUpidType, SpliceCommand, SpliceDescriptor,
+    SpliceInsert, SpliceMode, SpliceTime,
 };
 use std::fmt::Display;
 
@@ -64,8 +64,8 @@ pub fn descriptor_name(x: &SpliceDescriptor<'_>) -> &'static str {
     }
 }
 
-/// Where the UPID of a segmentation descriptor at a place begins: behind tag, length and identifier; event id, cancel bit and flags; components; duration; the UPID's
-/// own type and length.
+/// Where the UPID of a segmentation descriptor at a place begins: behind tag, length and identifier; event id, cancel bit and flags; components;
+/// duration; the UPID's own type and length.
 pub fn upid_place(x: &SegmentationDetail<'_>, place: usize) -> usize {
     let components = x.components.as_ref().map_or(0, |list| 1 + 6 * list.len());
     let duration = if x.segmentation_duration.is_some() { 5 } else { 0 };

@@ -1,5 +1,5 @@
-//! `cue`: SCTE 35 cues on the command line. It hands bytes to the proved functions of libscte35.a and prints what comes back; nothing of the standard is read or
-//! written here. Each verb is a file of `verbs/`.
+//! `cue`: SCTE 35 cues on the command line. It hands bytes to the proved functions of libscte35.a and prints what comes back; nothing of the standard
+//! is read or written here. Each verb is a file of `verbs/`.
 #![forbid(unsafe_code)]
 mod console;
 mod input;

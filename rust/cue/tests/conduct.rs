@@ -84,14 +84,24 @@ fn each_cue_has_its_number() {
     assert_eq!(cues.len(), 3);
     assert!(cues[2].starts_with("cue 5: "));
     assert_eq!(output.status.code(), Some(2));
-    for (words, status) in [(vec!["check", NULL], 0), (vec!["check", NULL, "FC30"], 1), (vec!["check", NULL, "FC30", "?"], 2), (vec!["check", "?", "FC30"], 2)] {
+    for (words, status) in
+        [(vec!["check", NULL], 0), (vec!["check", NULL, "FC30"], 1), (vec!["check", NULL, "FC30", "?"], 2), (vec!["check", "?", "FC30"], 2)]
+    {
         cue(&words).assert().code(status);
     }
 }
 
 #[test]
 fn wrong_words() {
-    for words in [vec![], vec!["shoe"], vec!["show"], vec!["show", "--as", "x", NULL], vec!["show", "--what", NULL], vec!["make", "--to", "x"], vec!["show", "--color", "x", NULL]] {
+    for words in [
+        vec![],
+        vec!["shoe"],
+        vec!["show"],
+        vec!["show", "--as", "x", NULL],
+        vec!["show", "--what", NULL],
+        vec!["make", "--to", "x"],
+        vec!["show", "--color", "x", NULL],
+    ] {
         let output = cue(&words).output().unwrap();
         assert_eq!(output.status.code(), Some(2), "{words:?}");
         assert!(output.stdout.is_empty() && !output.stderr.is_empty(), "{words:?}");

@@ -1,9 +1,9 @@
-//! A section made of JSON as `write.rs` makes it. Every name is looked at: one that is missing, unknown or of another kind is an error that names it. What the library works
-//! out or only reports (lengths, places, types, adjusted times, the parts of a MID) may be there or not.
+//! A section made of JSON as `write.rs` makes it. Every name is looked at: one that is missing, unknown or of another kind is an error that names it.
+//! What the library works out or only reports (lengths, places, types, adjusted times, the parts of a MID) may be there or not.
 use scte35::{
-    ComponentSplice, DeliveryRestrictions, DeviceRestrictions, EncryptionAlgorithm, InsertDetail, ModeComponent, NetworkIndicator, Refusal, ReturnMode, Section,
-    SegmentationDetail, SegmentationTypeId, SegmentationUpidType, SpliceCommand, SpliceDescriptor, SpliceDescriptors, SpliceDuration, SpliceInfoHeader, SpliceInsert,
-    SpliceMode, SpliceTime, SubSegments, Upid,
+    ComponentSplice, DeliveryRestrictions, DeviceRestrictions, EncryptionAlgorithm, InsertDetail, ModeComponent, NetworkIndicator, Refusal,
+    ReturnMode, Section, SegmentationDetail, SegmentationTypeId, SegmentationUpidType, SpliceCommand, SpliceDescriptor, SpliceDescriptors,
+    SpliceDuration, SpliceInfoHeader, SpliceInsert, SpliceMode, SpliceTime, SubSegments, Upid,
 };
 use serde_json::{Map, Value};
 use std::fmt::{self, Display};

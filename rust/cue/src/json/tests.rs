@@ -80,8 +80,9 @@ fn insert(r: &mut Random) -> Value {
 /// A type as reported with bytes that go with it; the type as written stands first.
 fn upid(r: &mut Random, room: u64, level: u64) -> (u8, u8, Vec<u8>) {
     let text = |r: &mut Random, n: u64| (0..n).map(|_| b' ' + r.below(95) as u8).collect::<Vec<u8>>();
-    let (written, length) = [(0, 0), (2, 8), (3, 12), (4, 32), (5, 8), (6, 12), (7, 12), (8, 8), (10, 12), (9, 255), (12, 255), (13, 255), (15, 255), (200, 255)]
-        [r.below(14) as usize];
+    let (written, length) =
+        [(0, 0), (2, 8), (3, 12), (4, 32), (5, 8), (6, 12), (7, 12), (8, 8), (10, 12), (9, 255), (12, 255), (13, 255), (15, 255), (200, 255)]
+            [r.below(14) as usize];
     let length = if length == 255 { 1 + r.below(room.clamp(1, 40)) } else { length };
     match written {
         0 => (0, 0, vec![]),
@@ -188,7 +189,7 @@ fn is_in(small: &Value, large: &Value) -> bool {
 #[test]
 fn made_and_read() {
     let mut random = Random(7);
-    for _ in 0..2_000 {
+    for _ in 0..1_000 {
         let object = object(&mut random);
         let bytes = super::section(object.clone()).unwrap_or_else(|fault| panic!("{fault}: {object}"));
         assert!(scte35::is_canonical_section(&bytes), "{object}");
@@ -235,7 +236,11 @@ fn output_is_held_to_the_schema() {
     let count = cues.lines().count();
     let shown = cue(&["show", "--json", "--as", "hex", "-"]).write_stdin(cues).output().unwrap().stdout;
     let here = std::path::Path::new(env!("CARGO_MANIFEST_DIR"));
-    let held = assert_cmd::Command::new("/usr/bin/python3").arg(here.join("tests/held.py")).arg(here.join("../../docs/cue.schema.json")).write_stdin(shown).output();
+    let held = assert_cmd::Command::new("/usr/bin/python3")
+        .arg(here.join("tests/held.py"))
+        .arg(here.join("../../docs/cue.schema.json"))
+        .write_stdin(shown)
+        .output();
     let held = held.expect("python3, with python3-jsonschema");
     assert_eq!(String::from_utf8_lossy(&held.stdout).trim_end(), count.to_string(), "{}", String::from_utf8_lossy(&held.stderr));
 }

@@ -223,8 +223,8 @@ impl Serialize for FormatIdentifier {
     }
 }
 
-/// The UPID of a segmentation descriptor: its identifiers, of which the UPID is the first and the others its parts; of a UPID of no bytes its place, and the type that
-/// stands before it.
+/// The UPID of a segmentation descriptor: its identifiers, of which the UPID is the first and the others its parts; of a UPID of no bytes its place,
+/// and the type that stands before it.
 struct OfUpid<'a> {
     item: &'a Item<'a>,
     place: usize,

@@ -1,4 +1,5 @@
-//! The verbs. To add one, write its file (its words, its run and its tests; `check.rs` is a short one) and put its name into the list below: no other file changes.
+//! The verbs. To add one, write its file (its words, its run and its tests; `check.rs` is a short one) and put its name into the list below: no other
+//! file changes.
 use crate::console::Console;
 use clap::{ArgMatches, Command};
 use std::io;
