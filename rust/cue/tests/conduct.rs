@@ -129,6 +129,21 @@ fn a_closed_pipe_ends_it_quietly() {
     fs::remove_dir_all(folder).unwrap();
 }
 
+/// Colour on a terminal alone, and not where NO_COLOR or --color says no. (`script` is the terminal.)
+#[test]
+fn colours() {
+    let folder = folder("colours");
+    let terminal = |line: &str| shell(&folder, &format!("TERM=xterm script -qec '{line}' /dev/null </dev/null")).0.contains("\x1b[");
+    for verb in ["show", "map"] {
+        assert!(terminal(&format!("cue {verb} {INCIDENT}")), "{verb}");
+        assert!(!terminal(&format!("NO_COLOR=1 cue {verb} {INCIDENT}")), "{verb}");
+        assert!(!terminal(&format!("cue --color never {verb} {INCIDENT}")), "{verb}");
+        assert!(!shell(&folder, &format!("cue {verb} {INCIDENT}")).0.contains('\x1b'), "{verb}");
+        assert!(shell(&folder, &format!("NO_COLOR=1 cue {verb} --color always {INCIDENT}")).0.contains('\x1b'), "{verb}");
+    }
+    fs::remove_dir_all(folder).unwrap();
+}
+
 /// Every example that `--help` shows works as it stands.
 #[test]
 fn examples_work() {
