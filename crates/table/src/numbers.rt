@@ -88,9 +88,9 @@ pub fn time33(s: &[u8], at: usize) -> u64
     if s.len() - at < 5 {
         return bits(s, at, 7, 33);
     }
-    wide(s[at]) % 2 * 4294967296
-        + wide(s[at + 1]) * 16777216
-        + wide(s[at + 2]) * 65536
+    wide(s[at]) % 2 * 4_294_967_296
+        + wide(s[at + 1]) * 16_777_216
+        + wide(s[at + 2]) * 65_536
         + wide(s[at + 3]) * 256
         + wide(s[at + 4])
 }
