@@ -53,6 +53,18 @@ field-none s at w h = sym (ap (field (bitsOf s) at) (sym (zero-add w)) ∙ field
 pub last-bit : (s : List ℕ) (i : ℕ) → i < length s → getD s i 0 < 256 → getD s i 0 % 2 ≡ field (bitsOf s) (i * 8 + 7) 1
 last-bit s i h b = sym (field-in s i h b 7 1 0 refl ∙ ap (λ (x : ℕ). x % 2) (div-one (getD s i 0)))
 
+-- the last bit of a byte and the four bytes behind it, each by its power of 256
+pub five-bytes : (s : List ℕ) (i : ℕ) → i + 5 ≤ length s → ((j : ℕ) → getD s j 0 < 256)
+    → getD s i 0 % 2 * 4294967296 + getD s (i + 1) 0 * 16777216 + getD s (i + 2) 0 * 65536 + getD s (i + 3) 0 * 256 + getD s (i + 4) 0 ≡ field (bitsOf s) (i * 8 + 7) 33
+five-bytes s i h byte =
+    let p = i * 8 + 7 in
+    let a = last-bit s i (omega arith) (byte i) in
+    let b : field (bitsOf s) p 9 ≡ field (bitsOf s) p 1 * 256 + getD s (i + 1) 0 = field-byte s (i + 1) (omega arith) (byte (i + 1)) p 1 (omega arith) in
+    let c : field (bitsOf s) p 17 ≡ field (bitsOf s) p 9 * 256 + getD s (i + 2) 0 = field-byte s (i + 2) (omega arith) (byte (i + 2)) p 9 (omega arith) in
+    let d : field (bitsOf s) p 25 ≡ field (bitsOf s) p 17 * 256 + getD s (i + 3) 0 = field-byte s (i + 3) (omega arith) (byte (i + 3)) p 17 (omega arith) in
+    let e : field (bitsOf s) p 33 ≡ field (bitsOf s) p 25 * 256 + getD s (i + 4) 0 = field-byte s (i + 4) (omega arith) (byte (i + 4)) p 25 (omega arith) in
+    omega (arith, a, b, c, d, e)
+
 -- a mask of n bits, as code works it out
 pub mask : (n : ℕ) → n ≤ 8 → 1 * 2 ^ n % 2 ^ 64 ≡ 2 ^ n
 mask n h =

@@ -78,31 +78,19 @@ pub fn big_endian(s: &[u8], at: usize, n: usize) -> u64
     v
 }
 
-// A byte behind the bits of v.
-fn with_byte(v: u64, b: u8) -> u64
-    requires { ⌜ v < 2 ^ 56 ⌝ }
-    ensures { λ r. ⌜ r ≡ v * 256 + b ⌝ }
-{
-    v * 256 + wide(b)
-}
-
-// The 33 bits that start in the last bit of a byte, as the standard's times do.
+// The 33 bits that start in the last bit of a byte, as the standard's times do: that bit and the four bytes behind it, each by its power of 256.
 pub fn time33(s: &[u8], at: usize) -> u64
     ensures { λ r. ⌜ r ≡ field (bitsOf (now (s .entry))) (at * 8 + 7) 33 ⌝ }
 {
     if s.len() <= at {
         return 0;
     }
-    let mut v = wide(s[at]) % 2;
-    let mut i = at + 1;
-    let mut ahead: usize = 4;
-    while 0 < ahead {
-        if s.len() <= i {
-            return v;
-        }
-        v = with_byte(v, s[i]);
-        i += 1;
-        ahead -= 1;
+    if s.len() - at < 5 {
+        return bits(s, at, 7, 33);
     }
-    v
+    wide(s[at]) % 2 * 4_294_967_296
+        + wide(s[at + 1]) * 16_777_216
+        + wide(s[at + 2]) * 65_536
+        + wide(s[at + 3]) * 256
+        + wide(s[at + 4])
 }
