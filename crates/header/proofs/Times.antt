@@ -3,9 +3,9 @@ use Prim.Native.Nat.{ℕ, _+_, _*_, _-_, _/_, _%_, _^_, _<_, _≤_}
 use mathlib.Core.Bool.{Bool, true, false}
 use mathlib.Core.List.{List, [], _∷_, _++_}
 use mathlib.Core.Path.{_≡_, refl, ap, sym, _∙_}
-use native.Mathlib.Nat.{zero-add, add-zero}
+use native.Mathlib.Nat.{zero-add, add-zero, mod-eq-of-lt}
 use native.Mathlib.Omega.{arith}
-use lib.Dec.{eqb}
+use lib.Dec.{eqb, ltb}
 use lib.ListN.{length, getD}
 use borrow.Author.Tests.{lt-ltb, le-ltb}
 use Rattle.table.specs.Bits.{pick, bitsOf, field, AllBytes}
@@ -195,6 +195,38 @@ module _ (adjustment : ℕ) where
     unfolding adjustedOf
     adjust-late x t e h = rw (e, lt-ltb adjustment (2 ^ 33) narrow, le-ltb t (2 ^ 33) h)
 
-    pub adjust-at : (x : SpliceTime) (t : ℕ) → x ≡ At t → t < 2 ^ 33 → AdjustedTime.At (t + adjustment) ≡ adjustedOf x adjustment
+    pub adjust-at : (x : SpliceTime) (t : ℕ) → x ≡ At t → t < 2 ^ 33 → AdjustedTime.At ((t + adjustment) % 8589934592) ≡ adjustedOf x adjustment
     unfolding adjustedOf
     adjust-at x t e h = rw (e, lt-ltb adjustment (2 ^ 33) narrow, lt-ltb t (2 ^ 33) h)
+
+-- what is answered has 33 bits
+pub adjusted-below : (t : SpliceTime) (adjustment n : ℕ) → adjustedOf t adjustment ≡ AdjustedTime.At n → n < 2 ^ 33
+unfolding adjustedOf
+adjusted-below t adjustment n e = go (ltb adjustment (2 ^ 33)) (ltb (ticks t) (2 ^ 33)) (specified t) e
+  where
+    go : (fits small there : Bool)
+        → pick fits (pick small (pick there (AdjustedTime.At ((ticks t + adjustment) % 8589934592)) AdjustedTime.Nothing) AdjustedTime.TooLarge) AdjustedTime.TooLarge ≡ AdjustedTime.At n
+        → n < 2 ^ 33
+    go true true true e =
+        let k : n ≡ (ticks t + adjustment) % 8589934592 = cc in
+        omega (arith, k)
+    go true true false e = zero-one cc
+    go true false there e = zero-one cc
+    go false small there e = zero-one cc
+
+-- where nothing is carried the adjusted time is the sum
+pub adjusted-sum : (t adjustment : ℕ) → t + adjustment < 2 ^ 33 → adjustedOf (At t) adjustment ≡ AdjustedTime.At (t + adjustment)
+adjusted-sum t adjustment h = sym (adjust-at adjustment (omega arith) (At t) t refl (omega arith)) ∙ ap AdjustedTime.At (mod-eq-of-lt h)
+
+pub adjusted-none : (adjustment : ℕ) → adjustment < 2 ^ 33 → (adjustedOf Unspecified adjustment ≡ AdjustedTime.Nothing) × (adjustedOf Immediate adjustment ≡ AdjustedTime.Nothing)
+adjusted-none adjustment h = (sym (adjust-none adjustment h Unspecified refl refl), sym (adjust-none adjustment h Immediate refl refl))
+
+pub adjusted-wide : (t adjustment : ℕ) → (2 ^ 33 ≤ adjustment → (x : SpliceTime) → adjustedOf x adjustment ≡ AdjustedTime.TooLarge)
+    × (adjustment < 2 ^ 33 → 2 ^ 33 ≤ t → adjustedOf (At t) adjustment ≡ AdjustedTime.TooLarge)
+adjusted-wide t adjustment = (λ h x. sym (adjust-wide adjustment x h), λ h w. sym (adjust-late adjustment h (At t) t refl w))
+
+-- 02's row and its neighbours
+pub adjusted-wraps : (adjustedOf (At 8589934591) 1 ≡ AdjustedTime.At 0) × (adjustedOf (At 8589934591) 0 ≡ AdjustedTime.At 8589934591)
+    × (adjustedOf (At 8589934591) 8589934591 ≡ AdjustedTime.At 8589934590)
+unfolding adjustedOf
+adjusted-wraps = (refl, refl, refl)

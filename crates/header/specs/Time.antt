@@ -1,5 +1,5 @@
 -- splice_time() and the adjusted time. 01, "Commands".
-use Prim.Native.Nat.{ℕ, _+_, _^_}
+use Prim.Native.Nat.{ℕ, _+_, _%_, _^_}
 use mathlib.Core.Bool.{Bool, true, false, not}
 use mathlib.Core.List.{List, []}
 use lib.Dec.{ltb}
@@ -46,12 +46,12 @@ unfoldable pub timeRead : Answer SpliceTime → TimeRead
 timeRead (got t at) = TimeRead.Got (record { time = t; next = cursorAt at })
 timeRead (short expected actual) = TimeRead.Lacks (record { expected = expected; actual = actual })
 
--- "Adjusted time: where a time is specified, time plus pts_adjustment, 0 to 17,179,869,182; otherwise none."
--- Refusal 32, first: a number that exceeds its field of 33 bits.
+-- 02, Q-2: "the adjusted time is the sum's remainder modulo 8,589,934,592" ("the carry out of the 33-bit addition is ignored").
+-- 01: "where a time is specified .. otherwise none". Refusal 32, first: a number that exceeds its field of 33 bits.
 unfoldable pub adjustedOf : SpliceTime → ℕ → AdjustedTime
 adjustedOf t adjustment =
     pick (ltb adjustment (2 ^ 33))
     (pick (ltb (ticks t) (2 ^ 33))
-    (pick (specified t) (AdjustedTime.At (ticks t + adjustment)) AdjustedTime.Nothing)
+    (pick (specified t) (AdjustedTime.At ((ticks t + adjustment) % 8589934592)) AdjustedTime.Nothing)
     AdjustedTime.TooLarge)
     AdjustedTime.TooLarge

@@ -108,7 +108,7 @@ pub enum AdjustedTime {
     TooLarge,
 }
 
-// The time plus the adjustment, of which each has 33 bits.
+// The time plus the adjustment, of which each has 33 bits; the carry out of the 33 bits is ignored.
 pub fn adjusted_time(time: SpliceTime, pts_adjustment: u64) -> AdjustedTime
     ensures { λ r. ⌜ r ≡ adjustedOf time «pts_adjustment» ⌝ }
 {
@@ -122,7 +122,7 @@ pub fn adjusted_time(time: SpliceTime, pts_adjustment: u64) -> AdjustedTime
             if 0x1_FFFF_FFFF < ticks {
                 return AdjustedTime::TooLarge;
             }
-            AdjustedTime::At(ticks + pts_adjustment)
+            AdjustedTime::At((ticks + pts_adjustment) % 0x2_0000_0000)
         }
     }
 }

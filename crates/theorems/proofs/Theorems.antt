@@ -101,6 +101,7 @@ use Rattle.theorems.proofs.Sections as sections
 use Rattle.theorems.proofs.SectionsMade as sections-made
 use Rattle.theorems.proofs.Targets as targets
 use Rattle.theorems.proofs.SectionsOverC as sections-over-c
+use Rattle.header.proofs.Times as adjustments
 use Rattle.theorems.proofs.Tolerated as tolerated
 use Rattle.theorems.proofs.Whole as whole-runs
 use Rattle.theorems.proofs.Worked as worked
@@ -374,9 +375,26 @@ upids-and-counts-of-segmentations = (refl, refl, λ i. (refl, refl))
 pub counts-of-inserts : (insertCount SpliceInsert.Cancel ≡ 0) × ((i : Insert) → insertCount (SpliceInsert.Insert i) ≡ count (i .«splice_mode»))
 counts-of-inserts = (refl, λ i. refl)
 
--- "Adjusted time: .. 0 to 17,179,869,182"
-pub an-adjusted-time-is-at-most-17179869182 : (t : SpliceTime) (adjustment n : ℕ) → adjustedOf t adjustment ≡ AdjustedTime.At n → n ≤ 17179869182
-an-adjusted-time-is-at-most-17179869182 = tolerated.adjusted-most
+-- 02, Q-2: "the adjusted time is the sum's remainder modulo 8,589,934,592"
+pub an-adjusted-time-has-33-bits : (t : SpliceTime) (adjustment n : ℕ) → adjustedOf t adjustment ≡ AdjustedTime.At n → n < 2 ^ 33
+an-adjusted-time-has-33-bits = adjustments.adjusted-below
+
+-- "Time 8,589,934,591 with adjustment 1 gives 0", with 0 itself, and two of 8,589,934,591 one less
+pub adjusted-times-wrap-round : (adjustedOf (SpliceTime.At 8589934591) 1 ≡ AdjustedTime.At 0) × (adjustedOf (SpliceTime.At 8589934591) 0 ≡ AdjustedTime.At 8589934591)
+    × (adjustedOf (SpliceTime.At 8589934591) 8589934591 ≡ AdjustedTime.At 8589934590)
+adjusted-times-wrap-round = adjustments.adjusted-wraps
+
+-- where nothing is carried, the sum; where no time is specified, none; refusal 32 for a number of 2 ^ 33 or more, either one
+pub an-adjusted-time-is-the-sum : (t adjustment : ℕ) → t + adjustment < 2 ^ 33 → adjustedOf (SpliceTime.At t) adjustment ≡ AdjustedTime.At (t + adjustment)
+an-adjusted-time-is-the-sum = adjustments.adjusted-sum
+
+pub no-time-is-adjusted-to-none : (adjustment : ℕ) → adjustment < 2 ^ 33
+    → (adjustedOf SpliceTime.Unspecified adjustment ≡ AdjustedTime.Nothing) × (adjustedOf SpliceTime.Immediate adjustment ≡ AdjustedTime.Nothing)
+no-time-is-adjusted-to-none = adjustments.adjusted-none
+
+pub numbers-of-34-bits-are-not-adjusted : (t adjustment : ℕ) → (2 ^ 33 ≤ adjustment → (x : SpliceTime) → adjustedOf x adjustment ≡ AdjustedTime.TooLarge)
+    × (adjustment < 2 ^ 33 → 2 ^ 33 ≤ t → adjustedOf (SpliceTime.At t) adjustment ≡ AdjustedTime.TooLarge)
+numbers-of-34-bits-are-not-adjusted = adjustments.adjusted-wide
 
 -- ---- the worked rows
 

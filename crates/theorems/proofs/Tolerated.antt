@@ -1,22 +1,19 @@
--- What readers do not look at: section_length, and bytes behind a command's last field. And the ranges of a section's refusals and of an adjusted time. Assumes nothing.
-use Prim.Native.Nat.{ℕ, _+_, _*_, _^_, _≤_}
+-- What readers do not look at: section_length, and bytes behind a command's last field. And the range of a section's refusals. Assumes nothing.
+use Prim.Native.Nat.{ℕ, _+_, _*_, _≤_}
 use mathlib.Core.Bool.{Bool, true, false}
 use mathlib.Core.List.{List, _∷_, _++_}
 use mathlib.Core.Path.{_≡_, refl, ap, sym, _∙_}
 use native.Mathlib.Omega.{arith}
-use lib.Dec.{ltb, eqb}
+use lib.Dec.{eqb}
 use lib.ListN.{take}
 use lib.Seq.{drop-append-add}
-use borrow.Author.Tests.{ltb-true}
 use Rattle.command.specs.Command.{read, empty, commandOf}
 use Rattle.command.specs.Insert.{WithComponents, blank, timeUnless, component, moded, breakDuration, ending, active, insert}
 use Rattle.command.specs.declared.CommandRead.{CommandRead}
 use Rattle.command.specs.declared.SpliceCommand.{SpliceCommand}
 use Rattle.command.specs.declared.insert.SpliceMode.{SpliceMode}
 use Rattle.crc.specs.Crc.{crcOf}
-use Rattle.header.specs.Time.{specified, ticks, spliceTime, adjustedOf}
-use Rattle.header.specs.declared.time.AdjustedTime.{AdjustedTime}
-use Rattle.header.specs.declared.time.SpliceTime.{SpliceTime}
+use Rattle.header.specs.Time.{spliceTime}
 use Rattle.section.specs.Section.{commandLength, commandType, commandBytes, roomAfter, loopLength, loopPlace, frameOf, sectionOf, numberOf}
 use Rattle.section.specs.declared.Refusal.{Refusal}
 use Rattle.section.specs.declared.SectionRead.{SectionRead}
@@ -66,21 +63,6 @@ eleven (SectionRead.Refused Refusal.NoLoopLength) = omega arith
 eleven (SectionRead.Refused Refusal.LoopTooLong) = omega arith
 eleven (SectionRead.Refused Refusal.UnknownCommand) = omega arith
 eleven (SectionRead.Refused Refusal.MalformedCommand) = omega arith
-
--- ---- an adjusted time
-pub adjusted-most : (t : SpliceTime) (adjustment n : ℕ) → adjustedOf t adjustment ≡ AdjustedTime.At n → n ≤ 17179869182
-unfolding adjustedOf
-adjusted-most t adjustment n e = go (ltb adjustment (2 ^ 33)) refl (ltb (ticks t) (2 ^ 33)) refl (specified t) e
-  where
-    go : (fits : Bool) → ltb adjustment (2 ^ 33) ≡ fits → (small : Bool) → ltb (ticks t) (2 ^ 33) ≡ small → (there : Bool)
-        → pick fits (pick small (pick there (AdjustedTime.At (ticks t + adjustment)) AdjustedTime.Nothing) AdjustedTime.TooLarge) AdjustedTime.TooLarge ≡ AdjustedTime.At n
-        → n ≤ 17179869182
-    go true f true s true e =
-        let k : n ≡ ticks t + adjustment = cc in
-        omega (arith, k, ltb-true adjustment (2 ^ 33) f, ltb-true (ticks t) (2 ^ 33) s)
-    go true f true s false e = zero-one cc
-    go true f false s there e = zero-one cc
-    go false f small s there e = zero-one cc
 
 -- ---- bytes behind the last field of a command
 blind-time : Blind spliceTime

@@ -85,7 +85,7 @@ impl SpliceTime {
         }
     }
 
-    /// The time with its section's adjustment added, where one is specified. Refused with `Refusal::TooLarge` where either has more than 33 bits.
+    /// The time with its section's adjustment added, modulo 2^33, where one is specified. Refused with `Refusal::TooLarge` where either has more than 33 bits.
     pub fn adjusted(self, pts_adjustment: u64) -> Result<Option<u64>, Refusal> {
         let (kind, ticks) = match self {
             SpliceTime::Immediate => (1, 0),

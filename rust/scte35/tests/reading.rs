@@ -168,7 +168,17 @@ fn headers_and_times() {
     assert_eq!((h.protocol_version, h.encrypted_packet, h.pts_adjustment, h.cw_index), (1, true, 4_294_967_301, 6));
     assert_eq!((h.tier, h.splice_command_length), (0xABC, 0xDEF));
     assert_eq!((h.encryption_algorithm, h.splice_command_type), (EncryptionAlgorithm::Private(33), SpliceCommandType::PrivateCommand));
-    assert_eq!(SpliceTime::At(8_589_934_591).adjusted(8_589_934_591), Ok(Some(17_179_869_182)));
+    // the carry out of 33 bits is ignored: every pair of boundaries, by the C function and by the method
+    let boundaries = [0, 1, 1 << 32, (1 << 33) - 1, 1 << 33];
+    for time in boundaries {
+        for adjustment in boundaries {
+            let sum = (time < 1 << 33 && adjustment < 1 << 33).then_some((time + adjustment) % (1 << 33));
+            let raw = raw::adjust_time(3, time, adjustment);
+            assert_eq!((raw.refusal, raw.ticks), sum.map_or((32, 0), |sum| (0, sum)), "{time} and {adjustment}");
+            assert_eq!(SpliceTime::At(time).adjusted(adjustment), sum.map(Some).ok_or(Refusal::TooLarge), "{time} and {adjustment}");
+        }
+    }
+    assert_eq!(SpliceTime::At(8_589_934_591).adjusted(1), Ok(Some(0)));
     assert_eq!(SpliceTime::Unspecified.adjusted(1), Ok(None));
     assert_eq!(SpliceTime::Immediate.adjusted(1), Ok(None));
     assert_eq!(SpliceTime::At(1 << 33).adjusted(0), Err(Refusal::TooLarge));

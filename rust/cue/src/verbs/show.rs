@@ -362,6 +362,14 @@ item 1, 30 bytes at 21: segmentation_descriptor
         let cue = with_crc("FC3016 00 0000000001 FF FFF005 06 FE00000002 0000");
         assert!(stdout(&["show", &cue]).contains("splice_time 2 (0:00:00.000), adjusted 3 (0:00:00.000)"));
         assert_eq!(shown(&cue)["time_signal"]["splice_time"], json!({ "time_specified_flag": true, "pts_time": 2, "adjusted": 3 }));
+        // pts_adjustment 1, the last time of 33 bits: it wraps round
+        let cue = with_crc("FC3016 00 0000000001 FF FFF005 06 FFFFFFFFFF 0000");
+        assert!(stdout(&["show", &cue]).contains("splice_time 8589934591 (26:30:43.717), adjusted 0 (0:00:00.000)"));
+        assert_eq!(shown(&cue)["time_signal"]["splice_time"], json!({ "time_specified_flag": true, "pts_time": 8_589_934_591u64, "adjusted": 0 }));
+        // no time is specified
+        let cue = with_crc("FC3012 00 0000000001 FF FFF001 06 7F 0000");
+        assert!(!stdout(&["show", &cue]).contains("adjusted"));
+        assert_eq!(shown(&cue)["time_signal"]["splice_time"], json!({ "time_specified_flag": false }));
     }
 
     #[test]
