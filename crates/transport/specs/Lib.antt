@@ -1,0 +1,4 @@
+pub mod Packet
+pub mod Sections
+pub mod Step
+pub mod Assembler
