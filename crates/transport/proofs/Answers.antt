@@ -9,19 +9,19 @@ use lib.Dec.{eqb}
 use lib.Seq.{length-take-le, take-all, take-take, take-append-le, take-append-add}
 use borrow.Author.Tests.{eq-eqb, ne-eqb, eqb-true}
 use Rattle.table.specs.Lent.{stored}
-use Rattle.transport.specs.declared.sections.Next.{Next}
-use Rattle.transport.specs.declared.sections.Next.the-variants.{Nothing, Long, Part, Whole}
+use Rattle.transport_packet.specs.declared.sections.Next.{Next}
+use Rattle.transport_packet.specs.declared.sections.Next.the-variants.{Nothing, Long, Part, Whole}
 use Rattle.transport.specs.declared.Assembler.{Assembler}
 use Rattle.transport.specs.declared.Fed.the-variants as fed
 use Rattle.transport.specs.declared.Taken.the-variants as taken
-use Rattle.transport.specs.declared.packet.Refusal.{Refusal}
-use Rattle.transport.specs.declared.packet.Refusal.the-variants.{SectionLengthTooLarge}
-use Rattle.transport.specs.declared.packet.Head.the-variants as head
-use Rattle.transport.specs.Packet.{headOf}
-use Rattle.transport.specs.Sections.{nextOf, cutFrom, cut}
+use Rattle.transport_packet.specs.declared.packet.Refusal.{Refusal}
+use Rattle.transport_packet.specs.declared.packet.Refusal.the-variants.{SectionLengthTooLarge}
+use Rattle.transport_packet.specs.declared.packet.Head.the-variants as head
+use Rattle.transport_packet.specs.Packet.{headOf}
+use Rattle.transport_packet.specs.Sections.{nextOf, cutFrom, cut}
 use Rattle.transport.specs.Step.{goesOn, cutOf, before}
 use Rattle.transport.specs.Assembler.{atRest, holding, giving, takenFrom, takenOf, kept, keeping, answering, underFor, fedBy, fedWith, fedOf}
-use Rattle.transport.proofs.Next.{whole-shown}
+use Rattle.transport_packet.proofs.Next.{whole-shown}
 use Rattle.transport.proofs.Buffer.{stored-on, stored-same}
 use Rattle.table.proofs.Stores.{stored-nil}
 

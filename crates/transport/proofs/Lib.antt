@@ -1,6 +1,4 @@
-pub mod Next
-pub mod Bytes
-pub mod Cuts
-pub mod Heads
+pub mod Under
+pub mod Settles
 pub mod Buffer
 pub mod Answers

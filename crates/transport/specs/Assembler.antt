@@ -6,16 +6,16 @@ use lib.Dec.{eqb}
 use lib.ListN.{length, take, drop}
 use Rattle.table.specs.Bits.{pick}
 use Rattle.table.specs.Lent.{stored}
-use Rattle.transport.specs.declared.packet.Head.{Head}
-use Rattle.transport.specs.declared.packet.Head.the-variants as head
-use Rattle.transport.specs.declared.packet.Refusal.the-variants.{SectionLengthTooLarge}
+use Rattle.transport_packet.specs.declared.packet.Head.{Head}
+use Rattle.transport_packet.specs.declared.packet.Head.the-variants as head
+use Rattle.transport_packet.specs.declared.packet.Refusal.the-variants.{SectionLengthTooLarge}
 use Rattle.transport.specs.declared.Assembler.{Assembler}
 use Rattle.transport.specs.declared.Fed.{Fed}
 use Rattle.transport.specs.declared.Fed.the-variants as fed
 use Rattle.transport.specs.declared.Taken.{Taken}
 use Rattle.transport.specs.declared.Taken.the-variants as taken
-use Rattle.transport.specs.Packet.{headOf}
-use Rattle.transport.specs.Sections.{nextOf, byNext}
+use Rattle.transport_packet.specs.Packet.{headOf}
+use Rattle.transport_packet.specs.Sections.{nextOf, byNext}
 use Rattle.transport.specs.Step.{follows, goesOn, cutOf, before}
 
 abbrev pub freshAssembler : ℕ → Assembler

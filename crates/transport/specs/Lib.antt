@@ -1,4 +1,2 @@
-pub mod Packet
-pub mod Sections
 pub mod Step
 pub mod Assembler

@@ -6,14 +6,14 @@ use mathlib.Core.Path.{_≡_}
 use lib.Dec.{eqb, leb}
 use lib.ListN.{length, take, drop}
 use Rattle.table.specs.Bits.{pick}
-use Rattle.transport.specs.declared.packet.Refusal.{Refusal}
-use Rattle.transport.specs.declared.packet.Refusal.the-variants.{SectionLengthTooLarge}
-use Rattle.transport.specs.declared.packet.Head.{Head}
-use Rattle.transport.specs.declared.packet.Head.the-variants.{Refused, NoPayload, Payload}
-use Rattle.transport.specs.declared.sections.Next.{Next}
-use Rattle.transport.specs.declared.sections.Next.the-variants.{Nothing, Part}
-use Rattle.transport.specs.Packet.{headOf}
-use Rattle.transport.specs.Sections.{nextOf, byNext, Cut, longCut, underWay, andThen, cut}
+use Rattle.transport_packet.specs.declared.packet.Refusal.{Refusal}
+use Rattle.transport_packet.specs.declared.packet.Refusal.the-variants.{SectionLengthTooLarge}
+use Rattle.transport_packet.specs.declared.packet.Head.{Head}
+use Rattle.transport_packet.specs.declared.packet.Head.the-variants.{Refused, NoPayload, Payload}
+use Rattle.transport_packet.specs.declared.sections.Next.{Next}
+use Rattle.transport_packet.specs.declared.sections.Next.the-variants.{Nothing, Part}
+use Rattle.transport_packet.specs.Packet.{headOf}
+use Rattle.transport_packet.specs.Sections.{nextOf, byNext, Cut, longCut, underWay, andThen, cut}
 
 -- The counter of the last packet with payload, 16 before the first; and the bytes of the section under way, none where none is.
 pub record State : Type 0 where

@@ -7,17 +7,16 @@ ghost use Prim.Native.Nat.{_≤_};
 ghost use lib.ListN.{length, take, drop};
 ghost use Rattle.transport.specs.Step.{follows, before};
 ghost use Rattle.transport.specs.Assembler.{freshAssembler, holding, underFor, fedBy, fedOf, takenFrom, takenOf};
-use packet::Head;
-use packet::Refusal;
-use packet::read_head;
-use sections::Next;
-use sections::any_long;
-use sections::next_at;
-use sections::next_on;
 use table::store::put_bytes;
+use transport_packet::packet::Head;
+use transport_packet::packet::Refusal;
+use transport_packet::packet::read_head;
+use transport_packet::sections::Next;
+use transport_packet::sections::any_long;
+use transport_packet::sections::next_at;
+use under::next_on;
 
-pub mod packet;
-pub mod sections;
+pub mod under;
 
 // The counter of the last packet with payload (16 and more: there was none yet), how many bytes of a section stand in the buffer, and the
 // place in the packet from which sections are still to be taken.

@@ -8,20 +8,20 @@ use lib.Dec.{eqb}
 use lib.ListN.{length, drop, length-drop}
 use borrow.Author.Tests.{eqb-true, eqb-false, ne-eqb}
 use Rattle.table.specs.Lent.{stored}
-use Rattle.transport.specs.declared.packet.Refusal.{Refusal}
-use Rattle.transport.specs.declared.packet.Refusal.the-variants.{SectionLengthTooLarge}
-use Rattle.transport.specs.declared.packet.Head.{Head}
-use Rattle.transport.specs.declared.packet.Head.the-variants.{Refused, NoPayload, Payload}
+use Rattle.transport_packet.specs.declared.packet.Refusal.{Refusal}
+use Rattle.transport_packet.specs.declared.packet.Refusal.the-variants.{SectionLengthTooLarge}
+use Rattle.transport_packet.specs.declared.packet.Head.{Head}
+use Rattle.transport_packet.specs.declared.packet.Head.the-variants.{Refused, NoPayload, Payload}
 use Rattle.transport.specs.declared.Assembler.{Assembler}
 use Rattle.transport.specs.declared.Fed.the-variants as fed
-use Rattle.transport.specs.Packet.{headOf}
-use Rattle.transport.specs.Sections.{Cut}
+use Rattle.transport_packet.specs.Packet.{headOf}
+use Rattle.transport_packet.specs.Sections.{Cut}
 use Rattle.transport.specs.Step.{told, cutOf, before, tellsOf, stepOf}
 use Rattle.transport.specs.Step.Told.{refused, took}
 use Rattle.transport.specs.Assembler.{atRest, answering, keeping, kept, underFor, fedBy, fedOf}
 use Rattle.transport_laws.specs.Takes.{Takes, takesOf, stateOf, codeStep, codeGiven, Ready}
 use Rattle.transport_laws.specs.Runs.{given}
-use Rattle.transport.proofs.Heads.{Placed, payload-placed, none-placed}
+use Rattle.transport_packet.proofs.Heads.{Placed, payload-placed, none-placed}
 use Rattle.transport.proofs.Answers.{fed-refused, fed-none, fed-repeat, fed-goes}
 use Rattle.transport_laws.proofs.Takes.{Leaves, rests, kept-taken}
 use Rattle.transport_laws.proofs.Runs.{step-settles}

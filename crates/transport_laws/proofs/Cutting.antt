@@ -9,14 +9,14 @@ use lib.ListN.{length, take, drop, getD, length-append, length-drop, take-append
 use lib.Seq.{drop-append-le, take-at}
 use borrow.Author.Tests.{eqb-true, eqb-false, ne-eqb, leb-true, leb-false}
 use Rattle.table.proofs.Lists.{append-nil}
-use Rattle.transport.specs.declared.sections.Next.{Next}
-use Rattle.transport.specs.declared.sections.Next.the-variants.{Nothing, Long, Part, Whole}
-use Rattle.transport.specs.Sections.{sectionLength, nextOf}
+use Rattle.transport_packet.specs.declared.sections.Next.{Next}
+use Rattle.transport_packet.specs.declared.sections.Next.the-variants.{Nothing, Long, Part, Whole}
+use Rattle.transport_packet.specs.Sections.{sectionLength, nextOf}
 use Rattle.transport_laws.specs.Concatenation.{Load, joined, Run, runsOf, runsJoined, sectionsFrom, sectionsOf, flat, Begins, Laid, Idle, Carries, Multiplex}
 use Rattle.transport_laws.specs.Concatenation.Idle.{over, stuffing}
 use Rattle.transport_laws.specs.Concatenation.Carries.{idle, section}
 use Rattle.transport_laws.specs.Concatenation.Multiplex.{noRun, run}
-use Rattle.transport.proofs.Next.{whole-by, stuffing-by, whole-longer}
+use Rattle.transport_packet.proofs.Next.{whole-by, stuffing-by, whole-longer}
 use Rattle.transport_laws.proofs.Joined.{no-head}
 
 -- ---- the concatenation's cutting

@@ -6,15 +6,15 @@ use native.Mathlib.Omega.{arith}
 use lib.ListN.{length, take, drop, getD, length-drop}
 use lib.Seq.{drop-drop}
 use Rattle.table.specs.Lent.{stored}
-use Rattle.transport.specs.declared.sections.Next.{Next}
-use Rattle.transport.specs.declared.sections.Next.the-variants.{Nothing, Long, Part, Whole}
+use Rattle.transport_packet.specs.declared.sections.Next.{Next}
+use Rattle.transport_packet.specs.declared.sections.Next.the-variants.{Nothing, Long, Part, Whole}
 use Rattle.transport.specs.declared.Assembler.{Assembler}
 use Rattle.transport.specs.declared.Taken.the-variants.{Section, Done}
-use Rattle.transport.specs.Sections.{sectionLength, nextBy, nextOf}
+use Rattle.transport_packet.specs.Sections.{sectionLength, nextBy, nextOf}
 use Rattle.transport.specs.Assembler.{atRest, holding, giving, takenFrom, takenOf}
 use Rattle.transport_laws.specs.Takes.{takesOf, Ends}
 use Rattle.transport_laws.specs.Takes.Ends.{done, gives}
-use Rattle.transport.proofs.Next.{IsWhole, whole-shown}
+use Rattle.transport_packet.proofs.Next.{IsWhole, whole-shown}
 use Rattle.transport.proofs.Answers.{from-nothing, from-long, from-part, from-whole, taken-nothing, taken-long, taken-part, taken-whole}
 use Rattle.transport_laws.proofs.Takes.{takes-done, takes-gives}
 

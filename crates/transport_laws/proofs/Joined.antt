@@ -8,13 +8,13 @@ use lib.Dec.{eqb}
 use lib.ListN.{length, take, drop, length-append, drop-of-length-le}
 use lib.Seq.{take-append-le}
 use borrow.Author.Tests.{eqb-true, eqb-false, eq-eqb, ne-eqb}
-use Rattle.transport.specs.declared.sections.Next.{Next}
-use Rattle.transport.specs.declared.sections.Next.the-variants.{Nothing, Long, Part, Whole}
-use Rattle.transport.specs.Sections.{nextOf, byNext, nothingCut, cutFrom, cut}
+use Rattle.transport_packet.specs.declared.sections.Next.{Next}
+use Rattle.transport_packet.specs.declared.sections.Next.the-variants.{Nothing, Long, Part, Whole}
+use Rattle.transport_packet.specs.Sections.{nextOf, byNext, nothingCut, cutFrom, cut}
 use Rattle.transport.specs.Step.{goesOn, cutOf}
 use Rattle.transport_laws.specs.Concatenation.{sectionsFrom}
-use Rattle.transport.proofs.Next.{whole-shown, whole-longer, nothing-longer, part-longer}
-use Rattle.transport.proofs.Cuts.{left-shorter}
+use Rattle.transport_packet.proofs.Next.{whole-shown, whole-longer, nothing-longer, part-longer}
+use Rattle.transport_packet.proofs.Cuts.{left-shorter}
 
 -- the section under way, if the bytes behind it finish it
 abbrev pub finish : List ℕ → List ℕ → List (List ℕ)

@@ -9,19 +9,19 @@ use lib.ListN.{length, take, drop, getD, length-take}
 use lib.Seq.{length-take-le, take-take}
 use Rattle.table.specs.Bits.{pick}
 use Rattle.table.specs.Lent.{stored}
-use Rattle.transport.specs.declared.packet.Head.{Head}
-use Rattle.transport.specs.declared.packet.Head.the-variants.{Refused, NoPayload, Payload}
-use Rattle.transport.specs.declared.sections.Next.{Next}
-use Rattle.transport.specs.declared.sections.Next.the-variants.{Nothing, Long, Part, Whole}
+use Rattle.transport_packet.specs.declared.packet.Head.{Head}
+use Rattle.transport_packet.specs.declared.packet.Head.the-variants.{Refused, NoPayload, Payload}
+use Rattle.transport_packet.specs.declared.sections.Next.{Next}
+use Rattle.transport_packet.specs.declared.sections.Next.the-variants.{Nothing, Long, Part, Whole}
 use Rattle.transport.specs.declared.Assembler.{Assembler}
 use Rattle.transport.specs.declared.Taken.the-variants.{Section, Done}
-use Rattle.transport.specs.Packet.{headOf}
-use Rattle.transport.specs.Sections.{sectionLength, nextOf, Cut, cutFrom, Right, Each}
+use Rattle.transport_packet.specs.Packet.{headOf}
+use Rattle.transport_packet.specs.Sections.{sectionLength, nextOf, Cut, cutFrom, Right, Each}
 use Rattle.transport.specs.Step.{State, told, follows, goesOn, cutOf, before, tellsOf, stepOf}
 use Rattle.transport.specs.Step.Told.{took}
 use Rattle.transport.specs.Assembler.{atRest, holding, TakenTo, giving, takenFrom, takenOf}
 use Rattle.transport_laws.specs.Runs.{sectionsIn}
-use Rattle.transport.proofs.Next.{IsWhole, whole-shown, whole-itself}
+use Rattle.transport_packet.proofs.Next.{IsWhole, whole-shown, whole-itself}
 use Rattle.transport.proofs.Buffer.{taken-back}
 use Rattle.transport.proofs.Answers.{goes-whole, from-nothing, from-long, from-part, from-whole, taken-nothing, taken-long, taken-part, taken-whole}
 

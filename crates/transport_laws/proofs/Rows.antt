@@ -3,9 +3,9 @@ use Prim.Native.Nat.{ℕ, _+_}
 use mathlib.Core.List.{List, [], _∷_, _++_}
 use mathlib.Core.Path.{_≡_, refl}
 use lib.ListN.{take, drop, replicate, set}
-use Rattle.transport.specs.declared.packet.Refusal.the-variants.{NotAPacket, OtherPid, Scrambled, PayloadOutside, SectionLengthTooLarge}
-use Rattle.transport.specs.Packet.{payloadAt, headOf}
-use Rattle.transport.specs.Sections.{nextBy, cutFrom}
+use Rattle.transport_packet.specs.declared.packet.Refusal.the-variants.{NotAPacket, OtherPid, Scrambled, PayloadOutside, SectionLengthTooLarge}
+use Rattle.transport_packet.specs.Packet.{payloadAt, headOf}
+use Rattle.transport_packet.specs.Sections.{nextBy, cutFrom}
 use Rattle.transport.specs.Step.{fresh, cutOf, tellsOf, stepOf}
 use Rattle.transport.specs.Step.Told.{refused, took}
 use Rattle.transport_laws.specs.Concatenation.{payloads, unrepeated, runsOf, sectionsFrom, sectionsOf, concatenation, concatenated, spansOf, spans, spanned}

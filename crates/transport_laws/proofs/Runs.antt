@@ -8,12 +8,12 @@ use lib.Dec.{eqb}
 use lib.ListN.{length, drop}
 use borrow.Author.Tests.{eqb-true, eqb-false}
 use Rattle.table.specs.Bits.{pick}
-use Rattle.transport.specs.declared.packet.Refusal.{Refusal}
-use Rattle.transport.specs.declared.packet.Refusal.the-variants.{SectionLengthTooLarge}
-use Rattle.transport.specs.declared.packet.Head.{Head}
-use Rattle.transport.specs.declared.packet.Head.the-variants.{Refused, NoPayload, Payload}
-use Rattle.transport.specs.Packet.{headOf}
-use Rattle.transport.specs.Sections.{Cut}
+use Rattle.transport_packet.specs.declared.packet.Refusal.{Refusal}
+use Rattle.transport_packet.specs.declared.packet.Refusal.the-variants.{SectionLengthTooLarge}
+use Rattle.transport_packet.specs.declared.packet.Head.{Head}
+use Rattle.transport_packet.specs.declared.packet.Head.the-variants.{Refused, NoPayload, Payload}
+use Rattle.transport_packet.specs.Packet.{headOf}
+use Rattle.transport_packet.specs.Sections.{Cut}
 use Rattle.transport.specs.Step.{State, fresh, Told, follows, cutOf, before, tellsOf, stepOf, Settled}
 use Rattle.transport.specs.Step.Told.{refused, took}
 use Rattle.transport_laws.specs.Concatenation.{Load, loadOf, payloads, unrepeated, Runs, Spans, spansOf, spans, spanned, runsOf, sectionsFrom, sectionsOf, concatenation, concatenated}
@@ -21,7 +21,7 @@ use Rattle.transport_laws.specs.Runs.{given, accepted, Unrefused, Clean}
 use Rattle.transport_laws.specs.Runs.Unrefused.{ends, goes}
 use Rattle.table.proofs.Lists.{append-nil}
 use Rattle.transport.specs.Step.Settled.{none, going}
-use Rattle.transport.proofs.Cuts.{of-settled}
+use Rattle.transport.proofs.Settles.{of-settled}
 use Rattle.transport_laws.proofs.Joined.{finish, load-goes, load-starts}
 
 -- the section under way finished, and the sections of the runs behind it

@@ -10,17 +10,17 @@ use lib.Seq.{length-take-le, drop-drop}
 use borrow.Author.Tests.{eqb-true}
 use Rattle.table.specs.Lent.{stored}
 use Rattle.table.proofs.Stores.{length-stored}
-use Rattle.transport.specs.declared.sections.Next.{Next}
-use Rattle.transport.specs.declared.sections.Next.the-variants.{Nothing, Long, Part, Whole}
+use Rattle.transport_packet.specs.declared.sections.Next.{Next}
+use Rattle.transport_packet.specs.declared.sections.Next.the-variants.{Nothing, Long, Part, Whole}
 use Rattle.transport.specs.declared.Assembler.{Assembler}
 use Rattle.transport.specs.declared.Taken.the-variants.{Section, Done}
-use Rattle.transport.specs.Sections.{sectionLength, nextBy, nextOf, Cut, underWay, andThen, cut}
+use Rattle.transport_packet.specs.Sections.{sectionLength, nextBy, nextOf, Cut, underWay, andThen, cut}
 use Rattle.transport.specs.Step.{goesOn, cutOf, Settled}
 use Rattle.transport.specs.Step.Settled.{none, going}
 use Rattle.transport.specs.Assembler.{kept, atRest, holding, giving, takenFrom, takenOf}
 use Rattle.transport_laws.specs.Takes.{Takes, takesOf}
-use Rattle.transport.proofs.Next.{IsWhole, whole-shown, part-shown, whole-itself}
-use Rattle.transport.proofs.Cuts.{cut-nothing, cut-long, cut-part, cut-whole}
+use Rattle.transport_packet.proofs.Next.{IsWhole, whole-shown, part-shown, whole-itself}
+use Rattle.transport_packet.proofs.Cuts.{cut-nothing, cut-long, cut-part, cut-whole}
 use Rattle.transport.proofs.Buffer.{taken-back}
 use Rattle.transport.proofs.Answers.{from-nothing, from-part, from-whole, taken-nothing, taken-part, taken-whole, goes-part, goes-whole}
 

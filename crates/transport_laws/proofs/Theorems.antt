@@ -8,14 +8,14 @@ use native.Mathlib.Omega.{arith}
 use lib.Dec.{eqb, leb}
 use lib.ListN.{length, drop, getD}
 use borrow.Author.Tests.{ne-eqb, leb-true, leb-false}
-use Rattle.transport.specs.declared.packet.Head.{Head}
-use Rattle.transport.specs.declared.packet.Head.the-variants.{Refused, NoPayload, Payload}
-use Rattle.transport.specs.declared.packet.Refusal.{Refusal}
-use Rattle.transport.specs.declared.sections.Next.the-variants.{Long}
+use Rattle.transport_packet.specs.declared.packet.Head.{Head}
+use Rattle.transport_packet.specs.declared.packet.Head.the-variants.{Refused, NoPayload, Payload}
+use Rattle.transport_packet.specs.declared.packet.Refusal.{Refusal}
+use Rattle.transport_packet.specs.declared.sections.Next.the-variants.{Long}
 use Rattle.transport.specs.declared.Assembler.{Assembler}
 use Rattle.transport.specs.declared.Fed.the-variants as fed
-use Rattle.transport.specs.Packet.{headOf}
-use Rattle.transport.specs.Sections.{sectionLength, nextOf, Right, Each}
+use Rattle.transport_packet.specs.Packet.{headOf}
+use Rattle.transport_packet.specs.Sections.{sectionLength, nextOf, Right, Each}
 use Rattle.transport.specs.Step.{State, fresh, goesOn, cutOf, before, stepOf, Settled}
 use Rattle.transport.specs.Step.Told.{took}
 use Rattle.transport.specs.Step.Settled.{none, going}
@@ -23,7 +23,7 @@ use Rattle.transport.specs.Assembler.{freshAssembler, kept, underFor, fedBy, fe
 use Rattle.transport_laws.specs.Concatenation.{payloads, unrepeated, runsOf, concatenation, concatenated, spans, spanned, Multiplex}
 use Rattle.transport_laws.specs.Runs.{stateAfter, sectionsIn, given, accepted, Unrefused, Clean}
 use Rattle.transport_laws.specs.Takes.{stateOf, codeStep, codeGiven, Ready}
-use Rattle.transport.proofs.Next.{Shown, shown, part-shown, same-length}
+use Rattle.transport_packet.proofs.Next.{Shown, shown, part-shown, same-length}
 use Rattle.transport_laws.proofs.Runs.{given-spanned, given-concatenated, given-accepted, accepted-unrefused, step-settles}
 use Rattle.transport_laws.proofs.Agreement.{code-is-step, code-given}
 use Rattle.transport_laws.proofs.Right.{each-append, step-right}

@@ -5,10 +5,10 @@ use mathlib.Core.Path.{_≡_}
 use lib.Dec.{eqb}
 use lib.ListN.{length, take, drop, getD}
 use Rattle.table.specs.Bits.{pick}
-use Rattle.transport.specs.declared.packet.Head.{Head}
-use Rattle.transport.specs.declared.packet.Head.the-variants.{Refused, NoPayload, Payload}
-use Rattle.transport.specs.Packet.{headOf}
-use Rattle.transport.specs.Sections.{nextOf, byNext, Right}
+use Rattle.transport_packet.specs.declared.packet.Head.{Head}
+use Rattle.transport_packet.specs.declared.packet.Head.the-variants.{Refused, NoPayload, Payload}
+use Rattle.transport_packet.specs.Packet.{headOf}
+use Rattle.transport_packet.specs.Sections.{nextOf, byNext, Right}
 use Rattle.transport.specs.Step.{follows, before}
 
 -- ---- the payloads

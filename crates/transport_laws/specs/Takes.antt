@@ -4,7 +4,7 @@ use mathlib.Core.List.{List, [], _∷_, _++_}
 use mathlib.Core.Path.{_≡_}
 use lib.ListN.{length, take}
 use Rattle.transport.specs.declared.Assembler.{Assembler}
-use Rattle.transport.specs.declared.packet.Refusal.{Refusal}
+use Rattle.transport_packet.specs.declared.packet.Refusal.{Refusal}
 use Rattle.transport.specs.declared.Fed.{Fed}
 use Rattle.transport.specs.declared.Fed.the-variants as fed
 use Rattle.transport.specs.declared.Taken.{Taken}

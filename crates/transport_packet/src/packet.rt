@@ -2,7 +2,7 @@
 ghost use mathlib.Core.Path.{_≡_};
 ghost use Prim.Native.Nat.{_<_, _≤_};
 ghost use lib.ListN.{length};
-ghost use Rattle.transport.specs.Packet.{headOf, payloadAt};
+ghost use Rattle.transport_packet.specs.Packet.{headOf, payloadAt};
 
 // Refusals 71 to 75.
 pub enum Refusal {

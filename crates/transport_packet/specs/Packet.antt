@@ -5,10 +5,10 @@ use mathlib.Core.List.{List}
 use lib.Dec.{eqb, leb, ltb}
 use lib.ListN.{length, getD}
 use Rattle.table.specs.Bits.{pick}
-use Rattle.transport.specs.declared.packet.Refusal.{Refusal}
-use Rattle.transport.specs.declared.packet.Refusal.the-variants.{NotAPacket, OtherPid, Scrambled, PayloadOutside, SectionLengthTooLarge}
-use Rattle.transport.specs.declared.packet.Head.{Head}
-use Rattle.transport.specs.declared.packet.Head.the-variants.{Refused, NoPayload, Payload}
+use Rattle.transport_packet.specs.declared.packet.Refusal.{Refusal}
+use Rattle.transport_packet.specs.declared.packet.Refusal.the-variants.{NotAPacket, OtherPid, Scrambled, PayloadOutside, SectionLengthTooLarge}
+use Rattle.transport_packet.specs.declared.packet.Head.{Head}
+use Rattle.transport_packet.specs.declared.packet.Head.the-variants.{Refused, NoPayload, Payload}
 
 -- the number of each refusal
 unfoldable pub numberOf : Refusal → ℕ

@@ -3,10 +3,10 @@ use native.Mathlib.Omega.{arith}
 use mathlib.Core.Path.{sym, _∙_}
 use lib.ListN.{take, drop, List·getD-append}
 use lib.Seq.{length-take-le, getD-take}
-use Rattle.transport.proofs.Bytes.{byte-behind}
+use Rattle.transport.proofs.Under.{byte-behind}
 use borrow.Author.Needs.{needs}
-use Rattle.transport.proofs.sections.byte_on.Statement.{statement}
-use Rattle.transport.proofs.sections.byte_on.Tie as tie
+use Rattle.transport.proofs.under.byte_on.Statement.{statement}
+use Rattle.transport.proofs.under.byte_on.Tie as tie
 
 byte-requires : tie.Need-byte-requires
 byte-requires c κs = search needs

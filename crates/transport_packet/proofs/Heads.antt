@@ -8,10 +8,10 @@ use lib.Dec.{eqb, leb, ltb}
 use lib.ListN.{length, getD}
 use borrow.Author.Tests.{lt-ltb, le-ltb, le-leb, lt-leb, eq-eqb, ne-eqb, leb-true, ltb-true, eqb-true}
 use Rattle.table.specs.Bits.{pick}
-use Rattle.transport.specs.declared.packet.Head.{Head}
-use Rattle.transport.specs.declared.packet.Refusal.the-variants.{NotAPacket, OtherPid, Scrambled, PayloadOutside}
-use Rattle.transport.specs.declared.packet.Head.the-variants.{Refused, NoPayload, Payload}
-use Rattle.transport.specs.Packet.{pidOf, payloadUnitStart, scramblingControl, hasPayload, counterOf, payloadAt, target, unless, headOf}
+use Rattle.transport_packet.specs.declared.packet.Head.{Head}
+use Rattle.transport_packet.specs.declared.packet.Refusal.the-variants.{NotAPacket, OtherPid, Scrambled, PayloadOutside}
+use Rattle.transport_packet.specs.declared.packet.Head.the-variants.{Refused, NoPayload, Payload}
+use Rattle.transport_packet.specs.Packet.{pidOf, payloadUnitStart, scramblingControl, hasPayload, counterOf, payloadAt, target, unless, headOf}
 
 module _ (pid : ℕ) (p : List ℕ) where
   pub head-length : (length p ≡ 188 → ⊥) → headOf pid p ≡ Refused NotAPacket

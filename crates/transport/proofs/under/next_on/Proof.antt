@@ -1,10 +1,10 @@
 -- `next_on`: the bytes of the section under way, read from two places. Assumes nothing.
 use mathlib.Core.Path.{sym}
 use native.Mathlib.Omega.{arith}
-use Rattle.transport.proofs.Bytes.{on-none, on-few, on-many}
+use Rattle.transport.proofs.Under.{on-none, on-few, on-many}
 use borrow.Author.Needs.{needs}
-use Rattle.transport.proofs.sections.next_on.Statement.{statement}
-use Rattle.transport.proofs.sections.next_on.Tie as tie
+use Rattle.transport.proofs.under.next_on.Statement.{statement}
+use Rattle.transport.proofs.under.next_on.Tie as tie
 
 returns : tie.Need-returns
 returns c = let a = c .before .before .before .args in sym (on-none (a .buffer .now) (a .packet .now) (a .held) (a .at) (a .first) (c .if1 .taken))
