@@ -1,4 +1,4 @@
--- The answers of `take` and `feed`, each by what stands at the buffer's start and in the packet. Assumes nothing.
+-- The answers of `take` and `feed`, each by what stands at the buffer's start and in the packet.
 use Prim.Native.Nat.{ℕ, _+_, _-_, _≤_, _<_}
 use mathlib.Core.Bool.{Bool, true, false}
 use mathlib.Core.List.{List, [], _∷_, _++_}

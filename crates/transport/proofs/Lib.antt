@@ -1,4 +1,4 @@
-pub mod Under
+pub mod Gathered
 pub mod Settles
 pub mod Buffer
 pub mod Answers

@@ -1,4 +1,4 @@
--- What goes on behind the bytes of a packet is a section under way, or none. Assumes nothing.
+-- What goes on behind the bytes of a packet is a section under way, or none.
 use Prim.Native.Nat.{ℕ, zero, suc}
 use mathlib.Core.Bool.{Bool, true, false}
 use mathlib.Core.List.{List}

@@ -1,4 +1,4 @@
--- What the assembler's functions answer, for any state, packet and buffer, and the buffer's later bytes. These are definitions.
+-- What the assembler's functions answer, for any state, packet and buffer, and the buffer's later bytes.
 -- The section under way stands at the buffer's start.
 use Prim.Native.Nat.{ℕ, _+_}
 use mathlib.Core.List.{List, [], _++_}

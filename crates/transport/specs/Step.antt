@@ -1,4 +1,4 @@
--- Q-9's assembler as a step on lists. These are definitions.
+-- Q-9's assembler as a step on lists.
 use Prim.Native.Nat.{ℕ, _+_, _-_, _%_}
 use mathlib.Core.Bool.{Bool, true}
 use mathlib.Core.List.{List, [], _++_}

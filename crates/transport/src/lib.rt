@@ -21,8 +21,8 @@ pub mod under;
 // The counter of the last packet with payload (16 and more: there was none yet), how many bytes of a section stand in the buffer, and the
 // place in the packet from which sections are still to be taken.
 pub struct Assembler {
-    pub pid: u16,
-    pub counter: u8,
+    pub pid: usize,
+    pub counter: usize,
     pub held: usize,
     pub at: usize,
 }
@@ -39,7 +39,7 @@ pub enum Taken {
     Done(Assembler),
 }
 
-pub fn fresh(pid: u16) -> Assembler
+pub fn fresh(pid: usize) -> Assembler
     ensures { λ r. ⌜ r ≡ freshAssembler pid ⌝ }
 {
     Assembler {
@@ -61,7 +61,7 @@ fn held_in(buffer: &[u8], held: usize) -> usize
 }
 
 // Whether this counter is the one behind the last, or the first.
-fn is_next(last: u8, counter: u8) -> bool
+fn is_next(last: usize, counter: usize) -> bool
     ensures { λ r. ⌜ r ≡ follows last counter ⌝ }
 {
     if 16 <= last {
@@ -71,7 +71,7 @@ fn is_next(last: u8, counter: u8) -> bool
 }
 
 // How many bytes are under way for this counter: none after a gap.
-fn held_for(a: Assembler, counter: u8, buffer: &[u8]) -> usize
+fn held_for(a: Assembler, counter: usize, buffer: &[u8]) -> usize
     ensures { λ r. ⌜ (r ≤ length (now (buffer .entry))) × (take r (now (buffer .entry)) ≡ underFor a counter (now (buffer .entry))) ⌝ }
 {
     if is_next(a.counter, counter) {
@@ -91,7 +91,7 @@ fn hold(a: Assembler, held: usize, at: usize) -> Assembler
     }
 }
 
-fn fed_to(a: Assembler, counter: u8, held: usize, at: usize) -> Fed
+fn fed_to(a: Assembler, counter: usize, held: usize, at: usize) -> Fed
     ensures { λ r. ⌜ r ≡ Fed.Is (record { pid = a .pid; counter = counter; held = held; at = at }) ⌝ }
 {
     Fed::Is(Assembler {
@@ -107,7 +107,7 @@ fn go_on(
     a: Assembler,
     packet: &[u8],
     buffer: &mut [u8],
-    counter: u8,
+    counter: usize,
     at: usize,
     first: usize,
 ) -> Fed

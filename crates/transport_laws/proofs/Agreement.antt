@@ -1,4 +1,4 @@
--- What the code gives of a packet, and of packets one after the other, is what the step gives. Assumes nothing.
+-- What the code gives of a packet, and of packets one after the other, is what the step gives.
 use Prim.Native.Nat.{ℕ}
 use mathlib.Core.Bool.{Bool, true, false}
 use mathlib.Core.List.{List, [], _∷_, _++_}

@@ -1,4 +1,4 @@
--- The cutting of the joined payloads at the pointers, and the sections laid into it. Assumes nothing.
+-- The cutting of the joined payloads at the pointers, and the sections laid into it.
 use Prim.Native.Nat.{ℕ, zero, suc, _+_, _≤_, _<_}
 use mathlib.Core.Bool.{Bool, true, false}
 use mathlib.Core.List.{List, [], _∷_, _++_, append-assoc}

@@ -1,4 +1,4 @@
--- `take` says that it is done, from any state. Assumes nothing.
+-- `take` says that it is done, from any state.
 use Prim.Native.Nat.{ℕ, zero, suc, _+_, _<_}
 use mathlib.Core.List.{List}
 use mathlib.Core.Path.{_≡_, refl, ap, sym, _∙_}

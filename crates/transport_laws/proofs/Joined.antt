@@ -1,4 +1,4 @@
--- The assembler's cutting, packet by packet, is the cutting of the runs between pointers. Assumes nothing.
+-- The assembler's cutting, packet by packet, is the cutting of the runs between pointers.
 use Prim.Native.Nat.{ℕ, zero, suc, _≤_}
 use mathlib.Core.Bool.{Bool, true, false}
 use mathlib.Core.List.{List, [], _∷_, _++_, append-assoc}

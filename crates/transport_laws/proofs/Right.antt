@@ -1,4 +1,4 @@
--- Every section given has the length that its own section_length says. Assumes nothing.
+-- Every section given has the length that its own section_length says.
 use Prim.Native.Nat.{ℕ, zero, suc, _+_, _≤_}
 use mathlib.Core.Bool.{Bool, true, false}
 use mathlib.Core.List.{List, [], _∷_, _++_}

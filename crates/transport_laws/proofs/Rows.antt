@@ -1,4 +1,4 @@
--- The definitions at work, each row by computation. Assumes nothing.
+-- The definitions at work, each row by computation.
 use Prim.Native.Nat.{ℕ, _+_}
 use mathlib.Core.List.{List, [], _∷_, _++_}
 use mathlib.Core.Path.{_≡_, refl}

@@ -1,4 +1,4 @@
--- Packets one after the other: the sections given are those of the concatenations between gaps. Assumes nothing.
+-- Packets one after the other: the sections given are those of the concatenations between gaps.
 use Prim.Native.Nat.{ℕ}
 use mathlib.Core.Bool.{Bool, true, false}
 use mathlib.Core.List.{List, [], _∷_, _++_, append-assoc}

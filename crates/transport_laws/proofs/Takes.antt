@@ -1,4 +1,4 @@
--- `feed`, and `take` until it is done, are the step. Assumes nothing.
+-- `feed`, and `take` until it is done, are the step.
 use Prim.Native.Nat.{ℕ, zero, suc, _+_, _≤_, _<_}
 use mathlib.Core.Bool.{Bool, true, false}
 use mathlib.Core.List.{List, [], _∷_, _++_}

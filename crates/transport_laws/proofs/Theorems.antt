@@ -1,5 +1,5 @@
 -- What Q-9 asks for. (`taken-right` in Right.antt: the same of every section that `take` hands out, from any state. `runs-join`, `run-in-order`, `multiplexed-given`
--- in Cutting.antt: the concatenation itself.) Assumes nothing.
+-- in Cutting.antt: the concatenation itself.)
 use Prim.Native.Nat.{ℕ, _≤_, _<_}
 use mathlib.Core.Bool.{Bool, true, false}
 use mathlib.Core.List.{List, [], _∷_, _++_}

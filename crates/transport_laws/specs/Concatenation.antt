@@ -1,4 +1,4 @@
--- The standard's concatenation, of a whole list of packets at once. No word of an assembler's state. These are definitions.
+-- The standard's concatenation, of a whole list of packets at once. No word of an assembler's state.
 use Prim.Native.Nat.{ℕ, zero, suc, _<_}
 use mathlib.Core.List.{List, [], _∷_, _++_}
 use mathlib.Core.Path.{_≡_}

@@ -1,4 +1,4 @@
--- Packets one after the other. These are definitions.
+-- Packets one after the other.
 use Prim.Native.Nat.{ℕ}
 use mathlib.Core.List.{List, [], _∷_, _++_}
 use mathlib.Core.Path.{_≡_}

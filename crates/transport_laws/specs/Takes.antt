@@ -1,4 +1,4 @@
--- A packet fed, and its sections taken until `take` says that it is done: as one step. These are definitions.
+-- A packet fed, and its sections taken until `take` says that it is done: as one step.
 use Prim.Native.Nat.{ℕ, zero, suc, _≤_}
 use mathlib.Core.List.{List, [], _∷_, _++_}
 use mathlib.Core.Path.{_≡_}

@@ -1,4 +1,4 @@
--- What the code reads of the bytes where a section would begin. Assumes nothing.
+-- What the code reads of the bytes where a section would begin.
 use Prim.Native.Nat.{ℕ, _+_, _-_, _*_, _%_, _≤_, _<_}
 use mathlib.Core.List.{List}
 use mathlib.Core.Path.{_≡_}

@@ -1,4 +1,4 @@
--- The answers of `headOf`, each by the tests that lead to it. Assumes nothing.
+-- The answers of `headOf`, each by the tests that lead to it.
 use Prim.Native.Nat.{ℕ, _+_, _≤_, _<_}
 use mathlib.Core.List.{List}
 use mathlib.Core.Bool.{Bool, true, false}

@@ -1,4 +1,4 @@
--- A transport packet's fields by position (ISO/IEC 13818-1, 2.4.3.2 to 2.4.3.5 and 2.4.4.1), and refusals 71 to 74. These are definitions.
+-- A transport packet's fields by position (ISO/IEC 13818-1, 2.4.3.2 to 2.4.3.5 and 2.4.4.1), and refusals 71 to 74.
 use Prim.Native.Nat.{ℕ, _+_, _*_, _/_, _%_}
 use mathlib.Core.Bool.{Bool}
 use mathlib.Core.List.{List}

@@ -18,7 +18,7 @@ pub enum Head {
     Refused(Refusal),
     NoPayload,
     Payload {
-        counter: u8,
+        counter: usize,
         at: usize,
         first: usize,
     },
@@ -43,7 +43,7 @@ fn payload_at(packet: &[u8]) -> usize
 }
 
 // The head for this PID, or the first refusal of 71 to 74 that applies.
-pub fn read_head(pid: u16, packet: &[u8]) -> Head
+pub fn read_head(pid: usize, packet: &[u8]) -> Head
     ensures { λ r. ⌜ r ≡ headOf pid (now (packet .entry)) ⌝ }
 {
     if packet.len() != 188 {
@@ -52,16 +52,16 @@ pub fn read_head(pid: u16, packet: &[u8]) -> Head
     if packet[0] != 0x47 {
         return Head::Refused(Refusal::NotAPacket);
     }
-    if place(packet[1]) % 32 * 256 + place(packet[2]) != pid as usize {
+    if place(packet[1]) % 32 * 256 + place(packet[2]) != pid {
         return Head::Refused(Refusal::OtherPid);
     }
-    let control = packet[3];
+    let control = place(packet[3]);
     if control / 64 != 0 {
         return Head::Refused(Refusal::Scrambled);
     }
     let payload = control / 16 % 2;
     let at = payload_at(packet);
-    if 188 < at + place(payload) {
+    if 188 < at + payload {
         return Head::Refused(Refusal::PayloadOutside);
     }
     if payload == 0 {

@@ -43,6 +43,7 @@ mod flags;
 mod header;
 mod items;
 mod names;
+pub mod packet;
 pub mod raw;
 mod refusal;
 mod upid;

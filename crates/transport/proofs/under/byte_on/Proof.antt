@@ -1,9 +1,9 @@
--- `byte_on`: in the held bytes, and behind them. Assumes nothing.
+-- `byte_on`: in the held bytes, and behind them.
 use native.Mathlib.Omega.{arith}
 use mathlib.Core.Path.{sym, _∙_}
 use lib.ListN.{take, drop, List·getD-append}
 use lib.Seq.{length-take-le, getD-take}
-use Rattle.transport.proofs.Under.{byte-behind}
+use Rattle.transport.proofs.Gathered.{byte-behind}
 use borrow.Author.Needs.{needs}
 use Rattle.transport.proofs.under.byte_on.Statement.{statement}
 use Rattle.transport.proofs.under.byte_on.Tie as tie

@@ -1,7 +1,7 @@
--- `next_on`: the bytes of the section under way, read from two places. Assumes nothing.
+-- `next_on`: the bytes of the section under way, read from two places.
 use mathlib.Core.Path.{sym}
 use native.Mathlib.Omega.{arith}
-use Rattle.transport.proofs.Under.{on-none, on-few, on-many}
+use Rattle.transport.proofs.Gathered.{on-none, on-few, on-many}
 use borrow.Author.Needs.{needs}
 use Rattle.transport.proofs.under.next_on.Statement.{statement}
 use Rattle.transport.proofs.under.next_on.Tie as tie
