@@ -60,7 +60,14 @@ enum scte35_refusal {
     SCTE35_NOT_CANONICAL = 33, /* a value that no canonical section has, or words that are no value's: those of a refusal or of a loop's end, or that no reader gives */
     SCTE35_RESULT_TOO_LONG = 34, /* a descriptor's length over 254, or a section over 4,096 bytes */
     SCTE35_LOOP_NOT_CANONICAL = 35, /* the loop that is lent is not canonical */
-    SCTE35_TARGET_TOO_SHORT = 36 /* the target is shorter than the result */
+    SCTE35_TARGET_TOO_SHORT = 36, /* the target is shorter than the result */
+
+    /* of a transport packet, in order of number */
+    SCTE35_NOT_A_PACKET = 71, /* not 188 bytes, or another sync byte than 0x47 */
+    SCTE35_OTHER_PID = 72, /* a packet of another PID */
+    SCTE35_SCRAMBLED = 73, /* the packet is scrambled */
+    SCTE35_PAYLOAD_OUTSIDE = 74, /* an adaptation field past the packet's end or leaving no byte of an announced payload, or a pointer to byte 188 or past it */
+    SCTE35_SECTION_LENGTH_TOO_LARGE = 75 /* a section_length over 4,093, of a section that the packet begins or whose length it completes */
 };
 
 /* ---- sizes in bytes: the longest that is read or written, and so a target's length that is always enough */
@@ -384,6 +391,37 @@ struct scte35_number scte35_segmentation_type(uint8_t n);
 struct scte35_number scte35_network_indicator(uint8_t n);
 struct scte35_number scte35_return_mode(uint8_t n);
 struct scte35_number scte35_device_restrictions(uint8_t n);
+
+/* ---- sections from transport packets
+ *
+ * The assembler of ISO/IEC 13818-1 for one PID. It knows nothing of SCTE 35: each section that it gives, whatever its table, has the length that its own
+ * section_length says (3 + that, at most 4,096 bytes), and its bytes are bytes of the payloads, in order.
+ *
+ * The caller lends SCTE35_PACKET_WORDS words of state, a buffer of SCTE35_MAX_SECTION bytes, and one packet at a time; none may overlap another. For each:
+ *
+ *     if (scte35_packet_feed(state, SCTE35_PACKET_WORDS, packet, 188, buffer, sizeof buffer) == 0)
+ *         while ((n = scte35_packet_take(state, SCTE35_PACKET_WORDS, packet, 188, buffer, sizeof buffer)) != 0)
+ *             .. buffer[0] .. buffer[n - 1] is a section, until the next call ..
+ *
+ * One that is not taken is lost with the next packet. A repeat (the last payload packet's counter) and a packet without payload add nothing; a gap in the
+ * counter drops the section under way, and so does a start that cuts it short. A stream of several PIDs may be fed whole: the others are refused with 72.
+ *
+ * The state's words are the PID, the counter of the last packet with payload (16: none yet), how many bytes of a section the buffer holds, and the place in
+ * the packet. Any words, any packet and any buffer are taken and answered: a word past the end counts as 0 and is not stored, words behind the four are left
+ * alone, and what does not fit a shorter buffer is not stored in it (its length is told all the same: lend 4,096 bytes). No globals, no allocation.
+ */
+
+enum { SCTE35_PACKET_WORDS = 4, SCTE35_PACKET = 188 };
+
+/* the state before the first packet of a PID. One over 8,191 is no packet's */
+void scte35_packet_start(uint64_t pid, uint64_t *state, size_t state_words);
+
+/* takes a packet in. 0; or 71 to 75, and then neither the state nor the buffer has changed */
+uint64_t scte35_packet_feed(uint64_t *state, size_t state_words, const uint8_t *packet, size_t packet_length, uint8_t *buffer, size_t buffer_length);
+
+/* the length of the next section that the packet finishes, which stands at the buffer's start; 0 where nothing is left of the packet. The packet is the one
+ * that was fed last */
+uint64_t scte35_packet_take(uint64_t *state, size_t state_words, const uint8_t *packet, size_t packet_length, uint8_t *buffer, size_t buffer_length);
 
 #if defined(__cplusplus) && __cplusplus >= 201103L
 #define SCTE35_WORDS(type, words) static_assert(sizeof(struct type) == 8 * (words), #type)

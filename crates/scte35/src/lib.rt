@@ -53,6 +53,7 @@ use upid::read_upid;
 
 pub mod canonical;
 pub mod numbers;
+pub mod packet;
 pub mod writing;
 
 // The bytes from an offset on.

@@ -7,3 +7,4 @@ pub mod Right
 pub mod Cutting
 pub mod Theorems
 pub mod Rows
+pub mod Framing

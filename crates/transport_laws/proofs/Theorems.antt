@@ -16,26 +16,30 @@ use Rattle.transport.specs.declared.Assembler.{Assembler}
 use Rattle.transport.specs.declared.Fed.the-variants as fed
 use Rattle.transport_packet.specs.Packet.{headOf}
 use Rattle.transport_packet.specs.Sections.{sectionLength, nextOf, Right, Each}
-use Rattle.transport.specs.Step.{State, fresh, goesOn, cutOf, before, stepOf, Settled}
+use Rattle.transport.specs.Step.{State, Told, fresh, goesOn, cutOf, before, stepOf, Settled}
 use Rattle.transport.specs.Step.Told.{took}
 use Rattle.transport.specs.Step.Settled.{none, going}
 use Rattle.transport.specs.Assembler.{freshAssembler, kept, underFor, fedBy, fedWith, fedOf}
 use Rattle.transport_laws.specs.Concatenation.{payloads, unrepeated, runsOf, concatenation, concatenated, spans, spanned, Multiplex}
 use Rattle.transport_laws.specs.Runs.{stateAfter, sectionsIn, given, accepted, Unrefused, Clean}
-use Rattle.transport_laws.specs.Takes.{stateOf, codeStep, codeGiven, Ready}
+use Rattle.transport_laws.specs.Takes.{stateOf, CodeStep, CodeGives, Ready}
 use Rattle.transport_packet.proofs.Next.{Shown, shown, part-shown, same-length}
 use Rattle.transport_laws.proofs.Runs.{given-spanned, given-concatenated, given-accepted, accepted-unrefused, step-settles}
-use Rattle.transport_laws.proofs.Agreement.{code-is-step, code-given}
+use Rattle.transport_laws.proofs.Agreement.{is-step, code-given}
 use Rattle.transport_laws.proofs.Right.{each-append, step-right}
 use Rattle.transport_laws.proofs.Cutting.{multiplexed-given}
 
 -- ---- the code is the step: `feed`, and `take` until it is done, answer what the step answers, with each section in the buffer when it is handed out
 
-pub feed-and-take : (a : Assembler) (p b : List ℕ) → Ready a b → codeStep a p b ≡ stepOf (a .pid) (stateOf a b) p
-feed-and-take a p b ready = code-is-step a p b ready
+pub feed-and-take : (a later : Assembler) (p b b′ : List ℕ) (x : Told) → Ready a b → CodeStep a p b x later b′ → x ≡ stepOf (a .pid) (stateOf a b) p
+feed-and-take a later p b b′ x ready c = is-step a p b ready x later b′ c .told
 
-pub packets-taken : (ps : List (List ℕ)) (a : Assembler) (b : List ℕ) → Ready a b → codeGiven a b ps ≡ given (a .pid) (stateOf a b) ps
-packets-taken ps a b ready = code-given ps a b ready
+-- and the state after it is the step's, and ready again
+pub feed-and-take-later : (a later : Assembler) (p b b′ : List ℕ) (x : Told) → Ready a b → CodeStep a p b x later b′ → (stateOf later b′ ≡ stateAfter (stateOf a b) x) × Ready later b′
+feed-and-take-later a later p b b′ x ready c = let i = is-step a p b ready x later b′ c in (i .state, i .still)
+
+pub packets-taken : (ps ss : List (List ℕ)) (a : Assembler) (b : List ℕ) → Ready a b → CodeGives a b ps ss → ss ≡ given (a .pid) (stateOf a b) ps
+packets-taken ps ss a b ready g = code-given ps ss a b ready g
 
 -- the state that packets lead to is ready again
 pub settles : (pid : ℕ) (s later : State) (p : List ℕ) (sections : List (List ℕ)) → Settled (s .under) → stepOf pid s p ≡ took later sections → Settled (later .under)
@@ -53,23 +57,23 @@ pub any-concatenated : (pid : ℕ) (ps : List (List ℕ))
     → given pid fresh ps ≡ concatenation (spans pid (accepted pid fresh ps) .first) ++ spanned (spans pid (accepted pid fresh ps) .others)
 any-concatenated pid ps = given-accepted pid ps fresh ∙ given-spanned pid (accepted pid fresh ps) (accepted-unrefused pid ps fresh)
 
-pub code-any : (pid : ℕ) (buffer : List ℕ) (ps : List (List ℕ)) → 4096 ≤ length buffer
-    → codeGiven (freshAssembler pid) buffer ps ≡ concatenation (spans pid (accepted pid fresh ps) .first) ++ spanned (spans pid (accepted pid fresh ps) .others)
-code-any pid buffer ps r = code-given ps (freshAssembler pid) buffer (record { room = r; settled = none }) ∙ any-concatenated pid ps
+pub code-any : (pid : ℕ) (buffer : List ℕ) (ps ss : List (List ℕ)) → 4096 ≤ length buffer → CodeGives (freshAssembler pid) buffer ps ss
+    → ss ≡ concatenation (spans pid (accepted pid fresh ps) .first) ++ spanned (spans pid (accepted pid fresh ps) .others)
+code-any pid buffer ps ss r g = code-given ps ss (freshAssembler pid) buffer (record { room = r; settled = none }) g ∙ any-concatenated pid ps
 
 -- ---- "Without gaps or refused packets, the sections given are those of the standard's concatenation"
 
 pub clean-concatenated : (pid : ℕ) (ps : List (List ℕ)) → Clean pid ps → given pid fresh ps ≡ concatenated pid ps
 clean-concatenated pid ps c = given-concatenated pid ps c
 
-pub code-concatenated : (pid : ℕ) (buffer : List ℕ) (ps : List (List ℕ)) → 4096 ≤ length buffer → Clean pid ps
-    → codeGiven (freshAssembler pid) buffer ps ≡ concatenated pid ps
-code-concatenated pid buffer ps r c = code-given ps (freshAssembler pid) buffer (record { room = r; settled = none }) ∙ given-concatenated pid ps c
+pub code-concatenated : (pid : ℕ) (buffer : List ℕ) (ps ss : List (List ℕ)) → 4096 ≤ length buffer → Clean pid ps → CodeGives (freshAssembler pid) buffer ps ss
+    → ss ≡ concatenated pid ps
+code-concatenated pid buffer ps ss r c g = code-given ps ss (freshAssembler pid) buffer (record { room = r; settled = none }) g ∙ given-concatenated pid ps c
 
 -- what was laid into packets without gaps or refusals, the code gives
-pub code-multiplexed : (pid : ℕ) (buffer : List ℕ) (ps ss : List (List ℕ)) → 4096 ≤ length buffer → Clean pid ps → Multiplex (runsOf (unrepeated 16 (payloads pid ps)) .runs) ss
-    → codeGiven (freshAssembler pid) buffer ps ≡ ss
-code-multiplexed pid buffer ps ss r c m = code-concatenated pid buffer ps r c ∙ multiplexed-given (runsOf (unrepeated 16 (payloads pid ps)) .runs) ss m
+pub code-multiplexed : (pid : ℕ) (buffer : List ℕ) (ps ss laid : List (List ℕ)) → 4096 ≤ length buffer → Clean pid ps → Multiplex (runsOf (unrepeated 16 (payloads pid ps)) .runs) laid
+    → CodeGives (freshAssembler pid) buffer ps ss → ss ≡ laid
+code-multiplexed pid buffer ps ss laid r c m g = code-concatenated pid buffer ps ss r c g ∙ multiplexed-given (runsOf (unrepeated 16 (payloads pid ps)) .runs) laid m
 
 -- ---- "Framing now fixes section_length before demand 2's reader is called"
 

@@ -5,13 +5,13 @@ use mathlib.Core.Path.{_≡_}
 use lib.ListN.{length, take}
 use Rattle.transport.specs.declared.Assembler.{Assembler}
 use Rattle.transport_packet.specs.declared.packet.Refusal.{Refusal}
-use Rattle.transport.specs.declared.Fed.{Fed}
 use Rattle.transport.specs.declared.Fed.the-variants as fed
 use Rattle.transport.specs.declared.Taken.{Taken}
 use Rattle.transport.specs.declared.Taken.the-variants.{Section, Done}
 use Rattle.transport.specs.Step.{State, Settled, Told}
 use Rattle.transport.specs.Step.Told.{refused, took}
-use Rattle.transport.specs.Assembler.{fedOf, TakenTo, giving, takenOf}
+use Rattle.transport.specs.Assembler.{answering, fedOf, TakenTo, giving, takenOf}
+use Rattle.transport_laws.specs.Runs.{sectionsIn}
 
 -- the sections, each as the buffer has it when it is handed out; and what is left
 pub record Takes : Type 0 where
@@ -33,7 +33,7 @@ unfoldable pub takesOf : ℕ → Assembler → List ℕ → List ℕ → Takes
 takesOf zero a p b = record { sections = []; assembler = a; buffer = b }
 takesOf (suc n) a p b = taking (takenOf a p b) (λ later buffer. takesOf n later p buffer)
 
--- the same without a number: what `take` gives until it says that it is done
+-- the same without a number (`take-ends` in proofs/Ends.antt): what `take` gives until it says that it is done
 pub data Ends : Assembler → List ℕ → List ℕ → Takes → Type 0 where
   done : {a later : Assembler} {p b b′ : List ℕ} → takenOf a p b ≡ giving (Done later) b′ → Ends a p b (record { sections = []; assembler = later; buffer = b′ })
   gives :
@@ -44,26 +44,19 @@ pub data Ends : Assembler → List ℕ → List ℕ → Takes → Type 0 where
 abbrev pub stateOf : Assembler → List ℕ → State
 stateOf a b = record { counter = a .counter; under = take (a .held) b }
 
-abbrev pub byFed : {A : Type 0} → Fed → (Refusal → A) → (Assembler → A) → A
-byFed (fed.Refused r) refuse go = refuse r
-byFed (fed.Is a) refuse go = go a
-
--- all that is taken of a packet that was fed so
-abbrev pub takenAll : List ℕ → List ℕ → Assembler → Takes
-takenAll p b a = takesOf 190 a p b
-
--- what the code gives of a packet, as a step
-unfoldable pub codeStep : Assembler → List ℕ → List ℕ → Told
-codeStep a p b =
-    byFed (fedOf a p b .answer) refused
-    (λ later. let t : Takes = takenAll p (fedOf a p b .buffer) later in took (stateOf (t .assembler) (t .buffer)) (t .sections))
+-- what `feed` and then `take` until it is done do with a packet: what is told, and the state and the buffer after it
+pub data CodeStep : Assembler → List ℕ → List ℕ → Told → Assembler → List ℕ → Type 0 where
+  refuses : {a : Assembler} {p b b′ : List ℕ} {r : Refusal} → fedOf a p b ≡ answering (fed.Refused r) b′ → CodeStep a p b (refused r) a b′
+  takes :
+      {a later : Assembler} {p b b′ : List ℕ} {t : Takes} → fedOf a p b ≡ answering (fed.Is later) b′ → Ends later p b′ t
+      → CodeStep a p b (took (stateOf (t .assembler) (t .buffer)) (t .sections)) (t .assembler) (t .buffer)
 
 -- all sections that the code gives of packets one after the other
-unfoldable pub codeGiven : Assembler → List ℕ → List (List ℕ) → List (List ℕ)
-codeGiven a b [] = []
-codeGiven a b (p ∷ ps) =
-    byFed (fedOf a p b .answer) (λ r. codeGiven a (fedOf a p b .buffer) ps)
-    (λ later. let t : Takes = takenAll p (fedOf a p b .buffer) later in t .sections ++ codeGiven (t .assembler) (t .buffer) ps)
+pub data CodeGives : Assembler → List ℕ → List (List ℕ) → List (List ℕ) → Type 0 where
+  over : {a : Assembler} {b : List ℕ} → CodeGives a b [] []
+  packet :
+      {a a′ : Assembler} {p b b′ : List ℕ} {x : Told} {ps ss : List (List ℕ)} → CodeStep a p b x a′ b′ → CodeGives a′ b′ ps ss
+      → CodeGives a b (p ∷ ps) (sectionsIn x ++ ss)
 
 -- a state that packets lead to, and the room that was asked for
 pub record Ready (a : Assembler) (b : List ℕ) : Type 0 where
