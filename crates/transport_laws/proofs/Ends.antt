@@ -11,7 +11,7 @@ use Rattle.transport_packet.specs.declared.sections.Next.the-variants.{Nothing,
 use Rattle.transport.specs.declared.Assembler.{Assembler}
 use Rattle.transport.specs.declared.Taken.the-variants.{Section, Done}
 use Rattle.transport_packet.specs.Sections.{sectionLength, nextBy, nextOf}
-use Rattle.transport.specs.Assembler.{atRest, holding, giving, takenFrom, takenOf}
+use Rattle.transport.specs.Assembler.{atRest, holding, TakenTo, giving, takenFrom, takenOf}
 use Rattle.transport_laws.specs.Takes.{Takes, takesOf, Ends}
 use Rattle.transport_laws.specs.Takes.Ends.{done, gives}
 use Rattle.transport_packet.proofs.Next.{IsWhole, whole-shown}
@@ -69,20 +69,20 @@ take-ends n a p b f = go (nextOf (take (a .held) b)) refl
 -- ---- what it gives is one thing
 
 not-done : {x y : Assembler} {n : ℕ} {b c : List ℕ} → giving (Done x) b ≡ giving (Section n y) c → ⊥
-not-done e = let z : _≡_ {A = ℕ} 0 1 = cc in omega arith
+not-done {x = x} {y = y} {n = n} e = let q : Done x ≡ Section n y = ap (λ (k : TakenTo). k .answer) e in let z : _≡_ {A = ℕ} 0 1 = cc in omega arith
 
 pub ends-one : {a : Assembler} {p b : List ℕ} {t u : Takes} → Ends a p b t → Ends a p b u → t ≡ u
 ends-one (done {later = l} {b′ = c} e) (done {later = k} {b′ = d} f) =
-    let q : giving (Done l) c ≡ giving (Done k) d = sym e ∙ f in
+    let q : Done l ≡ Done k = ap (λ (k : TakenTo). k .answer) (sym e ∙ f) in
     let x : l ≡ k = cc in
-    let y : c ≡ d = cc in
+    let y : c ≡ d = ap (λ (k : TakenTo). k .buffer) (sym e ∙ f) in
     rw (x, y)
 ends-one (done e) (gives f y) = absurd (not-done (sym e ∙ f))
 ends-one (gives e x) (done f) = absurd (not-done (sym f ∙ e))
 ends-one {p = p} (gives {later = l} {b′ = c} {size = n} {t = t} e x) (gives {later = k} {b′ = d} {size = m} {t = u} f y) =
-    let q : giving (Section n l) c ≡ giving (Section m k) d = sym e ∙ f in
+    let q : Section n l ≡ Section m k = ap (λ (k : TakenTo). k .answer) (sym e ∙ f) in
     let g : n ≡ m = cc in
     let h : l ≡ k = cc in
-    let i : c ≡ d = cc in
+    let i : c ≡ d = ap (λ (k : TakenTo). k .buffer) (sym e ∙ f) in
     let z : Ends l p c u = rw (h, i) y in
     rw (g, i, ends-one x z)

@@ -34,7 +34,7 @@ returns c =
     let a = s .before .before .before .before .before .args in
     let e = f .feed .ensures ∙ ap (λ (x : Assembler). fedOf x (a .packet .now) (a .buffer .now)) (s .state-in .ensures) in
     let d = sym (k .before .before .before .fed .given .1) ∙ ap (λ (x : FedTo). x .answer) e in
-    (ap fedNumber d, k .keep .ensures ∙ ap (keptFed (a .words .now)) d, ap (λ (x : FedTo). x .buffer) e)
+    (ap fedNumber d, (k .keep .ensures ∙ ap (keptFed (a .words .now)) d, ap (λ (x : FedTo). x .buffer) e))
 
 enum-known-fed-2 : tie.Need-enum-known-fed-2
 enum-known-fed-2 c = search needs
@@ -56,7 +56,7 @@ returns-2 c =
     let a = s .before .before .before .before .before .args in
     let e = f .feed .ensures ∙ ap (λ (x : Assembler). fedOf x (a .packet .now) (a .buffer .now)) (s .state-in .ensures) in
     let d = sym (c .before .before .fed2 .given .1) ∙ ap (λ (x : FedTo). x .answer) e in
-    (c .number .ensures ∙ ap fedNumber d, ap (keptFed (a .words .now)) d, ap (λ (x : FedTo). x .buffer) e)
+    (c .number .ensures ∙ ap fedNumber d, (ap (keptFed (a .words .now)) d, ap (λ (x : FedTo). x .buffer) e))
 
 pub feed-words-spec : {M : Type 1} → statement M
 feed-words-spec =

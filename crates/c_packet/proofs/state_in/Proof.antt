@@ -16,7 +16,7 @@ word-at-requires-4 : tie.Need-word-at-requires-4
 word-at-requires-4 c κs = search needs
 
 returns : tie.Need-returns
-returns c = rw (c .word-at4 .ensures, c .before .before .word-at3 .ensures, c .before .before .before .before .word-at2 .ensures, c .before .before .before .before .before .before .word-at .ensures)
+returns c = rw (c .word-at4 .ensures, c .before .word-at3 .ensures, c .before .before .word-at2 .ensures, c .before .before .before .word-at .ensures)
 
 pub state-in-spec : {M : Type 1} → statement M
 state-in-spec =

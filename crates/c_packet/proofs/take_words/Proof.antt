@@ -34,7 +34,7 @@ returns c =
     let a = s .before .before .before .before .before .args in
     let e = f .take .ensures ∙ ap (λ (x : Assembler). takenOf x (a .packet .now) (a .buffer .now)) (s .state-in .ensures) in
     let d = sym (k .before .before .before .taken .given .1) ∙ ap (λ (x : TakenTo). x .answer) e in
-    (ap takenNumber d, k .keep .ensures ∙ ap (keptTaken (a .words .now)) d, ap (λ (x : TakenTo). x .buffer) e)
+    (ap takenNumber d, (k .keep .ensures ∙ ap (keptTaken (a .words .now)) d, ap (λ (x : TakenTo). x .buffer) e))
 
 enum-known-taken-2 : tie.Need-enum-known-taken-2
 enum-known-taken-2 c = search needs
@@ -57,7 +57,7 @@ returns-2 c =
     let a = s .before .before .before .before .before .args in
     let e = f .take .ensures ∙ ap (λ (x : Assembler). takenOf x (a .packet .now) (a .buffer .now)) (s .state-in .ensures) in
     let d = sym (k .before .before .before .taken2 .given .1) ∙ ap (λ (x : TakenTo). x .answer) e in
-    (ap takenNumber d, k .keep2 .ensures ∙ ap (keptTaken (a .words .now)) d, ap (λ (x : TakenTo). x .buffer) e)
+    (ap takenNumber d, (k .keep2 .ensures ∙ ap (keptTaken (a .words .now)) d, ap (λ (x : TakenTo). x .buffer) e))
 
 pub take-words-spec : {M : Type 1} → statement M
 take-words-spec =

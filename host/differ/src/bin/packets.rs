@@ -1,5 +1,5 @@
 //! packets N SEED: at least N packets through the proved assembler and through a plain second one; ends with 1 on a difference and on a case that was not reached.
-//! packets lay FOLDER N SEED: streams of undamaged packets with right CRCs, for other assemblers, and their sections, one to a line in hexadecimal.
+//! packets lay FOLDER N SEED: streams for other assemblers, of sections with right CRCs, undamaged but for the one of that name; and their sections, one to a line in hexadecimal.
 //! packets read PID FILE: the sections of a stream by the proved assembler, as `lay` writes them.
 //! packets gate FOLDER: `stdin` and `stdout` of crates/run_transport.
 //! packets turn PID FILE N: the stream N times through the proved assembler, for a count of instructions; prints packets and sections of one turn.
@@ -77,17 +77,42 @@ fn write(file: String, bytes: impl AsRef<[u8]>) {
     std::fs::write(&file, bytes).unwrap_or_else(|e| panic!("{file}: {e}"));
 }
 
-/// One stream for other assemblers: what it is of, and its sections in order.
-fn lay(folder: &str, name: &str, style: Style, rng: &mut Rng, sections: Vec<Vec<u8>>) {
+/// The packets of sections.
+fn laid(style: Style, rng: &mut Rng, sections: &[Vec<u8>]) -> Vec<Vec<u8>> {
     let mut mux = Mux::new(PID, style, rng.below(16) as u8);
-    let mut stream: Vec<u8> = vec![];
+    let mut packets = vec![];
     sections.iter().for_each(|s| mux.add(s.clone()));
     while !mux.is_empty() {
-        mux.next(rng).iter().for_each(|p| stream.extend(p));
+        packets.extend(mux.next(rng));
     }
+    packets
+}
+
+/// One stream for other assemblers, and its sections in order.
+fn put(folder: &str, name: &str, packets: &[Vec<u8>], sections: &[Vec<u8>]) {
     let lines: String = sections.iter().map(|s| hex(s) + "\n").collect();
-    write(format!("{folder}/{name}.ts"), stream);
+    write(format!("{folder}/{name}.ts"), packets.concat());
     write(format!("{folder}/{name}.sections"), lines);
+}
+
+fn lay(folder: &str, name: &str, style: Style, rng: &mut Rng, sections: Vec<Vec<u8>>) {
+    put(folder, name, &laid(style, rng, &sections), &sections);
+}
+
+/// Packets dropped and repeated: the sections are those that the plain assembler gives.
+fn lay_damaged(folder: &str, style: Style, rng: &mut Rng, sections: Vec<Vec<u8>>) {
+    let mut packets = vec![];
+    for packet in laid(style, rng, &sections) {
+        let times = match rng.below(20) {
+            0 => 0,
+            1 => 2,
+            _ => 1,
+        };
+        packets.extend(vec![packet; times]);
+    }
+    let mut plain = Plain::new(PID);
+    let given: Vec<Vec<u8>> = packets.iter().filter_map(|p| plain.packet(p).ok()).flat_map(|(sections, _)| sections).collect();
+    put(folder, "damaged", &packets, &given);
 }
 
 fn lay_all(folder: &str, n: usize, seed: u64) {
@@ -96,6 +121,8 @@ fn lay_all(folder: &str, n: usize, seed: u64) {
     let mixed = Style { adaptation: 3, empty: 7, stuffing: 3 };
     let sections = (0..n).map(|_| if rng.bit() { cue(&mut rng) } else { sized(&mut rng) }).collect();
     lay(folder, "mixed", mixed, &mut rng, sections);
+    let sections = (0..n).map(|_| sized(&mut rng)).collect();
+    lay_damaged(folder, mixed, &mut rng, sections);
     for size in [33, 403, 4096] {
         let sections = (0..(n * 50 / size).max(20)).map(|_| table(&mut rng, size)).collect();
         lay(folder, &format!("of{size}"), plain, &mut rng, sections);
