@@ -3,6 +3,7 @@
 ghost use Prim.Native.Nat.{_≤_};
 ghost use mathlib.Core.Path.{_≡_};
 ghost use lib.ListN.{length};
+use table::numbers::wide;
 use transport::Assembler;
 use transport::Fed;
 use transport::Taken;
@@ -37,7 +38,7 @@ fn print_section(packet: u64, buffer: &[u8], size: usize) {
     let mut i: usize = 0;
     while i < size {
         if i < buffer.len() {
-            io::print_hex(1, buffer[i] as u64, 2);
+            io::print_hex(1, wide(buffer[i]), 2);
         }
         i += 1;
     }

@@ -100,17 +100,17 @@ module _ (a : Assembler) (p b : List ℕ) (ready : Ready a b) where
     pub still : Ready a′ b′
 
   pub is-step : (x : Told) (a′ : Assembler) (b′ : List ℕ) → CodeStep a p b x a′ b′ → IsStep x a′ b′
-  is-step x a′ b′ c = go agrees c
+  is-step x a′ b′ c = go x a′ b′ agrees c
     where
-      go : Agrees a p b → CodeStep a p b x a′ b′ → IsStep x a′ b′
-      go (both-refuse {r = r} e s) (refuses {b′ = d} {r = k} f) =
+      go : (x : Told) (a′ : Assembler) (b′ : List ℕ) → Agrees a p b → CodeStep a p b x a′ b′ → IsStep x a′ b′
+      go x a′ b′ (both-refuse {r = r} e s) (refuses {b′ = d} {r = k} f) =
           let q : fed.Refused k ≡ fed.Refused r = ap (λ (y : FedTo). y .answer) (sym f ∙ e) in
           let g : k ≡ r = cc in
           let h : d ≡ b = ap (λ (y : FedTo). y .buffer) (sym f ∙ e) in
           record { told = ap refused g ∙ sym s; state = rw h; pid = refl; still = rw h ready }
-      go (both-refuse e s) (takes f y) = absurd (not-refused (sym e ∙ f))
-      go (both-take e t s q r n) (refuses f) = absurd (not-refused (sym f ∙ e))
-      go (both-take {later = l} {b′ = d} {t = u} e t s q r n) (takes {later = k} {b′ = c} {t = w} f y) =
+      go x a′ b′ (both-refuse e s) (takes f y) = absurd (not-refused (sym e ∙ f))
+      go x a′ b′ (both-take e t s q r n) (refuses f) = absurd (not-refused (sym f ∙ e))
+      go x a′ b′ (both-take {later = l} {b′ = d} {t = u} e t s q r n) (takes {later = k} {b′ = c} {t = w} f y) =
           let z : fed.Is l ≡ fed.Is k = ap (λ (y : FedTo). y .answer) (sym e ∙ f) in
           let g : l ≡ k = cc in
           let h : d ≡ c = ap (λ (y : FedTo). y .buffer) (sym e ∙ f) in

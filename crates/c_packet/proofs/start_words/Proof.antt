@@ -15,7 +15,7 @@ same-length : tie.Need-same-length
 same-length c = search needs
 
 returns : tie.Need-returns
-returns c = let k = c .before .before in k .keep .ensures ∙ ap (keptIn _) (k .before .fresh .ensures)
+returns c = let k = c .before .before in k .keep .ensures ∙ ap (keptIn (k .before .before .before .before .args .words .now)) (k .before .fresh .ensures)
 
 pub start-words-spec : {M : Type 1} → statement M
 start-words-spec = tie.close (tie.spec fresh-requires keep-requires same-length returns)
