@@ -1,8 +1,6 @@
 // The sections of the packets of standard input, of PID 500. For each packet its number from 0 on and what it is answered: a line for each section that it finishes, in
 // hexadecimal, and then how many bytes of a section are under way; or its refusal. The file `stdout` is what the host's own assembler says (host/packets gate).
-ghost use Prim.Native.Nat.{_≤_};
-ghost use mathlib.Core.Path.{_≡_};
-ghost use lib.ListN.{length};
+ghost use Prim.Native.Nat.{_<_, _≤_};
 use table::numbers::wide;
 use transport::Assembler;
 use transport::Fed;
@@ -76,14 +74,22 @@ fn one(a: Assembler, n: u64, packet: &[u8], buffer: &mut [u8]) -> Assembler {
     }
 }
 
+// Where the packet ends that begins at a place: the last one may be shorter.
+fn end_of(len: usize, at: usize) -> usize
+    requires { ⌜ at < len ⌝ }
+    ensures { λ r. ⌜ (at < r) × (r ≤ len) ⌝ }
+{
+    if len - at < 188 {
+        return len;
+    }
+    at + 188
+}
+
 fn packets(stream: &[u8], buffer: &mut [u8]) {
     let mut a = transport::fresh(500);
     let mut at: usize = 0;
     while at < stream.len() {
-        let mut end = stream.len();
-        if 188 <= stream.len() - at {
-            end = at + 188;
-        }
+        let end = end_of(stream.len(), at);
         a = one(a, (at / 188) as u64, &stream[at..end], buffer);
         at = end;
     }
