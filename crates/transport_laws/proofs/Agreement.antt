@@ -142,9 +142,12 @@ code-runs a p b = go (fedOf a p b .answer) refl
     go (fed.Refused r) e = (refused r, a, fedOf a p b .buffer, refuses (ap (λ (y : Fed). answering y (fedOf a p b .buffer)) e))
     go (fed.Is later) e =
         let d = fedOf a p b .buffer in
-        let t = takesOf (suc (suc (length (drop (later .at) p)))) later p d in
-        (took (stateOf (t .assembler) (t .buffer)) (t .sections), t .assembler, t .buffer,
-        takes (ap (λ (y : Fed). answering y d) e) (take-ends (suc (length (drop (later .at) p))) later p d (omega arith)))
+        let t = takesOf (suc (suc (length (drop (later .at) p)))) later p d in (
+          took (stateOf (t .assembler) (t .buffer)) (t .sections),
+          t .assembler,
+          t .buffer,
+          takes (ap (λ (y : Fed). answering y d) e) (take-ends (suc (length (drop (later .at) p))) later p d (omega arith)),
+        )
 
 pub code-gives : (ps : List (List ℕ)) (a : Assembler) (b : List ℕ) → (ss : List (List ℕ)) × CodeGives a b ps ss
 code-gives [] a b = ([], over)
