@@ -1,5 +1,5 @@
--- Every public function of the assembler of transport packets fixes its answer, and the later words of its state and bytes of its buffer, and asks nothing of the
--- caller, as FixedAnswers.antt has it of the readers.
+-- Every public function of the assembler of transport packets fixes its answer, and the later words of its state and bytes of its buffer, and asks
+-- nothing of the caller, as FixedAnswers.antt has it of the readers.
 use mathlib.Core.Path.{ap, sym, _∙_}
 use denote.Ref.{now}
 use Rattle.transport_packet.proofs.packet.read_head.Reads as read-head

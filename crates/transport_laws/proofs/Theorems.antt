@@ -1,5 +1,5 @@
--- What Q-9 asks for. (`taken-right` in Right.antt: the same of every section that `take` hands out, from any state. `runs-join`, `run-in-order`, `multiplexed-given`
--- in Cutting.antt: the concatenation itself.)
+-- What Q-9 asks for. (`taken-right` in Right.antt: the same of every section that `take` hands out, from any state. `runs-join`, `run-in-order`,
+-- `multiplexed-given` in Cutting.antt: the concatenation itself. Framing.antt: with the section reader.)
 use Prim.Native.Nat.{ℕ, _≤_, _<_}
 use mathlib.Core.Bool.{Bool, true, false}
 use mathlib.Core.List.{List, [], _∷_, _++_}
@@ -47,8 +47,8 @@ settles pid s later p sections k e = step-settles pid p s later sections k e
 
 -- ---- "A counter gap drops the section under way, and the next payload-unit start begins afresh"
 
--- Packets of which none is refused, with any gaps: for each span between two gaps, the sections of its own concatenation. (What stands before a span's first pointer
--- is in none of them.)
+-- Packets of which none is refused, with any gaps: for each span between two gaps, the sections of its own concatenation. (What stands before a
+-- span's first pointer is in none of them.)
 pub gaps-concatenated : (pid : ℕ) (ps : List (List ℕ)) → Unrefused pid fresh ps → given pid fresh ps ≡ concatenation (spans pid ps .first) ++ spanned (spans pid ps .others)
 gaps-concatenated pid ps c = given-spanned pid ps c
 

@@ -1,5 +1,5 @@
-//! Sections straight from transport packets of 188 bytes (ISO/IEC 13818-1): the assembler of one PID, by proved code. It knows nothing of SCTE 35: each section that it
-//! gives has the length that its own section_length says, and is handed on to `read_section`.
+//! Sections straight from transport packets of 188 bytes (ISO/IEC 13818-1): the assembler of one PID, by proved code. It knows nothing of SCTE 35: each
+//! section that it gives has the length that its own section_length says, and is handed on to `read_section`.
 //!
 //! ```
 //! use scte35::packet::Assembler;
@@ -263,7 +263,8 @@ impl Stream {
         &self.counts
     }
 
-    /// Eats whole packets, and calls `each` with every section and the number of the packet that finished it, from 0. Gives how many bytes were eaten: fewer than 188 are left.
+    /// Eats whole packets, and calls `each` with every section and the number of the packet that finished it, from 0. Gives how many bytes were eaten:
+    /// fewer than 188 are left.
     pub fn eat(&mut self, bytes: &[u8], mut each: impl FnMut(u64, &[u8])) -> usize {
         let packets = bytes.chunks_exact(PACKET);
         let left = packets.remainder().len();

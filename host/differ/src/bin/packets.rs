@@ -1,5 +1,7 @@
-//! packets N SEED: at least N packets through the proved assembler and through a plain second one; ends with 1 on a difference and on a case that was not reached.
-//! packets lay FOLDER N SEED: streams for other assemblers, of sections with right CRCs, undamaged but for the one of that name; and their sections, one to a line in hexadecimal.
+//! packets N SEED: at least N packets through the proved assembler and through a plain second one; ends with 1 on a difference and on a case that was
+//! not reached.
+//! packets lay FOLDER N SEED: streams for other assemblers, of sections with right CRCs, undamaged but for the one of that name; and their sections, one
+//! to a line in hexadecimal.
 //! packets read PID FILE: the sections of a stream by the proved assembler, as `lay` writes them.
 //! packets gate FOLDER: `stdin` and `stdout` of crates/run_transport.
 //! packets turn PID FILE N: the stream N times through the proved assembler, for a count of instructions; prints packets and sections of one turn.
@@ -146,8 +148,8 @@ fn packet(start: bool, counter: u8, bytes: &[&[u8]]) -> Vec<u8> {
     p
 }
 
-/// A small stream: two sections in one packet, one over three packets with a repeat and a packet without payload between them, every refusal, a gap, a cut by a start, a section
-/// that begins with a packet's last byte.
+/// A small stream: two sections in one packet, one over three packets with a repeat and a packet without payload between them, every refusal, a gap, a
+/// cut by a start, a section that begins with a packet's last byte.
 fn gate(folder: &str) {
     let mut rng = Rng::new(9);
     let [short, other, long, last] = [20, 55, 403, 33].map(|n| table(&mut rng, n));

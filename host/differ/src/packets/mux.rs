@@ -1,4 +1,5 @@
-//! A multiplexer: cuts sections into transport packets of one PID, with adaptation fields of any length, pointers, stuffing, and packets without payload between them.
+//! A multiplexer: cuts sections into transport packets of one PID, with adaptation fields of any length, pointers, stuffing, and packets without
+//! payload between them.
 use crate::rng::Rng;
 use std::collections::VecDeque;
 
