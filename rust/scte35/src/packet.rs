@@ -203,7 +203,7 @@ pub struct Counts {
 
 impl Counts {
     pub fn refused(&self, r: Refusal) -> u64 {
-        self.refused[r as usize - 71]
+        self.refused[usize::from(r.number()) - 71]
     }
 }
 
@@ -238,7 +238,7 @@ impl Stream {
         let mut finished = match self.assembler.feed(packet) {
             Ok(finished) => finished,
             Err(r) => {
-                self.counts.refused[r as usize - 71] += 1;
+                self.counts.refused[usize::from(r.number()) - 71] += 1;
                 if r == Refusal::NotAPacket {
                     self.counts.lost_at.get_or_insert(number * PACKET as u64);
                 }
