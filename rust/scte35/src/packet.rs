@@ -80,6 +80,7 @@ impl Assembler {
         Assembler { state, buffer: Box::new([0; BUFFER]) }
     }
 
+    /// The PID whose sections it gathers.
     pub fn pid(&self) -> u16 {
         self.state[0] as u16
     }
@@ -134,6 +135,7 @@ pub struct Finished<'a> {
 }
 
 impl Finished<'_> {
+    /// What the packet's counter said.
     pub fn continuity(&self) -> Continuity {
         self.continuity
     }
@@ -189,21 +191,26 @@ impl<'a, P: Iterator<Item = &'a [u8]>> Iterator for Sections<'a, P> {
 /// What a stream had, packet by packet.
 #[derive(Debug, Clone, Default, PartialEq, Eq)]
 pub struct Counts {
+    /// packets, refused ones too
     pub packets: u64,
     /// packets by refusal, those of 71 first
     pub refused: [u64; 5],
     /// packets of the PID with a payload whose counter is not the one behind the last
     pub gaps: u64,
+    /// packets that repeat the last one's counter
     pub repeats: u64,
+    /// packets of the PID without payload
     pub without_payload: u64,
+    /// sections that were finished
     pub sections: u64,
     /// the first byte of the first packet that is none (71): where the sync is lost
     pub lost_at: Option<u64>,
 }
 
 impl Counts {
+    /// How many packets were refused so; none for a refusal that is no packet's.
     pub fn refused(&self, r: Refusal) -> u64 {
-        self.refused[usize::from(r.number()) - 71]
+        REFUSALS.iter().position(|x| *x == r).map_or(0, |i| self.refused[i])
     }
 }
 
@@ -215,10 +222,12 @@ pub struct Stream {
 }
 
 impl Stream {
+    /// Before the first packet.
     pub fn new(pid: u16) -> Stream {
         Stream { assembler: Assembler::new(pid), counts: Counts::default() }
     }
 
+    /// What was counted so far.
     pub fn counts(&self) -> &Counts {
         &self.counts
     }
@@ -238,7 +247,9 @@ impl Stream {
         let mut finished = match self.assembler.feed(packet) {
             Ok(finished) => finished,
             Err(r) => {
-                self.counts.refused[usize::from(r.number()) - 71] += 1;
+                if let Some(i) = REFUSALS.iter().position(|x| *x == r) {
+                    self.counts.refused[i] += 1;
+                }
                 if r == Refusal::NotAPacket {
                     self.counts.lost_at.get_or_insert(number * PACKET as u64);
                 }
