@@ -158,8 +158,8 @@ struct scte35_insert_components {
     struct scte35_component_splice components[255];
 };
 
-/* the components of an insert, whose payload begins at the offset and goes to the end. A section's command begins at byte 14 and ends before byte
- * 14 + splice_command_length, so those of an accepted section's insert are scte35_insert_components(s, 14 + splice_command_length, 14) */
+/* the components of an insert, whose payload begins at the offset and goes to the end: those of an accepted section's insert are
+ * scte35_insert_components(s, payload.at + payload.len, payload.at), where payload is the section's view of its command */
 struct scte35_insert_components scte35_insert_components(const uint8_t *s, size_t n, size_t at);
 
 /* ---- sections */
@@ -169,6 +169,7 @@ struct scte35_section {
     struct scte35_header header;
     struct scte35_command command;
     struct scte35_view descriptors; /* the loop, for scte35_step */
+    struct scte35_view payload; /* the command's, for scte35_insert_components */
 };
 
 /* the section that begins at the offset and goes to the end */

@@ -86,8 +86,7 @@ static struct scte35_written write_back(const uint8_t *s, size_t n, const struct
     if (items.refusal)
         return items;
     /* of the bytes up to the command's end; those of a command without components are not looked at */
-    size_t end = SCTE35_COMMAND_AT + x->header.splice_command_length;
-    struct scte35_insert_components components = scte35_insert_components(s, end, SCTE35_COMMAND_AT);
+    struct scte35_insert_components components = scte35_insert_components(s, x->payload.at + x->payload.len, x->payload.at);
     return scte35_put_section(&x->header, &x->command, &components, s, n, loop, items.length, target, room);
 }
 

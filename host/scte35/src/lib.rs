@@ -100,7 +100,7 @@ pub fn read_section(bytes: &[u8]) -> Result<Section<'_>, SectionRefusal> {
         0 => Ok(Section {
             header: SpliceInfoHeader::of(&s.header),
             // three bytes of common header and eleven of splice header stand before the command; its views count from the section's first
-            command: SpliceCommand::of(&s.command, &bytes[..14 + s.header.splice_command_length as usize], 14, 0),
+            command: SpliceCommand::of(&s.command, &bytes[..(s.payload.at + s.payload.len) as usize], s.payload.at as usize, 0),
             descriptors: SpliceDescriptors(view(bytes, &s.descriptors)),
         }),
         n => Err(SectionRefusal::ALL[n as usize - 1]),
