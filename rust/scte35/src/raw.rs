@@ -66,7 +66,7 @@ words! {
     }
     ComponentSplice { component_tag: u64, splice_time: Time }
     InsertComponents { refusal: u64, count: u64, components: [ComponentSplice; 255] }
-    Section { refusal: u64, header: Header, command: Command, descriptors: View }
+    Section { refusal: u64, header: Header, command: Command, descriptors: View, payload: View }
     Restrictions {
         web_delivery_allowed_flag: u64,
         no_regional_blackout_flag: u64,
