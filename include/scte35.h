@@ -612,7 +612,7 @@ SCTE35_WORDS(scte35_header, 9);
 SCTE35_WORDS(scte35_insert, 14);
 SCTE35_WORDS(scte35_command, 21);
 SCTE35_WORDS(scte35_insert_components, 2 + 255 * 3);
-SCTE35_WORDS(scte35_section, 1 + 9 + 21 + 2);
+SCTE35_WORDS(scte35_section, 1 + 9 + 21 + 2 + 2);
 SCTE35_WORDS(scte35_segmentation, 18);
 SCTE35_WORDS(scte35_item, 27);
 SCTE35_WORDS(scte35_step, 6 + 27);
