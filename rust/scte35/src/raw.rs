@@ -303,7 +303,7 @@ const _: () = {
     assert!(words::<Insert>() == 14);
     assert!(words::<Command>() == 21);
     assert!(words::<InsertComponents>() == 2 + 255 * 3);
-    assert!(words::<Section>() == 1 + 9 + 21 + 2);
+    assert!(words::<Section>() == 1 + 9 + 21 + 2 + 2);
     assert!(words::<Segmentation>() == 18);
     assert!(words::<Item>() == 27);
     assert!(words::<Step>() == 6 + 27);
