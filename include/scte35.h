@@ -243,6 +243,7 @@ struct scte35_section {
     struct scte35_header header;
     struct scte35_command command;
     struct scte35_view descriptors; /* the loop: see scte35_loop_bytes */
+    struct scte35_view payload;     /* the command's: see scte35_read_section_components */
 };
 
 /*
@@ -260,7 +261,7 @@ static inline const uint8_t *scte35_loop_bytes(const uint8_t *s, const struct sc
 /* The components of the insert of a section that was read at offset 0 of `s`. Of another command the answer is refused (11) or says nothing. */
 static inline struct scte35_insert_components scte35_read_section_components(const uint8_t *s, const struct scte35_section *x)
 {
-    return scte35_read_insert_components(s, SCTE35_PLACE_COMMAND + x->header.splice_command_length, SCTE35_PLACE_COMMAND);
+    return scte35_read_insert_components(s, x->payload.at + x->payload.len, x->payload.at);
 }
 
 /*
@@ -655,7 +656,7 @@ SCTE35_WORDS(scte35_header, 9);
 SCTE35_WORDS(scte35_insert, 14);
 SCTE35_WORDS(scte35_command, 21);
 SCTE35_WORDS(scte35_insert_components, 2 + 255 * 3);
-SCTE35_WORDS(scte35_section, 1 + 9 + 21 + 2);
+SCTE35_WORDS(scte35_section, 1 + 9 + 21 + 2 + 2);
 SCTE35_WORDS(scte35_segmentation, 18);
 SCTE35_WORDS(scte35_item, 27);
 SCTE35_WORDS(scte35_step, 6 + 27);

@@ -15,11 +15,7 @@ ghost use Rattle.items.specs.Items.{stepOf, readingOf};
 ghost use Rattle.section.specs.Section.{sectionOf};
 ghost use Rattle.upid.specs.Upid.{upidOf};
 ghost use Rattle.scte35.specs.FlatNumber.{timeHanded};
-use command::CommandRead;
-use command::SpliceCommand;
 use command::components::read_components;
-use command::insert::InsertRead;
-use command::insert::read_insert;
 use command::read_command;
 use crc::crc32;
 use flat::commands::FlatCommand;
@@ -31,8 +27,7 @@ use flat::headers::FlatHeader;
 use flat::headers::flat_adjusted;
 use flat::headers::read_flat_header;
 use flat::sections::FlatSection;
-use flat::sections::flat_section;
-use flat::sections::no_section;
+use flat::sections::read_flat_section;
 use flat_items::beside::FlatBeside;
 use flat_items::beside::flat_beside;
 use flat_items::steps::FlatStep;
@@ -40,15 +35,9 @@ use flat_items::steps::flat_step;
 use flat_items::upids::FlatUpid;
 use flat_items::upids::flat_upid;
 use header::time::SpliceTime;
-use header::time::TimeRead;
 use header::time::adjusted_time;
-use header::time::read_whole_time;
 use items::iteration::step;
 use items::reading::read_item;
-use section::FrameRead;
-use section::Refusal;
-use section::read_command_part;
-use section::read_frame;
 use upid::read_upid;
 
 pub mod abi;
@@ -75,48 +64,11 @@ pub extern "C" fn scte35_read_header(s: &[u8], at: usize) -> FlatHeader
     read_flat_header(rest(s, at))
 }
 
-// Header and loop are read as numbers, and each command into its flat form, with a return in each arm: answers that meet behind a match are held word by word.
 #[no_mangle]
 pub extern "C" fn scte35_read_section(s: &[u8], at: usize) -> FlatSection
     ensures { λ r. ⌜ r ≡ flatSectionRead (sectionOf (drop at (now (s .entry)))) ⌝ }
 {
-    let t = rest(s, at);
-    let place = match read_frame(t) {
-        FrameRead::Whole(v) => v,
-        FrameRead::Refused(r) => return no_section(r),
-    };
-    let header = read_flat_header(&t[3..]);
-    let after = place.at;
-    let end = after - 2;
-    let kind = t[13];
-    match kind {
-        0x00 => {
-            if after == 16 {
-                return flat_section(header, SpliceCommand::SpliceNull, place);
-            }
-            return no_section(Refusal::MalformedCommand);
-        }
-        0x05 => match read_insert(&t[14..end]) {
-            InsertRead::Got(i) => return flat_section(
-                header,
-                SpliceCommand::SpliceInsert(i),
-                place,
-            ),
-            InsertRead::Lacks(_) => return no_section(Refusal::MalformedCommand),
-        },
-        0x06 => match read_whole_time(&t[14..end], 0) {
-            TimeRead::Got(x) => {
-                let time = x.time;
-                return flat_section(header, SpliceCommand::TimeSignal(time), place);
-            }
-            TimeRead::Lacks(_) => return no_section(Refusal::MalformedCommand),
-        },
-        _ => match read_command_part(kind, &t[14..end]) {
-            CommandRead::Is(c) => return flat_section(header, c, place),
-            CommandRead::UnknownType => return no_section(Refusal::UnknownCommand),
-            CommandRead::Malformed => return no_section(Refusal::MalformedCommand),
-        },
-    }
+    read_flat_section(rest(s, at))
 }
 
 // The command of a type, in its payload.

@@ -16,22 +16,22 @@ use Rattle.header.specs.declared.header.SpliceInfoHeader.{SpliceInfoHeader}
 use Rattle.header.proofs.Headers.{header-there}
 use Rattle.crc.specs.Crc.{crcOf}
 use Rattle.table.specs.Bits.{pick, bitsOf, field}
-use Rattle.table.specs.declared.View.{View}
 use Rattle.table.proofs.Lists.{zero-one}
-use Rattle.section.specs.Section.{unknownCommand, malformedCommand, conditions, first, None, commandLength, roomAfter, loopLength, commandType, commandBytes, loopPlace, frameOf, movedRead, accepted, through, sectionOf, numberOf}
+use Rattle.section.specs.Section.{unknownCommand, malformedCommand, conditions, first, None, commandLength, roomAfter, loopLength, commandType, commandBytes, frameIn, frameOf, movedRead, accepted, through, sectionOf, numberOf}
+use Rattle.section.specs.declared.Frame.{Frame}
 use Rattle.section.specs.declared.FrameRead.{FrameRead}
 use Rattle.section.specs.declared.Refusal.{Refusal}
 use Rattle.section.specs.declared.Section.{Section}
 use Rattle.section.specs.declared.SectionRead.{SectionRead}
 
 -- ---- the first refusal that applies
-last : (r : CommandRead) (h : SpliceInfoHeader) (v : View) → numberOf (accepted (HeaderRead.Header h) (movedRead r) v) ≡ first 10 (eqb (command.numberOf r) 10 ∷ eqb (command.numberOf r) 11 ∷ [])
+last : (r : CommandRead) (h : SpliceInfoHeader) (v : Frame) → numberOf (accepted (HeaderRead.Header h) (movedRead r) v) ≡ first 10 (eqb (command.numberOf r) 10 ∷ eqb (command.numberOf r) 11 ∷ [])
 unfolding numberOf accepted movedRead
 last (CommandRead.Is c) h v = refl
 last CommandRead.UnknownType h v = refl
 last CommandRead.Malformed h v = refl
 
-chain : (b₁ b₂ b₃ b₄ b₅ b₆ b₇ b₈ b₉ : Bool) (h : HeaderRead) (r : CommandRead) (v : View) (bs : List Bool) → (b₅ ≡ false → numberOf (accepted h r v) ≡ first 10 bs)
+chain : (b₁ b₂ b₃ b₄ b₅ b₆ b₇ b₈ b₉ : Bool) (h : HeaderRead) (r : CommandRead) (v : Frame) (bs : List Bool) → (b₅ ≡ false → numberOf (accepted h r v) ≡ first 10 bs)
     → numberOf
     (through
     (pick b₁ (FrameRead.Refused Refusal.TooShort)
@@ -62,9 +62,9 @@ unfolding sectionOf frameOf
 refusals-in-order s =
     chain (ltb (length s) 3) (ltb 4096 (length s)) (not (eqb (getD s 0 0) 0xfc)) (not (eqb (crcOf s) 0)) (ltb (length s) 18)
     (eqb (field (bitsOf s) 32 1) 1) (ltb (length s - 18) (commandLength s)) (ltb (roomAfter s) 2) (ltb (roomAfter s) (loopLength s + 2))
-    (headerOf (drop 3 s)) (movedRead (commandOf (commandType s) (commandBytes s))) (loopPlace s) (unknownCommand s ∷ malformedCommand s ∷ [])
+    (headerOf (drop 3 s)) (movedRead (commandOf (commandType s) (commandBytes s))) (frameIn s) (unknownCommand s ∷ malformedCommand s ∷ [])
     (λ e. let h = header-there (drop 3 s) (omega (arith, length-drop 3 s, ltb-false (length s) 18 e)) in
-    rw (h .1) (last (commandOf (commandType s) (commandBytes s)) (h .0) (loopPlace s)))
+    rw (h .1) (last (commandOf (commandType s) (commandBytes s)) (h .0) (frameIn s)))
 
 -- ---- accepted exactly when none applies
 none-first : (n : ℕ) (bs : List Bool) → None bs → first n bs ≡ 0

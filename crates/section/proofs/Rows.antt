@@ -18,12 +18,12 @@ use Rattle.header.specs.declared.time.SpliceTime.{SpliceTime}
 use Rattle.header.proofs.Headers.{header-there}
 use Rattle.table.specs.Bits.{bitsOf, field}
 use Rattle.table.specs.Table.{number, bit, reserved, list}
-use Rattle.section.specs.Section.{commandLength, commandType, commandBytes, roomAfter, loopLength, loopPlace, moved, movedRead, accepted, frameOf, sectionOf, numberOf}
+use Rattle.section.specs.Section.{commandLength, commandType, commandBytes, roomAfter, loopLength, loopPlace, frameIn, moved, movedRead, accepted, frameOf, sectionOf, numberOf}
 use Rattle.section.specs.Walk.{layoutOf}
 use Rattle.section.specs.Whole.{wholeSectionOf}
 use Rattle.section.specs.declared.FrameRead.{FrameRead}
 use Rattle.section.specs.declared.SectionRead.{SectionRead}
-use Rattle.section.proofs.Frame.{is-framed, no-loop, has-parts, is-refused, is-accepted, is-section}
+use Rattle.section.proofs.Framing.{is-framed, no-loop, has-parts, is-refused, is-accepted, is-section}
 
 -- a section with right CRC and command length 0, not encrypted
 pub record Plain (s : List ℕ) : Type 0 where
@@ -60,16 +60,16 @@ module _ {s : List ℕ} (p : Plain s) where
 
   -- "20 with loop length 0 and command type 0 is accepted", a null command with an empty loop
   pub row-20 : length s ≡ 20 → loopLength s ≡ 0 → commandType s ≡ 0 → (h : SpliceInfoHeader) × (headerOf (drop 3 s) ≡ HeaderRead.Header h)
-      × (sectionOf s ≡ SectionRead.Is (record { header = h; command = SpliceCommand.SpliceNull; descriptors = record { at = 16; len = 0 } }))
-  unfolding moved loopPlace
+      × (sectionOf s ≡ SectionRead.Is (record { header = h; command = SpliceCommand.SpliceNull; descriptors = record { at = 16; len = 0 }; payload = record { at = 14; len = 0 } }))
+  unfolding moved loopPlace frameIn
   row-20 e l t =
       let h = header-there (drop 3 s) (omega (arith, length-drop 3 s)) in (
         h .0,
         h .1,
         sym
-            (is-accepted s (loopPlace s) _
+            (is-accepted s (frameIn s) _
             (laid-out _ (omega arith) (omega arith) (has-parts s 0 clear-bit not-one 0 (sym (p .none)) (omega arith) (omega arith) 0 (sym l) (omega arith)))
-            (is-section _ (h .0) (h .1) _ _ SpliceCommand.SpliceNull SpliceCommand.SpliceNull (record { at = 16; len = 0 }) (null t) refl (rw (p .none, l)))),
+            (is-section _ (h .0) (h .1) _ _ SpliceCommand.SpliceNull SpliceCommand.SpliceNull (record { command = record { at = 14; len = 0 }; descriptors = record { at = 16; len = 0 } }) (null t) refl (rw (p .none, l)))),
       )
 
 -- ---- one of each length
@@ -113,5 +113,5 @@ of-39 =
 
 pub row-components : wholeSectionOf of-39 .components
     ≡ record { «component_tag» = 1; «splice_time» = SpliceTime.At 5 } ∷ record { «component_tag» = 2; «splice_time» = SpliceTime.Unspecified } ∷ replicate 253 blank
-unfolding wholeSectionOf sectionOf frameOf accepted movedRead moved commandLength commandType commandBytes roomAfter loopLength crcOf crcBits crcBit headerOf headerRead spliceHeader commandOf componentsOf array insert active ending moded breakDuration timeUnless component spliceTime number bit reserved list
+unfolding wholeSectionOf sectionOf frameOf frameIn accepted movedRead moved commandLength commandType commandBytes roomAfter loopLength crcOf crcBits crcBit headerOf headerRead spliceHeader commandOf componentsOf array insert active ending moded breakDuration timeUnless component spliceTime number bit reserved list
 row-components = refl

@@ -1,40 +1,57 @@
 -- The full reading of a section.
---     command-there    the command's bytes lie in an accepted section
+--     payload-is       what an accepted section says of its command's place
 --     whole-is, whole-refused   the answer
-use Prim.Native.Nat.{ℕ, _+_, _-_, _≤_}
+use Prim.Native.Nat.{ℕ}
 use mathlib.Core.List.{List, []}
-use mathlib.Core.Path.{_≡_, sym, _∙_}
-use native.Mathlib.Omega.{arith}
-use lib.ListN.{length, take, drop}
-use borrow.Author.Tests.{ltb-false}
+use mathlib.Core.Path.{_≡_, refl, ap, sym, _∙_}
+use lib.ListN.{drop}
 use Rattle.command.specs.Command.{array}
 use Rattle.command.specs.declared.components.ComponentSplice.{ComponentSplice}
-use Rattle.section.specs.Section.{commandLength, commandBytes, sectionOf}
+use Rattle.command.specs.Command.{commandOf}
+use Rattle.command.specs.declared.CommandRead.{CommandRead}
+use Rattle.header.specs.Header.{headerOf}
+use Rattle.header.specs.declared.header.HeaderRead.{HeaderRead}
+use Rattle.table.specs.Lent.{noView, viewed}
+use Rattle.table.specs.declared.View.{View}
+use Rattle.table.proofs.Lists.{zero-one}
+use Rattle.section.specs.Section.{commandLength, commandType, commandBytes, frameIn, movedRead, accepted, frameOf, through, sectionOf}
 use Rattle.section.specs.Whole.{besideCommand, wholeSectionOf}
+use Rattle.section.specs.declared.Frame.{Frame}
+use Rattle.section.specs.declared.FrameRead.{FrameRead}
 use Rattle.section.specs.declared.Refusal.{Refusal}
 use Rattle.section.specs.declared.Section.{Section}
 use Rattle.section.specs.declared.SectionRead.{SectionRead}
 use Rattle.section.specs.declared.whole.WholeSection.{WholeSection}
-use Rattle.section.proofs.Acceptance.{none-if-accepted}
+use Rattle.section.proofs.Framing.{Framed, framed, command-viewed}
 
+-- ---- where an accepted section has its command
+abbrev placeOf : SectionRead → View
+placeOf (SectionRead.Is x) = x .payload
+placeOf (SectionRead.Refused q) = noView
+
+of-frame : (f : FrameRead) (h : HeaderRead) (r : CommandRead) (x : Section) → through f h r ≡ SectionRead.Is x → (g : Frame) × (f ≡ FrameRead.Whole g) × (x .payload ≡ g .command)
+unfolding accepted
+of-frame (FrameRead.Whole g) (HeaderRead.Header h) (CommandRead.Is c) x e = (g, refl, sym (ap placeOf e))
+of-frame (FrameRead.Whole g) (HeaderRead.Header h) CommandRead.UnknownType x e = zero-one cc
+of-frame (FrameRead.Whole g) (HeaderRead.Header h) CommandRead.Malformed x e = zero-one cc
+of-frame (FrameRead.Whole g) HeaderRead.TooShort r x e = zero-one cc
+of-frame (FrameRead.Refused q) h r x e = zero-one cc
+
+-- the command's bytes, by the view that an accepted section has of them
+pub payload-is : (s : List ℕ) (x : Section) → sectionOf s ≡ SectionRead.Is x → (x .payload ≡ record { at = 14; len = commandLength s }) × (viewed s (x .payload) ≡ commandBytes s)
+unfolding sectionOf frameIn
+payload-is s x e =
+    let g = of-frame (frameOf s) (headerOf (drop 3 s)) (movedRead (commandOf (commandType s) (commandBytes s))) x e in
+    (g .2 ∙ ap (λ (y : Frame). y .command) (framed s (g .0) (sym (g .1)) .place), ap (viewed s) (g .2) ∙ command-viewed s (g .0) (sym (g .1)))
+
+-- ---- the answer
 module _ (s : List ℕ) (r : SectionRead) (is : r ≡ sectionOf s) where
   pub whole-refused : (q : Refusal) → r ≡ SectionRead.Refused q → (cs : List ComponentSplice) → cs ≡ array []
       → _≡_ {A = WholeSection} (record { read = r; components = cs }) (wholeSectionOf s)
   unfolding wholeSectionOf
   whole-refused q e cs f = rw (← is, e, f)
 
-  module _ (x : Section) (e : r ≡ SectionRead.Is x) where
-    -- none of 5 and 7 applies
-    pub command-there : 14 + commandLength s ≤ length s
-    command-there =
-        let h = none-if-accepted s x (sym is ∙ e) in
-        let a : 18 ≤ length s = ltb-false (length s) 18 (h .1 .1 .1 .1 .0) in
-        let b : commandLength s ≤ length s - 18 = ltb-false (length s - 18) (commandLength s) (h .1 .1 .1 .1 .1 .1 .0) in
-        omega arith
-
-    pub whole-is : (n : ℕ) → n ≡ commandLength s → (cs : List ComponentSplice) → cs ≡ besideCommand (x .command) (take (14 + n - 14) (drop 14 s))
-        → _≡_ {A = WholeSection} (record { read = r; components = cs }) (wholeSectionOf s)
-    unfolding wholeSectionOf commandBytes
-    whole-is n en cs f =
-        let z : 14 + n - 14 ≡ commandLength s = omega arith in
-        rw (← is, e, f, z)
+  pub whole-is : (x : Section) → r ≡ SectionRead.Is x → (cs : List ComponentSplice) → cs ≡ besideCommand (x .command) (viewed s (x .payload))
+      → _≡_ {A = WholeSection} (record { read = r; components = cs }) (wholeSectionOf s)
+  unfolding wholeSectionOf
+  whole-is x e cs f = rw (← is, e, f, payload-is s x (sym is ∙ e) .1)

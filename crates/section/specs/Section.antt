@@ -15,6 +15,7 @@ use Rattle.header.specs.declared.header.HeaderRead.{HeaderRead}
 use Rattle.table.specs.Bits.{pick, bitsOf, field}
 use Rattle.table.specs.Lent.{noView, shifted, viewed}
 use Rattle.table.specs.declared.View.{View}
+use Rattle.section.specs.declared.Frame.{Frame}
 use Rattle.section.specs.declared.FrameRead.{FrameRead}
 use Rattle.section.specs.declared.Refusal.{Refusal}
 use Rattle.section.specs.declared.SectionRead.{SectionRead}
@@ -40,6 +41,10 @@ loopLength s = field (bitsOf s) ((14 + commandLength s) * 8) 16
 
 unfoldable pub loopPlace : List ℕ → View
 loopPlace s = record { at = 16 + commandLength s; len = loopLength s }
+
+-- where its two parts lie: the command's payload, and the loop
+unfoldable pub frameIn : List ℕ → Frame
+frameIn s = record { command = record { at = 14; len = commandLength s }; descriptors = loopPlace s }
 
 -- the bytes of the loop
 abbrev pub loopBytes : List ℕ → List ℕ
@@ -97,13 +102,13 @@ abbrev pub None : List Bool → Type 0
 None [] = Unit {0}
 None (b ∷ bs) = (b ≡ false) × None bs
 
--- ---- the frame: where the loop lies; or the refusal of the first test that holds: they "are checked in order of number"
+-- ---- the frame: where the parts lie; or the refusal of the first test that holds: they "are checked in order of number"
 abbrev pub unlessFirst : List (Bool × Refusal) → FrameRead → FrameRead
 unlessFirst [] r = r
 unlessFirst (t ∷ ts) r = pick (t .0) (FrameRead.Refused (t .1)) (unlessFirst ts r)
 
 unfoldable pub frameOf : List ℕ → FrameRead
-frameOf s = unlessFirst (frameTests s) (FrameRead.Whole (loopPlace s))
+frameOf s = unlessFirst (frameTests s) (FrameRead.Whole (frameIn s))
 
 -- ---- the reading
 -- a command whose views count from `base` bytes before its payload
@@ -116,16 +121,16 @@ movedRead (CommandRead.Is c) = CommandRead.Is (moved 14 c)
 movedRead CommandRead.UnknownType = CommandRead.UnknownType
 movedRead CommandRead.Malformed = CommandRead.Malformed
 
--- the header, the command and the loop's place; 10 and 11. (A section of 18 bytes has a header.)
-unfoldable pub accepted : HeaderRead → CommandRead → View → SectionRead
-accepted (HeaderRead.Header h) (CommandRead.Is c) loop = SectionRead.Is (record { header = h; command = c; descriptors = loop })
-accepted (HeaderRead.Header h) CommandRead.UnknownType loop = SectionRead.Refused Refusal.UnknownCommand
-accepted (HeaderRead.Header h) CommandRead.Malformed loop = SectionRead.Refused Refusal.MalformedCommand
-accepted HeaderRead.TooShort r loop = SectionRead.Refused Refusal.NoHeader
+-- the header, the command and where the parts lie; 10 and 11. (A section of 18 bytes has a header.)
+unfoldable pub accepted : HeaderRead → CommandRead → Frame → SectionRead
+accepted (HeaderRead.Header h) (CommandRead.Is c) f = SectionRead.Is (record { header = h; command = c; descriptors = f .descriptors; payload = f .command })
+accepted (HeaderRead.Header h) CommandRead.UnknownType f = SectionRead.Refused Refusal.UnknownCommand
+accepted (HeaderRead.Header h) CommandRead.Malformed f = SectionRead.Refused Refusal.MalformedCommand
+accepted HeaderRead.TooShort r f = SectionRead.Refused Refusal.NoHeader
 
 -- a frame that is refused refuses the section
 abbrev pub through : FrameRead → HeaderRead → CommandRead → SectionRead
-through (FrameRead.Whole loop) h r = accepted h r loop
+through (FrameRead.Whole f) h r = accepted h r f
 through (FrameRead.Refused x) h r = SectionRead.Refused x
 
 -- 1 to 9, and then 10 and 11

@@ -2,7 +2,7 @@
 use Prim.Native.Nat.{ℕ}
 use mathlib.Core.List.{List}
 use Rattle.command.specs.declared.SpliceCommand.{SpliceCommand}
-use Rattle.section.specs.Section.{loopPlace, layoutTests, unlessFirst, privateView}
+use Rattle.section.specs.Section.{frameIn, layoutTests, unlessFirst, privateView}
 use Rattle.section.specs.declared.FrameRead.{FrameRead}
 
 -- where a command's view begins
@@ -11,4 +11,4 @@ viewStart c = privateView c .at
 
 -- the frame of a section that has a header: refusals 6 to 9
 unfoldable pub layoutOf : List ℕ → FrameRead
-layoutOf s = unlessFirst (layoutTests s) (FrameRead.Whole (loopPlace s))
+layoutOf s = unlessFirst (layoutTests s) (FrameRead.Whole (frameIn s))

@@ -2,7 +2,7 @@
 ghost use mathlib.Core.Path.{_≡_};
 ghost use Prim.Native.Nat.{_+_, _*_, _<_, _≤_};
 ghost use lib.ListN.{length};
-ghost use Rattle.section.specs.Section.{commandLength, commandType, commandBytes, loopPlace, moved, movedRead, accepted, frameOf, sectionOf, privateView};
+ghost use Rattle.section.specs.Section.{commandLength, commandType, commandBytes, frameIn, moved, movedRead, accepted, frameOf, sectionOf, privateView};
 ghost use Rattle.table.specs.Lent.{viewed};
 ghost use Rattle.section.specs.Walk.{viewStart, layoutOf};
 ghost use Rattle.table.specs.Bits.{bitsOf, field};
@@ -23,11 +23,12 @@ use table::numbers::wide;
 
 pub mod whole;
 
-// What a section says. Views count from its first byte; the items of the loop are read one step at a time.
+// What a section says. Views count from its first byte; the items of the loop are read one step at a time. The payload is the command's.
 pub struct Section {
     pub header: SpliceInfoHeader,
     pub command: SpliceCommand,
     pub descriptors: View,
+    pub payload: View,
 }
 
 // Refusals 1 to 11, in their order.
@@ -45,9 +46,15 @@ pub enum Refusal {
     MalformedCommand,
 }
 
-// Where the loop lies; or refusals 1 to 9, those that come before the command.
+// Where the two parts lie whose lengths a section says: the command's payload, and the loop.
+pub struct Frame {
+    pub command: View,
+    pub descriptors: View,
+}
+
+// Where the parts lie; or refusals 1 to 9, those that come before the command.
 pub enum FrameRead {
-    Whole(View),
+    Whole(Frame),
     Refused(Refusal),
 }
 
@@ -117,13 +124,16 @@ fn read_layout(s: &[u8]) -> FrameRead
     if room < extent + 2 {
         return FrameRead::Refused(Refusal::LoopTooLong);
     }
-    FrameRead::Whole(View {
-        at: 16 + size,
-        len: extent,
+    FrameRead::Whole(Frame {
+        command: View { at: 14, len: size },
+        descriptors: View {
+            at: 16 + size,
+            len: extent,
+        },
     })
 }
 
-// The place of the loop, in a section whose parts are all there. Only its command is still to be read.
+// Where command and loop lie, in a section whose parts are all there. Only its command is still to be read.
 pub fn read_frame(s: &[u8]) -> FrameRead
     ensures { λ r. ⌜ r ≡ frameOf (now (s .entry)) ⌝ }
 {
@@ -158,21 +168,24 @@ pub fn read_command_part(kind: u8, payload: &[u8]) -> CommandRead
     }
 }
 
-// The header, the command and the loop's place, of a section whose parts are all there.
-fn read_parts(s: &[u8], place: View) -> SectionRead
-    requires { ⌜ (place ≡ loopPlace (now s)) × (16 + commandLength (now s) ≤ length (now s)) ⌝ }
-    ensures { λ r. ⌜ r ≡ accepted (headerOf (drop 3 (now (s .entry)))) (movedRead (commandOf (commandType (now (s .entry))) (commandBytes (now (s .entry))))) (loopPlace (now (s .entry))) ⌝ }
+// The header and the command of a section whose parts are all there, beside its frame.
+fn read_parts(s: &[u8], frame: Frame) -> SectionRead
+    requires { ⌜ (frame ≡ frameIn (now s)) × (16 + commandLength (now s) ≤ length (now s)) ⌝ }
+    ensures { λ r. ⌜ r ≡ accepted (headerOf (drop 3 (now (s .entry)))) (movedRead (commandOf (commandType (now (s .entry))) (commandBytes (now (s .entry))))) (frameIn (now (s .entry))) ⌝ }
 {
     let header = match read_header(&s[3..]) {
         HeaderRead::Header(h) => h,
         HeaderRead::TooShort => return SectionRead::Refused(Refusal::NoHeader),
     };
-    let end = place.at - 2;
+    let payload = frame.command;
+    let descriptors = frame.descriptors;
+    let end = 14 + payload.len;
     match read_command_part(s[13], &s[14..end]) {
         CommandRead::Is(command) => SectionRead::Is(Section {
             header,
             command,
-            descriptors: place,
+            descriptors,
+            payload,
         }),
         CommandRead::UnknownType => SectionRead::Refused(Refusal::UnknownCommand),
         CommandRead::Malformed => SectionRead::Refused(Refusal::MalformedCommand),
@@ -184,7 +197,7 @@ pub fn read_section(s: &[u8]) -> SectionRead
     ensures { λ r. ⌜ r ≡ sectionOf (now (s .entry)) ⌝ }
 {
     match read_frame(s) {
-        FrameRead::Whole(place) => return read_parts(s, place),
+        FrameRead::Whole(frame) => return read_parts(s, frame),
         FrameRead::Refused(r) => return SectionRead::Refused(r),
     }
 }

@@ -7,7 +7,7 @@ use command::SpliceCommand;
 use command::components::ComponentSplice;
 use command::components::blanks;
 use command::components::read_components;
-use table::numbers::bits;
+use table::lent::view;
 
 // The components are blank past their count, and all of them where the command is no insert by components.
 pub struct WholeSection {
@@ -28,7 +28,7 @@ fn beside_command(c: SpliceCommand, payload: &[u8]) -> [ComponentSplice; 255]
     }
 }
 
-// The section in these bytes, with its insert's components. The command's bytes are a part of the section, so their length is read once more.
+// The section in these bytes, with its insert's components.
 pub fn read_whole_section(s: &[u8]) -> WholeSection
     ensures { λ r. ⌜ r ≡ wholeSectionOf (now (s .entry)) ⌝ }
 {
@@ -40,11 +40,10 @@ pub fn read_whole_section(s: &[u8]) -> WholeSection
         },
         SectionRead::Is(x) => {
             let command = x.command;
-            let size = bits(s, 11, 4, 12) as usize;
-            let end = 14 + size;
+            let payload = x.payload;
             WholeSection {
                 read,
-                components: beside_command(command, &s[14..end]),
+                components: beside_command(command, view(s, payload)),
             }
         }
     }

@@ -24,9 +24,9 @@ use Rattle.header.proofs.Headers.{header-got, header-write-read}
 use Rattle.names.specs.Algorithm.{algorithmOf}
 use Rattle.names.specs.Command.{commandNumber, commandTypeOf}
 use Rattle.names.proofs.Commands.{command-laws}
-use Rattle.section.specs.Section.{commandLength, commandType, commandBytes, loopLength, loopPlace, loopBytes, moved, sectionOf}
+use Rattle.section.specs.Section.{commandLength, commandType, commandBytes, loopLength, loopPlace, frameIn, loopBytes, moved, sectionOf}
 use Rattle.section.specs.declared.SectionRead.{SectionRead}
-use Rattle.section.proofs.Frame.{is-framed, has-parts, is-accepted, is-section}
+use Rattle.section.proofs.Framing.{is-framed, has-parts, is-accepted, is-section}
 use Rattle.table.specs.Bits.{bitsOf, field, bytesOf, bigEndian, AllBytes}
 use Rattle.table.specs.Lent.{viewed}
 use Rattle.table.specs.Table.{got, parse}
@@ -169,6 +169,10 @@ module _ (h : SpliceInfoHeader) (kind : ℕ) (payload loop : List ℕ) where
     unfolding loopPlace
     frame-loop-place = rw (frame-command-length, frame-loop-length)
 
+    frame-places : frameIn (frame h kind payload loop) ≡ record { command = record { at = 14; len = length payload }; descriptors = record { at = 16 + length payload; len = length loop } }
+    unfolding frameIn
+    frame-places = rw (frame-command-length, frame-loop-place)
+
     -- the loop's bytes are those that were lent
     pub frame-loop : loopBytes (frame h kind payload loop) ≡ loop
     unfolding viewed
@@ -181,14 +185,14 @@ module _ (h : SpliceInfoHeader) (kind : ℕ) (payload loop : List ℕ) where
 
     -- a frame is accepted, and is read as what it was made of
     pub frame-accepted : (c : SpliceCommand) → command.commandOf kind payload ≡ CommandRead.Is c
-        → sectionOf (frame h kind payload loop) ≡ SectionRead.Is (record { header = headed h (length payload) kind; command = moved 14 c; descriptors = record { at = 16 + length payload; len = length loop } })
+        → sectionOf (frame h kind payload loop) ≡ SectionRead.Is (record { header = headed h (length payload) kind; command = moved 14 c; descriptors = record { at = 16 + length payload; len = length loop }; payload = record { at = 14; len = length payload } })
     frame-accepted c e =
         let s = frame h kind payload loop in
         let n : length s ≡ sectionLength (length payload) (length loop) = length-frame in
         let k : command.commandOf (commandType s) (commandBytes s) ≡ CommandRead.Is c = rw (frame-command-type, frame-command-bytes) e in
-        let r = SectionRead.Is (record { header = headed h (length payload) kind; command = moved 14 c; descriptors = record { at = 16 + length payload; len = length loop } }) in
+        let r = SectionRead.Is (record { header = headed h (length payload) kind; command = moved 14 c; descriptors = record { at = 16 + length payload; len = length loop }; payload = record { at = 14; len = length payload } }) in
         sym
-        (is-accepted s (loopPlace s) r
+        (is-accepted s (frameIn s) r
         (is-framed s (omega arith) (omega arith) frame-first frame-crc _ (omega arith)
         (has-parts s (field (bitsOf s) 32 1) (sym (field-exact s 32 1 (omega arith))) frame-clear (length payload) (sym frame-command-length) (omega arith) (omega arith) (length loop) (sym frame-loop-length) (omega arith)))
-        (is-section (headerOf (drop 3 s)) (headed h (length payload) kind) frame-header (command.commandOf (commandType s) (commandBytes s)) (loopPlace s) c (moved 14 c) _ k refl (sym frame-loop-place)))
+        (is-section (headerOf (drop 3 s)) (headed h (length payload) kind) frame-header (command.commandOf (commandType s) (commandBytes s)) (frameIn s) c (moved 14 c) _ k refl (sym frame-places)))

@@ -37,7 +37,7 @@ use Rattle.section_writer.proofs.Trips.{Wrote, section-wrote, section-w
 module _ (h : SpliceInfoHeader) (payload : List ℕ) (kind : ℕ) (loop b : List ℕ) (c : SpliceCommand) (byte : kind < 2 ^ 8)
     (e : sectionMade h (made payload) kind loop ≡ made b) (k : command.commandOf kind payload ≡ CommandRead.Is c) where
   -- the header with the command's length and type, the command with its views in the section, and the loop's place, where the lent bytes stand
-  pub section-reads-back : (sectionOf b ≡ SectionRead.Is (record { header = headed h (length payload) kind; command = moved 14 c; descriptors = record { at = 16 + length payload; len = length loop } }))
+  pub section-reads-back : (sectionOf b ≡ SectionRead.Is (record { header = headed h (length payload) kind; command = moved 14 c; descriptors = record { at = 16 + length payload; len = length loop }; payload = record { at = 14; len = length payload } }))
       × (loopBytes b ≡ loop)
   section-reads-back = let w = section-write-read h payload kind loop b c byte e k in (w .0, w .1)
 

@@ -130,7 +130,7 @@ module _ (h : SpliceInfoHeader) (kind : ℕ) (payload loop : List ℕ) (fits : n
 -- ---- what is written reads as what was handed in: the header with the command's length and type, the command, and the loop's bytes
 pub section-write-read : (h : SpliceInfoHeader) (payload : List ℕ) (kind : ℕ) (loop b : List ℕ) (c : SpliceCommand) → kind < 2 ^ 8
     → sectionMade h (made payload) kind loop ≡ made b → command.commandOf kind payload ≡ CommandRead.Is c
-    → (sectionOf b ≡ SectionRead.Is (record { header = headed h (length payload) kind; command = moved 14 c; descriptors = record { at = 16 + length payload; len = length loop } }))
+    → (sectionOf b ≡ SectionRead.Is (record { header = headed h (length payload) kind; command = moved 14 c; descriptors = record { at = 16 + length payload; len = length loop }; payload = record { at = 14; len = length payload } }))
     × (loopBytes b ≡ loop)
     × (canonicalFrame b ≡ true)
 unfolding bytesIn

@@ -24,6 +24,6 @@ ownOf c = withView (λ v. record { at = 4; len = v .len }) c
 pub record ReadsBack (h : SpliceInfoHeader) (c : SpliceCommand) (cs : List ComponentSplice) (lent loop b : List ℕ) : Type 0 where
   pub payload : List ℕ
   pub command : commandMade c cs lent ≡ made payload
-  pub reads : sectionOf b ≡ SectionRead.Is (record { header = headed h (length payload) (kindOf c); command = moved 14 (ownOf c); descriptors = record { at = 16 + length payload; len = length loop } })
+  pub reads : sectionOf b ≡ SectionRead.Is (record { header = headed h (length payload) (kindOf c); command = moved 14 (ownOf c); descriptors = record { at = 16 + length payload; len = length loop }; payload = record { at = 14; len = length payload } })
   pub loops : loopBytes b ≡ loop
   pub form : canonicalSection b ≡ true

@@ -10,7 +10,8 @@ ghost use Rattle.command.specs.Command.{array};
 ghost use Rattle.command_measure.specs.Made.{commandMade};
 ghost use Rattle.pen.specs.Written.{answerOf, laterOf};
 ghost use Rattle.section_writer.specs.Writing.{writerConditions, kindOf, sectionMade};
-ghost use Rattle.section.specs.Section.{first};
+ghost use Rattle.section.specs.Section.{first, frameOf};
+ghost use Rattle.section.specs.declared.FrameRead.{FrameRead};
 ghost use Rattle.section_writer.specs.Walk.{frontNumber, backNumber, tail, answerFor};
 ghost use Rattle.table.specs.Lent.{stored};
 use canonical_command::is_canonical_command;
@@ -27,8 +28,10 @@ use command_writer::put_command;
 use crc::crc32;
 use header::header::SpliceInfoHeader;
 use pen::Written;
+use section::Frame;
 use section::FrameRead;
 use section::read_frame;
+use table::lent::view;
 use table::numbers::bits;
 use table::numbers::wide;
 use table::store::put_bytes;
@@ -230,16 +233,13 @@ pub fn write_bare_section(
 
 // ---- the canonical form
 
-// What the canonical form asks of a section around its command and its loop.
-pub fn is_canonical_frame(s: &[u8]) -> bool
+// What the canonical form asks around command and loop of a section that has this frame.
+fn is_canonical_around(s: &[u8], frame: Frame) -> bool
+    requires { ⌜ FrameRead.Whole frame ≡ frameOf (now s) ⌝ }
     ensures { λ r. ⌜ r ≡ canonicalFrame (now (s .entry)) ⌝ }
 {
-    let place = match read_frame(s) {
-        FrameRead::Whole(v) => v,
-        FrameRead::Refused(_) => return false,
-    };
-    let at = place.at;
-    let end = at - 2;
+    let payload = frame.command;
+    let end = 14 + payload.len;
     match read_command(s[13], &s[14..end]) {
         CommandRead::Is(_) => {}
         CommandRead::UnknownType => return false,
@@ -251,26 +251,38 @@ pub fn is_canonical_frame(s: &[u8]) -> bool
     if bits(s, 1, 4, 12) as usize != s.len() - 3 {
         return false;
     }
-    let len = place.len;
-    if s.len() != at + len + 4 {
+    let descriptors = frame.descriptors;
+    if s.len() != descriptors.at + descriptors.len + 4 {
         return false;
     }
     true
+}
+
+// What the canonical form asks of a section around its command and its loop.
+pub fn is_canonical_frame(s: &[u8]) -> bool
+    ensures { λ r. ⌜ r ≡ canonicalFrame (now (s .entry)) ⌝ }
+{
+    match read_frame(s) {
+        FrameRead::Whole(frame) => return is_canonical_around(s, frame),
+        FrameRead::Refused(_) => return false,
+    }
 }
 
 // Is the section canonical: its frame, its command and its loop?
 pub fn is_canonical_section(s: &[u8]) -> bool
     ensures { λ r. ⌜ r ≡ canonicalSection (now (s .entry)) ⌝ }
 {
-    if !is_canonical_frame(s) {
+    let frame = match read_frame(s) {
+        FrameRead::Whole(f) => f,
+        FrameRead::Refused(_) => return false,
+    };
+    if !is_canonical_around(s, frame) {
         return false;
     }
-    // All parts are there, and the CRC follows the loop at once.
-    let end = 14 + bits(s, 11, 4, 12) as usize;
-    if !is_canonical_command(s[13], &s[14..end]) {
+    let payload = frame.command;
+    if !is_canonical_command(s[13], view(s, payload)) {
         return false;
     }
-    let from = end + 2;
-    let to = s.len() - 4;
-    is_canonical_loop(&s[from..to])
+    let descriptors = frame.descriptors;
+    is_canonical_loop(view(s, descriptors))
 }

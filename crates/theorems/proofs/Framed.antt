@@ -37,13 +37,13 @@ laid s x e =
     let p = parts-of s x e in
     record { short = p .short; fits = omega (arith, p .fits); place = p .loop; read = p .own; from = p .command; command = p .moves }
 
--- what it says: its header, its command as a section has it, and the loop's place
+-- what it says: its header, its command as a section has it, and where the loop and the command lie
 pub says : (s : List ℕ) (x : Section) → sectionOf s ≡ SectionRead.Is x
-    → (headerOf (drop 3 s) ≡ HeaderRead.Header (x .header)) × (movedRead (commandOf (commandType s) (commandBytes s)) ≡ CommandRead.Is (x .command)) × (x .descriptors ≡ loopPlace s)
+    → (headerOf (drop 3 s) ≡ HeaderRead.Header (x .header)) × (movedRead (commandOf (commandType s) (commandBytes s)) ≡ CommandRead.Is (x .command)) × (x .descriptors ≡ loopPlace s) × (x .payload ≡ record { at = 14; len = commandLength s })
 unfolding movedRead
 says s x e =
     let p = parts-of s x e in
-    (p .header, ap movedRead (p .command) ∙ ap CommandRead.Is (sym (p .moves)), p .loop)
+    (p .header, ap movedRead (p .command) ∙ ap CommandRead.Is (sym (p .moves)), p .loop, p .payload)
 
 -- ---- the bytes of a private command
 

@@ -67,7 +67,7 @@ use Rattle.names.specs.declared.upid.SegmentationUpidType.{SegmentationUpidType
 use Rattle.pen.specs.Written.{answerOf, laterOf}
 use Rattle.pen.specs.declared.Written.{Written}
 use Rattle.section.proofs.Acceptance as acceptance
-use Rattle.section.specs.Section.{commandType, commandBytes, loopLength, loopPlace, loopBytes, movedRead, unknownCommand, conditions, first, sectionOf, numberOf, None}
+use Rattle.section.specs.Section.{commandType, commandBytes, commandLength, loopLength, loopPlace, loopBytes, movedRead, unknownCommand, conditions, first, sectionOf, numberOf, None}
 use Rattle.section.specs.declared.Section.{Section}
 use Rattle.section.specs.declared.SectionRead.{SectionRead}
 use Rattle.section_writer.specs.Canonical.{canonicalSection}
@@ -169,9 +169,9 @@ accepted-if-none-applies = acceptance.accepted-if-none
 pub none-applies-if-accepted : (s : List ℕ) (x : Section) → sectionOf s ≡ SectionRead.Is x → None (conditions s)
 none-applies-if-accepted = acceptance.none-if-accepted
 
--- and says what its layout has: its header, its command, whose views count from the section's first byte, and the loop's place
+-- and says what its layout has: its header, its command, whose views count from the section's first byte, and where the loop and the command lie
 pub what-an-accepted-section-says : (s : List ℕ) (x : Section) → sectionOf s ≡ SectionRead.Is x
-    → (headerOf (drop 3 s) ≡ HeaderRead.Header (x .header)) × (movedRead (commandOf (commandType s) (commandBytes s)) ≡ CommandRead.Is (x .command)) × (x .descriptors ≡ loopPlace s)
+    → (headerOf (drop 3 s) ≡ HeaderRead.Header (x .header)) × (movedRead (commandOf (commandType s) (commandBytes s)) ≡ CommandRead.Is (x .command)) × (x .descriptors ≡ loopPlace s) × (x .payload ≡ record { at = 14; len = commandLength s })
 what-an-accepted-section-says = framed.says
 
 -- ---- of every section that is accepted

@@ -14,7 +14,7 @@ use Rattle.command.specs.declared.SpliceCommand.{SpliceCommand}
 use Rattle.command.specs.declared.insert.SpliceMode.{SpliceMode}
 use Rattle.crc.specs.Crc.{crcOf}
 use Rattle.header.specs.Time.{spliceTime}
-use Rattle.section.specs.Section.{commandLength, commandType, commandBytes, roomAfter, loopLength, loopPlace, frameOf, sectionOf, numberOf}
+use Rattle.section.specs.Section.{commandLength, commandType, commandBytes, roomAfter, loopLength, loopPlace, frameIn, frameOf, sectionOf, numberOf}
 use Rattle.section.specs.declared.Refusal.{Refusal}
 use Rattle.section.specs.declared.SectionRead.{SectionRead}
 use Rattle.table.proofs.Lists.{zero-one}
@@ -45,7 +45,7 @@ module _ (c a b d e : ℕ) (rest : List ℕ) where
       ∙ sym (ap (λ (m : ℕ). field (bitsOf (c ∷ d ∷ e ∷ rest)) m 16) k)
 
   pub length-untested : crcOf (c ∷ a ∷ b ∷ rest) ≡ crcOf (c ∷ d ∷ e ∷ rest) → sectionOf (c ∷ a ∷ b ∷ rest) ≡ sectionOf (c ∷ d ∷ e ∷ rest)
-  unfolding sectionOf frameOf roomAfter commandType commandBytes loopPlace
+  unfolding sectionOf frameOf frameIn roomAfter commandType commandBytes loopPlace
   length-untested same = rw (same, alike 8 1, same-length, same-loop)
 
 -- ---- the numbers of a section's refusals

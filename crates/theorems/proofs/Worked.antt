@@ -23,7 +23,7 @@ use Rattle.items.specs.Items.{readAt, wholeAt, stepOf, itemsFrom, itemsOf}
 use Rattle.names.specs.Algorithm.{algorithmOf}
 use Rattle.names.specs.Command as names
 use Rattle.section.proofs.Acceptance.{refusals-in-order, accepted-if-none}
-use Rattle.section.specs.Section.{commandLength, commandType, commandBytes, roomAfter, loopLength, loopPlace, moved, movedRead, accepted, frameOf, sectionOf, numberOf}
+use Rattle.section.specs.Section.{commandLength, commandType, commandBytes, roomAfter, loopLength, loopPlace, frameIn, moved, movedRead, accepted, frameOf, sectionOf, numberOf}
 use Rattle.section.specs.declared.Section.{Section}
 use Rattle.section.specs.declared.SectionRead.{SectionRead}
 use Rattle.section_writer.specs.Canonical.{canonicalFrame, canonicalSection}
@@ -107,7 +107,7 @@ pub both-whole : Identified eightAndTwelve (
     record { start = 35; len = 24; bytes = both }
     ∷ record { start = 37; len = 8; bytes = eight }
     ∷ record { start = 47; len = 12; bytes = twelve } ∷ [])
-unfolding eightAndTwelve identifiersOf sectionOf frameOf accepted movedRead moved commandLength commandType commandBytes roomAfter loopLength loopPlace crcOf crcBits crcBit headerOf headerRead spliceHeader spliceTime commandOf itemsOf itemsFrom stepOf wholeAt readAt descriptorOf isCuei segmentationOf insertOf inserted head front parts deliveryRestrictions mode duration writtenUpid back subSegments number bit reserved part remaining viewed upidOf checkOf readOf walkOf _then_ plainOf lengthOf isText reportedOf listOf partsOf listed unlessRefused textOf done step within
+unfolding eightAndTwelve identifiersOf sectionOf frameOf frameIn accepted movedRead moved commandLength commandType commandBytes roomAfter loopLength loopPlace crcOf crcBits crcBit headerOf headerRead spliceHeader spliceTime commandOf itemsOf itemsFrom stepOf wholeAt readAt descriptorOf isCuei segmentationOf insertOf inserted head front parts deliveryRestrictions mode duration writtenUpid back subSegments number bit reserved part remaining viewed upidOf checkOf readOf walkOf _then_ plainOf lengthOf isText reportedOf listOf partsOf listed unlessRefused textOf done step within
 both-whole = record {
   section = record {
     header = record {
@@ -122,6 +122,7 @@ both-whole = record {
     };
     command = SpliceCommand.TimeSignal (SpliceTime.At 0);
     descriptors = record { at = 21; len = 41 };
+    payload = record { at = 14; len = 5 };
   };
   accepted = refl;
   identified = refl;
@@ -139,5 +140,5 @@ are-bytes [] e = tt
 are-bytes (b ∷ s) e = let i = and-true (ltb b 256) _ e in (ltb-true b 256 (i .0), are-bytes s (i .1))
 
 pub both-canonical : AllBytes eightAndTwelve × (canonicalSection eightAndTwelve ≡ true)
-unfolding eightAndTwelve allBelow256 canonicalSection canonicalFrame canonicalCommand canonicalLoop canonicalFrom canonicalDescriptor canonicalPayload canonicalSegmentation canonicalBy canonicalUpid numberOf sectionOf frameOf accepted movedRead moved commandLength commandType commandBytes roomAfter loopLength loopPlace crcOf crcBits crcBit headerOf headerRead spliceHeader spliceTime commandOf isCuei segmentation head front parts deliveryRestrictions mode duration writtenUpid back subSegments number bit reserved part remaining viewed checkOf readOf walkOf _then_ plainOf lengthOf isText reportedOf textOf done step within
+unfolding eightAndTwelve allBelow256 canonicalSection canonicalFrame canonicalCommand canonicalLoop canonicalFrom canonicalDescriptor canonicalPayload canonicalSegmentation canonicalBy canonicalUpid numberOf sectionOf frameOf frameIn accepted movedRead moved commandLength commandType commandBytes roomAfter loopLength loopPlace crcOf crcBits crcBit headerOf headerRead spliceHeader spliceTime commandOf isCuei segmentation head front parts deliveryRestrictions mode duration writtenUpid back subSegments number bit reserved part remaining viewed checkOf readOf walkOf _then_ plainOf lengthOf isText reportedOf textOf done step within
 both-canonical = (are-bytes eightAndTwelve refl, refl)

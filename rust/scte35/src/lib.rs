@@ -150,7 +150,7 @@ pub fn read_section(bytes: &[u8]) -> Result<Section<'_>, Refusal> {
         0 => Ok(Section {
             header: SpliceInfoHeader::of(&s.header),
             // a command's views count from the section's first byte
-            command: SpliceCommand::of(&s.command, &bytes[..COMMAND_AT + s.header.splice_command_length as usize], COMMAND_AT, 0),
+            command: SpliceCommand::of(&s.command, &bytes[..(s.payload.at + s.payload.len) as usize], s.payload.at as usize, 0),
             descriptors: SpliceDescriptors::of(bytes, &s.descriptors),
         }),
         n => Err(Refusal::answered(n, [0; 3])),

@@ -66,7 +66,7 @@ words! {
     }
     ComponentSplice { component_tag: u64, splice_time: Time }
     InsertComponents { refusal: u64, count: u64, components: [ComponentSplice; 255] }
-    Section { refusal: u64, header: Header, command: Command, descriptors: View }
+    Section { refusal: u64, header: Header, command: Command, descriptors: View, payload: View }
     Restrictions {
         web_delivery_allowed_flag: u64,
         no_regional_blackout_flag: u64,
@@ -303,7 +303,7 @@ const _: () = {
     assert!(words::<Insert>() == 14);
     assert!(words::<Command>() == 21);
     assert!(words::<InsertComponents>() == 2 + 255 * 3);
-    assert!(words::<Section>() == 1 + 9 + 21 + 2);
+    assert!(words::<Section>() == 1 + 9 + 21 + 2 + 2);
     assert!(words::<Segmentation>() == 18);
     assert!(words::<Item>() == 27);
     assert!(words::<Step>() == 6 + 27);

@@ -1,6 +1,6 @@
 -- `section::command_length`: four bits and a byte.
 use native.Mathlib.Omega.{arith}
-use Rattle.section.proofs.Frame.{size-of}
+use Rattle.section.proofs.Framing.{size-of}
 use borrow.Author.Needs.{needs}
 use Rattle.section.proofs.command_length.Statement.{statement}
 use Rattle.section.proofs.command_length.Tie as tie

@@ -1,7 +1,7 @@
 -- `section::read_command_part`, by what is read of the command.
 use mathlib.Core.Path.{_≡_, sym, _∙_}
 use native.Mathlib.Omega.{arith}
-use Rattle.section.proofs.Frame.{within-four, is-moved, unknown-moved, malformed-moved}
+use Rattle.section.proofs.Framing.{within-four, is-moved, unknown-moved, malformed-moved}
 use borrow.Author.Needs.{needs}
 use Rattle.section.proofs.read_command_part.Statement.{statement}
 use Rattle.section.proofs.read_command_part.Tie as tie

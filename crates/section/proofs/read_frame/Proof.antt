@@ -1,6 +1,6 @@
 -- `section::read_frame`, refusal by refusal.
 use mathlib.Core.Path.{_≡_, refl, ap, sym, _∙_}
-use Rattle.section.proofs.Frame.{is-short, is-long, is-other, is-wrong, is-headless, is-framed}
+use Rattle.section.proofs.Framing.{is-short, is-long, is-other, is-wrong, is-headless, is-framed}
 use borrow.Author.Needs.{needs}
 use Rattle.section.proofs.read_frame.Statement.{statement}
 use Rattle.section.proofs.read_frame.Tie as tie

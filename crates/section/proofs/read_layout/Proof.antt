@@ -1,6 +1,6 @@
 -- `section::read_layout`, refusal by refusal.
 use native.Mathlib.Omega.{arith}
-use Rattle.section.proofs.Frame.{extent-is, is-encrypted, is-command-long, is-loopless, is-loop-long, is-whole}
+use Rattle.section.proofs.Framing.{extent-is, is-encrypted, is-command-long, is-loopless, is-loop-long, is-whole}
 use borrow.Author.Needs.{needs}
 use Rattle.section.proofs.read_layout.Statement.{statement}
 use Rattle.section.proofs.read_layout.Tie as tie

@@ -3,7 +3,7 @@ use mathlib.Core.Path.{_≡_, ap, sym, _∙_}
 use native.Mathlib.Omega.{arith}
 use Rattle.command.specs.declared.CommandRead.{CommandRead}
 use Rattle.section.specs.Section.{movedRead, accepted}
-use Rattle.section.proofs.Frame.{no-header, section-is, place-at, header-at, command-at}
+use Rattle.section.proofs.Framing.{no-header, section-is, size-at, header-at, command-at}
 use borrow.Author.Needs.{needs}
 use Rattle.section.proofs.read_parts.Statement.{statement}
 use Rattle.section.proofs.read_parts.Tie as tie
@@ -33,32 +33,32 @@ returns c =
     let a = st .args in
     no-header _ _ _ (sym (header-at (a .s .now)) ∙ sym (g .read-header .ensures) ∙ c .enum-told .given .1)
 
-sub-end : tie.Need-sub-end
-sub-end c =
-    let st = c .before .before .before .before .before .before .before in
+add-end : tie.Need-add-end
+add-end c =
+    let st = c .before .before .before .before .before .before .before .before .before in
     let a = st .args in
-    omega (arith, place-at (a .s .now) (a .place) (st .pre .0))
+    omega (arith, size-at (a .s .now) (a .frame) (st .pre .0))
 
 shared-slice-read-read-command-part : tie.Need-shared-slice-read-read-command-part
 shared-slice-read-read-command-part c = search needs
 
 sub-read-command-part : tie.Need-sub-read-command-part
 sub-read-command-part c =
-    let st = c .before .before .before .before .before .before .before .before in
+    let st = c .before .before .before .before .before .before .before .before .before .before in
     let a = st .args in
-    omega (arith, place-at (a .s .now) (a .place) (st .pre .0), st .pre .1)
+    omega (arith, size-at (a .s .now) (a .frame) (st .pre .0), st .pre .1)
 
 part-read-command-part-start : tie.Need-part-read-command-part-start
 part-read-command-part-start c =
-    let st = c .before .before .before .before .before .before .before .before in
+    let st = c .before .before .before .before .before .before .before .before .before .before in
     let a = st .args in
-    omega (arith, place-at (a .s .now) (a .place) (st .pre .0), st .pre .1)
+    omega (arith, size-at (a .s .now) (a .frame) (st .pre .0), st .pre .1)
 
 part-read-command-part-end : tie.Need-part-read-command-part-end
 part-read-command-part-end c =
-    let st = c .before .before .before .before .before .before .before .before in
+    let st = c .before .before .before .before .before .before .before .before .before .before in
     let a = st .args in
-    omega (arith, place-at (a .s .now) (a .place) (st .pre .0), st .pre .1)
+    omega (arith, size-at (a .s .now) (a .frame) (st .pre .0), st .pre .1)
 
 read-command-part-requires : tie.Need-read-command-part-requires
 read-command-part-requires c κs = search needs
@@ -76,34 +76,34 @@ returns-2 : tie.Need-returns-2
 unfolding accepted
 returns-2 c =
     let r = c .before .before .before in
-    let h = r .before .before .before .before .before in
+    let h = r .before .before .before .before .before .before .before in
     let g = h .before .before in
     let st = g .before .before .before in
     let a = st .args in
-    let read : _ ≡ movedRead _ = sym (c .before .command .given .1) ∙ r .read-command-part .ensures ∙ ap movedRead (command-at (a .s .now) (a .place) (st .pre .0)) in
-    section-is (a .s .now) (a .place) _ _ (sym (header-at (a .s .now)) ∙ sym (g .read-header .ensures) ∙ h .h .given .1) read (st .pre .0)
+    let read : _ ≡ movedRead _ = sym (c .before .command .given .1) ∙ r .read-command-part .ensures ∙ ap movedRead (command-at (a .s .now) (a .frame) (st .pre .0)) in
+    section-is (a .s .now) (a .frame) _ _ (sym (header-at (a .s .now)) ∙ sym (g .read-header .ensures) ∙ h .h .given .1) read (st .pre .0)
 
 returns-3 : tie.Need-returns-3
 unfolding accepted
 returns-3 c =
     let r = c .before .before in
-    let h = r .before .before .before .before .before in
+    let h = r .before .before .before .before .before .before .before in
     let g = h .before .before in
     let st = g .before .before .before in
     let a = st .args in
-    let read : _ ≡ movedRead _ = sym (c .enum-told2 .given .1) ∙ r .read-command-part .ensures ∙ ap movedRead (command-at (a .s .now) (a .place) (st .pre .0)) in
-    section-is (a .s .now) (a .place) _ _ (sym (header-at (a .s .now)) ∙ sym (g .read-header .ensures) ∙ h .h .given .1) read (st .pre .0)
+    let read : _ ≡ movedRead _ = sym (c .enum-told2 .given .1) ∙ r .read-command-part .ensures ∙ ap movedRead (command-at (a .s .now) (a .frame) (st .pre .0)) in
+    section-is (a .s .now) (a .frame) _ _ (sym (header-at (a .s .now)) ∙ sym (g .read-header .ensures) ∙ h .h .given .1) read (st .pre .0)
 
 returns-4 : tie.Need-returns-4
 unfolding accepted
 returns-4 c =
     let r = c .before .before in
-    let h = r .before .before .before .before .before in
+    let h = r .before .before .before .before .before .before .before in
     let g = h .before .before in
     let st = g .before .before .before in
     let a = st .args in
-    let read : _ ≡ movedRead _ = sym (c .enum-told3 .given .1) ∙ r .read-command-part .ensures ∙ ap movedRead (command-at (a .s .now) (a .place) (st .pre .0)) in
-    section-is (a .s .now) (a .place) _ _ (sym (header-at (a .s .now)) ∙ sym (g .read-header .ensures) ∙ h .h .given .1) read (st .pre .0)
+    let read : _ ≡ movedRead _ = sym (c .enum-told3 .given .1) ∙ r .read-command-part .ensures ∙ ap movedRead (command-at (a .s .now) (a .frame) (st .pre .0)) in
+    section-is (a .s .now) (a .frame) _ _ (sym (header-at (a .s .now)) ∙ sym (g .read-header .ensures) ∙ h .h .given .1) read (st .pre .0)
 
 pub read-parts-spec : {M : Type 1} → statement M
 read-parts-spec =
@@ -116,7 +116,7 @@ read-parts-spec =
     enum-known-h
     enum-told
     returns
-    sub-end
+    add-end
     shared-slice-read-read-command-part
     sub-read-command-part
     part-read-command-part-start

@@ -2,7 +2,7 @@
 use mathlib.Core.Path.{_≡_, ap, sym, _∙_}
 use native.Mathlib.Omega.{arith}
 use Rattle.section.specs.Section.{accepted}
-use Rattle.section.proofs.Frame.{Framed, framed, is-accepted, is-refused}
+use Rattle.section.proofs.Framing.{Framed, framed, is-accepted, is-refused}
 use borrow.Author.Needs.{needs}
 use Rattle.section.proofs.read_section.Statement.{statement}
 use Rattle.section.proofs.read_section.Tie as tie
@@ -10,15 +10,15 @@ use Rattle.section.proofs.read_section.Tie as tie
 read-frame-requires : tie.Need-read-frame-requires
 read-frame-requires c κs = search needs
 
-enum-known-place : tie.Need-enum-known-place
-enum-known-place c = search needs
+enum-known-frame : tie.Need-enum-known-frame
+enum-known-frame c = search needs
 
 read-parts-requires : tie.Need-read-parts-requires
 read-parts-requires c κs =
     let p = c .before in
     let r = p .before .before in
     let s = r .before .before .args .s .now in
-    let f = framed s _ (sym (p .place .given .1) ∙ r .read-frame .ensures) in
+    let f = framed s _ (sym (p .frame .given .1) ∙ r .read-frame .ensures) in
     (f .place, omega (arith, f .fits))
 
 returns : tie.Need-returns
@@ -26,7 +26,7 @@ returns c =
     let p = c .before .before in
     let r = p .before .before in
     let s = r .before .before .args .s .now in
-    let whole = sym (p .place .given .1) ∙ r .read-frame .ensures in
+    let whole = sym (p .frame .given .1) ∙ r .read-frame .ensures in
     is-accepted s _ _ whole (c .read-parts .ensures ∙ ap (accepted _ _) (sym (framed s _ whole .place)))
 
 enum-known-r : tie.Need-enum-known-r
@@ -44,7 +44,7 @@ read-section-spec =
     tie.close
     (tie.spec
     read-frame-requires
-    enum-known-place
+    enum-known-frame
     read-parts-requires
     returns
     enum-known-r

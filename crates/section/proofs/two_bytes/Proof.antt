@@ -1,6 +1,6 @@
 -- `section::two_bytes`: the high byte, then the low.
 use native.Mathlib.Omega.{arith}
-use Rattle.section.proofs.Frame.{number-of}
+use Rattle.section.proofs.Framing.{number-of}
 use borrow.Author.Needs.{needs}
 use Rattle.section.proofs.two_bytes.Statement.{statement}
 use Rattle.section.proofs.two_bytes.Tie as tie

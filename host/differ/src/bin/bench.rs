@@ -75,7 +75,7 @@ struct Read {
 impl Read {
     fn new(section: Vec<u8>) -> Read {
         let head = scte35::raw::read_section(&section, 0);
-        let components = scte35::raw::read_insert_components(&section[..14 + head.header.splice_command_length as usize], 14);
+        let components = scte35::raw::read_insert_components(&section[..(head.payload.at + head.payload.len) as usize], head.payload.at as usize);
         let mut read = Read { section, head, components, items: vec![] };
         let mut offset = 0;
         while offset < read.descriptors().len() {

@@ -111,7 +111,7 @@ impl Trips {
             offset = step.next as usize;
         }
         // of the bytes up to the command's end
-        let components = raw::read_insert_components(&s[..14 + read.header.splice_command_length as usize], 14);
+        let components = raw::read_insert_components(&s[..(read.payload.at + read.payload.len) as usize], read.payload.at as usize);
         let answer = raw::write_section_words(read.header.words(), read.command.words(), components.words(), s, &joined, &mut target);
         if answer.refusal != 0 {
             return Err(answer.refusal);

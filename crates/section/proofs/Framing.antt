@@ -7,7 +7,7 @@ use native.Mathlib.Omega.{arith}
 use lib.Dec.{ltb, eqb}
 use lib.ListN.{length, getD, take, drop, length-drop}
 use lib.Seq.{take-all}
-use borrow.Author.Tests.{lt-ltb, le-ltb, ltb-false, eq-eqb, ne-eqb}
+use borrow.Author.Tests.{lt-ltb, le-ltb, le-leb, ltb-false, eq-eqb, ne-eqb}
 use Rattle.command.specs.Command.{commandOf}
 use Rattle.command.specs.declared.CommandRead.{CommandRead}
 use Rattle.command.specs.declared.Private.{Private}
@@ -18,11 +18,12 @@ use Rattle.header.specs.Header.{headerOf}
 use Rattle.header.specs.declared.header.HeaderRead.{HeaderRead}
 use Rattle.header.specs.declared.header.SpliceInfoHeader.{SpliceInfoHeader}
 use Rattle.table.specs.Bits.{pick, bitsOf, field}
-use Rattle.table.specs.declared.View.{View}
+use Rattle.table.specs.Lent.{viewed}
 use Rattle.table.proofs.Fields.{byte-field, field-in, field-byte}
 use Rattle.table.proofs.Reading.{bits-are}
-use Rattle.section.specs.Section.{commandLength, commandType, commandBytes, roomAfter, loopLength, loopPlace, moved, movedRead, frameOf, accepted, through, sectionOf}
+use Rattle.section.specs.Section.{commandLength, commandType, commandBytes, roomAfter, loopLength, loopPlace, frameIn, loopBytes, moved, movedRead, frameOf, accepted, through, sectionOf}
 use Rattle.section.specs.Walk.{viewStart, layoutOf}
+use Rattle.section.specs.declared.Frame.{Frame}
 use Rattle.section.specs.declared.FrameRead.{FrameRead}
 use Rattle.section.specs.declared.Refusal.{Refusal}
 use Rattle.section.specs.declared.SectionRead.{SectionRead}
@@ -108,8 +109,8 @@ module _ (s : List ℕ) where
             unfolding layoutOf roomAfter
             is-loop-long h = rw (clear-bit, ← em, ← en, le-ltb (length s - 18) n fits, le-ltb (length s - 18 - n) 2 room, lt-ltb (length s - 18 - n) (m + 2) h)
 
-            pub is-whole : m + 2 ≤ length s - 18 - n → FrameRead.Whole (record { at = 16 + n; len = m }) ≡ layoutOf s
-            unfolding layoutOf roomAfter loopPlace
+            pub is-whole : m + 2 ≤ length s - 18 - n → FrameRead.Whole (record { command = record { at = 14; len = n }; descriptors = record { at = 16 + n; len = m } }) ≡ layoutOf s
+            unfolding layoutOf roomAfter loopPlace frameIn
             is-whole h = rw (clear-bit, ← em, ← en, le-ltb (length s - 18) n fits, le-ltb (length s - 18 - n) 2 room, le-ltb (length s - 18 - n) (m + 2) h)
 
   module _ (v : ℕ) (ev : v ≡ field (bitsOf s) 32 1 % 2 ^ 64) (clear : v ≡ 1 → ⊥) (n : ℕ) (en : n ≡ commandLength s) (fits : n ≤ length s - 18) where
@@ -121,7 +122,7 @@ module _ (s : List ℕ) where
     no-loop h = rw (not-set, ← en, le-ltb (length s - 18) n fits, lt-ltb (length s - 18 - n) 2 h)
 
     module _ (room : 2 ≤ length s - 18 - n) (m : ℕ) (em : m ≡ loopLength s) where
-      pub has-parts : m + 2 ≤ length s - 18 - n → FrameRead.Whole (loopPlace s) ≡ layoutOf s
+      pub has-parts : m + 2 ≤ length s - 18 - n → FrameRead.Whole (frameIn s) ≡ layoutOf s
       unfolding layoutOf roomAfter
       has-parts h = rw (not-set, ← em, ← en, le-ltb (length s - 18) n fits, le-ltb (length s - 18 - n) 2 room, le-ltb (length s - 18 - n) (m + 2) h)
 
@@ -133,7 +134,7 @@ pub is-refused : (s : List ℕ) (x : Refusal) → FrameRead.Refused x ≡ frameO
 unfolding sectionOf
 is-refused s x e = ap (λ (f : FrameRead). through f (headerOf (drop 3 s)) (movedRead (commandRead s))) e
 
-pub is-accepted : (s : List ℕ) (v : View) (r : SectionRead) → FrameRead.Whole v ≡ frameOf s → r ≡ accepted (headerOf (drop 3 s)) (movedRead (commandRead s)) v → r ≡ sectionOf s
+pub is-accepted : (s : List ℕ) (v : Frame) (r : SectionRead) → FrameRead.Whole v ≡ frameOf s → r ≡ accepted (headerOf (drop 3 s)) (movedRead (commandRead s)) v → r ≡ sectionOf s
 unfolding sectionOf
 is-accepted s v r e f = f ∙ ap (λ (x : FrameRead). through x (headerOf (drop 3 s)) (movedRead (commandRead s))) e
 
@@ -142,14 +143,14 @@ abbrev asNumber : FrameRead → ℕ
 asNumber (FrameRead.Whole v) = 1
 asNumber (FrameRead.Refused x) = 0
 
-not-whole : {A : Type 0} (x : Refusal) (v : View) → FrameRead.Whole v ≡ FrameRead.Refused x → A
+not-whole : {A : Type 0} (x : Refusal) (v : Frame) → FrameRead.Whole v ≡ FrameRead.Refused x → A
 not-whole x v e = let z : _≡_ {A = ℕ} 1 0 = ap asNumber e in absurd (omega (arith, z))
 
-abbrev placeIn : FrameRead → View → View
+abbrev placeIn : FrameRead → Frame → Frame
 placeIn (FrameRead.Whole v) w = v
 placeIn (FrameRead.Refused x) w = w
 
-tests : (b₁ b₂ b₃ b₄ b₅ b₆ b₇ b₈ b₉ : Bool) (v w : View)
+tests : (b₁ b₂ b₃ b₄ b₅ b₆ b₇ b₈ b₉ : Bool) (v w : Frame)
     → FrameRead.Whole w ≡ pick b₁ (FrameRead.Refused Refusal.TooShort)
     (pick b₂ (FrameRead.Refused Refusal.TooLong)
     (pick b₃ (FrameRead.Refused Refusal.OtherTable)
@@ -171,36 +172,49 @@ tests false false false false false false false true b₉ v w e = not-whole _ w 
 tests false false false false false false false false true v w e = not-whole _ w e
 tests false false false false false false false false false v w e = (ap (λ (f : FrameRead). placeIn f v) e, refl, refl, refl, refl, refl)
 
-pub record Framed (s : List ℕ) (v : View) : Type 0 where
-  pub place : v ≡ loopPlace s
-  pub at : v .at ≡ 16 + commandLength s
+pub record Framed (s : List ℕ) (v : Frame) : Type 0 where
+  pub place : v ≡ frameIn s
+  pub size : v .command .len ≡ commandLength s
+  pub at : v .descriptors .at ≡ 16 + commandLength s
   pub short : length s ≤ 4096
   pub long : 18 ≤ length s
   pub fits : 20 + commandLength s + loopLength s ≤ length s
 
-pub framed : (s : List ℕ) (v : View) → FrameRead.Whole v ≡ frameOf s → Framed s v
-unfolding frameOf roomAfter loopPlace
+pub framed : (s : List ℕ) (v : Frame) → FrameRead.Whole v ≡ frameOf s → Framed s v
+unfolding frameOf roomAfter loopPlace frameIn
 framed s v e =
     let t = tests (ltb (length s) 3) (ltb 4096 (length s)) (not (eqb (getD s 0 0) 0xfc)) (not (eqb (crcOf s) 0)) (ltb (length s) 18)
-    (eqb (field (bitsOf s) 32 1) 1) (ltb (length s - 18) (commandLength s)) (ltb (roomAfter s) 2) (ltb (roomAfter s) (loopLength s + 2)) (loopPlace s) v e in
+    (eqb (field (bitsOf s) 32 1) 1) (ltb (length s - 18) (commandLength s)) (ltb (roomAfter s) 2) (ltb (roomAfter s) (loopLength s + 2)) (frameIn s) v e in
     let h₅ = ltb-false (length s) 18 (t .2) in
     let h₇ = ltb-false (length s - 18) (commandLength s) (t .3) in
     let h₈ = ltb-false (length s - 18 - commandLength s) 2 (t .4) in
     let h₉ = ltb-false (length s - 18 - commandLength s) (loopLength s + 2) (t .5) in
     record {
       place = t .0;
-      at = ap (λ (u : View). u .at) (t .0);
+      size = ap (λ (u : Frame). u .command .len) (t .0);
+      at = ap (λ (u : Frame). u .descriptors .at) (t .0);
       short = ltb-false 4096 (length s) (t .1);
       long = h₅;
       fits = omega (arith, h₅, h₇, h₈, h₉);
     }
 
+-- the bytes of its two parts, by the views of the frame
+pub command-viewed : (s : List ℕ) (v : Frame) → FrameRead.Whole v ≡ frameOf s → viewed s (v .command) ≡ commandBytes s
+unfolding viewed frameIn commandBytes
+command-viewed s v e =
+    let f = framed s v e in
+    rw (f .place, le-leb (14 + commandLength s) (length s) (omega (arith, f .fits)))
+
+pub loop-viewed : (s : List ℕ) (v : Frame) → FrameRead.Whole v ≡ frameOf s → viewed s (v .descriptors) ≡ loopBytes s
+unfolding frameIn
+loop-viewed s v e = rw (framed s v e .place)
+
 -- ---- 10, 11 and the reading
-pub no-header : (h : HeaderRead) (r : CommandRead) (v : View) → h ≡ HeaderRead.TooShort → SectionRead.Refused Refusal.NoHeader ≡ accepted h r v
+pub no-header : (h : HeaderRead) (r : CommandRead) (v : Frame) → h ≡ HeaderRead.TooShort → SectionRead.Refused Refusal.NoHeader ≡ accepted h r v
 unfolding accepted
 no-header h r v e = rw e
 
-module _ (h : HeaderRead) (x : SpliceInfoHeader) (eh : h ≡ HeaderRead.Header x) (r : CommandRead) (v : View) where
+module _ (h : HeaderRead) (x : SpliceInfoHeader) (eh : h ≡ HeaderRead.Header x) (r : CommandRead) (v : Frame) where
   pub is-unknown : r ≡ CommandRead.UnknownType → SectionRead.Refused Refusal.UnknownCommand ≡ accepted h (movedRead r) v
   unfolding accepted movedRead
   is-unknown e = rw (eh, e)
@@ -209,13 +223,14 @@ module _ (h : HeaderRead) (x : SpliceInfoHeader) (eh : h ≡ HeaderRead.Header x
   unfolding accepted movedRead
   is-malformed e = rw (eh, e)
 
-  pub is-section : (c d : SpliceCommand) (u : View) → r ≡ CommandRead.Is c → d ≡ moved 14 c → u ≡ v → SectionRead.Is (record { header = x; command = d; descriptors = u }) ≡ accepted h (movedRead r) v
+  pub is-section : (c d : SpliceCommand) (u : Frame) → r ≡ CommandRead.Is c → d ≡ moved 14 c → u ≡ v
+      → SectionRead.Is (record { header = x; command = d; descriptors = u .descriptors; payload = u .command }) ≡ accepted h (movedRead r) v
   unfolding accepted movedRead
   is-section c d u e f g = rw (eh, e, f, g)
 
 -- the same of a command as the section has it
-pub section-is : (s : List ℕ) (p : View) (x : SpliceInfoHeader) (y : CommandRead) → headerOf (drop 3 s) ≡ HeaderRead.Header x → y ≡ movedRead (commandRead s) → p ≡ loopPlace s
-    → accepted (HeaderRead.Header x) y p ≡ accepted (headerOf (drop 3 s)) (movedRead (commandRead s)) (loopPlace s)
+pub section-is : (s : List ℕ) (p : Frame) (x : SpliceInfoHeader) (y : CommandRead) → headerOf (drop 3 s) ≡ HeaderRead.Header x → y ≡ movedRead (commandRead s) → p ≡ frameIn s
+    → accepted (HeaderRead.Header x) y p ≡ accepted (headerOf (drop 3 s)) (movedRead (commandRead s)) (frameIn s)
 section-is s p x y eh ey ep = rw (ep, ey, eh)
 
 pub is-moved : (r : CommandRead) (c d : SpliceCommand) → r ≡ CommandRead.Is c → d ≡ moved 14 c → CommandRead.Is d ≡ movedRead r
@@ -238,14 +253,14 @@ within-four k s (SpliceCommand.SpliceInsert i) e = omega arith
 within-four k s (SpliceCommand.TimeSignal t) e = omega arith
 within-four k s SpliceCommand.BandwidthReservation e = omega arith
 
-pub place-at : (s : List ℕ) (p : View) → p ≡ loopPlace s → p .at ≡ 16 + commandLength s
-unfolding loopPlace
-place-at s p e = ap (λ (u : View). u .at) e
+pub size-at : (s : List ℕ) (p : Frame) → p ≡ frameIn s → p .command .len ≡ commandLength s
+unfolding frameIn
+size-at s p e = ap (λ (u : Frame). u .command .len) e
 
-pub command-at : (s : List ℕ) (p : View) → p ≡ loopPlace s → commandOf (getD s 13 0) (take (p .at - 2 - 14) (drop 14 s)) ≡ commandRead s
+pub command-at : (s : List ℕ) (p : Frame) → p ≡ frameIn s → commandOf (getD s 13 0) (take (14 + p .command .len - 14) (drop 14 s)) ≡ commandRead s
 unfolding commandType commandBytes
 command-at s p e =
-    let z : p .at - 2 - 14 ≡ commandLength s = omega (arith, place-at s p e) in
+    let z : 14 + p .command .len - 14 ≡ commandLength s = omega (arith, size-at s p e) in
     rw z
 
 pub header-at : (s : List ℕ) → headerOf (take (length s - 3) (drop 3 s)) ≡ headerOf (drop 3 s)
