@@ -80,7 +80,12 @@ uint32_t scte35_abi(void);
     X(UNWRITABLE, 33, "Unwritable", "a value that no canonical section has") \
     X(RESULT_TOO_LONG, 34, "ResultTooLong", "a descriptor's length over 254, or a section over 4,096 bytes") \
     X(LOOP_NOT_CANONICAL, 35, "LoopNotCanonical", "the descriptor loop that is handed in is not canonical") \
-    X(TARGET_TOO_SHORT, 36, "TargetTooShort", "the target is shorter than the result")
+    X(TARGET_TOO_SHORT, 36, "TargetTooShort", "the target is shorter than the result") \
+    X(NOT_A_PACKET, 71, "NotAPacket", "not a transport packet: not 188 bytes, or another sync byte than 0x47") \
+    X(OTHER_PID, 72, "OtherPid", "a packet of another PID") \
+    X(SCRAMBLED, 73, "Scrambled", "the packet is scrambled") \
+    X(PAYLOAD_OUTSIDE, 74, "PayloadOutside", "the adaptation field or the pointer leaves no payload in the packet") \
+    X(SECTION_LENGTH_TOO_LARGE, 75, "SectionLengthTooLarge", "a section_length over 4,093")
 
 #define SCTE35_AS_CONSTANT(constant, number, name, text) SCTE35_REFUSAL_##constant = number,
 enum scte35_refusal { SCTE35_REFUSAL_NONE = 0, SCTE35_EACH_REFUSAL(SCTE35_AS_CONSTANT) };
@@ -601,6 +606,45 @@ struct scte35_number scte35_classify_segmentation_type(uint8_t n);
 struct scte35_number scte35_classify_network_indicator(uint8_t n);
 struct scte35_number scte35_classify_return_mode(uint8_t n);
 struct scte35_number scte35_classify_device_restrictions(uint8_t n);
+
+/* ---- sections from transport packets
+ *
+ * The assembler of ISO/IEC 13818-1 for one PID. It knows nothing of SCTE 35: each section that it gives, whatever its table, has the length that its own
+ * section_length says (3 + that, at most 4,096 bytes), and its bytes are bytes of the payloads, in order.
+ *
+ * The caller lends SCTE35_PACKET_WORDS words of state, a buffer of SCTE35_MAX_SECTION bytes, and one packet at a time; none may overlap another. For each:
+ *
+ *     if (scte35_packet_feed(state, SCTE35_PACKET_WORDS, packet, 188, buffer, sizeof buffer) == 0)
+ *         while ((n = scte35_packet_take(state, SCTE35_PACKET_WORDS, packet, 188, buffer, sizeof buffer)) != 0)
+ *             .. buffer[0] .. buffer[n - 1] is a section, until the next call ..
+ *
+ * One that is not taken is lost with the next packet. A repeat (the last payload packet's counter) and a packet without payload add nothing; a gap in the
+ * counter drops the section under way, and so does a start that cuts it short. A stream of several PIDs may be fed whole: the others are refused with 72.
+ *
+ * The state's words are the PID, the counter of the last packet with payload (16: none yet), how many bytes of a section the buffer holds, and the place in
+ * the packet. Any words, any packet and any buffer are taken and answered: a word past the end counts as 0 and is not stored, words behind the four are left
+ * alone, and what does not fit a shorter buffer is not stored in it (its length is told all the same: lend 4,096 bytes). No globals, no allocation.
+ */
+
+enum { SCTE35_PACKET_WORDS = 4, SCTE35_PACKET = 188 };
+
+/*
+ * The state before the first packet of a PID.
+ * Takes the PID, one over 8,191 is no packet's, and the words of the state, which it sets. Stack: 1 KB.
+ */
+void scte35_packet_start(uint64_t pid, uint64_t *state, size_t state_words);
+
+/*
+ * Takes a packet in.
+ * Answers 0. Refuses with 71 to 75, and then neither the state nor the buffer has changed. Stack: 1 KB.
+ */
+uint64_t scte35_packet_feed(uint64_t *state, size_t state_words, const uint8_t *packet, size_t packet_length, uint8_t *buffer, size_t buffer_length);
+
+/*
+ * The next section that the packet finishes.
+ * Takes the packet that was fed last. Answers the section's length; it stands at the buffer's start. 0 where nothing is left of the packet. Stack: 1 KB.
+ */
+uint64_t scte35_packet_take(uint64_t *state, size_t state_words, const uint8_t *packet, size_t packet_length, uint8_t *buffer, size_t buffer_length);
 
 #if defined(__cplusplus) && __cplusplus >= 201103L
 #define SCTE35_WORDS(type, words) static_assert(sizeof(struct type) == 8 * (words), #type)

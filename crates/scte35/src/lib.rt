@@ -43,6 +43,7 @@ use upid::read_upid;
 pub mod abi;
 pub mod canonical;
 pub mod numbers;
+pub mod packet;
 pub mod writing;
 
 // The bytes from an offset on.

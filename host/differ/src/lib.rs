@@ -5,6 +5,7 @@ pub mod differences;
 pub mod families;
 pub mod make;
 pub mod ours;
+pub mod packets;
 pub mod rng;
 pub mod run;
 pub mod say;

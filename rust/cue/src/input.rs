@@ -110,6 +110,20 @@ pub fn source(word: &OsStr) -> Result<Option<Source>, (String, io::Error)> {
     }
 }
 
+/// A file, or standard input for `-`.
+pub fn packets(name: &OsStr) -> Result<Source, (String, io::Error)> {
+    let mut word = OsString::from(if name == "-" { "" } else { "@" });
+    word.push(name);
+    source(&word).map(|source| source.unwrap_or_else(|| unreachable!("a file or standard input")))
+}
+
+impl Source {
+    /// Begins its line of progress.
+    pub fn begin(&self, console: &mut Console) {
+        console.progress.begin(self.size);
+    }
+}
+
 /// Memory that is used again for each cue.
 #[derive(Default)]
 struct Room {
@@ -313,11 +327,23 @@ impl Progress {
 
     /// So many bytes more; after so many cues.
     fn step(&mut self, bytes: usize, cues: u64) {
-        let Some(size) = self.size else { return };
-        self.read += bytes as u64;
-        if cues % 1024 != 0 {
+        if self.size.is_none() {
             return;
         }
+        self.read += bytes as u64;
+        if cues % 1024 == 0 {
+            self.show(cues, "cues");
+        }
+    }
+
+    /// So many bytes more; after so many packets.
+    pub fn packets(&mut self, bytes: usize, packets: u64) {
+        self.read += bytes as u64;
+        self.show(packets, "packets");
+    }
+
+    fn show(&mut self, count: u64, what: &str) {
+        let Some(size) = self.size else { return };
         let now = Instant::now();
         match self.shown {
             // what is over soon needs no line
@@ -325,7 +351,7 @@ impl Progress {
             Some(next) if now >= next => {
                 self.shown = Some(now + Duration::from_millis(250));
                 self.on_screen = true;
-                let _ = write!(io::stderr(), "\r{cues} cues, {} %", self.read * 100 / size);
+                let _ = write!(io::stderr(), "\r{count} {what}, {} %", self.read * 100 / size);
             }
             Some(_) => {}
         }

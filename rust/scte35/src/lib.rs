@@ -55,6 +55,7 @@ mod header;
 mod identifiers;
 mod items;
 mod names;
+pub mod packet;
 pub mod raw;
 mod refusal;
 mod upid;

@@ -31,28 +31,52 @@ pub fn run(words: &ArgMatches, console: &mut Console) -> io::Result<()> {
     let to = make::to_of(words);
     let mut room = vec![];
     input::each(words, console, |console, cue| {
-        if let Some(to) = to {
-            return make::print(console, to, cue.bytes);
-        }
-        let read = scte35::read_section(cue.bytes);
-        if let Err(refusal) = read {
-            console.complain(REFUSED, cue.number, format_args!("refused: {refusal}"));
-        }
-        match (read, json) {
-            (Ok(section), true) => line(console, &mut room, &Accepted { cue: cue.number, bytes: cue.bytes, section: &section }),
-            (Err(refusal), true) => line(console, &mut room, &Refused { cue: cue.number, length: cue.bytes.len(), refusal }),
-            (Ok(section), false) => text(console, &cue, &section),
-            (Err(_), false) => Ok(()),
+        match to {
+            Some(to) => make::print(console, to, cue.bytes),
+            None => one(console, &mut room, json, &cue),
         }
     })
 }
 
+/// A cue, for people or as a line of JSON.
+pub fn one(console: &mut Console, room: &mut Vec<u8>, json: bool, cue: &Cue<'_>) -> io::Result<()> {
+    if json {
+        object(console, room, cue)?;
+        return console.out.write_all(room);
+    }
+    let read = scte35::read_section(cue.bytes);
+    match read {
+        Ok(section) => text(console, cue, &section),
+        Err(refusal) => {
+            console.complain(REFUSED, cue.number, format_args!("refused: {refusal}"));
+            Ok(())
+        }
+    }
+}
+
+/// The line of JSON of a cue without its opening brace, for one who has printed that and fields of its own.
+pub fn one_after(console: &mut Console, room: &mut Vec<u8>, cue: &Cue<'_>) -> io::Result<()> {
+    object(console, room, cue)?;
+    console.out.write_all(&room[1..])
+}
+
+/// The line of JSON of a cue.
+fn object(console: &mut Console, room: &mut Vec<u8>, cue: &Cue<'_>) -> io::Result<()> {
+    match scte35::read_section(cue.bytes) {
+        Ok(section) => line(room, &Accepted { cue: cue.number, bytes: cue.bytes, section: &section }),
+        Err(refusal) => {
+            console.complain(REFUSED, cue.number, format_args!("refused: {refusal}"));
+            line(room, &Refused { cue: cue.number, length: cue.bytes.len(), refusal })
+        }
+    }
+}
+
 /// The line goes to memory that is used again, which takes small pieces faster than a buffered file.
-fn line(console: &mut Console, room: &mut Vec<u8>, value: &impl serde::Serialize) -> io::Result<()> {
+fn line(room: &mut Vec<u8>, value: &impl serde::Serialize) -> io::Result<()> {
     room.clear();
     serde_json::to_writer(&mut *room, value)?;
     room.push(b'\n');
-    console.out.write_all(room)
+    Ok(())
 }
 
 fn text(console: &mut Console, cue: &Cue<'_>, section: &Section<'_>) -> io::Result<()> {

@@ -1,0 +1,4 @@
+pub mod Gathered
+pub mod Settles
+pub mod Buffer
+pub mod Answers

@@ -1,0 +1,10 @@
+pub mod Joined
+pub mod Runs
+pub mod Takes
+pub mod Ends
+pub mod Agreement
+pub mod Right
+pub mod Cutting
+pub mod Theorems
+pub mod Rows
+pub mod Framing

@@ -1,0 +1,3 @@
+pub mod Concatenation
+pub mod Runs
+pub mod Takes

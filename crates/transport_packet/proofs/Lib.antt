@@ -1,0 +1,4 @@
+pub mod Next
+pub mod Bytes
+pub mod Cuts
+pub mod Heads
