@@ -385,6 +385,33 @@ struct scte35_number scte35_network_indicator(uint8_t n);
 struct scte35_number scte35_return_mode(uint8_t n);
 struct scte35_number scte35_device_restrictions(uint8_t n);
 
+/* ---- the open-break board: an event id for each provider id while its break is open
+ *
+ * A board is SCTE35_BOARD_WORDS words that the caller keeps; their contents are the library's. Fill them with scte35_board_empty before the first call. A
+ * refused call changes no word, an accepted one changes no word past the board's. Any words are taken, whoever made them; a shorter run is refused (36).
+ */
+
+enum { SCTE35_BOARD_WORDS = 65, SCTE35_BOARD_PLACES = 32 };
+
+enum scte35_board_refusal {
+    SCTE35_BOARD_FULL = 61, /* opening: SCTE35_BOARD_PLACES breaks are open */
+    SCTE35_NOT_OPEN = 62 /* closing: no open break has this event id */
+};
+
+struct scte35_board_answer {
+    uint64_t refusal; /* 0, 36, or as above */
+    uint64_t id; /* to an opening the event id, to a closing the provider id */
+};
+
+/* no break is open, and the next event id is 1 */
+struct scte35_board_answer scte35_board_empty(uint64_t *board, size_t board_words);
+
+/* Opens a break. Event ids count up, that after 4,294,967,295 is 0, and one that is still open is passed over. Provider ids may repeat */
+struct scte35_board_answer scte35_board_open(uint64_t *board, size_t board_words, uint32_t provider_id);
+
+/* closes the break with this event id, and gives back the provider id that it was opened with */
+struct scte35_board_answer scte35_board_close(uint64_t *board, size_t board_words, uint32_t event_id);
+
 #if defined(__cplusplus) && __cplusplus >= 201103L
 #define SCTE35_WORDS(type, words) static_assert(sizeof(struct type) == 8 * (words), #type)
 #else
@@ -404,6 +431,7 @@ SCTE35_WORDS(scte35_upid, 18 + 127 * 4);
 SCTE35_WORDS(scte35_written, 2);
 SCTE35_WORDS(scte35_adjusted_time, 3);
 SCTE35_WORDS(scte35_number, 3);
+SCTE35_WORDS(scte35_board_answer, 2);
 
 #undef SCTE35_WORDS
 

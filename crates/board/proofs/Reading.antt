@@ -49,7 +49,7 @@ same-without id l m o s =
 
 -- a store into a free place is one more at the list's end, under an id that was not open
 pub same-opened : (id provider : ℕ) (ps : List Place) (at : ℕ) (d : Place) (m : List Break) → at < length ps → getD ps at d .used ≡ false → under id m ≡ [] → Same (breaksOf ps) m
-  → Same (breaksOf (set ps at (takenBy id provider))) (m ++ broken id provider ∷ [])
+    → Same (breaksOf (set ps at (takenBy id provider))) (m ++ broken id provider ∷ [])
 same-opened id provider ps at d m h f n s =
     record {
       many = omega (arith, opened-many id provider ps at d h f, length-append m (broken id provider ∷ []), s .many);
@@ -71,8 +71,10 @@ open-agrees b l provider r = go (leb 32 (length (l .held))) refl
   where
     id : ℕ
     id = freeFrom 32 (l .held) (l .next)
+
     found : freeFrom 32 (breaksOf (b .places)) (b .next) ≡ id
     found = rw (r .next) (same-free 32 (breaksOf (b .places)) (l .held) (l .next) (r .same))
+
     go : (f : Bool) → leb 32 (length (l .held)) ≡ f → Agrees (openOf b provider) (opened 32 provider l .answer) (opened 32 provider l .breaks)
     go true e = rw (r .same .many, e) (record { answers = refl; reads = r })
     go false e =

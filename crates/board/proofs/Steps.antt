@@ -21,13 +21,13 @@ module _ (b : Board) where
       rw (le-leb _ _ full)
 
   pub open-given : (provider : ℕ) → length (b .places) ≡ 32 → before isFree (b .places) < 32
-    → openOf b provider ≡ record {
-      answer = Is (freeFrom 32 (breaksOf (b .places)) (b .next));
-      board = record {
-        places = set (b .places) (before isFree (b .places)) (takenBy (freeFrom 32 (breaksOf (b .places)) (b .next)) provider);
-        next = after (freeFrom 32 (breaksOf (b .places)) (b .next));
-      };
-    }
+      → openOf b provider ≡ record {
+        answer = Is (freeFrom 32 (breaksOf (b .places)) (b .next));
+        board = record {
+          places = set (b .places) (before isFree (b .places)) (takenBy (freeFrom 32 (breaksOf (b .places)) (b .next)) provider);
+          next = after (freeFrom 32 (breaksOf (b .places)) (b .next));
+        };
+      }
   unfolding openOf
   open-given provider n h =
       let room : length (breaksOf (b .places)) < 32 = omega (arith, some-free (b .places) (omega arith)) in
@@ -38,10 +38,10 @@ module _ (b : Board) where
   close-refused id n h = rw (none-holds id (b .places) (omega arith))
 
   pub close-given : (id : ℕ) (d : Place) → length (b .places) ≡ 32 → before (holds id) (b .places) < 32
-    → closeOf b id ≡ record {
-      answer = Is (getD (b .places) (before (holds id) (b .places)) d .provider);
-      board = record { places = set (b .places) (before (holds id) (b .places)) blankPlace; next = b .next };
-    }
+      → closeOf b id ≡ record {
+        answer = Is (getD (b .places) (before (holds id) (b .places)) d .provider);
+        board = record { places = set (b .places) (before (holds id) (b .places)) blankPlace; next = b .next };
+      }
   unfolding closeOf
   close-given id d n h =
       let f : before (holds id) (b .places) < length (b .places) = omega arith in

@@ -73,20 +73,28 @@ module _ (κ : Lfts 0) (b : Board) (provider : ℕ) (s : Step) (d : Does κ (ope
     where
       id : ℕ
       id = freeFrom 32 (held b) (b .next)
+
       at : ℕ
       at = before isFree (b .places)
+
       first : Given (held b) (b .next) id
       first = given 32 (held b) (b .next) (t .next) (omega arith) h
+
       room : at < length (b .places)
       room = has-free (b .places) (omega (arith, t .places))
+
       free : getD (b .places) at blankPlace .used ≡ false
       free = first-free (b .places) blankPlace room
+
       each : (k : ℕ) → under k (breaksOf (set (b .places) at (takenBy id provider))) ≡ under k (held b) ++ under k (broken id provider ∷ [])
       each k = opened-each id provider k (b .places) at blankPlace room free (first .free)
+
       alone : under id (breaksOf (set (b .places) at (takenBy id provider))) ≡ provider ∷ []
       alone = each id ∙ rw (first .free, eq-eqb id id refl)
+
       other : (k : ℕ) → eqb id k ≡ false → under k (breaksOf (set (b .places) at (takenBy id provider))) ≡ under k (held b)
       other k n = each k ∙ rw n (append-nil (under k (held b)))
+
       more : length (breaksOf (set (b .places) at (takenBy id provider))) ≡ suc (length (held b))
       more = opened-many id provider (b .places) at blankPlace room free
 
@@ -142,6 +150,7 @@ one-stands κ (closing k) b s id provider t u n d = go (isOpen k (held b)) refl
         go : (v : Bool) → not v && true ≡ true → v ≡ false
         go true e = sym e
         go false e = refl
+
     go : (o : Bool) → isOpen k (held b) ≡ o → under id (held (s .board)) ≡ provider ∷ []
     go false e = rw (close-62 κ b k s d e) u
     go true e = closes κ b k s d e .others id other ∙ u
@@ -168,13 +177,13 @@ is-one : (x y : ℕ) → Is x ≡ Is y → x ≡ y
 is-one x y e = cc
 
 stands : (κ : Lfts 0) (calls : List Call) (b : Board) (heard : List Answer) (z : Board) (id provider : ℕ) → Typed b → under id (held b) ≡ provider ∷ [] → leaves id calls ≡ true → Run (Does κ) b calls heard z
-  → Typed z × (under id (held z) ≡ provider ∷ [])
+    → Typed z × (under id (held z) ≡ provider ∷ [])
 stands κ [] b [] z id provider t u n nothing = (t, u)
 stands κ (c ∷ cs) b (a ∷ heard) z id provider t u n (then s d w) =
     stands κ cs (s .board) heard z id provider (typed κ c b s t d) (one-stands κ c b s id provider t u (left-first id c cs n) d) (left-rest id c cs n) w
 
 module _ (κ : Lfts 0) (b : Board) (provider id : ℕ) (s : Step) (calls : List Call) (heard : List Answer) (z : Board) (t : Typed b)
-  (d : Does κ (opening provider) b s) (i : s .answer ≡ Is id) (n : leaves id calls ≡ true) (w : Run (Does κ) (s .board) calls heard z) where
+    (d : Does κ (opening provider) b s) (i : s .answer ≡ Is id) (n : leaves id calls ≡ true) (w : Run (Does κ) (s .board) calls heard z) where
   still : Typed z × (under id (held z) ≡ provider ∷ [])
   still = go (leb 32 (length (held b))) refl
     where

@@ -2,7 +2,7 @@
 use Prim.Native.Nat.{ℕ}
 use mathlib.Core.Bool.{cond}
 use mathlib.Core.List.{List}
-use lib.Dec.{ltb}
+use lib.Dec.{ltb, eqb}
 use lib.ListN.{length}
 use Rattle.board.specs.Breaks.{numberOf}
 use Rattle.board.specs.Board.{emptyBoard, openOf, closeOf}
@@ -23,12 +23,8 @@ flatAnswer (Is id) = record { refusal = 0; id = id }
 flatAnswer (Refused r) = record { refusal = numberOf r; id = 0 }
 
 -- the words after a call: "both leave the board as found"
-unfoldable pub settledBy : Answer → Board → List ℕ → List ℕ
-settledBy (Is id) b words = stored b words
-settledBy (Refused r) b words = words
-
-abbrev pub settled : Step → List ℕ → List ℕ
-settled s words = settledBy (s .answer) (s .board) words
+abbrev pub settled : FlatBoardAnswer → Board → List ℕ → List ℕ
+settled answer b words = cond (eqb (answer .refusal) 0) (stored b words) words
 
 -- a run that is shorter than a board is refused (36)
 abbrev pub whole : List ℕ → Lent → Lent
@@ -37,7 +33,7 @@ whole words l = cond (ltb (length words) 65) (record { answer = record { refusal
 abbrev pub called : (Board → Step) → List ℕ → Lent
 called step words =
     let s : Step = step (boardGiven words) in
-    whole words (record { answer = flatAnswer (s .answer); words = settled s words })
+    whole words (record { answer = flatAnswer (s .answer); words = settled (flatAnswer (s .answer)) (s .board) words })
 
 unfoldable pub emptied : List ℕ → Lent
 emptied words = whole words (record { answer = record { refusal = 0; id = 0 }; words = stored emptyBoard words })

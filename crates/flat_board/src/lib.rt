@@ -10,7 +10,6 @@ use board::Answer;
 use board::Board;
 use board::Place;
 use board::Refusal;
-use board::Step;
 use board::blank_place;
 use board::close_break;
 use board::empty;
@@ -34,7 +33,7 @@ fn place_given(ids: u64, mark: u64) -> Place
 }
 
 fn places_given(words: &[u64]) -> [Place; 32]
-    requires { do ⌜ 65 ≤ (← ⟦words.len()⟧ .entry) ⌝ }
+    requires { ⌜ 65 ≤ length (now words) ⌝ }
     ensures { λ r. ⌜ r ≡ placesGiven (now (words .entry)) ⌝ }
 {
     let none = blank_place();
@@ -48,7 +47,7 @@ fn places_given(words: &[u64]) -> [Place; 32]
 }
 
 fn board_given(words: &[u64]) -> Board
-    requires { do ⌜ 65 ≤ (← ⟦words.len()⟧ .entry) ⌝ }
+    requires { ⌜ 65 ≤ length (now words) ⌝ }
     ensures { λ r. ⌜ r ≡ boardGiven (now (words .entry)) ⌝ }
 {
     let places = places_given(words);
@@ -73,13 +72,16 @@ fn word_at(places: [Place; 32], next: u32, at: usize) -> u64
     }
     if at < 64 {
         let p = places[at - 32];
-        return p.used as u64;
+        if p.used {
+            return 1;
+        }
+        return 0;
     }
     next as u64
 }
 
 fn put_board(words: &mut [u64], b: Board)
-    requires { do ⌜ 65 ≤ (← ⟦words.len()⟧ .entry) ⌝ }
+    requires { ⌜ 65 ≤ length (now words) ⌝ }
     ensures { λ _. ⌜ now (words .exit) ≡ stored b (now (words .entry)) ⌝ }
 {
     let places = b.places;
@@ -100,27 +102,32 @@ fn number_of(r: Refusal) -> u64
     }
 }
 
-// What a call did: its answer, and its board in the words where it was accepted.
-fn settle(words: &mut [u64], s: Step) -> FlatBoardAnswer
-    requires { do ⌜ 65 ≤ (← ⟦words.len()⟧ .entry) ⌝ }
-    ensures answer { λ r. ⌜ r ≡ flatAnswer (s .answer) ⌝ }
-    ensures words { λ _. ⌜ now (words .exit) ≡ settled s (now (words .entry)) ⌝ }
+fn flat_answer(a: Answer) -> FlatBoardAnswer
+    ensures { λ r. ⌜ r ≡ flatAnswer a ⌝ }
 {
-    let answer = s.answer;
-    match answer {
-        Answer::Is(id) => {
-            let b = s.board;
-            put_board(words, b);
-            FlatBoardAnswer {
-                refusal: 0,
-                id: id as u64,
-            }
-        }
+    match a {
+        Answer::Is(id) => FlatBoardAnswer {
+            refusal: 0,
+            id: id as u64,
+        },
         Answer::Refused(r) => FlatBoardAnswer {
             refusal: number_of(r),
             id: 0,
         },
     }
+}
+
+// Stores the board where its call was accepted, and hands the answer on.
+fn settle(words: &mut [u64], answer: FlatBoardAnswer, b: Board) -> FlatBoardAnswer
+    requires { ⌜ 65 ≤ length (now words) ⌝ }
+    ensures answer { λ r. ⌜ r ≡ answer ⌝ }
+    ensures words { λ _. ⌜ now (words .exit) ≡ settled answer b (now (words .entry)) ⌝ }
+{
+    if answer.refusal == 0 {
+        put_board(words, b);
+        return answer;
+    }
+    answer
 }
 
 fn too_short() -> FlatBoardAnswer
@@ -148,7 +155,9 @@ pub fn open_words(words: &mut [u64], provider: u32) -> FlatBoardAnswer
         return too_short();
     }
     let s = open_break(board_given(words), provider);
-    settle(words, s)
+    let answer = s.answer;
+    let b = s.board;
+    settle(words, flat_answer(answer), b)
 }
 
 pub fn close_words(words: &mut [u64], event: u32) -> FlatBoardAnswer
@@ -159,5 +168,7 @@ pub fn close_words(words: &mut [u64], event: u32) -> FlatBoardAnswer
         return too_short();
     }
     let s = close_break(board_given(words), event);
-    settle(words, s)
+    let answer = s.answer;
+    let b = s.board;
+    settle(words, flat_answer(answer), b)
 }

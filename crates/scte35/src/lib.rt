@@ -51,6 +51,7 @@ use section::read_command_part;
 use section::read_frame;
 use upid::read_upid;
 
+pub mod board;
 pub mod canonical;
 pub mod numbers;
 pub mod writing;

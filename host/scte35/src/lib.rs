@@ -38,6 +38,7 @@
 //! # let items: Vec<_> = read_section(&written).unwrap().descriptors.into_iter().collect();
 //! # assert_eq!(items, [Ok(SpliceDescriptor::Avail { provider_avail_id: 310 })]);
 //! ```
+pub mod board;
 mod command;
 mod flags;
 mod header;

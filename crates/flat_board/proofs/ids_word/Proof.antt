@@ -1,3 +1,5 @@
+use mathlib.Core.Path.{refl}
+use Rattle.flat_board.specs.Words.{idsWord}
 use borrow.Author.Needs.{needs}
 use Rattle.flat_board.proofs.ids_word.Statement.{statement}
 use Rattle.flat_board.proofs.ids_word.Tie as tie
@@ -22,7 +24,8 @@ add-result c = search needs
 
 -- src/lib.rt:61:1
 returns : tie.Need-returns
-returns c = ?
+unfolding idsWord
+returns c = refl
 
 pub ids-word-spec : {M : Type 1} → statement M
 ids-word-spec = tie.close (tie.spec cast-result mul-result cast-result-2 add-result returns)

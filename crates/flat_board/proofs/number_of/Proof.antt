@@ -1,3 +1,4 @@
+use Rattle.board.specs.Breaks.{numberOf}
 use borrow.Author.Needs.{needs}
 use Rattle.flat_board.proofs.number_of.Statement.{statement}
 use Rattle.flat_board.proofs.number_of.Tie as tie
@@ -14,11 +15,13 @@ enum-told-2 c = search needs
 
 -- src/lib.rt:94:1
 returns : tie.Need-returns
-returns c = ?
+unfolding numberOf
+returns c = rw (c .enum-told .given .1)
 
 -- src/lib.rt:94:1
 returns-2 : tie.Need-returns-2
-returns-2 c = ?
+unfolding numberOf
+returns-2 c = rw (c .enum-told2 .given .1)
 
 pub number-of-spec : {M : Type 1} → statement M
 number-of-spec = tie.close (tie.spec enum-told enum-told-2 returns returns-2)

@@ -1,3 +1,5 @@
+use mathlib.Core.Path.{refl}
+use Rattle.flat_board.specs.Words.{placeGiven}
 use borrow.Author.Needs.{needs}
 use Rattle.flat_board.proofs.place_given.Statement.{statement}
 use Rattle.flat_board.proofs.place_given.Tie as tie
@@ -14,7 +16,8 @@ cast-t8 c = search needs
 
 -- src/lib.rt:26:1
 returns : tie.Need-returns
-returns c = ?
+unfolding placeGiven
+returns c = refl
 
 pub place-given-spec : {M : Type 1} → statement M
 place-given-spec = tie.close (tie.spec cast-t6 cast-t8 returns)

@@ -1,3 +1,7 @@
+use mathlib.Core.Bool.{true, false}
+use mathlib.Core.Path.{_∙_}
+use native.Mathlib.Omega.{arith}
+use Rattle.flat_board.proofs.Words.{word-ids, word-mark, word-next}
 use borrow.Author.Needs.{needs}
 use Rattle.flat_board.proofs.word_at.Statement.{statement}
 use Rattle.flat_board.proofs.word_at.Tie as tie
@@ -19,7 +23,7 @@ ids-word-requires c κs = search needs
 
 -- src/lib.rt:72:9
 returns : tie.Need-returns
-returns c = ?
+returns c = c .ids-word .ensures ∙ word-ids _ _ _ (c .before .before .if1 .taken)
 
 -- src/lib.rt:75:17
 mul-p : tie.Need-mul-p
@@ -29,17 +33,17 @@ mul-p c = search needs
 array-copy-out-p : tie.Need-array-copy-out-p
 array-copy-out-p c = search needs
 
--- src/lib.rt:76:16
-cast-result : tie.Need-cast-result
-cast-result c = search needs
-
--- src/lib.rt:76:9
+-- src/lib.rt:77:13
 returns-2 : tie.Need-returns-2
-returns-2 c = ?
+returns-2 c = word-mark _ _ _ (omega arith) (omega arith) true (c .if3 .taken)
+
+-- src/lib.rt:79:9
+returns-3 : tie.Need-returns-3
+returns-3 c = word-mark _ _ _ (omega arith) (omega arith) false (c .if3 .left)
 
 -- src/lib.rt:68:1
-returns-3 : tie.Need-returns-3
-returns-3 c = ?
+returns-4 : tie.Need-returns-4
+returns-4 c = word-next _ _ _ (omega arith)
 
 pub word-at-spec : {M : Type 1} → statement M
 word-at-spec =
@@ -51,6 +55,6 @@ word-at-spec =
     returns
     mul-p
     array-copy-out-p
-    cast-result
     returns-2
-    returns-3)
+    returns-3
+    returns-4)
