@@ -6,19 +6,21 @@ use board::close_break;
 use board::empty;
 use board::open_break;
 
-fn tell(answer: Answer) {
-    match answer {
-        Answer::Is(id) => io::print_decimal(1, id as u64),
-        Answer::Refused(r) => {
-            io::write_all(1, b"refused ");
-            match r {
-                Refusal::BoardFull => io::write_all(1, b"61"),
-                Refusal::NotOpen => io::write_all(1, b"62"),
-            }
-            ;
-        }
+fn refusal(r: Refusal) {
+    match r {
+        Refusal::BoardFull => io::write_all(1, b"refused 61"),
+        Refusal::NotOpen => io::write_all(1, b"refused 62"),
     }
     ;
+}
+
+fn tell(answer: Answer) {
+    match answer {
+        Answer::Is(id) => {
+            io::print_decimal(1, id as u64);
+        }
+        Answer::Refused(r) => refusal(r),
+    }
     io::write_all(1, b"\n");
 }
 
