@@ -25,7 +25,7 @@ use Rattle.flat_board.specs.Words.{listed, placeGiven, placesGiven, boar
 use Rattle.flat_board.specs.Lent.{Lent, flatAnswer, settled, emptied, opened, closed}
 use Rattle.flat_board.specs.Calls.{lentOf, lentAnswers, Typed}
 use Rattle.flat_board.specs.declared.FlatBoardAnswer.{FlatBoardAnswer}
-use Rattle.flat_board.proofs.Words.{length-listed, getD-listed, listed-again, word-ids, word-mark, word-next}
+use Rattle.flat_board.proofs.Words.{length-listed, getD-listed, listed-again, ids-of, mark-of, next-of}
 
 -- ---- a place, and a board
 
@@ -56,8 +56,9 @@ module _ (b : Board) (f : Fits b) (words : List ℕ) where
   unfolding idsWord
   one-back i h =
       let p : Place = getD (b .places) i blankPlace in
-      let s : 32 + i - 32 ≡ i = omega arith in
-      rw (there i (omega arith), there (32 + i) (omega arith), ← word-ids (b .places) (b .next) i h, ← word-mark (b .places) (b .next) (32 + i) (omega arith) (omega arith) (p .used) (rw s refl))
+      let x : i % 32 ≡ i = omega arith in
+      let y : (32 + i) % 32 ≡ i = omega arith in
+      rw (there i (omega arith), there (32 + i) (omega arith), x, y, ← ids-of p (b .next) i h, ← mark-of p (b .next) (32 + i) (omega arith) (omega arith) (p .used) refl)
       (place-back (p .used) (p .event) (p .provider) (f .ids i))
 
   places-back : placesGiven (stored b words) ≡ b .places
@@ -70,7 +71,7 @@ module _ (b : Board) (f : Fits b) (words : List ℕ) where
 
   pub board-given-back : boardGiven (stored b words) ≡ b
   board-given-back =
-      let n : getD (stored b words) 64 0 % 4294967296 ≡ b .next = omega (arith, there 64 (omega arith), word-next (b .places) (b .next) 64 (omega arith), f .next) in
+      let n : getD (stored b words) 64 0 % 4294967296 ≡ b .next = omega (arith, there 64 (omega arith), next-of (getD (b .places) (64 % 32) blankPlace) (b .next) 64 (omega arith), f .next) in
       rw (places-back, n)
 
   long : 65 ≤ length (stored b words)

@@ -11,7 +11,7 @@ use lib.Seq.{paste, take-all}
 use borrow.Author.Tests.{lt-ltb, le-ltb}
 use Rattle.board.specs.Board.{blankPlace}
 use Rattle.board.specs.declared.Place.{Place}
-use Rattle.flat_board.specs.Words.{listed, placeGiven, placesGiven, idsWord, wordAt}
+use Rattle.flat_board.specs.Words.{listed, placeGiven, placesGiven, idsWord, wordOf, wordAt}
 
 -- ---- a list by its places
 
@@ -44,21 +44,22 @@ stored-all w s out i l h g e =
 
 -- ---- the word at a place
 
-module _ (places : List Place) (next at : ℕ) where
-  pub word-ids : at < 32 → idsWord (getD places at blankPlace) ≡ wordAt places next at
-  unfolding wordAt
-  word-ids h = rw (lt-ltb at 32 h)
+module _ (p : Place) (next at : ℕ) where
+  pub ids-of : at < 32 → idsWord p ≡ wordOf p next at
+  unfolding wordOf
+  ids-of h = rw (lt-ltb at 32 h)
 
-  pub word-mark : 32 ≤ at → at < 64 → (u : Bool) → getD places (at - 32) blankPlace .used ≡ u → cond u 1 0 ≡ wordAt places next at
-  unfolding wordAt
-  word-mark h g u e = rw (le-ltb at 32 h, lt-ltb at 64 g, e)
+  pub mark-of : 32 ≤ at → at < 64 → (u : Bool) → p .used ≡ u → cond u 1 0 ≡ wordOf p next at
+  unfolding wordOf
+  mark-of h g u e = rw (le-ltb at 32 h, lt-ltb at 64 g, e)
 
-  pub word-next : 64 ≤ at → next ≡ wordAt places next at
-  unfolding wordAt
-  word-next h =
+  pub next-of : 64 ≤ at → next ≡ wordOf p next at
+  unfolding wordOf
+  next-of h =
       let g : 32 ≤ at = omega arith in
       rw (le-ltb at 32 g, le-ltb at 64 h)
 
+module _ (places : List Place) (next at : ℕ) where
   pub word-there : at < 65 → getD (listed (wordAt places next) 0 65) at 0 ≡ wordAt places next at
   word-there h = getD-listed (wordAt places next) 0 65 at 0 h ∙ ap (wordAt places next) (zero-add at)
 

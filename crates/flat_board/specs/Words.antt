@@ -26,11 +26,12 @@ boardGiven words = record { places = placesGiven words; next = getD words 64 0 %
 unfoldable pub idsWord : Place → ℕ
 idsWord p = p .event * 4294967296 + p .provider
 
--- a board's word at a place, 64 being the last
-unfoldable pub wordAt : List Place → ℕ → ℕ → ℕ
-wordAt places next at =
-    cond (ltb at 32) (idsWord (getD places at blankPlace))
-    (cond (ltb at 64) (cond (getD places (at - 32) blankPlace .used) 1 0) next)
+-- a board's word at a place, 64 being the last, with the board's place that it is of
+unfoldable pub wordOf : Place → ℕ → ℕ → ℕ
+wordOf p next at = cond (ltb at 32) (idsWord p) (cond (ltb at 64) (cond (p .used) 1 0) next)
+
+abbrev pub wordAt : List Place → ℕ → ℕ → ℕ
+wordAt places next at = wordOf (getD places (at % 32) blankPlace) next at
 
 abbrev pub wordsOf : Board → List ℕ
 wordsOf b = listed (wordAt (b .places) (b .next)) 0 65

@@ -4,7 +4,7 @@ ghost use Prim.Native.Nat.{_≤_};
 ghost use mathlib.Core.Path.{_≡_};
 ghost use lib.ListN.{length};
 ghost use Rattle.board.specs.Breaks.{numberOf};
-ghost use Rattle.flat_board.specs.Words.{placeGiven, placesGiven, boardGiven, idsWord, wordAt, stored};
+ghost use Rattle.flat_board.specs.Words.{placeGiven, placesGiven, boardGiven, idsWord, wordOf, stored};
 ghost use Rattle.flat_board.specs.Lent.{flatAnswer, settled, emptied, opened, closed};
 use board::Answer;
 use board::Board;
@@ -63,15 +63,14 @@ fn ids_word(p: Place) -> u64
     (p.event as u64) * 4294967296 + (p.provider as u64)
 }
 
-// A board's word at a place, 64 being the last.
-fn word_at(places: [Place; 32], next: u32, at: usize) -> u64
-    ensures { λ r. ⌜ r ≡ wordAt places next at ⌝ }
+// A board's word at a place, 64 being the last, with the board's place that it is of.
+fn word_of(p: Place, next: u32, at: usize) -> u64
+    ensures { λ r. ⌜ r ≡ wordOf p next at ⌝ }
 {
     if at < 32 {
-        return ids_word(places[at]);
+        return ids_word(p);
     }
     if at < 64 {
-        let p = places[at - 32];
         if p.used {
             return 1;
         }
@@ -80,6 +79,7 @@ fn word_at(places: [Place; 32], next: u32, at: usize) -> u64
     next as u64
 }
 
+// (A call with the array of places would copy it each turn.)
 fn put_board(words: &mut [u64], b: Board)
     requires { ⌜ 65 ≤ length (now words) ⌝ }
     ensures { λ _. ⌜ now (words .exit) ≡ stored b (now (words .entry)) ⌝ }
@@ -88,7 +88,7 @@ fn put_board(words: &mut [u64], b: Board)
     let next = b.next;
     let mut i: usize = 0;
     while i < 65 {
-        words[i] = word_at(places, next, i);
+        words[i] = word_of(places[i % 32], next, i);
         i += 1;
     }
 }
