@@ -1,4 +1,5 @@
-/* board-bench KIND OPEN TURNS: TURNS times a board with OPEN breaks open is copied, and one more is opened (KIND o), the last one closed (c), or nothing done (n). */
+/* board-bench KIND OPEN TURNS: TURNS times a board with OPEN breaks open is copied, and one more is opened (KIND o), the last one
+ * closed (c), or nothing done (n). */
 #include <stdio.h>
 #include <stdlib.h>
 #include <string.h>
