@@ -81,6 +81,8 @@ uint32_t scte35_abi(void);
     X(RESULT_TOO_LONG, 34, "ResultTooLong", "a descriptor's length over 254, or a section over 4,096 bytes") \
     X(LOOP_NOT_CANONICAL, 35, "LoopNotCanonical", "the descriptor loop that is handed in is not canonical") \
     X(TARGET_TOO_SHORT, 36, "TargetTooShort", "the target is shorter than the result") \
+    X(BOARD_FULL, 61, "BoardFull", "as many breaks are open as may be") \
+    X(NOT_OPEN, 62, "NotOpen", "no open break has this event id") \
     X(NOT_A_PACKET, 71, "NotAPacket", "not a transport packet: not 188 bytes, or another sync byte than 0x47") \
     X(OTHER_PID, 72, "OtherPid", "a packet of another PID") \
     X(SCRAMBLED, 73, "Scrambled", "the packet is scrambled") \
@@ -646,6 +648,43 @@ uint64_t scte35_packet_feed(uint64_t *state, size_t state_words, const uint8_t *
  */
 uint64_t scte35_packet_take(uint64_t *state, size_t state_words, const uint8_t *packet, size_t packet_length, uint8_t *buffer, size_t buffer_length);
 
+/* ---- the open-break board: an event id for each provider id while its break is open
+ *
+ * A board is SCTE35_BOARD_WORDS words that the caller keeps; their contents are the library's. Fill them with scte35_board_empty before the first call. A
+ * refused call changes no word, an accepted one changes no word past the board's. Any words are taken, whoever made them; a shorter run is refused (36).
+ */
+
+enum { SCTE35_BOARD_WORDS = 65, SCTE35_BOARD_PLACES = 32 };
+
+enum scte35_board_refusal {
+    SCTE35_BOARD_FULL = 61, /* opening: SCTE35_BOARD_PLACES breaks are open */
+    SCTE35_NOT_OPEN = 62 /* closing: no open break has this event id */
+};
+
+struct scte35_board_answer {
+    uint64_t refusal; /* 0, 36, or as above */
+    uint64_t id; /* to an opening the event id, to a closing the provider id */
+};
+
+/*
+ * No break is open, and the next event id is 1.
+ * Takes the words of a board, and sets them. Refuses with 36. Stack: 2 KB.
+ */
+struct scte35_board_answer scte35_board_empty(uint64_t *board, size_t board_words);
+
+/*
+ * Opens a break.
+ * Takes a board and a provider id; these may repeat. Answers an event id: they count up, that after 4,294,967,295 is 0, and one that is still open is passed
+ * over. Refuses with 36, and with 61 where 32 breaks are open. Stack: 2 KB.
+ */
+struct scte35_board_answer scte35_board_open(uint64_t *board, size_t board_words, uint32_t provider_id);
+
+/*
+ * Closes a break.
+ * Takes a board and an event id. Answers the provider id that it was opened with. Refuses with 36, and with 62 where no open break has it. Stack: 2 KB.
+ */
+struct scte35_board_answer scte35_board_close(uint64_t *board, size_t board_words, uint32_t event_id);
+
 #if defined(__cplusplus) && __cplusplus >= 201103L
 #define SCTE35_WORDS(type, words) static_assert(sizeof(struct type) == 8 * (words), #type)
 #else
@@ -665,6 +704,7 @@ SCTE35_WORDS(scte35_upid, 18 + 127 * 4);
 SCTE35_WORDS(scte35_written, 2);
 SCTE35_WORDS(scte35_adjusted_time, 3);
 SCTE35_WORDS(scte35_number, 3);
+SCTE35_WORDS(scte35_board_answer, 2);
 
 #undef SCTE35_WORDS
 

@@ -134,7 +134,8 @@ static struct scte35_step step;
 static struct scte35_item_components beside;
 static struct scte35_upid upid;
 static struct scte35_adjusted_time adjusted;
-static uint64_t packets[SCTE35_PACKET_WORDS];
+static uint64_t packets[SCTE35_PACKET_WORDS], board[SCTE35_BOARD_WORDS];
+static struct scte35_board_answer answer;
 /* of PID 500: a start, counter 0, pointer 0, a section of 5 bytes, then zeros, which are no stuffing */
 static const uint8_t packet[SCTE35_PACKET] = {0x47, 0x41, 0xF4, 0x10, 0x00, 0xFC, 0x30, 0x02, 0xAA, 0xBB};
 static struct scte35_number number;
@@ -164,6 +165,9 @@ MEASURED(scte35_classify_segmentation_type, number = scte35_classify_segmentatio
 MEASURED(scte35_classify_network_indicator, number = scte35_classify_network_indicator(2))
 MEASURED(scte35_classify_return_mode, number = scte35_classify_return_mode(1))
 MEASURED(scte35_classify_device_restrictions, number = scte35_classify_device_restrictions(3))
+MEASURED(scte35_board_empty, answer = scte35_board_empty(board, SCTE35_BOARD_WORDS))
+MEASURED(scte35_board_open, answer = scte35_board_open(board, SCTE35_BOARD_WORDS, 7))
+MEASURED(scte35_board_close, answer = scte35_board_close(board, SCTE35_BOARD_WORDS, 1))
 MEASURED(scte35_packet_start, scte35_packet_start(500, packets, SCTE35_PACKET_WORDS))
 MEASURED(scte35_packet_feed, told = scte35_packet_feed(packets, SCTE35_PACKET_WORDS, packet, sizeof packet, target, sizeof target))
 MEASURED(scte35_packet_take, told = scte35_packet_take(packets, SCTE35_PACKET_WORDS, packet, sizeof packet, target, sizeof target))
@@ -172,7 +176,8 @@ MEASURED(scte35_packet_take, told = scte35_packet_take(packets, SCTE35_PACKET_WO
     X(abi) X(crc) X(read_header) X(read_section) X(read_command) X(read_insert_components) X(read_item) X(read_item_components) X(read_upid)                 \
     X(is_canonical_section) X(is_canonical_loop) X(is_canonical_descriptor) X(write_command_words) X(write_descriptor_words) X(write_section_words)          \
     X(adjust_time) X(classify_algorithm) X(classify_command_type) X(classify_upid_type) X(classify_segmentation_type) X(classify_network_indicator)          \
-    X(classify_return_mode) X(classify_device_restrictions) X(packet_start) X(packet_feed) X(packet_take)
+    X(classify_return_mode) X(classify_device_restrictions) X(packet_start) X(packet_feed) X(packet_take)                         \
+    X(board_empty) X(board_open) X(board_close)
 
 #define PLACE(name) size_t name;
 static struct { EACH(PLACE) } most;

@@ -41,6 +41,7 @@ use items::reading::read_item;
 use upid::read_upid;
 
 pub mod abi;
+pub mod board;
 pub mod canonical;
 pub mod numbers;
 pub mod packet;

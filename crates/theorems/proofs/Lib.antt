@@ -3,6 +3,7 @@ pub mod RowsHold
 pub mod FixedAnswers
 pub mod FixedAtBoundary
 pub mod FixedAtWriter
+pub mod FixedBoard
 pub mod FixedInterface
 pub mod FixedTransport
 pub mod Framed

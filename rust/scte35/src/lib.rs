@@ -49,6 +49,7 @@
 //! Nothing is kept between calls, and every function may be called from any thread.
 #![deny(missing_docs)]
 
+pub mod board;
 mod command;
 mod flags;
 mod header;

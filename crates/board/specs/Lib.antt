@@ -1,0 +1,4 @@
+pub mod Breaks
+pub mod Board
+pub mod Runs
+pub mod Calls
