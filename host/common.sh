@@ -1,12 +1,13 @@
 # Sourced by the scripts beside it. Sets `host`, `root` and `build`, the folder outside the repository where this checkout's Rust is built, and the functions
-#   ready     what a program beside the crate needs: looks for the crate's text, installs what is missing (`setup`), has libscte35.a built (`archive`), copies the Rust side to `build`
+#   ready     what a program beside the crate needs: looks for the crate's text, installs what is missing (`setup`), has libscte35.a built (`archive`),
+#             copies the Rust side to `build`
 #   made      PROFILE NAME: builds that program there for x86-64; `program` is then a copy that no other script touches
 #   started   runs `program`, under qemu where the machine is not x86-64
 #   cargo_    cargo in `build`
 #   counts    installs what counts instructions; `counted PROGRAM ARGUMENT..` then says how many a run takes
 # Two scripts of one checkout build one after the other; two checkouts have each a folder.
-# Variables: CRATE_TEXT (the folder with the crate's lib.rs and upid.rs), HOST_CACHE (in place of scupirtadu in the user's cache folder), HOST_BUILD (in place of a
-# folder there), SCTE35_LIB (a folder with a libscte35.a that is built already), JOBS (cargo's), COUNTER (callgrind or qemu).
+# Variables: CRATE_TEXT (the folder with the crate's lib.rs and upid.rs), HOST_CACHE (in place of scupirtadu in the user's cache folder), HOST_BUILD (in place
+# of a folder there), SCTE35_LIB (a folder with a libscte35.a that is built already), JOBS (cargo's), COUNTER (callgrind or qemu).
 host=$(cd "$(dirname "${BASH_SOURCE[0]}")" && pwd -P)
 root=$(dirname "$host")
 export HOST_CACHE=${HOST_CACHE:-${XDG_CACHE_HOME:-$HOME/.cache}/scupirtadu}
