@@ -32,9 +32,10 @@ static void given(const uint8_t *s, size_t n)
 
 static dvbpsi_t *handle;
 
+/* as the library's own tables do: what was found of a discontinuity is settled by a section. (Until then it takes a repeat for another.) */
 static void gathered(dvbpsi_t *p, dvbpsi_psi_section_t *s)
 {
-    (void)p;
+    p->p_decoder->b_discontinuity = false;
     given(s->p_data, (size_t)s->i_length + 3);
     dvbpsi_DeletePSISections(s);
 }
@@ -42,7 +43,7 @@ static void gathered(dvbpsi_t *p, dvbpsi_psi_section_t *s)
 static void dvbpsi_start(void)
 {
     handle = dvbpsi_new(NULL, DVBPSI_MSG_NONE);
-    handle->p_decoder = (dvbpsi_decoder_t *)dvbpsi_decoder_new(gathered, 4096, true, sizeof(dvbpsi_decoder_t));
+    handle->p_decoder = (dvbpsi_decoder_t *)dvbpsi_decoder_new(gathered, 4096, false, sizeof(dvbpsi_decoder_t));
 }
 
 static void dvbpsi_end(void)
