@@ -52,6 +52,7 @@ use section::read_frame;
 use upid::read_upid;
 
 pub mod abi;
+pub mod adjust;
 pub mod canonical;
 pub mod numbers;
 pub mod writing;
@@ -167,7 +168,7 @@ pub extern "C" fn scte35_crc(s: &[u8], at: usize) -> u32
 }
 
 // The time that is handed in. Ticks over 33 bits are kept whatever the kind, so that they are refused.
-fn time_from(kind: u64, ticks: u64) -> SpliceTime
+pub(crate) fn time_from(kind: u64, ticks: u64) -> SpliceTime
     ensures { λ r. ⌜ r ≡ timeHanded kind ticks ⌝ }
 {
     if kind == 3 {

@@ -19,7 +19,7 @@ macro_rules! verbs {
     };
 }
 
-verbs!(show, identifiers, map, check, make, completions);
+verbs!(show, identifiers, map, check, make, adjust, completions);
 
 #[cfg(test)]
 pub mod tests;
