@@ -1,1 +1,2 @@
 pub mod FlatNumber
+pub mod FlatAdjust
