@@ -18,7 +18,7 @@ use Rattle.header.specs.declared.header.SpliceInfoHeader.{SpliceInfoHeader}
 use Rattle.header.proofs.Headers.{header-got, header-is}
 use Rattle.names.specs.Algorithm.{algorithmOf}
 use Rattle.names.specs.Command.{commandTypeOf}
-use Rattle.section.specs.Section.{commandLength, commandType, commandBytes, roomAfter, loopLength, loopPlace, loopBytes, frameOf, movedRead, accepted, through, sectionOf, numberOf, conditions, None}
+use Rattle.section.specs.Section.{commandLength, commandType, commandBytes, roomAfter, loopLength, loopPlace, frameIn, loopBytes, frameOf, movedRead, accepted, through, sectionOf, numberOf, conditions, None}
 use Rattle.section.specs.declared.FrameRead.{FrameRead}
 use Rattle.section.specs.declared.Section.{Section}
 use Rattle.section.specs.declared.SectionRead.{SectionRead}
@@ -136,9 +136,13 @@ module _ (p : ℕ) (s : List ℕ) (x : Section) (is : sectionOf s ≡ SectionRea
   unfolding new
   first-same = first-kept p s long 0 (omega arith)
 
+  parts-same : frameIn new ≡ frameIn s
+  unfolding frameIn
+  parts-same = ap₂ (λ (n : ℕ) (v : View). record { command = record { at = 14; len = n }; descriptors = v }) command-length-same place-same
+
   frame-same : frameOf new ≡ frameOf s
   unfolding frameOf roomAfter
-  frame-same = rw (size, first-same, crc-same, before 32 1 (omega arith), command-length-same, loop-length-same, place-same)
+  frame-same = rw (size, first-same, crc-same, before 32 1 (omega arith), command-length-same, loop-length-same, parts-same)
 
   eleven : (t : List ℕ) → length t ≡ length s → 11 ≤ length (drop 3 t)
   eleven t e = omega (arith, length-drop 3 t, long)

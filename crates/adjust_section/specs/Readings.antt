@@ -20,7 +20,7 @@ headerWith p h = record {
 
 -- the same reading but for the header's pts_adjustment
 abbrev pub readingWith : ℕ → Section → Section
-readingWith p x = record { header = headerWith p (x .header); command = x .command; descriptors = x .descriptors }
+readingWith p x = record { header = headerWith p (x .header); command = x .command; descriptors = x .descriptors; payload = x .payload }
 
 -- what came out of one box, through the next; a refusal stands
 abbrev pub andThen : Made → ℕ → Made
