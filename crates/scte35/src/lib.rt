@@ -52,7 +52,7 @@ use section::read_frame;
 use upid::read_upid;
 
 pub mod abi;
-pub mod adjust;
+pub mod adjusting;
 pub mod canonical;
 pub mod numbers;
 pub mod writing;

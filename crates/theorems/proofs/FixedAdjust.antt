@@ -7,10 +7,10 @@ use Rattle.adjust.proofs.undo.Reads as undo
 use Rattle.adjust_section.proofs.adjust_section.Reads as adjust-section
 use Rattle.flat_adjust.proofs.flat_moved.Reads as flat-moved
 use Rattle.flat_adjust.proofs.flat_adjustment.Reads as flat-adjustment
-use Rattle.scte35.proofs.adjust.scte35_move_time.Reads as scte35-move-time
-use Rattle.scte35.proofs.adjust.scte35_chain_adjustments.Reads as scte35-chain-adjustments
-use Rattle.scte35.proofs.adjust.scte35_undo_adjustment.Reads as scte35-undo-adjustment
-use Rattle.scte35.proofs.adjust.scte35_adjust_section.Reads as scte35-adjust-section
+use Rattle.scte35.proofs.adjusting.scte35_move_time.Reads as scte35-move-time
+use Rattle.scte35.proofs.adjusting.scte35_chain_adjustments.Reads as scte35-chain-adjustments
+use Rattle.scte35.proofs.adjusting.scte35_undo_adjustment.Reads as scte35-undo-adjustment
+use Rattle.scte35.proofs.adjusting.scte35_adjust_section.Reads as scte35-adjust-section
 use Rattle.theorems.specs.FixedAnswers.{Fixed, FixedIn}
 
 pub adjust-is-fixed : Fixed adjust.Asked adjust.Learnt

@@ -1,7 +1,7 @@
--- `scte35::adjust::scte35_chain_adjustments` meets its contract: it is what it calls. Assumes nothing.
+-- `scte35::adjusting::scte35_chain_adjustments` meets its contract: it is what it calls. Assumes nothing.
 use borrow.Author.Needs.{needs}
-use Rattle.scte35.proofs.adjust.scte35_chain_adjustments.Statement.{statement}
-use Rattle.scte35.proofs.adjust.scte35_chain_adjustments.Tie as tie
+use Rattle.scte35.proofs.adjusting.scte35_chain_adjustments.Statement.{statement}
+use Rattle.scte35.proofs.adjusting.scte35_chain_adjustments.Tie as tie
 
 chain-requires : tie.Need-chain-requires
 chain-requires c κs = search needs

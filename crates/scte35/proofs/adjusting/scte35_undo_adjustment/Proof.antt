@@ -1,7 +1,7 @@
--- `scte35::adjust::scte35_undo_adjustment` meets its contract: it is what it calls. Assumes nothing.
+-- `scte35::adjusting::scte35_undo_adjustment` meets its contract: it is what it calls. Assumes nothing.
 use borrow.Author.Needs.{needs}
-use Rattle.scte35.proofs.adjust.scte35_undo_adjustment.Statement.{statement}
-use Rattle.scte35.proofs.adjust.scte35_undo_adjustment.Tie as tie
+use Rattle.scte35.proofs.adjusting.scte35_undo_adjustment.Statement.{statement}
+use Rattle.scte35.proofs.adjusting.scte35_undo_adjustment.Tie as tie
 
 undo-requires : tie.Need-undo-requires
 undo-requires c κs = search needs

@@ -1,7 +1,7 @@
--- `scte35::adjust::scte35_move_time` meets its contract: it is what it calls. Assumes nothing.
+-- `scte35::adjusting::scte35_move_time` meets its contract: it is what it calls. Assumes nothing.
 use borrow.Author.Needs.{needs}
-use Rattle.scte35.proofs.adjust.scte35_move_time.Statement.{statement}
-use Rattle.scte35.proofs.adjust.scte35_move_time.Tie as tie
+use Rattle.scte35.proofs.adjusting.scte35_move_time.Statement.{statement}
+use Rattle.scte35.proofs.adjusting.scte35_move_time.Tie as tie
 
 time-from-requires : tie.Need-time-from-requires
 time-from-requires c κs = search needs
