@@ -188,3 +188,7 @@ module _ (p : ℕ) (s : List ℕ) (x : Section) (is : sectionOf s ≡ SectionRea
   pub command-stays : (commandType (sectionWith p s) ≡ commandType s) × (commandBytes (sectionWith p s) ≡ commandBytes s)
   unfolding new
   command-stays = (command-type-same, command-bytes-same)
+
+  pub lengths-stay : (commandLength (sectionWith p s) ≡ commandLength s) × (loopLength (sectionWith p s) ≡ loopLength s)
+  unfolding new
+  lengths-stay = (command-length-same, loop-length-same)

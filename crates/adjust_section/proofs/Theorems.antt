@@ -27,7 +27,7 @@ use Rattle.adjust_section.proofs.Stored.{is-refused, is-made, none-hold
 use Rattle.adjust_section.proofs.Stays.{reads-again, adjustment-is, loop-stays, command-stays}
 use Rattle.adjust_section.proofs.Back.{moved-twice, moved-to-its-own}
 
-accepted-number : (s : List ℕ) (x : Section) → sectionOf s ≡ SectionRead.Is x → numberOf (sectionOf s) ≡ 0
+pub accepted-number : (s : List ℕ) (x : Section) → sectionOf s ≡ SectionRead.Is x → numberOf (sectionOf s) ≡ 0
 unfolding numberOf
 accepted-number s x e = ap numberOf e
 
@@ -44,8 +44,7 @@ the-reading-but-for-the-adjustment s x a is h =
     let p = (adjustmentIn s + a) % 8589934592 in
     let k : p < 2 ^ 33 = remainder-fits (adjustmentIn s + a) in
     let o : (x .header .«pts_adjustment» + a) % 8589934592 ≡ p = ap (λ (n : ℕ). (n + a) % 8589934592) (adjustment-is p s x is k) in
-    let c = command-stays p s x is k in
-    (
+    let c = command-stays p s x is k in (
       sectionWith p s,
       is-made s a e h,
       rw o (reads-again p s x is k),
@@ -56,7 +55,7 @@ the-reading-but-for-the-adjustment s x a is h =
     )
 
 -- what is made is made of a section that is accepted, by an adjustment of 33 bits
-made-is : (s : List ℕ) (a : ℕ) (new : List ℕ) → adjustedSection s a ≡ made new
+pub made-is : (s : List ℕ) (a : ℕ) (new : List ℕ) → adjustedSection s a ≡ made new
     → (numberOf (sectionOf s) ≡ 0) × (a < 2 ^ 33) × (sectionWith ((adjustmentIn s + a) % 8589934592) s ≡ new)
 unfolding adjustedSection
 made-is s a new = go (eqb (numberOf (sectionOf s)) 0) refl (ltb a (2 ^ 33)) refl
@@ -98,6 +97,7 @@ a-box-behind-a-box-is-one-box s a b byte ha hb = go (eqb (numberOf (sectionOf s)
   where
     sum : (t a b : ℕ) → ((t + a) % 8589934592 + b) % 8589934592 ≡ (t + (a + b) % 8589934592) % 8589934592
     sum t a b = mod-twice (t + a) b ∙ ap (λ (n : ℕ). n % 8589934592) (add-assoc t a b) ∙ sym (mod-late t (a + b))
+
     twice : (x : Section) → sectionOf s ≡ SectionRead.Is x → (e : numberOf (sectionOf s) ≡ 0) → andThen (adjustedSection s a) b ≡ adjustedSection s ((a + b) % 8589934592)
     twice x is e =
         let q = (adjustmentIn s + a) % 8589934592 in
@@ -108,6 +108,7 @@ a-box-behind-a-box-is-one-box s a b byte ha hb = go (eqb (numberOf (sectionOf s)
         ∙ ap made (ap (λ (n : ℕ). sectionWith ((n + b) % 8589934592) (sectionWith q s)) (its-adjustment q s k l)
         ∙ moved-twice q ((q + b) % 8589934592) s l (byte 4) k ∙ ap (λ (n : ℕ). sectionWith n s) (sum (adjustmentIn s) a b))
         ∙ sym (is-made s ((a + b) % 8589934592) e (remainder-fits (a + b)))
+
     go : (z : Bool) → eqb (numberOf (sectionOf s)) 0 ≡ z → andThen (adjustedSection s a) b ≡ adjustedSection s ((a + b) % 8589934592)
     go true ez =
         let e : numberOf (sectionOf s) ≡ 0 = eqb-true (numberOf (sectionOf s)) 0 ez in

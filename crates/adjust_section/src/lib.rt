@@ -66,6 +66,10 @@ pub fn adjust_section(section: &[u8], adjustment: u64, target: &mut [u8]) -> Wri
     if target.len() < section.len() {
         return Written::Refused(36);
     }
-    put_section(target, section, (time33(section, 4) + adjustment) % 0x2_0000_0000);
+    put_section(
+        target,
+        section,
+        (time33(section, 4) + adjustment) % 0x2_0000_0000,
+    );
     Written::Wrote(section.len())
 }

@@ -1,2 +1,1 @@
 pub mod FlatNumber
-pub mod FlatAdjust

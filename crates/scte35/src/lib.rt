@@ -41,7 +41,7 @@ use items::reading::read_item;
 use upid::read_upid;
 
 pub mod abi;
-pub mod adjust;
+pub mod adjusting;
 pub mod board;
 pub mod canonical;
 pub mod numbers;

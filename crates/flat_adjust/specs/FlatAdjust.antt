@@ -4,7 +4,7 @@ use Rattle.adjust.specs.declared.Adjustment.{Adjustment}
 use Rattle.adjust.specs.declared.Moved.{Moved}
 use Rattle.flat.specs.declared.headers.FlatAdjusted.{FlatAdjusted}
 use Rattle.header.specs.declared.time.SpliceTime.the-variants.{Immediate, Unspecified, At}
-use Rattle.scte35.specs.declared.adjust.FlatAdjustment.{FlatAdjustment}
+use Rattle.flat_adjust.specs.declared.FlatAdjustment.{FlatAdjustment}
 
 -- a time of the kind that was handed in: one that is not specified stays so; or refusal 32
 unfoldable pub flatMoved : ℕ → Moved → FlatAdjusted

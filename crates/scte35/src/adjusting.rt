@@ -3,72 +3,22 @@ ghost use mathlib.Core.Path.{_≡_};
 ghost use lib.ListN.{drop};
 ghost use Rattle.adjust.specs.Adjust.{adjustOf, chainOf, undoOf};
 ghost use Rattle.adjust_section.specs.Adjusted.{adjustedSection};
+ghost use Rattle.flat_adjust.specs.FlatAdjust.{flatMoved, flatAdjustment};
 ghost use Rattle.flat_writer.specs.Words.{flatWritten};
 ghost use Rattle.pen.specs.Written.{answerOf, laterOf};
-ghost use Rattle.scte35.specs.FlatAdjust.{flatMoved, flatAdjustment};
 ghost use Rattle.scte35.specs.FlatNumber.{timeHanded};
 use crate::rest;
 use crate::time_from;
-use adjust::Adjustment;
-use adjust::Moved;
 use adjust::adjust;
 use adjust::chain;
 use adjust::undo;
 use adjust_section::adjust_section;
 use flat::headers::FlatAdjusted;
+use flat_adjust::FlatAdjustment;
+use flat_adjust::flat_adjustment;
+use flat_adjust::flat_moved;
 use flat_writer::FlatWritten;
 use flat_writer::flat_written;
-use header::time::SpliceTime;
-
-#[repr(C)]
-pub struct FlatAdjustment {
-    pub refusal: u64,
-    pub adjustment: u64,
-}
-
-fn flat_moved(kind: u64, m: Moved) -> FlatAdjusted
-    ensures { λ r. ⌜ r ≡ flatMoved kind m ⌝ }
-{
-    match m {
-        Moved::Is(time) => match time {
-            SpliceTime::Immediate => FlatAdjusted {
-                refusal: 0,
-                kind,
-                ticks: 0,
-            },
-            SpliceTime::Unspecified => FlatAdjusted {
-                refusal: 0,
-                kind,
-                ticks: 0,
-            },
-            SpliceTime::At(ticks) => FlatAdjusted {
-                refusal: 0,
-                kind: 3,
-                ticks,
-            },
-        },
-        Moved::TooLarge => FlatAdjusted {
-            refusal: 32,
-            kind: 0,
-            ticks: 0,
-        },
-    }
-}
-
-fn flat_adjustment(a: Adjustment) -> FlatAdjustment
-    ensures { λ r. ⌜ r ≡ flatAdjustment a ⌝ }
-{
-    match a {
-        Adjustment::Is(adjustment) => FlatAdjustment {
-            refusal: 0,
-            adjustment,
-        },
-        Adjustment::TooLarge => FlatAdjustment {
-            refusal: 32,
-            adjustment: 0,
-        },
-    }
-}
 
 // A time of kind 3 moved; any other kind stays as it is.
 #[no_mangle]
