@@ -385,17 +385,21 @@ struct scte35_number scte35_network_indicator(uint8_t n);
 struct scte35_number scte35_return_mode(uint8_t n);
 struct scte35_number scte35_device_restrictions(uint8_t n);
 
-/* ---- the open-break board: an event id for each provider id while its break is open
+/* ---- the open-break board of two channels: an event id for each provider id while its break is open
  *
  * A board is SCTE35_BOARD_WORDS words that the caller keeps; their contents are the library's. Fill them with scte35_board_empty before the first call. A
  * refused call changes no word, an accepted one changes no word past the board's. Any words are taken, whoever made them; a shorter run is refused (36).
+ *
+ * The two channels, 0 and 1, share the board's 32 places. Each has its own event ids, and may hold SCTE35_CHANNEL_BREAKS breaks. What one channel opens or
+ * closes never changes what the other is told.
  */
 
-enum { SCTE35_BOARD_WORDS = 65, SCTE35_BOARD_PLACES = 32 };
+enum { SCTE35_BOARD_WORDS = 66, SCTE35_CHANNEL_BREAKS = 16 };
 
 enum scte35_board_refusal {
-    SCTE35_BOARD_FULL = 61, /* opening: SCTE35_BOARD_PLACES breaks are open */
-    SCTE35_NOT_OPEN = 62 /* closing: no open break has this event id */
+    SCTE35_BOARD_FULL = 61, /* opening: the channel holds SCTE35_CHANNEL_BREAKS breaks */
+    SCTE35_NOT_OPEN = 62, /* closing: no open break of the channel has this event id */
+    SCTE35_NO_SUCH_CHANNEL = 63 /* the channel is neither 0 nor 1; tested before 61 and 62 */
 };
 
 struct scte35_board_answer {
@@ -403,14 +407,14 @@ struct scte35_board_answer {
     uint64_t id; /* to an opening the event id, to a closing the provider id */
 };
 
-/* no break is open, and the next event id is 1 */
+/* no break is open, and the next event id of either channel is 1 */
 struct scte35_board_answer scte35_board_empty(uint64_t *board, size_t board_words);
 
-/* Opens a break. Event ids count up, that after 4,294,967,295 is 0, and one that is still open is passed over. Provider ids may repeat */
-struct scte35_board_answer scte35_board_open(uint64_t *board, size_t board_words, uint32_t provider_id);
+/* Opens a break of a channel. Its event ids count up, that after 4,294,967,295 is 0, and one that it still has open is passed over. Provider ids may repeat */
+struct scte35_board_answer scte35_board_open(uint64_t *board, size_t board_words, uint8_t channel, uint32_t provider_id);
 
-/* closes the break with this event id, and gives back the provider id that it was opened with */
-struct scte35_board_answer scte35_board_close(uint64_t *board, size_t board_words, uint32_t event_id);
+/* closes the channel's break with this event id, and gives back the provider id that it was opened with */
+struct scte35_board_answer scte35_board_close(uint64_t *board, size_t board_words, uint8_t channel, uint32_t event_id);
 
 #if defined(__cplusplus) && __cplusplus >= 201103L
 #define SCTE35_WORDS(type, words) static_assert(sizeof(struct type) == 8 * (words), #type)
