@@ -18,7 +18,9 @@ fn refusal(r: Refusal) {
 
 fn tell(reply: Reply) {
     match reply {
-        Reply::NoSuchChannel => io::write_all(1, b"refused 63\n"),
+        Reply::NoSuchChannel => {
+            io::write_all(1, b"refused 63\n");
+        }
         Reply::Is(a) => match a {
             Answer::Is(id) => {
                 io::print_decimal(1, id as u64);
@@ -27,7 +29,6 @@ fn tell(reply: Reply) {
             Answer::Refused(r) => refusal(r),
         },
     }
-    ;
 }
 
 fn call(label: &[u8], channel: u8, number: u32) {
