@@ -238,7 +238,8 @@ fn a_section_with_its_adjustment_moved() {
             let new = read_section(&moved).unwrap();
             assert_eq!(new.header.pts_adjustment, (old.header.pts_adjustment + a) % 8_589_934_592);
             assert!(is_canonical_section(&moved) && moved.len() == sample.len());
-            let header = SpliceInfoHeader { pts_adjustment: old.header.pts_adjustment, ..new.header };
+            let mut header = new.header;
+            header.pts_adjustment = old.header.pts_adjustment;
             assert_eq!((header, new.command, new.descriptors), (old.header, old.command.clone(), old.descriptors));
             assert_eq!(adjust_section_to_vec(&moved, undo_adjustment(a).unwrap()), Ok(sample.clone()));
             // a target that is too short keeps its bytes
