@@ -588,7 +588,8 @@ struct scte35_adjusted_time {
 /*
  * A time with its section's adjustment.
  * Takes a time's kind and ticks, and a header's adjustment. Kind SCTE35_TIME_AT is a time, and its ticks plus the adjustment are answered, modulo 2^33 (the
- * carry out of 33 bits is ignored); any other kind has none. Refuses with 32, whatever the kind, where ticks or pts_adjustment have more than 33 bits. Stack: 1 KB.
+ * carry out of 33 bits is ignored); any other kind has none. Refuses with 32, whatever the kind, where ticks or pts_adjustment have more than 33 bits.
+ * Stack: 1 KB.
  */
 struct scte35_adjusted_time scte35_adjust_time(uint64_t kind, uint64_t ticks, uint64_t pts_adjustment);
 
