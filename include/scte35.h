@@ -47,10 +47,10 @@ uint32_t scte35_abi(void);
  *
  * 1 to 11 are of a section; 5 of a header alone, too, 10 and 11 of a command alone, 2 of a loop or a UPID. 12 is of a number that should be a flag's. 21 to 25
  * are of an item or a UPID, never of the section around it. 31 to 36 are of a value that is to be written; 32 of a time that is to be adjusted, too, and 36
- * of a board's words. 61 and 62 are of a board, 71 to 75 of a transport packet.
+ * of a board's words. 61 to 63 are of a board, 71 to 75 of a transport packet.
  *
- * 1 to 12, 31 to 36, 61 and 62, and 71 to 75 are looked at in order of number, and the first that applies is the answer. Of 21 to 25 it is the first fault in
- * layout order.
+ * 1 to 12, 31 to 36, and 71 to 75 are looked at in order of number, and the first that applies is the answer; of a board 36, then 63, then 61 or 62. Of 21 to
+ * 25 it is the first fault in layout order.
  *
  * Values: of 21 the bytes expected and the actual ones; of 24 the type as written, and the text as a view: place and length; of 25 the type as written, the
  * length expected and the actual one.
@@ -86,6 +86,7 @@ uint32_t scte35_abi(void);
     X(TARGET_TOO_SHORT, 36, "TargetTooShort", "the target is shorter than the result") \
     X(BOARD_FULL, 61, "BoardFull", "as many breaks are open as may be") \
     X(NOT_OPEN, 62, "NotOpen", "no open break has this event id") \
+    X(NO_SUCH_CHANNEL, 63, "NoSuchChannel", "the channel is neither 0 nor 1") \
     X(NOT_A_PACKET, 71, "NotAPacket", "not a transport packet: not 188 bytes, or another sync byte than 0x47") \
     X(OTHER_PID, 72, "OtherPid", "a packet of another PID") \
     X(SCRAMBLED, 73, "Scrambled", "the packet is scrambled") \
@@ -652,17 +653,21 @@ uint64_t scte35_packet_feed(uint64_t *state, size_t state_words, const uint8_t *
  */
 uint64_t scte35_packet_take(uint64_t *state, size_t state_words, const uint8_t *packet, size_t packet_length, uint8_t *buffer, size_t buffer_length);
 
-/* ---- the open-break board: an event id for each provider id while its break is open
+/* ---- the open-break board of two channels: an event id for each provider id while its break is open
  *
  * A board is SCTE35_BOARD_WORDS words that the caller keeps; their contents are the library's. Fill them with scte35_board_empty before the first call. A
  * refused call changes no word, an accepted one changes no word past the board's. Any words are taken, whoever made them; a shorter run is refused (36).
+ *
+ * The two channels, 0 and 1, share the board's 32 places. Each has its own event ids, and may hold SCTE35_CHANNEL_BREAKS breaks. What one channel opens or
+ * closes never changes what the other is told.
  */
 
-enum { SCTE35_BOARD_WORDS = 65, SCTE35_BOARD_PLACES = 32 };
+enum { SCTE35_BOARD_WORDS = 66, SCTE35_CHANNEL_BREAKS = 16 };
 
 enum scte35_board_refusal {
-    SCTE35_BOARD_FULL = 61, /* opening: SCTE35_BOARD_PLACES breaks are open */
-    SCTE35_NOT_OPEN = 62 /* closing: no open break has this event id */
+    SCTE35_BOARD_FULL = 61, /* opening: the channel holds SCTE35_CHANNEL_BREAKS breaks */
+    SCTE35_NOT_OPEN = 62, /* closing: no open break of the channel has this event id */
+    SCTE35_NO_SUCH_CHANNEL = 63 /* the channel is neither 0 nor 1; tested before 61 and 62 */
 };
 
 struct scte35_board_answer {
@@ -671,23 +676,24 @@ struct scte35_board_answer {
 };
 
 /*
- * No break is open, and the next event id is 1.
+ * No break is open, and the next event id of either channel is 1.
  * Takes the words of a board, and sets them. Refuses with 36. Stack: 2 KB.
  */
 struct scte35_board_answer scte35_board_empty(uint64_t *board, size_t board_words);
 
 /*
- * Opens a break.
- * Takes a board and a provider id; these may repeat. Answers an event id: they count up, that after 4,294,967,295 is 0, and one that is still open is passed
- * over. Refuses with 36, and with 61 where 32 breaks are open. Stack: 2 KB.
+ * Opens a break of a channel.
+ * Takes a board, a channel, 0 or 1, and a provider id; these may repeat. Answers an event id: those of a channel count up, that after 4,294,967,295 is 0, and
+ * one that it still has open is passed over. Refuses with 36, with 63 for another channel, and with 61 where the channel holds 16 breaks. Stack: 2 KB.
  */
-struct scte35_board_answer scte35_board_open(uint64_t *board, size_t board_words, uint32_t provider_id);
+struct scte35_board_answer scte35_board_open(uint64_t *board, size_t board_words, uint8_t channel, uint32_t provider_id);
 
 /*
- * Closes a break.
- * Takes a board and an event id. Answers the provider id that it was opened with. Refuses with 36, and with 62 where no open break has it. Stack: 2 KB.
+ * Closes a channel's break.
+ * Takes a board, a channel and an event id. Answers the provider id that it was opened with. Refuses with 36, with 63 for another channel, and with 62 where
+ * no open break of the channel has it. Stack: 2 KB.
  */
-struct scte35_board_answer scte35_board_close(uint64_t *board, size_t board_words, uint32_t event_id);
+struct scte35_board_answer scte35_board_close(uint64_t *board, size_t board_words, uint8_t channel, uint32_t event_id);
 
 #if defined(__cplusplus) && __cplusplus >= 201103L
 #define SCTE35_WORDS(type, words) static_assert(sizeof(struct type) == 8 * (words), #type)

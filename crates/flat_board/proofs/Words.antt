@@ -11,7 +11,8 @@ use lib.Seq.{paste, take-all}
 use borrow.Author.Tests.{lt-ltb, le-ltb}
 use Rattle.board.specs.Board.{blankPlace}
 use Rattle.board.specs.declared.Place.{Place}
-use Rattle.flat_board.specs.Words.{listed, placeGiven, placesGiven, idsWord, wordOf, wordAt}
+use Rattle.channels.specs.declared.SharedBoard.{SharedBoard}
+use Rattle.flat_board.specs.Words.{listed, placeGiven, placesGiven, whoseGiven, idsWord, markWord, wordOf, wordAt, wordsOf}
 
 -- ---- a list by its places
 
@@ -37,31 +38,30 @@ module _ {A : Type 0} where
 
 -- ---- the stores of a board
 
-pub stored-all : (w s out : List ℕ) (i : ℕ) → length s ≡ 65 → i ≤ 65 → 65 ≤ i → out ≡ paste w 0 s i → out ≡ s ++ drop 65 w
+pub stored-all : (w s out : List ℕ) (i : ℕ) → length s ≡ 66 → i ≤ 66 → 66 ≤ i → out ≡ paste w 0 s i → out ≡ s ++ drop 66 w
 stored-all w s out i l h g e =
-    let z : i ≡ 65 = omega arith in
-    e ∙ rw z (ap (λ (x : List ℕ). x ++ drop 65 w) (take-all 65 s (omega arith)))
+    let z : i ≡ 66 = omega arith in
+    e ∙ rw z (ap (λ (x : List ℕ). x ++ drop 66 w) (take-all 66 s (omega arith)))
 
 -- ---- the word at a place
 
-module _ (p : Place) (next at : ℕ) where
-  pub ids-of : at < 32 → idsWord p ≡ wordOf p next at
+module _ (p : Place) (whose next at : ℕ) where
+  pub ids-of : at < 32 → idsWord p ≡ wordOf p whose next at
   unfolding wordOf
   ids-of h = rw (lt-ltb at 32 h)
 
-  pub mark-of : 32 ≤ at → at < 64 → (u : Bool) → p .used ≡ u → cond u 1 0 ≡ wordOf p next at
+  pub mark-of : 32 ≤ at → at < 64 → markWord p whose ≡ wordOf p whose next at
   unfolding wordOf
-  mark-of h g u e = rw (le-ltb at 32 h, lt-ltb at 64 g, e)
+  mark-of h g = rw (le-ltb at 32 h, lt-ltb at 64 g)
 
-  pub next-of : 64 ≤ at → next ≡ wordOf p next at
+  pub next-of : 64 ≤ at → next ≡ wordOf p whose next at
   unfolding wordOf
   next-of h =
       let g : 32 ≤ at = omega arith in
       rw (le-ltb at 32 g, le-ltb at 64 h)
 
-module _ (places : List Place) (next at : ℕ) where
-  pub word-there : at < 65 → getD (listed (wordAt places next) 0 65) at 0 ≡ wordAt places next at
-  word-there h = getD-listed (wordAt places next) 0 65 at 0 h ∙ ap (wordAt places next) (zero-add at)
+pub word-there : (b : SharedBoard) (at : ℕ) → at < 66 → getD (wordsOf b) at 0 ≡ wordAt b at
+word-there b at h = getD-listed (wordAt b) 0 66 at 0 h ∙ ap (wordAt b) (zero-add at)
 
 -- ---- the places that words make
 
@@ -72,3 +72,11 @@ places-many words = length-listed (λ i. placeGiven (getD words i 0) (getD words
 pub place-there : (words : List ℕ) (i : ℕ) → i < 32 → getD (placesGiven words) i blankPlace ≡ placeGiven (getD words i 0) (getD words (32 + i) 0)
 unfolding placesGiven
 place-there words i h = getD-listed (λ i. placeGiven (getD words i 0) (getD words (32 + i) 0)) 0 32 i blankPlace h ∙ ap (λ (k : ℕ). placeGiven (getD words k 0) (getD words (32 + k) 0)) (zero-add i)
+
+pub whose-many : (words : List ℕ) → length (whoseGiven words) ≡ 32
+unfolding whoseGiven
+whose-many words = length-listed (λ i. getD words (32 + i) 0 / 2 % 256) 0 32
+
+pub whose-there : (words : List ℕ) (i : ℕ) → i < 32 → getD (whoseGiven words) i 0 ≡ getD words (32 + i) 0 / 2 % 256
+unfolding whoseGiven
+whose-there words i h = getD-listed (λ i. getD words (32 + i) 0 / 2 % 256) 0 32 i 0 h ∙ ap (λ (k : ℕ). getD words (32 + k) 0 / 2 % 256) (zero-add i)

@@ -3,20 +3,27 @@ use Prim.Native.Nat.{ℕ, _<_}
 use mathlib.Core.List.{List, [], _∷_}
 use Rattle.board.specs.Runs.{Call}
 use Rattle.board.specs.Runs.Call.{opening, closing}
+use Rattle.channels.specs.Runs.{On}
 use Rattle.flat_board.specs.Lent.{Lent, opened, closed}
 use Rattle.flat_board.specs.declared.FlatBoardAnswer.{FlatBoardAnswer}
 
+abbrev pub lentBy : ℕ → Call → List ℕ → Lent
+lentBy channel (opening provider) words = opened words channel provider
+lentBy channel (closing id) words = closed words channel id
+
 -- what the two functions ensure of a call
-abbrev pub lentOf : Call → List ℕ → Lent
-lentOf (opening provider) words = opened words provider
-lentOf (closing id) words = closed words id
+abbrev pub lentOf : On → List ℕ → Lent
+lentOf o words = lentBy (o .channel) (o .call) words
 
-unfoldable pub lentAnswers : List Call → List ℕ → List FlatBoardAnswer
+unfoldable pub lentAnswers : List On → List ℕ → List FlatBoardAnswer
 lentAnswers [] words = []
-lentAnswers (c ∷ cs) words = lentOf c words .answer ∷ lentAnswers cs (lentOf c words .words)
+lentAnswers (o ∷ os) words = lentOf o words .answer ∷ lentAnswers os (lentOf o words .words)
 
--- what the types say of calls: their ids have 32 bits
-unfoldable pub Typed : List Call → Type 0
+-- what the types say of calls: a provider id has 32 bits
+abbrev pub TypedCall : Call → Type 0
+TypedCall (opening provider) = provider < 4294967296
+TypedCall (closing id) = id < 4294967296
+
+unfoldable pub Typed : List On → Type 0
 Typed [] = Unit {0}
-Typed (opening provider ∷ cs) = (provider < 4294967296) × Typed cs
-Typed (closing id ∷ cs) = (id < 4294967296) × Typed cs
+Typed (o ∷ os) = TypedCall (o .call) × Typed os

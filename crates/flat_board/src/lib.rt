@@ -1,19 +1,22 @@
-// The board over the C boundary: 65 words that the caller lends. The first 32 hold the event id (above) and the provider id (below) of each place, the next 32
-// whether it is taken, the last the next id. Every run of 65 words is a board; a shorter one is refused (36). Only an accepted call changes the words.
+// The board of two channels over the C boundary: 66 words that the caller lends. The first 32 hold the event id (above) and the provider id (below) of each
+// place, the next 32 whether it is taken (the lowest bit) and by which channel, the last two the next id of each channel. Every run of 66 words is a board; a
+// shorter one is refused (36). Only an accepted call changes the words.
 ghost use Prim.Native.Nat.{_≤_};
 ghost use mathlib.Core.Path.{_≡_};
 ghost use lib.ListN.{length};
 ghost use Rattle.board.specs.Breaks.{numberOf};
-ghost use Rattle.flat_board.specs.Words.{placeGiven, placesGiven, boardGiven, idsWord, wordOf, stored};
-ghost use Rattle.flat_board.specs.Lent.{flatAnswer, settled, emptied, opened, closed};
+ghost use Rattle.flat_board.specs.Words.{placeGiven, placesGiven, whoseGiven, boardGiven, idsWord, markWord, wordOf, stored};
+ghost use Rattle.channels.specs.declared.Reply.the-variants as reply;
+ghost use Rattle.flat_board.specs.Lent.{flatReply, settled, emptied, opened, closed};
 use board::Answer;
-use board::Board;
 use board::Place;
 use board::Refusal;
 use board::blank_place;
-use board::close_break;
-use board::empty;
-use board::open_break;
+use channels::Reply;
+use channels::SharedBoard;
+use channels::close_break;
+use channels::empty;
+use channels::open_break;
 
 // To an opening its event id, to a closing the provider id; or the number of the refusal.
 #[repr(C)]
@@ -33,7 +36,7 @@ fn place_given(ids: u64, mark: u64) -> Place
 }
 
 fn places_given(words: &[u64]) -> [Place; 32]
-    requires { ⌜ 65 ≤ length (now words) ⌝ }
+    requires { ⌜ 66 ≤ length (now words) ⌝ }
     ensures { λ r. ⌜ r ≡ placesGiven (now (words .entry)) ⌝ }
 {
     let none = blank_place();
@@ -46,14 +49,32 @@ fn places_given(words: &[u64]) -> [Place; 32]
     out
 }
 
-fn board_given(words: &[u64]) -> Board
-    requires { ⌜ 65 ≤ length (now words) ⌝ }
+fn whose_given(words: &[u64]) -> [u8; 32]
+    requires { ⌜ 66 ≤ length (now words) ⌝ }
+    ensures { λ r. ⌜ r ≡ whoseGiven (now (words .entry)) ⌝ }
+{
+    let mut out = [0; 32];
+    let mut i: usize = 0;
+    while i < 32 {
+        out[i] = (words[32 + i] / 2 % 256) as u8;
+        i += 1;
+    }
+    out
+}
+
+fn board_given(words: &[u64]) -> SharedBoard
+    requires { ⌜ 66 ≤ length (now words) ⌝ }
     ensures { λ r. ⌜ r ≡ boardGiven (now (words .entry)) ⌝ }
 {
     let places = places_given(words);
-    Board {
+    let whose = whose_given(words);
+    let mut next = [0; 2];
+    next[0] = (words[64] % 4294967296) as u32;
+    next[1] = (words[65] % 4294967296) as u32;
+    SharedBoard {
         places,
-        next: (words[64] % 4294967296) as u32,
+        whose,
+        next,
     }
 }
 
@@ -63,32 +84,40 @@ fn ids_word(p: Place) -> u64
     (p.event as u64) * 4294967296 + (p.provider as u64)
 }
 
-// A board's word at a place, 64 being the last, with the board's place that it is of.
-fn word_of(p: Place, next: u32, at: usize) -> u64
-    ensures { λ r. ⌜ r ≡ wordOf p next at ⌝ }
+fn mark_word(p: Place, whose: u8) -> u64
+    ensures { λ r. ⌜ r ≡ markWord p whose ⌝ }
+{
+    if p.used {
+        return (whose as u64) * 2 + 1;
+    }
+    (whose as u64) * 2
+}
+
+// A board's word at a place, 65 being the last, with the board's place, channel and next id that it is of.
+fn word_of(p: Place, whose: u8, next: u32, at: usize) -> u64
+    ensures { λ r. ⌜ r ≡ wordOf p whose next at ⌝ }
 {
     if at < 32 {
         return ids_word(p);
     }
     if at < 64 {
-        if p.used {
-            return 1;
-        }
-        return 0;
+        return mark_word(p, whose);
     }
     next as u64
 }
 
-// (A call with the array of places would copy it each turn.)
-fn put_board(words: &mut [u64], b: Board)
-    requires { ⌜ 65 ≤ length (now words) ⌝ }
+// (A call with an array would copy it each turn.)
+fn put_board(words: &mut [u64], b: SharedBoard)
+    requires { ⌜ 66 ≤ length (now words) ⌝ }
     ensures { λ _. ⌜ now (words .exit) ≡ stored b (now (words .entry)) ⌝ }
 {
     let places = b.places;
+    let whose = b.whose;
     let next = b.next;
     let mut i: usize = 0;
-    while i < 65 {
-        words[i] = word_of(places[i % 32], next, i);
+    while i < 66 {
+        let at = i % 32;
+        words[i] = word_of(places[at], whose[at], next[i % 2], i);
         i += 1;
     }
 }
@@ -103,7 +132,7 @@ fn number_of(r: Refusal) -> u64
 }
 
 fn flat_answer(a: Answer) -> FlatBoardAnswer
-    ensures { λ r. ⌜ r ≡ flatAnswer a ⌝ }
+    ensures { λ r. ⌜ r ≡ flatReply (reply.Is a) ⌝ }
 {
     match a {
         Answer::Is(id) => FlatBoardAnswer {
@@ -117,9 +146,18 @@ fn flat_answer(a: Answer) -> FlatBoardAnswer
     }
 }
 
+fn flat_reply(x: Reply) -> FlatBoardAnswer
+    ensures { λ r. ⌜ r ≡ flatReply x ⌝ }
+{
+    match x {
+        Reply::NoSuchChannel => FlatBoardAnswer { refusal: 63, id: 0 },
+        Reply::Is(a) => flat_answer(a),
+    }
+}
+
 // Stores the board where its call was accepted, and hands the answer on.
-fn settle(words: &mut [u64], answer: FlatBoardAnswer, b: Board) -> FlatBoardAnswer
-    requires { ⌜ 65 ≤ length (now words) ⌝ }
+fn settle(words: &mut [u64], answer: FlatBoardAnswer, b: SharedBoard) -> FlatBoardAnswer
+    requires { ⌜ 66 ≤ length (now words) ⌝ }
     ensures answer { λ r. ⌜ r ≡ answer ⌝ }
     ensures words { λ _. ⌜ now (words .exit) ≡ settled answer b (now (words .entry)) ⌝ }
 {
@@ -140,35 +178,35 @@ pub fn empty_words(words: &mut [u64]) -> FlatBoardAnswer
     ensures answer { λ r. ⌜ r ≡ emptied (now (words .entry)) .answer ⌝ }
     ensures words { λ _. ⌜ now (words .exit) ≡ emptied (now (words .entry)) .words ⌝ }
 {
-    if words.len() < 65 {
+    if words.len() < 66 {
         return too_short();
     }
     put_board(words, empty());
     FlatBoardAnswer { refusal: 0, id: 0 }
 }
 
-pub fn open_words(words: &mut [u64], provider: u32) -> FlatBoardAnswer
-    ensures answer { λ r. ⌜ r ≡ opened (now (words .entry)) provider .answer ⌝ }
-    ensures words { λ _. ⌜ now (words .exit) ≡ opened (now (words .entry)) provider .words ⌝ }
+pub fn open_words(words: &mut [u64], channel: u8, provider: u32) -> FlatBoardAnswer
+    ensures answer { λ r. ⌜ r ≡ opened (now (words .entry)) channel provider .answer ⌝ }
+    ensures words { λ _. ⌜ now (words .exit) ≡ opened (now (words .entry)) channel provider .words ⌝ }
 {
-    if words.len() < 65 {
+    if words.len() < 66 {
         return too_short();
     }
-    let s = open_break(board_given(words), provider);
-    let answer = s.answer;
-    let b = s.board;
-    settle(words, flat_answer(answer), b)
+    let t = open_break(board_given(words), channel, provider);
+    let reply = t.reply;
+    let b = t.board;
+    settle(words, flat_reply(reply), b)
 }
 
-pub fn close_words(words: &mut [u64], event: u32) -> FlatBoardAnswer
-    ensures answer { λ r. ⌜ r ≡ closed (now (words .entry)) event .answer ⌝ }
-    ensures words { λ _. ⌜ now (words .exit) ≡ closed (now (words .entry)) event .words ⌝ }
+pub fn close_words(words: &mut [u64], channel: u8, event: u32) -> FlatBoardAnswer
+    ensures answer { λ r. ⌜ r ≡ closed (now (words .entry)) channel event .answer ⌝ }
+    ensures words { λ _. ⌜ now (words .exit) ≡ closed (now (words .entry)) channel event .words ⌝ }
 {
-    if words.len() < 65 {
+    if words.len() < 66 {
         return too_short();
     }
-    let s = close_break(board_given(words), event);
-    let answer = s.answer;
-    let b = s.board;
-    settle(words, flat_answer(answer), b)
+    let t = close_break(board_given(words), channel, event);
+    let reply = t.reply;
+    let b = t.board;
+    settle(words, flat_reply(reply), b)
 }

@@ -1,87 +1,108 @@
-// Breaks opened and closed through the wrap: a board whose next id is 4,294,967,290 at the start. The file `stdout` is what a plain list says (host/board-expected).
+// Breaks of two channels opened and closed, one channel through the wrap: its next id is 4,294,967,290 at the start. The file `stdout` is what two plain
+// lists say (host/board-expected).
 use board::Answer;
-use board::Board;
 use board::Refusal;
-use board::close_break;
-use board::empty;
-use board::open_break;
+use channels::Reply;
+use channels::SharedBoard;
+use channels::close_break;
+use channels::empty;
+use channels::open_break;
 
 fn refusal(r: Refusal) {
     match r {
-        Refusal::BoardFull => io::write_all(1, b"refused 61"),
-        Refusal::NotOpen => io::write_all(1, b"refused 62"),
+        Refusal::BoardFull => io::write_all(1, b"refused 61\n"),
+        Refusal::NotOpen => io::write_all(1, b"refused 62\n"),
     }
     ;
 }
 
-fn tell(answer: Answer) {
-    match answer {
-        Answer::Is(id) => {
-            io::print_decimal(1, id as u64);
+fn tell(reply: Reply) {
+    match reply {
+        Reply::NoSuchChannel => {
+            io::write_all(1, b"refused 63\n");
         }
-        Answer::Refused(r) => refusal(r),
+        Reply::Is(a) => match a {
+            Answer::Is(id) => {
+                io::print_decimal(1, id as u64);
+                io::write_all(1, b"\n");
+            }
+            Answer::Refused(r) => refusal(r),
+        },
     }
-    io::write_all(1, b"\n");
 }
 
-fn open(b: Board, provider: u32) -> Board {
-    io::write_all(1, b"open ");
-    io::print_decimal(1, provider as u64);
+fn call(label: &[u8], channel: u8, number: u32) {
+    io::write_all(1, label);
+    io::print_decimal(1, channel as u64);
+    io::write_all(1, b" ");
+    io::print_decimal(1, number as u64);
     io::write_all(1, b": ");
-    let s = open_break(b, provider);
-    let answer = s.answer;
-    tell(answer);
-    let after = s.board;
+}
+
+fn open(b: SharedBoard, channel: u8, provider: u32) -> SharedBoard {
+    call(b"open ", channel, provider);
+    let t = open_break(b, channel, provider);
+    let reply = t.reply;
+    tell(reply);
+    let after = t.board;
     after
 }
 
-fn close(b: Board, event: u32) -> Board {
-    io::write_all(1, b"close ");
-    io::print_decimal(1, event as u64);
-    io::write_all(1, b": ");
-    let s = close_break(b, event);
-    let answer = s.answer;
-    tell(answer);
-    let after = s.board;
+fn close(b: SharedBoard, channel: u8, event: u32) -> SharedBoard {
+    call(b"close ", channel, event);
+    let t = close_break(b, channel, event);
+    let reply = t.reply;
+    tell(reply);
+    let after = t.board;
     after
 }
 
-// Four breaks, of this provider and the three after it.
-fn open_four(b: Board, provider: u32) -> Board {
-    let one = open(b, provider);
-    let two = open(one, std::num::wrapping_add_u32(provider, 1));
-    let three = open(two, std::num::wrapping_add_u32(provider, 2));
-    open(three, std::num::wrapping_add_u32(provider, 3))
+// Four breaks of a channel, of this provider and the three after it.
+fn open_four(b: SharedBoard, channel: u8, provider: u32) -> SharedBoard {
+    let one = open(b, channel, provider);
+    let two = open(one, channel, std::num::wrapping_add_u32(provider, 1));
+    let three = open(two, channel, std::num::wrapping_add_u32(provider, 2));
+    open(three, channel, std::num::wrapping_add_u32(provider, 3))
 }
 
-fn open_sixteen(b: Board, provider: u32) -> Board {
-    let four = open_four(b, provider);
-    let eight = open_four(four, std::num::wrapping_add_u32(provider, 4));
-    let twelve = open_four(eight, std::num::wrapping_add_u32(provider, 8));
-    open_four(twelve, std::num::wrapping_add_u32(provider, 12))
+fn open_sixteen(b: SharedBoard, channel: u8, provider: u32) -> SharedBoard {
+    let four = open_four(b, channel, provider);
+    let eight = open_four(four, channel, std::num::wrapping_add_u32(provider, 4));
+    let twelve = open_four(eight, channel, std::num::wrapping_add_u32(provider, 8));
+    open_four(twelve, channel, std::num::wrapping_add_u32(provider, 12))
 }
 
-// The same breaks, with the next id before the wrap again: those still open are passed over.
-fn turned_back(b: Board) -> Board {
-    io::write_all(1, b"next 4294967290\n");
+// The same breaks, with the next id of channel 0 before the wrap again: those still open are passed over.
+fn turned_back(b: SharedBoard) -> SharedBoard {
+    io::write_all(1, b"next 0 4294967290\n");
     let places = b.places;
-    Board {
+    let whose = b.whose;
+    let mut next = b.next;
+    next[0] = 4294967290;
+    SharedBoard {
         places,
-        next: 4294967290,
+        whose,
+        next,
     }
 }
 
 fn main() {
-    let half = open_sixteen(turned_back(empty()), 1000);
-    let full = open_sixteen(half, 1016);
-    let refused = open(full, 2000);
-    let before = close(refused, 4294967295);
-    let twice = close(before, 4294967295);
-    let served = open(twice, 2000);
-    let third = close(turned_back(served), 3);
-    let last = open(third, 3000);
-    let seventh = close(last, 7);
-    let across = open(turned_back(seventh), 3001);
-    let other = close(open(across, 3002), 3);
-    close(other, 100);
+    let first = open_sixteen(turned_back(empty()), 0, 1000);
+    let full = open(first, 0, 2000);
+    let none = open(full, 2, 2000);
+    let both = open_sixteen(none, 1, 5000);
+    let all = open(both, 1, 2000);
+    let before = close(all, 0, 4294967295);
+    let twice = close(before, 0, 4294967295);
+    let served = open(twice, 0, 2000);
+    let third = close(turned_back(served), 0, 3);
+    let last = open(third, 0, 3000);
+    let seventh = close(last, 0, 7);
+    let across = open(turned_back(seventh), 0, 3001);
+    let over = open(across, 0, 3002);
+    let other = close(over, 1, 3);
+    let own = close(other, 0, 3);
+    let neither = close(own, 1, 3);
+    let foreign = close(neither, 0, 12);
+    close(foreign, 255, 12);
 }

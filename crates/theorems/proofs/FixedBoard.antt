@@ -1,4 +1,5 @@
--- The board's public functions fix their answers and the words that they are lent, and ask nothing of the caller, as FixedAnswers.antt has it of the readers. Assumes nothing.
+-- The public functions of board, channels and flat_board, and those over C: each fixes its answer and the words that it is lent, and asks nothing of the
+-- caller, as FixedAnswers.antt has it of the readers. Assumes nothing.
 use mathlib.Core.Path.{_≡_, sym, _∙_}
 use denote.Ref.{now}
 use Rattle.board.proofs.blank_place.Reads as blank-place
@@ -8,6 +9,9 @@ use Rattle.board.proofs.place_of.Reads as place-of
 use Rattle.board.proofs.free_id.Reads as free-id
 use Rattle.board.proofs.open_break.Reads as open-break
 use Rattle.board.proofs.close_break.Reads as close-break
+use Rattle.channels.proofs.empty.Reads as empty-shared
+use Rattle.channels.proofs.open_break.Reads as open-on-channel
+use Rattle.channels.proofs.close_break.Reads as close-on-channel
 use Rattle.flat_board.proofs.empty_words.Reads as empty-words
 use Rattle.flat_board.proofs.open_words.Reads as open-words
 use Rattle.flat_board.proofs.close_words.Reads as close-words
@@ -38,6 +42,17 @@ open-break-is-fixed = record { takes-any = λ κ a. tt; one-answer = λ κ a x y
 
 pub close-break-is-fixed : Fixed close-break.Asked close-break.Learnt
 close-break-is-fixed = record { takes-any = λ κ a. tt; one-answer = λ κ a x y e f p q. p ∙ sym q }
+
+-- ---- channels
+
+pub empty-shared-is-fixed : Fixed empty-shared.Asked empty-shared.Learnt
+empty-shared-is-fixed = record { takes-any = λ κ a. tt; one-answer = λ κ a x y e f p q. p ∙ sym q }
+
+pub open-on-channel-is-fixed : Fixed open-on-channel.Asked open-on-channel.Learnt
+open-on-channel-is-fixed = record { takes-any = λ κ a. tt; one-answer = λ κ a x y e f p q. p ∙ sym q }
+
+pub close-on-channel-is-fixed : Fixed close-on-channel.Asked close-on-channel.Learnt
+close-on-channel-is-fixed = record { takes-any = λ κ a. tt; one-answer = λ κ a x y e f p q. p ∙ sym q }
 
 -- ---- over C
 

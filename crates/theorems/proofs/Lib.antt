@@ -4,6 +4,7 @@ pub mod FixedAnswers
 pub mod FixedAtBoundary
 pub mod FixedAtWriter
 pub mod FixedBoard
+pub mod BoardOverC
 pub mod FixedInterface
 pub mod FixedTransport
 pub mod Framed

@@ -1,23 +1,26 @@
-//! The open-break board: an event id for each provider id while its break is open.
+//! The open-break board of two channels: an event id for each provider id while its break is open. Each channel has its own ids; what one opens or closes
+//! never changes what the other is told.
 //!
 //! ```
 //! use scte35::{board::Board, Refusal};
 //!
 //! let mut board = Board::new();
-//! let event = board.open(0x1234)?;
+//! let event = board.open(0, 0x1234)?;
 //! assert_eq!(event, 1);
-//! assert_eq!(board.close(event)?, 0x1234);
-//! assert_eq!(board.close(event), Err(Refusal::NotOpen));
+//! assert_eq!(board.open(1, 0x5678)?, 1);
+//! assert_eq!(board.close(0, event)?, 0x1234);
+//! assert_eq!(board.close(0, event), Err(Refusal::NotOpen));
+//! assert_eq!(board.open(2, 0x1234), Err(Refusal::NoSuchChannel));
 //! # Ok::<(), Refusal>(())
 //! ```
 use crate::Refusal;
 use std::fmt;
 
 /// How many words a board has over C.
-pub const WORDS: usize = 65;
+pub const WORDS: usize = 66;
 
-/// How many breaks may be open.
-pub const PLACES: usize = 32;
+/// How many breaks a channel may hold.
+pub const CHANNEL_BREAKS: usize = 16;
 
 /// The C functions, as `include/scte35.h` declares them.
 pub mod raw {
@@ -34,17 +37,17 @@ pub mod raw {
     #[allow(missing_docs)]
     extern "C" {
         pub fn scte35_board_empty(board: *mut u64, board_words: usize) -> BoardAnswer;
-        pub fn scte35_board_open(board: *mut u64, board_words: usize, provider_id: u32) -> BoardAnswer;
-        pub fn scte35_board_close(board: *mut u64, board_words: usize, event_id: u32) -> BoardAnswer;
+        pub fn scte35_board_open(board: *mut u64, board_words: usize, channel: u8, provider_id: u32) -> BoardAnswer;
+        pub fn scte35_board_close(board: *mut u64, board_words: usize, channel: u8, event_id: u32) -> BoardAnswer;
     }
 }
 
-/// Breaks now open, each with its event id and provider id.
+/// Breaks now open, each with its channel, event id and provider id.
 #[derive(Clone, PartialEq, Eq)]
 pub struct Board([u64; WORDS]);
 
 impl Board {
-    /// No break is open, and the next event id is 1.
+    /// No break is open, and the next event id of either channel is 1.
     pub fn new() -> Board {
         let mut words = [0; WORDS];
         unsafe { raw::scte35_board_empty(words.as_mut_ptr(), WORDS) };
@@ -61,14 +64,14 @@ impl Board {
         &self.0
     }
 
-    /// Opens a break for this provider id and gives its event id.
-    pub fn open(&mut self, provider_id: u32) -> Result<u32, Refusal> {
-        answered(unsafe { raw::scte35_board_open(self.0.as_mut_ptr(), WORDS, provider_id) })
+    /// Opens a break of a channel for this provider id and gives its event id.
+    pub fn open(&mut self, channel: u8, provider_id: u32) -> Result<u32, Refusal> {
+        answered(unsafe { raw::scte35_board_open(self.0.as_mut_ptr(), WORDS, channel, provider_id) })
     }
 
-    /// Closes the break with this event id and gives its provider id back.
-    pub fn close(&mut self, event_id: u32) -> Result<u32, Refusal> {
-        answered(unsafe { raw::scte35_board_close(self.0.as_mut_ptr(), WORDS, event_id) })
+    /// Closes the channel's break with this event id and gives its provider id back.
+    pub fn close(&mut self, channel: u8, event_id: u32) -> Result<u32, Refusal> {
+        answered(unsafe { raw::scte35_board_close(self.0.as_mut_ptr(), WORDS, channel, event_id) })
     }
 }
 
@@ -109,7 +112,7 @@ mod tests {
         }
     }
 
-    /// Document 02's plain list: open breaks in the order of their opening, and a next id.
+    /// Document 02's plain list, of one channel: open breaks in the order of their opening, and a next id.
     struct Plain {
         held: Vec<(u32, u32)>,
         next: u32,
@@ -117,7 +120,7 @@ mod tests {
 
     impl Plain {
         fn open(&mut self, provider: u32) -> Result<u32, Refusal> {
-            if self.held.len() == PLACES {
+            if self.held.len() == CHANNEL_BREAKS {
                 return Err(Refusal::BoardFull);
             }
             let mut event = self.next;
@@ -136,92 +139,124 @@ mod tests {
     }
 
     #[test]
-    fn answers_are_the_plain_lists() {
+    fn answers_are_those_of_two_plain_lists() {
         let mut random = Random(1);
-        let (mut opened, mut full, mut closed, mut not_open) = (0, 0, 0, 0);
+        let mut told_of = [0; 5];
         for run in 0..200u32 {
             let mut board = Board::new();
-            let mut plain = Plain { held: Vec::new(), next: 1 };
+            let mut plain = [1, 1].map(|next| Plain { held: Vec::new(), next });
             if run % 4 > 0 {
                 // shortly before the wrap
-                plain.next = u32::MAX - 40 * (run % 4);
+                plain[0].next = u32::MAX - 40 * (run % 4);
                 let mut words = *board.words();
-                words[WORDS - 1] = plain.next.into();
+                words[WORDS - 2] = plain[0].next.into();
                 board = Board::of_words(words);
             }
             // some runs fill the board, some empty it
             let bias = 2 + random.below(7);
             for _ in 0..1000 {
                 let before = board.clone();
-                let told = if random.below(10) < bias {
-                    let provider = random.below(3) as u32 * 0x7FFF_FFFF;
-                    let told = board.open(provider);
-                    assert_eq!(told, plain.open(provider));
-                    *if told.is_ok() { &mut opened } else { &mut full } += 1;
-                    told
-                } else {
-                    let event = match plain.held.len() as u64 {
-                        n if n > 0 && random.below(4) > 0 => plain.held[random.below(n) as usize].0,
-                        _ => plain.next.wrapping_add(random.below(80) as u32).wrapping_sub(40),
-                    };
-                    let told = board.close(event);
-                    assert_eq!(told, plain.close(event));
-                    *if told.is_ok() { &mut closed } else { &mut not_open } += 1;
-                    told
+                let channel = match random.below(16) {
+                    0 => 2 + random.below(254) as u8,
+                    n => (n % 2) as u8,
                 };
+                let list = plain.get_mut(channel as usize);
+                let (told, expected) = if random.below(10) < bias {
+                    let provider = random.below(3) as u32 * 0x7FFF_FFFF;
+                    (board.open(channel, provider), list.map(|l| l.open(provider)))
+                } else {
+                    let held = list.as_ref().map_or(&[][..], |l| &l.held);
+                    let event = match held.len() as u64 {
+                        n if n > 0 && random.below(4) > 0 => held[random.below(n) as usize].0,
+                        _ => list.as_ref().map_or(0, |l| l.next).wrapping_add(random.below(40) as u32).wrapping_sub(20),
+                    };
+                    (board.close(channel, event), list.map(|l| l.close(event)))
+                };
+                assert_eq!(told, expected.unwrap_or(Err(Refusal::NoSuchChannel)));
                 assert!(told.is_ok() || board == before);
+                told_of[told.map_or_else(|r| r.number() as usize - 60, |_| 0)] += 1;
             }
         }
-        println!("200,000 calls: {opened} opened, {full} refused with 61, {closed} closed, {not_open} refused with 62");
-        assert!([opened, full, closed, not_open].iter().all(|n| *n > 5_000));
+        println!("200,000 calls: {} accepted, refused {} with 61, {} with 62, {} with 63", told_of[0], told_of[1], told_of[2], told_of[3]);
+        assert!(told_of[..4].iter().all(|n| *n > 5_000));
     }
 
-    /// What a run of words says: for each place whether it is taken, its event id and its provider id; and the next id.
-    fn read(words: &[u64]) -> (Vec<(bool, u32, u32)>, u32) {
-        ((0..32).map(|i| (words[32 + i] % 2 == 1, (words[i] >> 32) as u32, words[i] as u32)).collect(), words[64] as u32)
+    /// One channel hears the same whatever the other does.
+    #[test]
+    fn a_channel_hears_its_own_calls_alone() {
+        let mut random = Random(3);
+        for _ in 0..100 {
+            let (mut shared, mut alone) = (Board::new(), Board::new());
+            for _ in 0..400 {
+                let number = random.below(24) as u32;
+                let opens = random.below(3) > 0;
+                let call = |b: &mut Board, channel| if opens { b.open(channel, number) } else { b.close(channel, number) };
+                if random.below(2) == 0 {
+                    assert_eq!(call(&mut shared, 0), call(&mut alone, 0));
+                } else {
+                    let _ = call(&mut shared, 1 + random.below(2) as u8);
+                }
+            }
+        }
+    }
+
+    /// What a run of words says: for each place whether it is taken, its channel, its event id and its provider id; and the next ids.
+    fn read(words: &[u64]) -> (Vec<(bool, u8, u32, u32)>, [u32; 2]) {
+        let place = |i: usize| (words[32 + i] % 2 == 1, (words[32 + i] >> 1) as u8, (words[i] >> 32) as u32, words[i] as u32);
+        ((0..32).map(place).collect(), [words[64] as u32, words[65] as u32])
     }
 
     #[test]
     fn any_words_are_a_board() {
         let mut random = Random(2);
-        let (mut accepted, mut refused) = (0, 0);
+        let (mut accepted, mut refused, mut crowded) = (0, 0, 0);
         for _ in 0..20_000 {
-            let small = random.below(2) == 0;
             let mut words: Vec<u64> = (0..WORDS + 3).map(|_| random.word()).collect();
-            if small {
-                // ids that meet: some twice, and many from the next id on
+            if random.below(4) > 0 {
+                // ids that meet: some twice, and many from the next ids on; places of channels 0 to 2
                 for w in &mut words[..32] {
                     *w = random.below(40) << 32 | random.below(9);
                 }
+                let free = random.below(5);
+                for w in &mut words[32..64] {
+                    *w = *w << 9 | random.below(3) << 1 | u64::from(random.below(4) >= free);
+                }
                 words[64] = random.below(40);
-            }
-            if random.below(3) == 0 {
-                words[32..64].fill(1);
+                words[65] = random.below(40);
             }
             let (places, next) = read(&words);
-            let taken = |id: u32| places.iter().position(|p| p.0 && p.1 == id);
+            let channel = random.below(20) as u8 % 3;
+            let mine = |id: u32| places.iter().position(|p| p.0 && p.1 == channel && p.2 == id);
+            let held = places.iter().filter(|p| p.0 && p.1 == channel).count();
             let mut after = words.clone();
-            let number = if small { random.below(40) as u32 } else { (words[random.below(32) as usize] >> 32) as u32 };
-            let opening = random.below(2) == 0;
-            let (told, expected, later) = if opening {
-                let told = unsafe { raw::scte35_board_open(after.as_mut_ptr(), after.len(), number) };
+            let number = random.below(40) as u32;
+            let (told, expected, later) = if random.below(2) == 0 {
+                let told = unsafe { raw::scte35_board_open(after.as_mut_ptr(), after.len(), channel, number) };
                 match places.iter().position(|p| !p.0) {
-                    None => (told, (61, 0), None),
+                    _ if channel > 1 => (told, (63, 0), None),
+                    _ if held >= 16 => (told, (61, 0), None),
+                    // a board that no calls make: no place is free, though the channel holds fewer than 16
+                    None => {
+                        crowded += 1;
+                        (told, (61, 0), None)
+                    }
                     Some(at) => {
-                        let id = (0..=32).map(|i| next.wrapping_add(i)).find(|id| taken(*id).is_none()).unwrap();
-                        let mut later = (places.clone(), id.wrapping_add(1));
-                        later.0[at] = (true, id, number);
+                        let id = (0..=16).map(|i| next[channel as usize].wrapping_add(i)).find(|id| mine(*id).is_none()).unwrap();
+                        let mut later = (places.clone(), next);
+                        later.0[at] = (true, channel, id, number);
+                        later.1[channel as usize] = id.wrapping_add(1);
                         (told, (0, id), Some(later))
                     }
                 }
             } else {
-                let told = unsafe { raw::scte35_board_close(after.as_mut_ptr(), after.len(), number) };
-                match taken(number) {
+                let told = unsafe { raw::scte35_board_close(after.as_mut_ptr(), after.len(), channel, number) };
+                match mine(number) {
+                    _ if channel > 1 => (told, (63, 0), None),
                     None => (told, (62, 0), None),
                     Some(at) => {
                         let mut later = (places.clone(), next);
-                        later.0[at] = (false, 0, 0);
-                        (told, (0, places[at].2), Some(later))
+                        later.0[at] = (false, places[at].1, 0, 0);
+                        (told, (0, places[at].3), Some(later))
                     }
                 }
             };
@@ -238,8 +273,8 @@ mod tests {
                 }
             }
         }
-        println!("20,000 calls on any words: {accepted} accepted, {refused} refused");
-        assert!(accepted > 3_000 && refused > 3_000);
+        println!("20,000 calls on any words: {accepted} accepted, {refused} refused, of these {crowded} for want of a place");
+        assert!(accepted > 3_000 && refused > 3_000 && crowded > 100);
     }
 
     #[test]
@@ -249,8 +284,8 @@ mod tests {
             for told in unsafe {
                 [
                     raw::scte35_board_empty(words.as_mut_ptr(), n),
-                    raw::scte35_board_open(words.as_mut_ptr(), n, 1),
-                    raw::scte35_board_close(words.as_mut_ptr(), n, 1),
+                    raw::scte35_board_open(words.as_mut_ptr(), n, 0, 1),
+                    raw::scte35_board_close(words.as_mut_ptr(), n, 2, 1),
                 ]
             } {
                 assert_eq!((told.refusal, told.id), (36, 0));

@@ -8,7 +8,7 @@ macro_rules! refusals {
         /// Why something is refused: the first reason that applies. `number` and `name` are the same in C, in Rattle and in docs/REFUSALS.md.
         ///
         /// 1 to 11 refuse a section, a header or a command; 12 a number that should be a flag's; 21 to 25 an item of a loop or a UPID, never the
-        /// section around it; 31 to 36 a value that is to be written; 61 and 62 a call of a board; 71 to 75 a transport packet. More may come.
+        /// section around it; 31 to 36 a value that is to be written; 61 to 63 a call of a board; 71 to 75 a transport packet. More may come.
         #[derive(Debug, Clone, Copy, PartialEq, Eq, Hash)]
         #[non_exhaustive]
         pub enum Refusal {
@@ -94,6 +94,7 @@ refusals! {
     TargetTooShort = 36, "the target is shorter than the result";
     BoardFull = 61, "as many breaks are open as may be";
     NotOpen = 62, "no open break has this event id";
+    NoSuchChannel = 63, "the channel is neither 0 nor 1";
     NotAPacket = 71, "not a transport packet: not 188 bytes, or another sync byte than 0x47";
     OtherPid = 72, "a packet of another PID";
     Scrambled = 73, "the packet is scrambled";
@@ -141,6 +142,7 @@ impl Refusal {
             36 => Refusal::TargetTooShort,
             61 => Refusal::BoardFull,
             62 => Refusal::NotOpen,
+            63 => Refusal::NoSuchChannel,
             71 => Refusal::NotAPacket,
             72 => Refusal::OtherPid,
             73 => Refusal::Scrambled,

@@ -1,5 +1,6 @@
 use mathlib.Core.Path.{_∙_}
-use Rattle.flat_board.specs.Lent.{flatAnswer}
+use Rattle.flat_board.specs.Lent.{idOf, flatReply}
+use Rattle.channels.specs.Channels.{refusalOf}
 use borrow.Author.Needs.{needs}
 use Rattle.flat_board.proofs.flat_answer.Statement.{statement}
 use Rattle.flat_board.proofs.flat_answer.Tie as tie
@@ -25,12 +26,12 @@ number-of-requires c κs = search needs
 
 -- src/lib.rt:105:1
 returns : tie.Need-returns
-unfolding flatAnswer
+unfolding flatReply idOf refusalOf
 returns c = rw (c .before .a .given .1)
 
 -- src/lib.rt:105:1
 returns-2 : tie.Need-returns-2
-unfolding flatAnswer
+unfolding flatReply idOf refusalOf
 returns-2 c = rw (c .before .before .a2 .given .1, c .number-of .ensures)
 
 pub flat-answer-spec : {M : Type 1} → statement M

@@ -16,7 +16,7 @@ use Rattle.board.proofs.blank_place.Reads as blank-place-reads
 use Rattle.flat_board.proofs.place_given.Reads as place-given-reads
 
 abbrev Inv-loop : tie.InvT-loop
-Inv-loop words out₀ i₀ out i = (i ≤ 32) × (65 ≤ length words) × (out ≡ paste (replicate 32 blankPlace) 0 (placesGiven words) i)
+Inv-loop words out₀ i₀ out i = (i ≤ 32) × (66 ≤ length words) × (out ≡ paste (replicate 32 blankPlace) 0 (placesGiven words) i)
 
 abbrev μ-loop : tie.MeasureT-loop
 μ-loop words out₀ i₀ out i = 32 - i
