@@ -46,8 +46,8 @@ uint32_t scte35_abi(void);
 /* ---- refusals; docs/REFUSALS.md has more of each
  *
  * 1 to 11 are of a section; 5 of a header alone, too, 10 and 11 of a command alone, 2 of a loop or a UPID. 12 is of a number that should be a flag's. 21 to 25
- * are of an item or a UPID, never of the section around it. 31 to 36 are of a value that is to be written; 32 of a time that is to be adjusted, too, and 36
- * of a board's words. 61 to 63 are of a board, 71 to 75 of a transport packet.
+ * are of an item or a UPID, never of the section around it. 31 to 36 are of a value that is to be written; 32 of a time or a section that is to be adjusted,
+ * too, and of the adjustment; 36 of that section's target and of a board's words. 61 to 63 are of a board, 71 to 75 of a transport packet.
  *
  * 1 to 12, 31 to 36, and 71 to 75 are looked at in order of number, and the first that applies is the answer; of a board 36, then 63, then 61 or 62. Of 21 to
  * 25 it is the first fault in layout order.
@@ -582,7 +582,7 @@ bool scte35_is_canonical_descriptor(const uint8_t *s, size_t n, size_t at);
 
 struct scte35_adjusted_time {
     uint64_t refusal;
-    uint64_t kind; /* SCTE35_TIME_NONE or SCTE35_TIME_AT */
+    uint64_t kind; /* SCTE35_TIME_NONE or SCTE35_TIME_AT; of scte35_move_time, that of the time */
     uint64_t ticks;
 };
 
@@ -593,6 +593,38 @@ struct scte35_adjusted_time {
  * Stack: 1 KB.
  */
 struct scte35_adjusted_time scte35_adjust_time(uint64_t kind, uint64_t ticks, uint64_t pts_adjustment);
+
+/* ---- adjustments in a chain: sums are taken modulo 2^33, as above */
+
+struct scte35_adjustment {
+    uint64_t refusal;
+    uint64_t adjustment; /* 33 bits */
+};
+
+/*
+ * A time moved by an adjustment.
+ * Takes a time's kind and ticks, and the adjustment. Kind SCTE35_TIME_AT answers that kind and the ticks moved; any other kind answers itself and 0 ticks: a
+ * time that is not specified stays so. Refuses with 32, whatever the kind, where ticks or adjustment have more than 33 bits. Stack: 1 KB.
+ */
+struct scte35_adjusted_time scte35_move_time(uint64_t kind, uint64_t ticks, uint64_t adjustment);
+
+/*
+ * The one adjustment that does what a and then b do (b and then a as well), and the one that takes a back.
+ * Refuse with 32 where an adjustment has more than 33 bits. Stack: 1 KB.
+ */
+struct scte35_adjustment scte35_chain_adjustments(uint64_t a, uint64_t b);
+struct scte35_adjustment scte35_undo_adjustment(uint64_t a);
+
+/*
+ * A section with its pts_adjustment moved, in place of a chain of splicers.
+ * Writes the section in all bytes from the offset on to the target: its pts_adjustment is what scte35_chain_adjustments makes of the old one and this, its CRC
+ * is mended, and no other byte is changed, whatever the section holds (spare bytes, refused items, reserved bits); so its length stays. Refuses with 1 to 11
+ * for the section, 32 where the adjustment has more than 33 bits, and 36 where the target is shorter than the section, in this order; a refused write changes
+ * no byte. Stack: 2 KB.
+ */
+struct scte35_written scte35_adjust_section(const uint8_t *s, size_t n, size_t at, uint64_t adjustment, uint8_t *target, size_t target_length);
+
+/* ---- named numbers */
 
 enum scte35_class { SCTE35_CLASS_NAMED = 0, SCTE35_CLASS_RESERVED = 1, SCTE35_CLASS_PRIVATE = 2 };
 
@@ -713,6 +745,7 @@ SCTE35_WORDS(scte35_item_components, 5 + 255 * 2 + 12);
 SCTE35_WORDS(scte35_upid, 18 + 127 * 4);
 SCTE35_WORDS(scte35_written, 2);
 SCTE35_WORDS(scte35_adjusted_time, 3);
+SCTE35_WORDS(scte35_adjustment, 2);
 SCTE35_WORDS(scte35_number, 3);
 SCTE35_WORDS(scte35_board_answer, 2);
 

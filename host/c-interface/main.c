@@ -134,6 +134,7 @@ static struct scte35_step step;
 static struct scte35_item_components beside;
 static struct scte35_upid upid;
 static struct scte35_adjusted_time adjusted;
+static struct scte35_adjustment adjustment;
 static uint64_t packets[SCTE35_PACKET_WORDS], board[SCTE35_BOARD_WORDS];
 static struct scte35_board_answer answer;
 /* of PID 500: a start, counter 0, pointer 0, a section of 5 bytes, then zeros, which are no stuffing */
@@ -158,6 +159,10 @@ MEASURED(scte35_write_command_words, written = scte35_write_command(&command, &c
 MEASURED(scte35_write_descriptor_words, written = scte35_write_descriptor(&step, &beside, loop, loop_length, target, sizeof target))
 MEASURED(scte35_write_section_words, written = scte35_write_section(&header, &command, &components, section, section_length, loop, loop_length, target, sizeof target))
 MEASURED(scte35_adjust_time, adjusted = scte35_adjust_time(SCTE35_TIME_AT, 1, 1))
+MEASURED(scte35_move_time, adjusted = scte35_move_time(SCTE35_TIME_AT, 1, 1))
+MEASURED(scte35_chain_adjustments, adjustment = scte35_chain_adjustments(1, 1))
+MEASURED(scte35_undo_adjustment, adjustment = scte35_undo_adjustment(1))
+MEASURED(scte35_adjust_section, written = scte35_adjust_section(section, section_length, 0, 1, target, sizeof target))
 MEASURED(scte35_classify_algorithm, number = scte35_classify_algorithm(33))
 MEASURED(scte35_classify_command_type, number = scte35_classify_command_type(8))
 MEASURED(scte35_classify_upid_type, number = scte35_classify_upid_type(200))
@@ -174,10 +179,10 @@ MEASURED(scte35_packet_take, told = scte35_packet_take(packets, SCTE35_PACKET_WO
 
 #define EACH(X)                                                                                                                                              \
     X(abi) X(crc) X(read_header) X(read_section) X(read_command) X(read_insert_components) X(read_item) X(read_item_components) X(read_upid)                 \
-    X(is_canonical_section) X(is_canonical_loop) X(is_canonical_descriptor) X(write_command_words) X(write_descriptor_words) X(write_section_words)          \
-    X(adjust_time) X(classify_algorithm) X(classify_command_type) X(classify_upid_type) X(classify_segmentation_type) X(classify_network_indicator)          \
-    X(classify_return_mode) X(classify_device_restrictions) X(packet_start) X(packet_feed) X(packet_take)                         \
-    X(board_empty) X(board_open) X(board_close)
+    X(is_canonical_section) X(is_canonical_loop) X(is_canonical_descriptor) X(adjust_section) X(write_command_words) X(write_descriptor_words)               \
+    X(write_section_words) X(adjust_time) X(move_time) X(chain_adjustments) X(undo_adjustment) X(classify_algorithm) X(classify_command_type)                \
+    X(classify_upid_type) X(classify_segmentation_type) X(classify_network_indicator) X(classify_return_mode) X(classify_device_restrictions)                \
+    X(packet_start) X(packet_feed) X(packet_take) X(board_empty) X(board_open) X(board_close)
 
 #define PLACE(name) size_t name;
 static struct { EACH(PLACE) } most;

@@ -43,9 +43,18 @@ fn put_word(words: &mut [u64], at: usize, v: usize)
     }
 }
 
+// Where all four words are there, their places are tested once.
 fn state_in(words: &[u64]) -> Assembler
     ensures { λ r. ⌜ r ≡ stateIn (now (words .entry)) ⌝ }
 {
+    if 4 <= words.len() {
+        return Assembler {
+            pid: words[0] as usize,
+            counter: words[1] as usize,
+            held: words[2] as usize,
+            at: words[3] as usize,
+        };
+    }
     Assembler {
         pid: word_at(words, 0),
         counter: word_at(words, 1),
@@ -57,6 +66,13 @@ fn state_in(words: &[u64]) -> Assembler
 fn keep(words: &mut [u64], a: Assembler)
     ensures { λ _. ⌜ now (words .exit) ≡ keptIn (now (words .entry)) a ⌝ }
 {
+    if 4 <= words.len() {
+        words[0] = a.pid as u64;
+        words[1] = a.counter as u64;
+        words[2] = a.held as u64;
+        words[3] = a.at as u64;
+        return;
+    }
     put_word(words, 0, a.pid);
     put_word(words, 1, a.counter);
     put_word(words, 2, a.held);

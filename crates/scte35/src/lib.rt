@@ -41,6 +41,7 @@ use items::reading::read_item;
 use upid::read_upid;
 
 pub mod abi;
+pub mod adjusting;
 pub mod board;
 pub mod canonical;
 pub mod numbers;
@@ -121,7 +122,7 @@ pub extern "C" fn scte35_crc(s: &[u8], at: usize) -> u32
 }
 
 // The time that is handed in. Ticks over 33 bits are kept whatever the kind, so that they are refused.
-fn time_from(kind: u64, ticks: u64) -> SpliceTime
+pub(crate) fn time_from(kind: u64, ticks: u64) -> SpliceTime
     ensures { λ r. ⌜ r ≡ timeHanded kind ticks ⌝ }
 {
     if kind == 3 {

@@ -1,5 +1,7 @@
 pub mod Numbers
 pub mod RowsHold
+pub mod Adjusting
+pub mod FixedAdjust
 pub mod FixedAnswers
 pub mod FixedAtBoundary
 pub mod FixedAtWriter

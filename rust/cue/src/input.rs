@@ -82,9 +82,13 @@ pub fn each(words: &ArgMatches, console: &mut Console, mut take: impl FnMut(&mut
 /// A file or standard input.
 pub struct Source {
     pub name: String,
-    pub reader: Box<dyn BufRead>,
+    pub reader: BufReader<Box<dyn Read>>,
     /// of a file
     size: Option<u64>,
+}
+
+fn buffered(from: impl Read + 'static) -> BufReader<Box<dyn Read>> {
+    BufReader::with_capacity(1 << 16, Box::new(from))
 }
 
 /// What a word names: none where it is no file. Its name and what is wrong where it can't be opened.
@@ -92,7 +96,7 @@ pub fn source(word: &OsStr) -> Result<Option<Source>, (String, io::Error)> {
     if word == "-" {
         let stdin = io::stdin();
         let size = stdin.as_fd().try_clone_to_owned().ok().and_then(|fd| File::from(fd).metadata().ok()).filter(|m| m.is_file()).map(|m| m.len());
-        return Ok(Some(Source { name: "standard input".into(), reader: Box::new(BufReader::with_capacity(1 << 16, stdin.lock())), size }));
+        return Ok(Some(Source { name: "standard input".into(), reader: buffered(stdin.lock()), size }));
     }
     let Some(path) = word.as_bytes().strip_prefix(b"@") else { return Ok(None) };
     let path = OsStr::from_bytes(path);
@@ -105,7 +109,7 @@ pub fn source(word: &OsStr) -> Result<Option<Source>, (String, io::Error)> {
         Ok((file, about.is_file().then_some(about.len())))
     });
     match opened {
-        Ok((file, size)) => Ok(Some(Source { name, reader: Box::new(BufReader::with_capacity(1 << 16, file)), size })),
+        Ok((file, size)) => Ok(Some(Source { name, reader: buffered(file), size })),
         Err(why) => Err((name, why)),
     }
 }
@@ -164,6 +168,10 @@ fn all(source: &mut Source, form: Form, number: &mut u64, room: &mut Room, conso
     }
     let mut line = std::mem::take(&mut room.line);
     loop {
+        if reader.buffer().is_empty() {
+            // the next line may be long in coming: a log that is being written
+            console.out.flush()?;
+        }
         match next_line(reader, &mut line) {
             Ok(Some(Ok(read))) => {
                 console.progress.step(read, *number);

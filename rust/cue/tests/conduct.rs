@@ -4,7 +4,7 @@
 mod verbs;
 
 use std::fs;
-use std::io::{Read, Write};
+use std::io::{BufRead, BufReader, Read, Write};
 use std::os::unix::fs::PermissionsExt;
 use std::path::PathBuf;
 use std::process::{Command, Stdio};
@@ -167,7 +167,7 @@ fn examples_work() {
 /// Memory does not grow with the input: a line without end is passed over, and so is one of raw bytes.
 #[test]
 fn endless_lines() {
-    let mut child = Command::from(cue_command(&["check", "-"])).stdin(Stdio::piped()).stdout(Stdio::piped()).stderr(Stdio::piped()).spawn().unwrap();
+    let mut child = cue_command(&["check", "-"]).stdin(Stdio::piped()).stdout(Stdio::piped()).stderr(Stdio::piped()).spawn().unwrap();
     let mut input = child.stdin.take().unwrap();
     let writer = std::thread::spawn(move || {
         for _ in 0..300 {
@@ -182,6 +182,21 @@ fn endless_lines() {
     assert_eq!(child.wait().unwrap().code(), Some(2));
     assert_eq!(said, "cue 1: a line of more than 65536 bytes is no cue's text\n");
     assert!(printed.starts_with("cue 2: accepted"), "{printed}");
+}
+
+/// Each cue of a log that is being written is answered as it comes.
+#[test]
+fn a_log_that_goes_on() {
+    let mut child = cue_command(&["check", "-"]).stdin(Stdio::piped()).stdout(Stdio::piped()).spawn().unwrap();
+    let (mut input, mut answers) = (child.stdin.take().unwrap(), BufReader::new(child.stdout.take().unwrap()));
+    for number in 1..=3 {
+        writeln!(input, "{NULL}").unwrap();
+        let mut line = String::new();
+        answers.read_line(&mut line).unwrap();
+        assert!(line.starts_with(&format!("cue {number}: accepted")), "{line}");
+    }
+    drop(input);
+    assert!(child.wait().unwrap().success());
 }
 
 fn cue_command(words: &[&str]) -> Command {

@@ -49,6 +49,7 @@
 //! Nothing is kept between calls, and every function may be called from any thread.
 #![deny(missing_docs)]
 
+mod adjust;
 pub mod board;
 mod command;
 mod flags;
@@ -62,6 +63,7 @@ mod refusal;
 mod upid;
 mod write;
 
+pub use adjust::{adjust_section, adjust_section_to_vec, chain_adjustments, undo_adjustment};
 pub use command::{read_command, ComponentSplice, InsertDetail, SpliceCommand, SpliceDuration, SpliceInsert, SpliceMode};
 pub use flags::{DeviceRestrictions, NetworkIndicator, ReturnMode};
 pub use header::{read_header, SpliceInfoHeader, SpliceTime};

@@ -105,6 +105,7 @@ words! {
     Part { upid_type: u64, level: u64, start: u64, len: u64 }
     Upid { refusal: u64, values: [u64; 3], upid_type: u64, eidr: [u64; 12], count: u64, parts: [Part; 127] }
     AdjustedTime { refusal: u64, kind: u64, ticks: u64 }
+    Adjustment { refusal: u64, adjustment: u64 }
     Number { refusal: u64, class: u64, number: u64 }
     Written { refusal: u64, length: u64 }
 }
@@ -120,6 +121,10 @@ extern "C" {
     fn scte35_read_upid(upid_type: u8, s: *const u8, n: usize, at: usize) -> Upid;
     fn scte35_crc(s: *const u8, n: usize, at: usize) -> u32;
     fn scte35_adjust_time(kind: u64, ticks: u64, pts_adjustment: u64) -> AdjustedTime;
+    fn scte35_move_time(kind: u64, ticks: u64, adjustment: u64) -> AdjustedTime;
+    fn scte35_chain_adjustments(a: u64, b: u64) -> Adjustment;
+    fn scte35_undo_adjustment(a: u64) -> Adjustment;
+    fn scte35_adjust_section(s: *const u8, n: usize, at: usize, adjustment: u64, target: *mut u8, target_length: usize) -> Written;
     fn scte35_write_command_words(
         command: *const u64,
         command_words: usize,
@@ -235,6 +240,30 @@ pub fn adjust_time(kind: u64, ticks: u64, pts_adjustment: u64) -> AdjustedTime {
     unsafe { scte35_adjust_time(kind, ticks, pts_adjustment) }
 }
 
+/// `scte35_move_time`
+#[inline]
+pub fn move_time(kind: u64, ticks: u64, adjustment: u64) -> AdjustedTime {
+    unsafe { scte35_move_time(kind, ticks, adjustment) }
+}
+
+/// `scte35_chain_adjustments`
+#[inline]
+pub fn chain_adjustments(a: u64, b: u64) -> Adjustment {
+    unsafe { scte35_chain_adjustments(a, b) }
+}
+
+/// `scte35_undo_adjustment`
+#[inline]
+pub fn undo_adjustment(a: u64) -> Adjustment {
+    unsafe { scte35_undo_adjustment(a) }
+}
+
+/// `scte35_adjust_section`
+#[inline]
+pub fn adjust_section(s: &[u8], at: usize, adjustment: u64, target: &mut [u8]) -> Written {
+    unsafe { scte35_adjust_section(s.as_ptr(), s.len(), at, adjustment, target.as_mut_ptr(), target.len()) }
+}
+
 /// `scte35_write_command_words`
 #[inline]
 pub fn write_command_words(command: &[u64], components: &[u64], lent: &[u8], target: &mut [u8]) -> Written {
@@ -310,6 +339,7 @@ const _: () = {
     assert!(words::<ItemComponents>() == 5 + 255 * 2 + 12);
     assert!(words::<Upid>() == 18 + 127 * 4);
     assert!(words::<AdjustedTime>() == 3);
+    assert!(words::<Adjustment>() == 2);
     assert!(words::<Number>() == 3);
     assert!(words::<Written>() == 2);
 };

@@ -211,3 +211,42 @@ fn sections() {
     assert_eq!(Refusal::OutsideLent.number(), 31);
     assert_eq!(Refusal::TargetTooShort.number(), 36);
 }
+
+#[test]
+fn a_chain_of_adjustments_is_one() {
+    const LAST: u64 = 8_589_934_591;
+    let numbers = [0, 1, 1 << 32, LAST, LAST + 1, u64::MAX];
+    let fits = |n: u64| if n <= LAST { Ok(n) } else { Err(Refusal::TooLarge) };
+    for a in numbers {
+        assert_eq!(undo_adjustment(a), fits(a).map(|a| (LAST + 1 - a) % (LAST + 1)));
+        for b in numbers {
+            assert_eq!(chain_adjustments(a, b), fits(a).and(fits(b)).map(|b| (a + b) % (LAST + 1)));
+            assert_eq!(SpliceTime::At(a).moved(b), fits(a).and(fits(b)).map(|b| SpliceTime::At((a + b) % (LAST + 1))));
+        }
+        assert_eq!(SpliceTime::Unspecified.moved(a), fits(a).map(|_| SpliceTime::Unspecified));
+        assert_eq!(SpliceTime::Immediate.moved(a), fits(a).map(|_| SpliceTime::Immediate));
+    }
+}
+
+#[test]
+fn a_section_with_its_adjustment_moved() {
+    for sample in SAMPLES {
+        let sample = closed(unhex(sample));
+        let old = read_section(&sample).unwrap();
+        for a in [0, 1, 1 << 32, 8_589_934_591] {
+            let moved = adjust_section_to_vec(&sample, a).unwrap();
+            let new = read_section(&moved).unwrap();
+            assert_eq!(new.header.pts_adjustment, (old.header.pts_adjustment + a) % 8_589_934_592);
+            assert!(is_canonical_section(&moved) && moved.len() == sample.len());
+            let header = SpliceInfoHeader { pts_adjustment: old.header.pts_adjustment, ..new.header };
+            assert_eq!((header, new.command, new.descriptors), (old.header, old.command.clone(), old.descriptors));
+            assert_eq!(adjust_section_to_vec(&moved, undo_adjustment(a).unwrap()), Ok(sample.clone()));
+            // a target that is too short keeps its bytes
+            let mut short = vec![0xA5; sample.len() - 1];
+            assert_eq!(adjust_section(&sample, a, &mut short), Err(Refusal::TargetTooShort));
+            assert!(short.iter().all(|b| *b == 0xA5));
+        }
+        assert_eq!(adjust_section_to_vec(&sample, 1 << 33), Err(Refusal::TooLarge));
+        assert_eq!(adjust_section_to_vec(&sample[..17], 1 << 33), Err(Refusal::WrongCrc));
+    }
+}
