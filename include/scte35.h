@@ -19,9 +19,9 @@
  * "Stack" is the most that a call takes of it, with the answer's struct not counted; rounded up to a whole KB, measured of the compiled code
  * (host/c-interface/run measures it again, and fails where more is taken).
  *
- * Names: functions begin with a verb (scte35_read_section), structs are nouns (struct scte35_section), and a constant bears its family's name
- * (SCTE35_ITEM_END). New words of a struct go to its end; where that, or anything else, would break a program that was built with this header, SCTE35_ABI
- * grows.
+ * Names: functions begin with a verb (scte35_read_section), those of a state that the caller keeps with its noun (scte35_board_open); structs are nouns
+ * (struct scte35_section), and a constant bears its family's name (SCTE35_ITEM_END). New words of a struct go to its end; where that, or anything else, would
+ * break a program that was built with this header, SCTE35_ABI grows.
  */
 #ifndef SCTE35_H
 #define SCTE35_H
@@ -46,15 +46,17 @@ uint32_t scte35_abi(void);
 /* ---- refusals; docs/REFUSALS.md has more of each
  *
  * 1 to 11 are of a section; 5 of a header alone, too, 10 and 11 of a command alone, 2 of a loop or a UPID. 12 is of a number that should be a flag's. 21 to 25
- * are of an item or a UPID, never of the section around it. 31 to 36 are of a value that is to be written; 32 of a time or a section that is to be adjusted, too,
- * and of the adjustment; 36 of that section's target.
+ * are of an item or a UPID, never of the section around it. 31 to 36 are of a value that is to be written; 32 of a time or a section that is to be adjusted,
+ * too, and of the adjustment; 36 of that section's target and of a board's words. 61 to 63 are of a board, 71 to 75 of a transport packet.
  *
- * 1 to 12 and 31 to 36 are looked at in order of number, and the first that applies is the answer. Of 21 to 25 it is the first fault in layout order.
+ * 1 to 12, 31 to 36, and 71 to 75 are looked at in order of number, and the first that applies is the answer; of a board 36, then 63, then 61 or 62. Of 21 to
+ * 25 it is the first fault in layout order.
  *
  * Values: of 21 the bytes expected and the actual ones; of 24 the type as written, and the text as a view: place and length; of 25 the type as written, the
  * length expected and the actual one.
  *
- * 33 also refuses words that are no value's: those of a refusal or of a loop's end, or that no reader gives.
+ * 33: no canonical payload, or no canonical section's header, reads as the value. One that is only too long for a section is 34. 33 also refuses words that
+ * are no value's: those of a refusal or of a loop's end, or that no reader gives.
  */
 
 /* each as X(constant, number, name, text), in order of number */
@@ -587,7 +589,8 @@ struct scte35_adjusted_time {
 /*
  * A time with its section's adjustment.
  * Takes a time's kind and ticks, and a header's adjustment. Kind SCTE35_TIME_AT is a time, and its ticks plus the adjustment are answered, modulo 2^33 (the
- * carry out of 33 bits is ignored); any other kind has none. Refuses with 32, whatever the kind, where ticks or pts_adjustment have more than 33 bits. Stack: 1 KB.
+ * carry out of 33 bits is ignored); any other kind has none. Refuses with 32, whatever the kind, where ticks or pts_adjustment have more than 33 bits.
+ * Stack: 1 KB.
  */
 struct scte35_adjusted_time scte35_adjust_time(uint64_t kind, uint64_t ticks, uint64_t pts_adjustment);
 
