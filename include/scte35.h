@@ -696,12 +696,6 @@ uint64_t scte35_packet_take(uint64_t *state, size_t state_words, const uint8_t *
 
 enum { SCTE35_BOARD_WORDS = 66, SCTE35_CHANNEL_BREAKS = 16 };
 
-enum scte35_board_refusal {
-    SCTE35_BOARD_FULL = 61, /* opening: the channel holds SCTE35_CHANNEL_BREAKS breaks */
-    SCTE35_NOT_OPEN = 62, /* closing: no open break of the channel has this event id */
-    SCTE35_NO_SUCH_CHANNEL = 63 /* the channel is neither 0 nor 1; tested before 61 and 62 */
-};
-
 struct scte35_board_answer {
     uint64_t refusal; /* 0, 36, or as above */
     uint64_t id; /* to an opening the event id, to a closing the provider id */
