@@ -697,7 +697,7 @@ uint64_t scte35_packet_take(uint64_t *state, size_t state_words, const uint8_t *
 enum { SCTE35_BOARD_WORDS = 66, SCTE35_CHANNEL_BREAKS = 16 };
 
 struct scte35_board_answer {
-    uint64_t refusal; /* 0, 36, or as above */
+    uint64_t refusal; /* 0, 36, or 61 to 63 */
     uint64_t id; /* to an opening the event id, to a closing the provider id */
 };
 
