@@ -46,8 +46,8 @@ uint32_t scte35_abi(void);
 /* ---- refusals; docs/REFUSALS.md has more of each
  *
  * 1 to 11 are of a section; 5 of a header alone, too, 10 and 11 of a command alone, 2 of a loop or a UPID. 12 is of a number that should be a flag's. 21 to 25
- * are of an item or a UPID, never of the section around it. 31 to 36 are of a value that is to be written; 32 of a time or a section that is to be adjusted, too,
- * and of the adjustment; 36 of that section's target.
+ * are of an item or a UPID, never of the section around it. 31 to 36 are of a value that is to be written; 32 also of a time or an
+ * adjustment, 36 of a section that is adjusted.
  *
  * 1 to 12 and 31 to 36 are looked at in order of number, and the first that applies is the answer. Of 21 to 25 it is the first fault in layout order.
  *
