@@ -710,14 +710,14 @@ struct scte35_board_answer scte35_board_empty(uint64_t *board, size_t board_word
 /*
  * Opens a break of a channel.
  * Takes a board, a channel, 0 or 1, and a provider id; these may repeat. Answers an event id: those of a channel count up, that after 4,294,967,295 is 0, and
- * one that it still has open is passed over. Refuses with 36, with 63 for another channel, and with 61 where the channel holds 16 breaks. Stack: 2 KB.
+ * one that it still has open is passed over. Refuses with 36, with 63 for another channel, and with 61 where the channel holds 16 breaks. Stack: 5 KB.
  */
 struct scte35_board_answer scte35_board_open(uint64_t *board, size_t board_words, uint8_t channel, uint32_t provider_id);
 
 /*
  * Closes a channel's break.
  * Takes a board, a channel and an event id. Answers the provider id that it was opened with. Refuses with 36, with 63 for another channel, and with 62 where
- * no open break of the channel has it. Stack: 2 KB.
+ * no open break of the channel has it. Stack: 3 KB.
  */
 struct scte35_board_answer scte35_board_close(uint64_t *board, size_t board_words, uint8_t channel, uint32_t event_id);
 

@@ -124,7 +124,7 @@ enum { painted = 400 * 1024, paint = 0xA5 };
         return (size_t)(end - p);                                             \
     }
 
-static uint8_t section[SCTE35_MAX_SECTION], loop[SCTE35_MAX_LOOP], mid[256], target[SCTE35_MAX_SECTION];
+static uint8_t section[SCTE35_MAX_SECTION], loop[SCTE35_MAX_LOOP], mid[256], target[SCTE35_MAX_SECTION], gathered[SCTE35_MAX_SECTION];
 static size_t section_length, loop_length;
 static struct scte35_header header;
 static struct scte35_command command;
@@ -174,8 +174,8 @@ MEASURED(scte35_board_empty, answer = scte35_board_empty(board, SCTE35_BOARD_WOR
 MEASURED(scte35_board_open, answer = scte35_board_open(board, SCTE35_BOARD_WORDS, 1, 7))
 MEASURED(scte35_board_close, answer = scte35_board_close(board, SCTE35_BOARD_WORDS, 1, 1))
 MEASURED(scte35_packet_start, scte35_packet_start(500, packets, SCTE35_PACKET_WORDS))
-MEASURED(scte35_packet_feed, told = scte35_packet_feed(packets, SCTE35_PACKET_WORDS, packet, sizeof packet, target, sizeof target))
-MEASURED(scte35_packet_take, told = scte35_packet_take(packets, SCTE35_PACKET_WORDS, packet, sizeof packet, target, sizeof target))
+MEASURED(scte35_packet_feed, told = scte35_packet_feed(packets, SCTE35_PACKET_WORDS, packet, sizeof packet, gathered, sizeof gathered))
+MEASURED(scte35_packet_take, told = scte35_packet_take(packets, SCTE35_PACKET_WORDS, packet, sizeof packet, gathered, sizeof gathered))
 
 #define EACH(X)                                                                                                                                              \
     X(abi) X(crc) X(read_header) X(read_section) X(read_command) X(read_insert_components) X(read_item) X(read_item_components) X(read_upid)                 \
