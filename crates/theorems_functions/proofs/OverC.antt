@@ -52,7 +52,7 @@ use Rattle.theorems.proofs.Theorems as demands
 use Rattle.theorems.specs.Boards.{May}
 use Rattle.theorems.specs.Identifiers.{Identifier, inLent, loopIn, partsRead, Announced, Unsplit}
 use Rattle.theorems.specs.OverC.{splicesWords, componentsAnswered, stepWords, besideWords, wordsMadeAt}
-use Rattle.theorems.specs.Whole.{WholeAt}
+use Rattle.theorems.specs.Whole.{upidAt, WholeAt}
 use Rattle.upid.specs.Cover.{All}
 use Rattle.upid.specs.Cover.All.{none, more}
 use Rattle.upid.specs.Upid.{checkOf, upidOf, partsIn, partView}
@@ -68,7 +68,7 @@ use Rattle.scte35.proofs.writing.scte35_write_command_words.Reads as scte35-wri
 use Rattle.scte35.proofs.writing.scte35_write_descriptor_words.Reads as scte35-write-descriptor-words
 use Rattle.scte35.proofs.writing.scte35_write_section_words.Reads as scte35-write-section-words
 use Rattle.theorems_functions.specs.Flat.{Lies, taken, ItemLies, upidRefusal, SamePart, PartLies, PutsFlat}
-use Rattle.theorems_functions.specs.Slices.{reportedAs}
+use Rattle.theorems_functions.specs.Slices.{Slice, reportedAs}
 use Rattle.theorems_functions.proofs.Flat as flat
 use Rattle.theorems_functions.proofs.Slices.{reported-as}
 use Rattle.theorems_functions.proofs.Writes as writes
@@ -199,11 +199,30 @@ items-lie s f offset i a x q =
     let h : ItemLies s (x .section .descriptors .at + offset) (x .section .descriptors .at) i = rw e (flat.step-lies s (x .section .descriptors .at) (loopIn s (x .section)) offset (readingOf (loopIn s (x .section)) offset) w) in
     subst (λ (n : ℕ). ItemLies s (n + offset) n i) (sym (x .base)) h
 
+eidr-lies : (s : List ℕ) (f : FlatSection) (offset : ℕ) (i : FlatStep) (b : FlatBeside) → AllBytes s → (x : Accepted s f) → ReadsItemC (taken s (f .descriptors)) offset i
+    → ReadsBesideC (taken s (f .descriptors)) offset b → i .item .kind ≡ 4 → i .item .segmentation .«segmentation_upid_type» ≡ 10
+    → let h : ℕ = upidAt s (f .descriptors .at + offset + 6) in (getD s h 0 ≡ 10) × (getD s (h + 1) 0 ≡ 12) × Slice s (h + 2) 12 (b .eidr)
+unfolding flatBeside
+eidr-lies s f offset i b a x q r four ten =
+    let e : i ≡ flatStep (stepOf (loopIn s (x .section)) offset) = reads-item-so q ∙ ap (λ (l : List ℕ). flatStep (stepOf l offset)) (x .loop) in
+    let m = flat.upid-of-item 10 (stepOf (loopIn s (x .section)) offset) (ap (λ (v : FlatStep). v .item .kind) (sym e) ∙ four) (ap (λ (v : FlatStep). v .item .segmentation .«segmentation_upid_type») (sym e) ∙ ten) in
+    let w = demands.every-upid-of-the-section-is-whole s (x .section) (x .is) offset (m .descriptor) (m .insert) (m .is) (m .detail) a .eidr (m .kind) in
+    let g : b .eidr ≡ readingOf (loopIn s (x .section)) offset .beside .eidr = ap (λ (v : FlatBeside). v .eidr) (reads-beside-so r ∙ ap (λ (l : List ℕ). flatBeside (readingOf l offset)) (x .loop)) in
+    subst (λ (n : ℕ). (getD s (upidAt s (n + offset + 6)) 0 ≡ 10) × (getD s (upidAt s (n + offset + 6) + 1) 0 ≡ 12) × Slice s (upidAt s (n + offset + 6) + 2) 12 (b .eidr)) (sym (x .base))
+    (subst (λ (y : List ℕ). (getD s (upidAt s (x .section .descriptors .at + offset + 6)) 0 ≡ 10) × (getD s (upidAt s (x .section .descriptors .at + offset + 6) + 1) 0 ≡ 12)
+        × Slice s (upidAt s (x .section .descriptors .at + offset + 6) + 2) 12 y) (sym g) w)
+
 -- Wholeness over `scte35_read_item`, at any offset of the loop of a section that is not refused: the place and the length of its identifier in the section are those that the section's own bytes announce,
 -- and a refused item has its refusal's number
 pub the-items-over-c-are-whole : (s : List ℕ) (f : FlatSection) (offset : ℕ) (i : FlatStep) → AllBytes s → ReadsSectionC s f → f .refusal ≡ 0 → ReadsItemC (taken s (f .descriptors)) offset i
     → ItemLies s (f .descriptors .at + offset) (f .descriptors .at) i
 the-items-over-c-are-whole s f offset i a d z q = items-lie s f offset i a (accepted s f d z) q
+
+-- An EIDR, which stands beside its item: `scte35_read_item_components` at the same offset answers the very twelve bytes
+pub the-eidr-over-c-is-whole : (s : List ℕ) (f : FlatSection) (offset : ℕ) (i : FlatStep) (b : FlatBeside) → AllBytes s → ReadsSectionC s f → f .refusal ≡ 0
+    → ReadsItemC (taken s (f .descriptors)) offset i → ReadsBesideC (taken s (f .descriptors)) offset b → i .item .kind ≡ 4 → i .item .segmentation .«segmentation_upid_type» ≡ 10
+    → let h : ℕ = upidAt s (f .descriptors .at + offset + 6) in (getD s h 0 ≡ 10) × (getD s (h + 1) 0 ≡ 12) × Slice s (h + 2) 12 (b .eidr)
+the-eidr-over-c-is-whole s f offset i b a d z q r four ten = eidr-lies s f offset i b a (accepted s f d z) q r four ten
 
 -- Of `scte35_read_upid` the first `count` parts are those of the UPID, field by field, and its refusal is that of what is read
 pub the-parts-over-c-are-those-of-the-upid : (kind : ℕ) (bytes : List ℕ) (u : FlatUpid) → ReadsUpidC kind bytes u
@@ -233,7 +252,7 @@ mid-lies : (s : List ℕ) (f : FlatSection) (offset : ℕ) (i : FlatStep) (u : F
     → (u .refusal ≡ 0) × All (PartLies s (f .descriptors .at + i .item .bytes .at)) (take (u .count) (u .parts))
 mid-lies s f offset i u x q four mid r =
     let e : i ≡ flatStep (stepOf (loopIn s (x .section)) offset) = reads-item-so q ∙ ap (λ (l : List ℕ). flatStep (stepOf l offset)) (x .loop) in
-    let m = flat.mid-of-item (stepOf (loopIn s (x .section)) offset) (ap (λ (v : FlatStep). v .item .kind) (sym e) ∙ four) (ap (λ (v : FlatStep). v .item .segmentation .«segmentation_upid_type») (sym e) ∙ mid) in
+    let m = flat.upid-of-item 13 (stepOf (loopIn s (x .section)) offset) (ap (λ (v : FlatStep). v .item .kind) (sym e) ∙ four) (ap (λ (v : FlatStep). v .item .segmentation .«segmentation_upid_type») (sym e) ∙ mid) in
     let v : i .item .bytes ≡ flatView (m .insert .«segmentation_upid» .bytes) = ap (λ (v : FlatStep). v .item .bytes) e ∙ m .bytes in
     let w : Unsplit s (inLent (x .section .descriptors .at) (loopIn s (x .section)) (m .insert .«segmentation_upid» .bytes)) =
     demands.no-mid-that-is-read-is-split s (x .section) (x .is) offset (m .descriptor) (m .insert) (m .is) (m .detail) (m .kind) in

@@ -31,14 +31,27 @@ pub record UpidLies (s : List ℕ) (h base : ℕ) (i : FlatItem) : Type 0 where
   pub kind : i .segmentation .«segmentation_upid_type» ≡ pick (eqb (getD s (h + 1) 0) 0) 0 (reportedAs (getD s h 0))
   pub bytes : (i .segmentation .«segmentation_upid_type» ≡ 0 → ⊥) → (i .segmentation .«segmentation_upid_type» ≡ 10 → ⊥) → Lies s base (h + 2) (getD s (h + 1) 0) (i .bytes)
 
+-- the text of refusal 24 in a payload that starts at byte p, by the refusal's values: its type, and where it lies in the lent bytes; the two bytes before it are its type and its length
+pub record TextLies (s : List ℕ) (p base : ℕ) (values : List ℕ) : Type 0 where
+  pub kind : ℕ
+  pub at : ℕ
+  pub len : ℕ
+  pub are : values ≡ kind ∷ at ∷ len ∷ []
+  pub behind : p + 2 ≤ base + at
+  pub there : base + at + len ≤ length s
+  pub type : kind ≡ getD s (base + at - 2) 0
+  pub long : len ≡ getD s (base + at - 1) 0
+
 -- An item that starts at byte q of the section, by its number: 2 DTMF, 4 segmentation, 6 reserved, 7 refused. (0 is the end, 1 an avail, 3 a cancelled segmentation, 5 a time.)
 pub record ItemLies (s : List ℕ) (q base : ℕ) (f : FlatStep) : Type 0 where
   pub kinds : f .item .kind ≤ 7
   pub dtmf : f .item .kind ≡ 2 → Lies s base (q + 6 + 2) (getD s (q + 6 + 1) 0 / 32) (f .item .bytes)
   pub segmentation : f .item .kind ≡ 4 → UpidLies s (upidAt s (q + 6)) base (f .item)
-  pub reserved : f .item .kind ≡ 6 → Lies s base (q + 6) (getD s (q + 1) 0 - 4) (f .item .bytes)
+  -- the identifier's four bytes as a number
+  pub reserved : f .item .kind ≡ 6 → Lies s base (q + 6) (getD s (q + 1) 0 - 4) (f .item .bytes) × (f .identifier ≡ field (bitsOf (take 4 (drop (q + 2) s))) 0 32)
   -- a refusal has its number, and what is read has none
   pub refused : f .item .kind ≡ 7 → 1 ≤ f .refusal
+  pub text : f .refusal ≡ 24 → TextLies s (q + 6) base (f .values)
   pub read : (f .item .kind ≡ 7 → ⊥) → f .refusal ≡ 0
 
 -- ---- a UPID: the number of what it is read as, 0 where it is read
