@@ -210,7 +210,7 @@ eidr-lies s f offset i b a x q r four ten =
     let g : b .eidr ≡ readingOf (loopIn s (x .section)) offset .beside .eidr = ap (λ (v : FlatBeside). v .eidr) (reads-beside-so r ∙ ap (λ (l : List ℕ). flatBeside (readingOf l offset)) (x .loop)) in
     subst (λ (n : ℕ). (getD s (upidAt s (n + offset + 6)) 0 ≡ 10) × (getD s (upidAt s (n + offset + 6) + 1) 0 ≡ 12) × Slice s (upidAt s (n + offset + 6) + 2) 12 (b .eidr)) (sym (x .base))
     (subst (λ (y : List ℕ). (getD s (upidAt s (x .section .descriptors .at + offset + 6)) 0 ≡ 10) × (getD s (upidAt s (x .section .descriptors .at + offset + 6) + 1) 0 ≡ 12)
-        × Slice s (upidAt s (x .section .descriptors .at + offset + 6) + 2) 12 y) (sym g) w)
+    × Slice s (upidAt s (x .section .descriptors .at + offset + 6) + 2) 12 y) (sym g) w)
 
 -- Wholeness over `scte35_read_item`, at any offset of the loop of a section that is not refused: the place and the length of its identifier in the section are those that the section's own bytes announce,
 -- and a refused item has its refusal's number
