@@ -73,11 +73,12 @@ use Rattle.section.specs.declared.SectionRead.{SectionRead}
 use Rattle.section_writer.specs.Canonical.{canonicalSection}
 use Rattle.section_writer.specs.Writing.{kindOf, sectionMade}
 use Rattle.table.specs.Bits.{AllBytes}
+use Rattle.table.specs.Lent.{viewed}
 use Rattle.table.specs.Writing.{Made, made}
 use Rattle.upid.specs.Cover.{All, whole, Once}
 use Rattle.upid.proofs.Answers as upids
 use Rattle.upid.specs.Upid.{checkOf, listOf, unlessRefused}
-use Rattle.theorems.specs.Identifiers.{OneRun, inSection, inLent, partsRead, loopIn, identifiersOf, midsOf, Unsplit}
+use Rattle.theorems.specs.Identifiers.{OneRun, inSection, inLent, partsRead, loopIn, identifiersOf, Unsplit}
 use Rattle.theorems.specs.Listing.{ListsItem, ListsCommand}
 use Rattle.theorems.specs.Making.{CommandMakes, SectionBytes, SectionMakes}
 use Rattle.theorems.specs.Numbers.{OnlyBy}
@@ -188,7 +189,8 @@ pub every-upid-of-the-section-is-whole : (s : List ℕ) (x : Section) → sectio
     → WholeUpid s (upidAt s (x .descriptors .at + offset + 6)) (x .descriptors .at) (loopIn s x) (readingOf (loopIn s x) offset .beside .eidr) (i .«segmentation_upid»)
 every-upid-of-the-section-is-whole = whole-runs.whole-upid
 
--- and where it is a MID, it is not split
+-- The incident: where it is a MID, no identifier of it is split. It is read as its parts, each of them, at every level, exactly the run of the section that the two bytes before it announce; the direct
+-- parts of each MID cover it once; and no other part is in the list, which goes by the bytes, "outer part before its inner ones".
 pub no-mid-that-is-read-is-split : (s : List ℕ) (x : Section) → sectionOf s ≡ SectionRead.Is x → (offset : ℕ) (d : SegmentationDescriptor) (i : SegmentationInsert)
     → stepOf (loopIn s x) offset .item ≡ Item.Is (Descriptor.Segmentation d) → d .«descriptor_detail» ≡ SegmentationDetail.Insert i
     → i .«segmentation_upid» .kind ≡ 13 → Unsplit s (inLent (x .descriptors .at) (loopIn s x) (i .«segmentation_upid» .bytes))
@@ -232,12 +234,6 @@ the-items-cover-the-loop-of-the-section = sections.items-cover
 pub an-ending-refusal-takes-the-rest-of-the-loop : (s : List ℕ) (x : Section) → sectionOf s ≡ SectionRead.Is x → (offset : ℕ) → Ends (drop offset (loopIn s x))
     → TakesRest (loopIn s x) (stepOf (loopIn s x) offset)
 an-ending-refusal-takes-the-rest-of-the-loop = sections.ending-takes-rest
-
--- The incident: no identifier of a MID is split. Each UPID of a section that is a MID is read as its parts, each of them, at every level, exactly the run of
--- the section that the two bytes before it announce; the direct parts of each MID cover it once; and no other part is in the list, which goes by the bytes,
--- "outer part before its inner ones".
-pub no-mid-of-the-section-is-split : (s : List ℕ) (x : Section) → sectionOf s ≡ SectionRead.Is x → All (Unsplit s) (midsOf s x)
-no-mid-of-the-section-is-split = sections.mids-unsplit
 
 -- ---- writing
 
@@ -338,9 +334,10 @@ pub each-byte-of-the-loop-lies-in-one-item : (s : List ℕ) (x : Section) → se
 each-byte-of-the-loop-lies-in-one-item = sections.bytes-in-one-item
 
 -- "the direct parts of each accepted MID, heads included, cover that MID once", byte by byte: each byte of a MID, at every depth, lies in exactly one of its direct parts
-pub each-byte-of-a-mid-lies-in-one-part : (s : List ℕ) (x : Section) → sectionOf s ≡ SectionRead.Is x
-    → All (λ mid. All (λ m. m .kind ≡ 13 → Once (partsRead 13 (mid .bytes)) m) (whole (mid .bytes) ∷ partsRead 13 (mid .bytes))) (midsOf s x)
-each-byte-of-a-mid-lies-in-one-part = sections.bytes-in-one-part
+pub each-byte-of-a-mid-lies-in-one-part : (s : List ℕ) (x : Section) → sectionOf s ≡ SectionRead.Is x → (offset : ℕ) (d : SegmentationDescriptor) (i : SegmentationInsert)
+    → stepOf (loopIn s x) offset .item ≡ Item.Is (Descriptor.Segmentation d) → d .«descriptor_detail» ≡ SegmentationDetail.Insert i → i .«segmentation_upid» .kind ≡ 13
+    → let b : List ℕ = viewed (loopIn s x) (i .«segmentation_upid» .bytes) in All (λ m. m .kind ≡ 13 → Once (partsRead 13 b) m) (whole b ∷ partsRead 13 b)
+each-byte-of-a-mid-lies-in-one-part = whole-runs.whole-mid-bytes
 
 -- The incident, when it is written back: each item of a canonical section is written again, and what is written, read alone, has the same UPID. So each MID
 -- has the same bytes and the same parts, at every level.
@@ -414,7 +411,7 @@ sections-of-20-bytes-are-accepted = worked.empty-accepted
 pub a-null-is-such-a-section : EmptyCommand spliceNull × (length spliceNull ≡ 20) × (loopLength spliceNull ≡ 0) × (commandType spliceNull ≡ 0)
 a-null-is-such-a-section = worked.null-is-one
 
--- The incident, worked out (`no-mid-of-the-section-is-split`, `writing-back-splits-no-mid` say it of every section): a section whose MID has a part of 8 bytes and one of 12 is read as these two, whole
+-- The incident, worked out (`no-mid-that-is-read-is-split`, `writing-back-splits-no-mid` say it of every section): a section whose MID has a part of 8 bytes and one of 12 is read as these two, whole
 pub eight-and-twelve-bytes-are-read-whole : Identified eightAndTwelve (
     record { start = 35; len = 24; bytes = both }
     ∷ record { start = 37; len = 8; bytes = eight }
