@@ -30,7 +30,7 @@ carried : {a b : SpliceMode} {cs ds : List ComponentSplice} → a ≡ b → cs �
 carried e f h = rw (e, f) h
 
 module _ (s : List ℕ) where
-  time-fits : (at : ℕ) (t : SpliceTime) (m : ℕ) → parse spliceTime (bitsOf s) at ≡ got t m → ticks t < 2 ^ 33
+  pub time-fits : (at : ℕ) (t : SpliceTime) (m : ℕ) → parse spliceTime (bitsOf s) at ≡ got t m → ticks t < 2 ^ 33
   unfolding spliceTime
   time-fits at t m e = go (eqb (field (bitsOf s) at 1) 1) (reads-flag s at _ _ t m e .1)
     where

@@ -27,6 +27,7 @@ pub mod WritableFields
 pub mod WritableUpids
 pub mod WritablePayloads
 pub mod Writable
+pub mod WritableCommands
 pub mod Answers
 pub mod NumbersFit
 pub mod CommandsMade

@@ -80,7 +80,7 @@ use Rattle.upid.proofs.Answers as upids
 use Rattle.upid.specs.Upid.{checkOf, listOf, unlessRefused}
 use Rattle.theorems.specs.Identifiers.{OneRun, inSection, inLent, partsRead, loopIn, identifiersOf, Unsplit}
 use Rattle.theorems.specs.Listing.{ListsItem, ListsCommand}
-use Rattle.theorems.specs.Making.{CommandMakes, SectionBytes, SectionMakes}
+use Rattle.theorems.specs.Making.{CommandPayload, CommandMakes, SectionBytes, SectionMakes}
 use Rattle.theorems.specs.Numbers.{OnlyBy}
 use Rattle.theorems.specs.OverC.{componentsAnswered, splicesWords, wordsMadeAt}
 use Rattle.theorems.specs.Rows.{Holds, rows}
@@ -107,6 +107,7 @@ use Rattle.theorems.proofs.Tolerated as tolerated
 use Rattle.theorems.proofs.Whole as whole-runs
 use Rattle.theorems.proofs.Worked as worked
 use Rattle.theorems.proofs.Writable as writable
+use Rattle.theorems.proofs.WritableCommands as writable-commands
 use Rattle.theorems.proofs.WrittenBack as written-back
 
 -- ---- acceptance
@@ -303,6 +304,11 @@ a-canonical-section-is-what-is-written-of-its-items s x a e c = items-written.lo
 -- it. So 33 is of no value that a reader answers.
 pub what-is-read-can-be-written : (s : List ℕ) (x : Section) → AllBytes s → sectionOf s ≡ SectionRead.Is x → (offset : ℕ) (d : Descriptor) → stepOf (loopIn s x) offset .item ≡ Item.Is d → Writable (loopIn s x) offset d
 what-is-read-can-be-written s x a e = writable.section-written s x a
+
+-- So of its command, unless it is an insert: bytes are made, a canonical payload that reads as it
+pub what-is-read-of-a-command-can-be-written : (s : List ℕ) (x : Section) (places : List ComponentSplice) → AllBytes s → length places ≡ 255 → sectionOf s ≡ SectionRead.Is x → (kindOf (x .command) ≡ 0x05 → ⊥)
+    → (p : List ℕ) × (commandMade (x .command) places s ≡ made p) × CommandPayload (x .command) places s p
+what-is-read-of-a-command-can-be-written = writable-commands.command-written
 
 -- "reading what the writer wrote gives what it was handed": the header; the command, with its components and the bytes of its view; and the loop. And what is written is canonical.
 pub what-is-written-reads-back : (h : SpliceInfoHeader) (c : SpliceCommand) (places : List ComponentSplice) (lent loop : List ℕ) → length places ≡ 255 → countIn c ≤ 255 → AllBytes lent → AllBytes loop

@@ -112,10 +112,10 @@ module _ (s : List ℕ) where
   insert-kind event at =
       kind-then 2 (parse front (bitsOf s) at)
       (λ f at. ifFine (checkOf (f .front .«segmentation_upid» .kind) (viewed s (f .front .«segmentation_upid» .bytes))) (f .front .«segmentation_upid» .bytes)
-          (λ u. parse back (bitsOf s) at andThen λ b at. inserted event (f .front) u b))
+      (λ u. parse back (bitsOf s) at andThen λ b at. inserted event (f .front) u b))
       (λ f at. kind-fine 2 (checkOf (f .front .«segmentation_upid» .kind) (viewed s (f .front .«segmentation_upid» .bytes))) (f .front .«segmentation_upid» .bytes)
-          (λ u. parse back (bitsOf s) at andThen λ b at. inserted event (f .front) u b)
-          (λ u. kind-then 2 (parse back (bitsOf s) at) (λ b at. inserted event (f .front) u b) (λ b at. refl)))
+      (λ u. parse back (bitsOf s) at andThen λ b at. inserted event (f .front) u b)
+      (λ u. kind-then 2 (parse back (bitsOf s) at) (λ b at. inserted event (f .front) u b) (λ b at. refl)))
 
   segmentation-kind : KindIs 2 (segmentationOf s)
   unfolding segmentationOf
@@ -123,7 +123,7 @@ module _ (s : List ℕ) where
       kind-then 2 (parse head (bitsOf s) 0)
       (λ h at. pick (h .cancel) (DescriptorRead.Is (Descriptor.Segmentation (record { «segmentation_event_id» = h .event; «descriptor_detail» = SegmentationDetail.Cancel }))) (insertOf s (h .event) at))
       (λ h at. kind-pick 2 (h .cancel) (DescriptorRead.Is (Descriptor.Segmentation (record { «segmentation_event_id» = h .event; «descriptor_detail» = SegmentationDetail.Cancel }))) (insertOf s (h .event) at)
-          refl (insert-kind (h .event) at))
+      refl (insert-kind (h .event) at))
 
   -- "CUEI", and a tag of 0 to 3
   pub cuei-kind : (tag : ℕ) (d : Descriptor) → tag ≤ 3 → descriptorOf tag cuei s ≡ DescriptorRead.Is d → kindOf d ≡ tag
