@@ -28,6 +28,7 @@ pub mod WritableUpids
 pub mod WritablePayloads
 pub mod Writable
 pub mod WritableCommands
+pub mod WritableInserts
 pub mod Answers
 pub mod NumbersFit
 pub mod CommandsMade

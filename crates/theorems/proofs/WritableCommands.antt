@@ -51,7 +51,7 @@ of-another-type SpliceCommand.BandwidthReservation n = tt
 of-another-type (SpliceCommand.PrivateCommand p) n = tt
 
 module _ (s : List ℕ) where
-  not-immediate : (at : ℕ) (t : SpliceTime) (m : ℕ) → parse spliceTime (bitsOf s) at ≡ got t m → notImmediate t ≡ true
+  pub not-immediate : (at : ℕ) (t : SpliceTime) (m : ℕ) → parse spliceTime (bitsOf s) at ≡ got t m → notImmediate t ≡ true
   unfolding spliceTime
   not-immediate at t m e = go (eqb (field (bitsOf s) at 1) 1) (reads-flag s at _ _ t m e .1)
     where

@@ -62,7 +62,7 @@ counted-is x h =
     ap (λ (cs : List ComponentSplice). record { value = x .value; components = cs })
     (take-at (x .components) (replicate (255 - length (x .components)) blank) _ h)
 
-components-are : (p : List ℕ) (x : WithComponents Insertion) (m : ℕ) → parse insert (bitsOf p) 0 ≡ got x m → componentsOf p ≡ array (x .components)
+pub components-are : (p : List ℕ) (x : WithComponents Insertion) (m : ℕ) → parse insert (bitsOf p) 0 ≡ got x m → componentsOf p ≡ array (x .components)
 unfolding componentsOf
 components-are p x m e = rw e
 
