@@ -13,6 +13,7 @@ use Rattle.command.specs.declared.CommandRead.{CommandRead}
 use Rattle.command.specs.declared.SpliceCommand.{SpliceCommand}
 use Rattle.command.specs.declared.components.ComponentSplice.{ComponentSplice}
 use Rattle.command.specs.declared.insert.Insert.{Insert}
+use Rattle.command.specs.declared.insert.Insertion.{Insertion}
 use Rattle.command.specs.declared.insert.SpliceInsert.{SpliceInsert}
 use Rattle.command_measure.specs.Made.{commandMade}
 use Rattle.crc.specs.Crc.{crcOf}
@@ -107,7 +108,7 @@ use Rattle.theorems.proofs.Tolerated as tolerated
 use Rattle.theorems.proofs.Whole as whole-runs
 use Rattle.theorems.proofs.Worked as worked
 use Rattle.theorems.proofs.Writable as writable
-use Rattle.theorems.proofs.WritableCommands as writable-commands
+use Rattle.theorems.proofs.WritableInserts as writable-inserts
 use Rattle.theorems.proofs.WrittenBack as written-back
 
 -- ---- acceptance
@@ -305,10 +306,10 @@ a-canonical-section-is-what-is-written-of-its-items s x a e c = items-written.lo
 pub what-is-read-can-be-written : (s : List ℕ) (x : Section) → AllBytes s → sectionOf s ≡ SectionRead.Is x → (offset : ℕ) (d : Descriptor) → stepOf (loopIn s x) offset .item ≡ Item.Is d → Writable (loopIn s x) offset d
 what-is-read-can-be-written s x a e = writable.section-written s x a
 
--- So of its command, unless it is an insert: bytes are made, a canonical payload that reads as it
-pub what-is-read-of-a-command-can-be-written : (s : List ℕ) (x : Section) (places : List ComponentSplice) → AllBytes s → length places ≡ 255 → sectionOf s ≡ SectionRead.Is x → (kindOf (x .command) ≡ 0x05 → ⊥)
-    → (p : List ℕ) × (commandMade (x .command) places s ≡ made p) × CommandPayload (x .command) places s p
-what-is-read-of-a-command-can-be-written = writable-commands.command-written
+-- So of its command with what stands beside it, but for "insert reserved other than 127": bytes are made, a canonical payload that reads as it
+pub what-is-read-of-a-command-can-be-written : (s : List ℕ) (x : Section) → AllBytes s → sectionOf s ≡ SectionRead.Is x → ((i : Insertion) → x .command ≡ SpliceCommand.SpliceInsert i → i .reserved ≡ 127)
+    → (p : List ℕ) × (commandMade (x .command) (componentsOf (commandBytes s)) s ≡ made p) × CommandPayload (x .command) (componentsOf (commandBytes s)) s p
+what-is-read-of-a-command-can-be-written = writable-inserts.every-command-written
 
 -- "reading what the writer wrote gives what it was handed": the header; the command, with its components and the bytes of its view; and the loop. And what is written is canonical.
 pub what-is-written-reads-back : (h : SpliceInfoHeader) (c : SpliceCommand) (places : List ComponentSplice) (lent loop : List ℕ) → length places ≡ 255 → countIn c ≤ 255 → AllBytes lent → AllBytes loop

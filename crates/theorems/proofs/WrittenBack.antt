@@ -56,7 +56,7 @@ read-is f r x m c e g =
     cc
 
 -- the components that stand in their array are those that were read
-counted-is : (x : WithComponents Insertion) → Counted x → counted (x .value) (array (x .components)) ≡ x
+pub counted-is : (x : WithComponents Insertion) → Counted x → counted (x .value) (array (x .components)) ≡ x
 unfolding array
 counted-is x h =
     ap (λ (cs : List ComponentSplice). record { value = x .value; components = cs })
