@@ -42,3 +42,4 @@ pub mod ItemsTyped
 pub mod LoopsOverC
 pub mod SectionsOverC
 pub mod Theorems
+pub mod WritableSections

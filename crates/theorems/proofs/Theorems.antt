@@ -72,6 +72,7 @@ use Rattle.section.specs.Section.{commandType, commandBytes, commandLength, loo
 use Rattle.section.specs.declared.Section.{Section}
 use Rattle.section.specs.declared.SectionRead.{SectionRead}
 use Rattle.section_writer.specs.Canonical.{canonicalSection}
+use Rattle.section_writer.specs.Frame.{sectionLength}
 use Rattle.section_writer.specs.Writing.{kindOf, sectionMade}
 use Rattle.table.specs.Bits.{AllBytes}
 use Rattle.table.specs.Lent.{viewed}
@@ -109,6 +110,7 @@ use Rattle.theorems.proofs.Whole as whole-runs
 use Rattle.theorems.proofs.Worked as worked
 use Rattle.theorems.proofs.Writable as writable
 use Rattle.theorems.proofs.WritableInserts as writable-inserts
+use Rattle.theorems.proofs.WritableSections as writable-sections
 use Rattle.theorems.proofs.WrittenBack as written-back
 
 -- ---- acceptance
@@ -310,6 +312,13 @@ what-is-read-can-be-written s x a e = writable.section-written s x a
 pub what-is-read-of-a-command-can-be-written : (s : List ℕ) (x : Section) → AllBytes s → sectionOf s ≡ SectionRead.Is x → ((i : Insertion) → x .command ≡ SpliceCommand.SpliceInsert i → i .reserved ≡ 127)
     → (p : List ℕ) × (commandMade (x .command) (componentsOf (commandBytes s)) s ≡ made p) × CommandPayload (x .command) (componentsOf (commandBytes s)) s p
 what-is-read-of-a-command-can-be-written = writable-inserts.every-command-written
+
+-- So of a section: its header and its command, around any canonical loop with which it is no longer than a section can be (34), are made a canonical section that reads as these
+pub what-is-read-of-a-section-can-be-written : (s : List ℕ) (x : Section) → AllBytes s → sectionOf s ≡ SectionRead.Is x → ((i : Insertion) → x .command ≡ SpliceCommand.SpliceInsert i → i .reserved ≡ 127)
+    → (loop : List ℕ) → AllBytes loop → canonicalLoop loop ≡ true → ((p : List ℕ) → commandMade (x .command) (componentsOf (commandBytes s)) s ≡ made p → sectionLength (length p) (length loop) ≤ 4096)
+    → (b : List ℕ) × (sectionMade (x .header) (commandMade (x .command) (componentsOf (commandBytes s)) s) (kindOf (x .command)) loop ≡ made b)
+    × SectionBytes (x .header) (x .command) (componentsOf (commandBytes s)) s loop b
+what-is-read-of-a-section-can-be-written = writable-sections.section-written
 
 -- "reading what the writer wrote gives what it was handed": the header; the command, with its components and the bytes of its view; and the loop. And what is written is canonical.
 pub what-is-written-reads-back : (h : SpliceInfoHeader) (c : SpliceCommand) (places : List ComponentSplice) (lent loop : List ℕ) → length places ≡ 255 → countIn c ≤ 255 → AllBytes lent → AllBytes loop

@@ -242,7 +242,7 @@ module _ (s : List ℕ) where
       let t : take (countIn (SpliceCommand.SpliceInsert (x .value))) (componentsOf s) ≡ x .components = ap (λ (y : WithComponents Insertion). y .components) c in
       let held : Counted (counted (x .value) (componentsOf s)) = subst Counted (sym c) h in
       let fair : fairInsert (counted (x .value) (componentsOf s)) ≡ true =
-          ap fairInsert c ∙ and-both _ _ (eq-eqb (x .value .reserved) 127 r) (all-like s (x .value .«splice_detail») (x .components) (k .detail)) in
+      ap fairInsert c ∙ and-both _ _ (eq-eqb (x .value .reserved) 127 r) (all-like s (x .value .«splice_detail») (x .components) (k .detail)) in
       fair-made (SpliceCommand.SpliceInsert (x .value)) (componentsOf s) lent held (le-leb 0 (length lent) (omega arith))
       (numbers-fit s (x .value .«splice_event_id») (x .value .reserved) (x .value .«splice_detail») (x .components) (componentsOf s) (k .event) (k .kept) (k .detail) t) fair
 
@@ -295,7 +295,7 @@ module _ (s : List ℕ) (x : Section) (a : AllBytes s) (e : sectionOf s ≡ Sect
       let same : SpliceCommand.SpliceInsert (t .0 .value) ≡ x .command = ap SpliceCommand.SpliceInsert (t .3) ∙ sym c in
       let w : commandMade (x .command) places s ≡ made (m .0) = ap (λ (d : SpliceCommand). commandMade d places s) (sym same) ∙ m .1 in
       let n : countIn (x .command) ≤ 255 =
-          subst (λ (d : SpliceCommand). countIn d ≤ 255) same (counts-few (commandBytes s) (t .0) (t .1) (t .2)) in
+      subst (λ (d : SpliceCommand). countIn d ≤ 255) same (counts-few (commandBytes s) (t .0) (t .1) (t .2)) in
       (m .0, w, payload-made (x .command) places s (m .0) (places-255 (commandBytes s)) n a w)
 
   -- every command but an insert with other reserved bits
@@ -309,3 +309,17 @@ module _ (s : List ℕ) (x : Section) (a : AllBytes s) (e : sectionOf s ≡ Sect
       go (SpliceCommand.TimeSignal t) f m = others (λ k. eqb-false 6 5 refl (ap kindOf (sym m) ∙ k))
       go SpliceCommand.BandwidthReservation f m = others (λ k. eqb-false 7 5 refl (ap kindOf (sym m) ∙ k))
       go (SpliceCommand.PrivateCommand p) f m = others (λ k. eqb-false 0xff 5 refl (ap kindOf (sym m) ∙ k))
+
+  -- it counts no more components than a byte says
+  pub count-byte : countIn (x .command) ≤ 255
+  unfolding moved
+  count-byte = go (laid s x e .read) (laid s x e .from) (laid s x e .command)
+    where
+      go : (c : SpliceCommand) → commandOf (commandType s) (commandBytes s) ≡ CommandRead.Is c → x .command ≡ moved 14 c → countIn (x .command) ≤ 255
+      go SpliceCommand.SpliceNull f m = rw m (omega arith)
+      go (SpliceCommand.SpliceInsert i) f m =
+          let t : FromTable (commandBytes s) (CommandRead.Is (SpliceCommand.SpliceInsert i)) = rw f at (from-table (commandBytes s) (commandType s)) in
+          subst (λ (d : SpliceCommand). countIn d ≤ 255) (ap SpliceCommand.SpliceInsert (t .3) ∙ sym m) (counts-few (commandBytes s) (t .0) (t .1) (t .2))
+      go (SpliceCommand.TimeSignal t) f m = rw m (omega arith)
+      go SpliceCommand.BandwidthReservation f m = rw m (omega arith)
+      go (SpliceCommand.PrivateCommand p) f m = rw m (omega arith)
