@@ -21,6 +21,7 @@ use Rattle.names.specs.Flags.{Answer, networkOf, returnOf, restrictionsOf}
 use Rattle.section.specs.Section.{sectionOf}
 use Rattle.section.specs.declared.Section.{Section}
 use Rattle.section.specs.declared.SectionRead.{SectionRead}
+use Rattle.section_writer.specs.Canonical.{canonicalSection}
 use Rattle.table.specs.Bits.{bitsOf, field}
 use Rattle.theorems.specs.Same.{SameSections}
 use Rattle.theorems.specs.Sections.{EmptyCommand, Identified}
@@ -30,7 +31,7 @@ use Rattle.upid.specs.Upid.{checkOf}
 use Rattle.upid.specs.declared.Refusal.{Refusal}
 use Rattle.upid.specs.declared.UpidRead.{UpidRead}
 use Rattle.theorems_rows.specs.Refusals.{StepRefused, UpidRefused, kindOf, fixedLengths, texts, plainLengths}
-use Rattle.theorems_rows.specs.Sections.{eighteen, nineteen, insertSection, otherInsertSection, everyIdentifier}
+use Rattle.theorems_rows.specs.Sections.{eighteen, nineteen, insertSection, otherInsertSection, everyIdentifier, everyDescriptor}
 use Rattle.theorems_rows.proofs.Refusals as refusals
 use Rattle.theorems_rows.proofs.Worked as worked
 
@@ -57,6 +58,10 @@ all-identifiers-of-a-section = worked.every-identifier
 pub two-sections-with-equal-readings : (x : Section) × (y : Section) × (sectionOf insertSection ≡ SectionRead.Is x) × (sectionOf otherInsertSection ≡ SectionRead.Is y)
     × SameSections insertSection x otherInsertSection y × (insertSection ≡ otherInsertSection → ⊥)
 two-sections-with-equal-readings = (worked.insertReading, worked.insertReading, worked.insert-read, worked.other-insert-read, worked.same-insert, worked.other-bytes)
+
+-- there is a canonical section with an insert by components and every kind of descriptor
+pub a-canonical-section-with-every-descriptor : canonicalSection everyDescriptor ≡ true
+a-canonical-section-with-every-descriptor = worked.every-descriptor-canonical
 
 -- ---- 5: "a header alone under 11, its only refusal"
 

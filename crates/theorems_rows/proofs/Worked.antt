@@ -12,9 +12,13 @@ use Rattle.command.specs.declared.insert.SpliceInsert.{SpliceInsert}
 use Rattle.command.specs.declared.insert.SpliceMode.{SpliceMode}
 use Rattle.command.specs.declared.insert.Break.{Break}
 use Rattle.names.specs.declared.flags.NetworkIndicator.{NetworkIndicator}
+use Rattle.canonical_command.specs.Canonical.{canonicalCommand}
+use Rattle.descriptor.specs.Segmentation as segment
+use Rattle.descriptor_form.specs.Canonical.{canonicalUpid, canonicalSegmentation, canonicalPayload, canonicalDescriptor, canonicalFrom, canonicalLoop}
+use Rattle.section_writer.specs.Canonical.{canonicalFrame, canonicalSection}
 use Rattle.crc.specs.Crc.{crcOf, crcBits, crcBit}
 use Rattle.descriptor.specs.Descriptor.{descriptorOf, isCuei, segmentationOf, insertOf, inserted, dtmfOf, reservedOf}
-use Rattle.descriptor.specs.Plain.{dtmf, privateBytes}
+use Rattle.descriptor.specs.Plain.{avail, dtmf, time, privateBytes}
 use Rattle.descriptor.specs.Segmentation.{deliveryRestrictions, mode, duration, writtenUpid, parts, front, subSegments, back, head, segmentation}
 use Rattle.descriptor.specs.Whole.{besideOf, besideIn, filled}
 use Rattle.header.specs.Header.{headerOf, headerRead, spliceHeader}
@@ -23,17 +27,17 @@ use Rattle.items.specs.Items.{readAt, wholeAt, stepOf, itemsFrom, itemsOf}
 use Rattle.loop_laws.specs.Loops.Pairs.{over}
 use Rattle.names.specs.Algorithm.{algorithmOf}
 use Rattle.names.specs.Command as names
-use Rattle.section.specs.Section.{commandLength, commandType, commandBytes, roomAfter, loopLength, loopPlace, frameIn, moved, movedRead, accepted, frameOf, sectionOf}
+use Rattle.section.specs.Section.{commandLength, commandType, commandBytes, roomAfter, loopLength, loopPlace, frameIn, moved, movedRead, accepted, frameOf, sectionOf, numberOf}
 use Rattle.section.specs.declared.Section.{Section}
 use Rattle.section.specs.declared.SectionRead.{SectionRead}
 use Rattle.table.specs.Lent.{viewed}
-use Rattle.table.specs.Table.{number, bit, reserved, part, remaining, list}
+use Rattle.table.specs.Table.{number, bit, reserved, part, remaining, list, canonicalBy}
 use Rattle.theorems.specs.Identifiers.{identifiersOf}
 use Rattle.theorems.specs.Same.{SameSections}
 use Rattle.theorems.specs.Sections.{EmptyCommand, Identified}
 use Rattle.upid.specs.Text.{textOf, done, step, within}
 use Rattle.upid.specs.Upid.{upidOf, checkOf, readOf, walkOf, _then_, plainOf, lengthOf, isText, reportedOf, listOf, partsOf, listed, unlessRefused, eidrOf}
-use Rattle.theorems_rows.specs.Sections.{eighteen, nineteen, insertSection, otherInsertSection, everyIdentifier}
+use Rattle.theorems_rows.specs.Sections.{eighteen, nineteen, insertSection, otherInsertSection, everyIdentifier, everyDescriptor}
 
 pub eighteen-is-one : EmptyCommand eighteen × (length eighteen ≡ 18)
 unfolding crcOf crcBits crcBit commandLength
@@ -125,3 +129,8 @@ same-insert = record {
 
 pub other-bytes : insertSection ≡ otherInsertSection → ⊥
 other-bytes e = eqb-false 0x0F 0x1F refl (ap (λ (l : List ℕ). getD l 19 0) e)
+
+-- ---- a canonical section with every kind of descriptor
+pub every-descriptor-canonical : canonicalSection everyDescriptor ≡ true
+unfolding everyDescriptor canonicalSection canonicalFrame canonicalCommand canonicalLoop canonicalFrom canonicalDescriptor canonicalPayload canonicalSegmentation canonicalBy canonicalUpid numberOf sectionOf frameOf frameIn accepted movedRead moved commandLength commandType commandBytes roomAfter loopLength loopPlace crcOf crcBits crcBit headerOf headerRead spliceHeader spliceTime commandOf insert active moded ending breakDuration timeUnless component isCuei avail dtmf time privateBytes segmentation head front parts deliveryRestrictions mode segment.component duration writtenUpid back subSegments number bit reserved part remaining list viewed checkOf readOf walkOf _then_ plainOf lengthOf isText reportedOf textOf done step within
+every-descriptor-canonical = refl
