@@ -1,6 +1,6 @@
 // A section: header, command, and where its descriptor loop and its command's payload lie.
 ghost use mathlib.Core.Path.{_≡_};
-ghost use Rattle.section.specs.Section.{numberOf, sectionOf};
+ghost use Rattle.section.specs.Section.{sectionOf};
 ghost use Rattle.section.specs.declared.SectionRead.{SectionRead};
 ghost use Rattle.flat.specs.FlatSection.{flatSectionRead, flatParts};
 use crate::FlatView;
@@ -28,31 +28,12 @@ pub struct FlatSection {
     pub payload: FlatView,
 }
 
-// Document 01's number.
-fn number(r: Refusal) -> u64
-    ensures { λ x. ⌜ x ≡ numberOf (SectionRead.Refused r) ⌝ }
-{
-    match r {
-        Refusal::TooShort => 1,
-        Refusal::TooLong => 2,
-        Refusal::OtherTable => 3,
-        Refusal::WrongCrc => 4,
-        Refusal::NoHeader => 5,
-        Refusal::Encrypted => 6,
-        Refusal::CommandTooLong => 7,
-        Refusal::NoLoopLength => 8,
-        Refusal::LoopTooLong => 9,
-        Refusal::UnknownCommand => 10,
-        Refusal::MalformedCommand => 11,
-    }
-}
-
 // A refused section: its number alone.
 fn no_section(r: Refusal) -> FlatSection
     ensures { λ x. ⌜ x ≡ flatSectionRead (SectionRead.Refused r) ⌝ }
 {
     FlatSection {
-        refusal: number(r),
+        refusal: r.number() as u64,
         header: no_header(0),
         command: no_command(0, 0),
         descriptors: FlatView { at: 0, len: 0 },

@@ -2,7 +2,8 @@
 ghost use mathlib.Core.Path.{_≡_};
 ghost use Prim.Native.Nat.{_+_, _*_, _<_, _≤_};
 ghost use lib.ListN.{length};
-ghost use Rattle.section.specs.Section.{commandLength, commandType, commandBytes, frameIn, moved, movedRead, accepted, frameOf, sectionOf, privateView};
+ghost use Rattle.section.specs.Section.{commandLength, commandType, commandBytes, frameIn, moved, movedRead, accepted, frameOf, sectionOf, numberOf, privateView};
+ghost use Rattle.section.specs.declared.SectionRead.{SectionRead};
 ghost use Rattle.table.specs.Lent.{viewed};
 ghost use Rattle.section.specs.Walk.{viewStart, layoutOf};
 ghost use Rattle.table.specs.Bits.{bitsOf, field};
@@ -44,6 +45,27 @@ pub enum Refusal {
     LoopTooLong,
     UnknownCommand,
     MalformedCommand,
+}
+
+impl Refusal {
+    // Document 01's number.
+    pub fn number(self) -> u8
+        ensures { λ x. ⌜ x ≡ numberOf (SectionRead.Refused self) ⌝ }
+    {
+        match self {
+            Refusal::TooShort => 1,
+            Refusal::TooLong => 2,
+            Refusal::OtherTable => 3,
+            Refusal::WrongCrc => 4,
+            Refusal::NoHeader => 5,
+            Refusal::Encrypted => 6,
+            Refusal::CommandTooLong => 7,
+            Refusal::NoLoopLength => 8,
+            Refusal::LoopTooLong => 9,
+            Refusal::UnknownCommand => 10,
+            Refusal::MalformedCommand => 11,
+        }
+    }
 }
 
 // Where the two parts lie whose lengths a section says: the command's payload, and the loop.
