@@ -45,7 +45,6 @@ use section::FrameRead;
 use section::Refusal;
 use section::read_command_part;
 use section::read_frame;
-use table::numbers::wide;
 use upid::read_upid;
 
 pub mod abi;
@@ -87,10 +86,6 @@ pub extern "C" fn scte35_read_section(s: &[u8], at: usize) -> FlatSection
     };
     let header = read_flat_header(&t[3..]);
     let payload = frame.command;
-    // A null, a channel's heartbeat: nothing is left to read. Its type and its length are 0 where their sum is.
-    if payload.len as u64 + wide(t[13]) == 0 {
-        return flat_parts(header, SpliceCommand::SpliceNull, frame);
-    }
     let end = 14 + payload.len;
     match read_command_part(t[13], &t[14..end]) {
         CommandRead::Is(command) => match command {

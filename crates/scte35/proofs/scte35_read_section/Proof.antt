@@ -1,31 +1,15 @@
 -- `scte35::scte35_read_section`: what is built in each arm is the flat form of the section's reading.
-use Prim.Native.Nat.{ℕ, _+_, _-_}
+use Prim.Native.Nat.{ℕ}
 use mathlib.Core.List.{List}
-use mathlib.Core.Path.{_≡_, refl, ap, sym, _∙_}
+use mathlib.Core.Path.{_≡_, ap, sym, _∙_}
 use native.Mathlib.Omega.{arith}
-use lib.ListN.{length, getD, take, drop}
 use borrow.Author.Needs.{needs}
-use Rattle.command.specs.Command.{commandOf}
-use Rattle.command.specs.declared.CommandRead.{CommandRead}
-use Rattle.command.specs.declared.SpliceCommand.{SpliceCommand}
-use Rattle.command.proofs.Payloads.{is-empty, of-null}
 use Rattle.flat.specs.FlatSection.{flatSectionRead}
 use Rattle.flat.proofs.FlatSections.{of-kind, flat-is}
-use Rattle.section.specs.Section.{moved, movedRead, sectionOf}
-use Rattle.section.specs.declared.Frame.{Frame}
-use Rattle.section.proofs.Framing.{framed, is-refused, is-moved}
+use Rattle.section.specs.Section.{sectionOf}
+use Rattle.section.proofs.Framing.{Framed, framed, is-refused}
 use Rattle.scte35.proofs.scte35_read_section.Statement.{statement}
 use Rattle.scte35.proofs.scte35_read_section.Tie as tie
-
--- type 0 and no payload: a null
-a-null : (s : List ℕ) (p : Frame) → p .command .len + getD s 13 0 ≡ 0
-    → CommandRead.Is SpliceCommand.SpliceNull ≡ movedRead (commandOf (getD s 13 0) (take (14 + p .command .len - 14) (drop 14 s)))
-unfolding moved
-a-null s p e =
-    let m : 14 + p .command .len - 14 ≡ 0 = omega arith in
-    let bytes = take (14 + p .command .len - 14) (drop 14 s) in
-    is-moved _ SpliceCommand.SpliceNull _
-    (sym (of-null (getD s 13 0) bytes _ (omega arith) (is-empty bytes SpliceCommand.SpliceNull (ap (λ (n : ℕ). length (take n (drop 14 s))) m)))) refl
 
 rest-requires : tie.Need-rest-requires
 rest-requires c κs = search needs
@@ -71,61 +55,33 @@ part-read-flat-header-end c =
 read-flat-header-requires : tie.Need-read-flat-header-requires
 read-flat-header-requires c κs = search needs
 
-shared-slice-read-wide : tie.Need-shared-slice-read-wide
-shared-slice-read-wide c =
-    let v = c .before .before .before .before .before in
-    let f = framed _ _ (sym (v .f .given .1) ∙ v .before .before .read-frame .ensures) in
-    omega (arith, f .long)
-
-wide-requires : tie.Need-wide-requires
-wide-requires c κs = search needs
-
-add-if1 : tie.Need-add-if1
-add-if1 c =
-    let v = c .before .before .before .before .before .before in
-    let f = framed _ _ (sym (v .f .given .1) ∙ v .before .before .read-frame .ensures) in
-    omega (arith, c .wide .ensures .1, f .size, f .short, f .fits)
-
-flat-parts-requires : tie.Need-flat-parts-requires
-flat-parts-requires c κs = search needs
-
-returns-2 : tie.Need-returns-2
-returns-2 c =
-    let e = c .before in
-    let h = e .before .before .before .before in
-    let v = h .before .before .before in
-    let r = v .before .before in
-    c .flat-parts .ensures
-    ∙ flat-is _ _ (sym (v .f .given .1) ∙ r .read-frame .ensures) _ (h .read-flat-header .ensures) _ (a-null (r .before .rest .result .now) (v .f .given .0 .0) (ap (λ (k : ℕ). v .f .given .0 .0 .command .len + k) (sym (e .before .wide .ensures .0)) ∙ e .if1 .taken))
-    ∙ ap (λ (z : List ℕ). flatSectionRead (sectionOf z)) (r .before .rest .ensures)
-
 add-end : tie.Need-add-end
 add-end c =
-    let v = c .before .before .before .before .before .before .before .before in
+    let v = c .before .before .before .before .before in
     let f = framed _ _ (sym (v .f .given .1) ∙ v .before .before .read-frame .ensures) in
     omega (arith, f .size, f .short, f .fits)
 
 shared-slice-read-read-command-part : tie.Need-shared-slice-read-read-command-part
 shared-slice-read-read-command-part c =
-    let v = c .before .before .before .before .before .before .before .before .before in
+    let v = c .before .before .before .before .before .before in
     let f = framed _ _ (sym (v .f .given .1) ∙ v .before .before .read-frame .ensures) in
     omega (arith, f .size, f .long, f .fits)
 
 sub-read-command-part : tie.Need-sub-read-command-part
 sub-read-command-part c =
-    let v = c .before .before .before .before .before .before .before .before .before in
+    let v = c .before .before .before .before .before .before in
     let f = framed _ _ (sym (v .f .given .1) ∙ v .before .before .read-frame .ensures) in
     omega (arith, f .size, f .long, f .fits)
 
 part-read-command-part-start : tie.Need-part-read-command-part-start
 part-read-command-part-start c =
-    let v = c .before .before .before .before .before .before .before .before .before in
+    let v = c .before .before .before .before .before .before in
     let f = framed _ _ (sym (v .f .given .1) ∙ v .before .before .read-frame .ensures) in
     omega (arith, f .size, f .long, f .fits)
 
 part-read-command-part-end : tie.Need-part-read-command-part-end
 part-read-command-part-end c =
-    let v = c .before .before .before .before .before .before .before .before .before in
+    let v = c .before .before .before .before .before .before in
     let f = framed _ _ (sym (v .f .given .1) ∙ v .before .before .read-frame .ensures) in
     omega (arith, f .size, f .long, f .fits)
 
@@ -138,23 +94,41 @@ enum-known-command c = search needs
 enum-told : tie.Need-enum-told
 enum-told c = search needs
 
-flat-parts-requires-2 : tie.Need-flat-parts-requires-2
-flat-parts-requires-2 c κs = search needs
+flat-parts-requires : tie.Need-flat-parts-requires
+flat-parts-requires c κs = search needs
 
-returns-3 : tie.Need-returns-3
-returns-3 c =
+returns-2 : tie.Need-returns-2
+returns-2 c =
     let e = c .before in
     let x = e .before .before .before in
     let y = x .before .before in
-    let h = y .before .before .before .before .before .before .before .before in
+    let h = y .before .before .before .before .before in
     let v = h .before .before .before in
     let r = v .before .before in
-    of-kind _ _ _ _ _ (c .flat-parts2 .ensures) (e .enum-told .given .1)
+    of-kind _ _ _ _ _ (c .flat-parts .ensures) (e .enum-told .given .1)
     ∙ flat-is _ _ (sym (v .f .given .1) ∙ r .read-frame .ensures) _ (h .read-flat-header .ensures) _ (sym (x .command .given .1) ∙ y .read-command-part .ensures)
     ∙ ap (λ (z : List ℕ). flatSectionRead (sectionOf z)) (r .before .rest .ensures)
 
 enum-known-command-2 : tie.Need-enum-known-command-2
 enum-known-command-2 c = search needs
+
+flat-parts-requires-2 : tie.Need-flat-parts-requires-2
+flat-parts-requires-2 c κs = search needs
+
+returns-3 : tie.Need-returns-3
+returns-3 c =
+    let e = c .before .before in
+    let x = e .before .before .before in
+    let y = x .before .before in
+    let h = y .before .before .before .before .before in
+    let v = h .before .before .before in
+    let r = v .before .before in
+    of-kind _ _ _ _ _ (c .flat-parts2 .ensures) (e .command2 .given .1)
+    ∙ flat-is _ _ (sym (v .f .given .1) ∙ r .read-frame .ensures) _ (h .read-flat-header .ensures) _ (sym (x .command .given .1) ∙ y .read-command-part .ensures)
+    ∙ ap (λ (z : List ℕ). flatSectionRead (sectionOf z)) (r .before .rest .ensures)
+
+enum-known-command-3 : tie.Need-enum-known-command-3
+enum-known-command-3 c = search needs
 
 flat-parts-requires-3 : tie.Need-flat-parts-requires-3
 flat-parts-requires-3 c κs = search needs
@@ -164,64 +138,46 @@ returns-4 c =
     let e = c .before .before in
     let x = e .before .before .before in
     let y = x .before .before in
-    let h = y .before .before .before .before .before .before .before .before in
+    let h = y .before .before .before .before .before in
     let v = h .before .before .before in
     let r = v .before .before in
-    of-kind _ _ _ _ _ (c .flat-parts3 .ensures) (e .command2 .given .1)
-    ∙ flat-is _ _ (sym (v .f .given .1) ∙ r .read-frame .ensures) _ (h .read-flat-header .ensures) _ (sym (x .command .given .1) ∙ y .read-command-part .ensures)
-    ∙ ap (λ (z : List ℕ). flatSectionRead (sectionOf z)) (r .before .rest .ensures)
-
-enum-known-command-3 : tie.Need-enum-known-command-3
-enum-known-command-3 c = search needs
-
-flat-parts-requires-4 : tie.Need-flat-parts-requires-4
-flat-parts-requires-4 c κs = search needs
-
-returns-5 : tie.Need-returns-5
-returns-5 c =
-    let e = c .before .before in
-    let x = e .before .before .before in
-    let y = x .before .before in
-    let h = y .before .before .before .before .before .before .before .before in
-    let v = h .before .before .before in
-    let r = v .before .before in
-    of-kind _ _ _ _ _ (c .flat-parts4 .ensures) (e .command3 .given .1)
+    of-kind _ _ _ _ _ (c .flat-parts3 .ensures) (e .command3 .given .1)
     ∙ flat-is _ _ (sym (v .f .given .1) ∙ r .read-frame .ensures) _ (h .read-flat-header .ensures) _ (sym (x .command .given .1) ∙ y .read-command-part .ensures)
     ∙ ap (λ (z : List ℕ). flatSectionRead (sectionOf z)) (r .before .rest .ensures)
 
 enum-told-2 : tie.Need-enum-told-2
 enum-told-2 c = search needs
 
-flat-parts-requires-5 : tie.Need-flat-parts-requires-5
-flat-parts-requires-5 c κs = search needs
+flat-parts-requires-4 : tie.Need-flat-parts-requires-4
+flat-parts-requires-4 c κs = search needs
 
-returns-6 : tie.Need-returns-6
-returns-6 c =
+returns-5 : tie.Need-returns-5
+returns-5 c =
     let e = c .before in
     let x = e .before .before .before in
     let y = x .before .before in
-    let h = y .before .before .before .before .before .before .before .before in
+    let h = y .before .before .before .before .before in
     let v = h .before .before .before in
     let r = v .before .before in
-    of-kind _ _ _ _ _ (c .flat-parts5 .ensures) (e .enum-told2 .given .1)
+    of-kind _ _ _ _ _ (c .flat-parts4 .ensures) (e .enum-told2 .given .1)
     ∙ flat-is _ _ (sym (v .f .given .1) ∙ r .read-frame .ensures) _ (h .read-flat-header .ensures) _ (sym (x .command .given .1) ∙ y .read-command-part .ensures)
     ∙ ap (λ (z : List ℕ). flatSectionRead (sectionOf z)) (r .before .rest .ensures)
 
 enum-known-command-4 : tie.Need-enum-known-command-4
 enum-known-command-4 c = search needs
 
-flat-parts-requires-6 : tie.Need-flat-parts-requires-6
-flat-parts-requires-6 c κs = search needs
+flat-parts-requires-5 : tie.Need-flat-parts-requires-5
+flat-parts-requires-5 c κs = search needs
 
-returns-7 : tie.Need-returns-7
-returns-7 c =
+returns-6 : tie.Need-returns-6
+returns-6 c =
     let e = c .before .before in
     let x = e .before .before .before in
     let y = x .before .before in
-    let h = y .before .before .before .before .before .before .before .before in
+    let h = y .before .before .before .before .before in
     let v = h .before .before .before in
     let r = v .before .before in
-    of-kind _ _ _ _ _ (c .flat-parts6 .ensures) (e .command4 .given .1)
+    of-kind _ _ _ _ _ (c .flat-parts5 .ensures) (e .command4 .given .1)
     ∙ flat-is _ _ (sym (v .f .given .1) ∙ r .read-frame .ensures) _ (h .read-flat-header .ensures) _ (sym (x .command .given .1) ∙ y .read-command-part .ensures)
     ∙ ap (λ (z : List ℕ). flatSectionRead (sectionOf z)) (r .before .rest .ensures)
 
@@ -231,11 +187,11 @@ enum-told-3 c = search needs
 no-section-requires-2 : tie.Need-no-section-requires-2
 no-section-requires-2 c κs = search needs
 
-returns-8 : tie.Need-returns-8
-returns-8 c =
+returns-7 : tie.Need-returns-7
+returns-7 c =
     let x = c .before in
     let y = x .before .before in
-    let h = y .before .before .before .before .before .before .before .before in
+    let h = y .before .before .before .before .before in
     let v = h .before .before .before in
     let r = v .before .before in
     c .no-section2 .ensures
@@ -248,11 +204,11 @@ enum-told-4 c = search needs
 no-section-requires-3 : tie.Need-no-section-requires-3
 no-section-requires-3 c κs = search needs
 
-returns-9 : tie.Need-returns-9
-returns-9 c =
+returns-8 : tie.Need-returns-8
+returns-8 c =
     let x = c .before in
     let y = x .before .before in
-    let h = y .before .before .before .before .before .before .before .before in
+    let h = y .before .before .before .before .before in
     let v = h .before .before .before in
     let r = v .before .before in
     c .no-section3 .ensures
@@ -273,11 +229,6 @@ scte35-read-section-spec =
     part-read-flat-header-start
     part-read-flat-header-end
     read-flat-header-requires
-    shared-slice-read-wide
-    wide-requires
-    add-if1
-    flat-parts-requires
-    returns-2
     add-end
     shared-slice-read-read-command-part
     sub-read-command-part
@@ -286,23 +237,23 @@ scte35-read-section-spec =
     read-command-part-requires
     enum-known-command
     enum-told
+    flat-parts-requires
+    returns-2
+    enum-known-command-2
     flat-parts-requires-2
     returns-3
-    enum-known-command-2
+    enum-known-command-3
     flat-parts-requires-3
     returns-4
-    enum-known-command-3
+    enum-told-2
     flat-parts-requires-4
     returns-5
-    enum-told-2
+    enum-known-command-4
     flat-parts-requires-5
     returns-6
-    enum-known-command-4
-    flat-parts-requires-6
-    returns-7
     enum-told-3
     no-section-requires-2
-    returns-8
+    returns-7
     enum-told-4
     no-section-requires-3
-    returns-9)
+    returns-8)
