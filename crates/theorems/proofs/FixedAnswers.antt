@@ -25,8 +25,9 @@ use Rattle.names.specs.Upid.{fairUpidType, upidTypeNumber, upidTypeOf}
 use Rattle.names.specs.declared.flags.NetworkRead.{NetworkRead}
 use Rattle.names.specs.declared.flags.RestrictionsRead.{RestrictionsRead}
 use Rattle.names.specs.declared.flags.ReturnRead.{ReturnRead}
-use Rattle.section.specs.Section.{frameOf, movedRead, privateView, sectionOf}
+use Rattle.section.specs.Section.{frameOf, movedRead, numberOf, privateView, sectionOf}
 use Rattle.section.specs.Whole.{wholeSectionOf}
+use Rattle.section.specs.declared.SectionRead.{SectionRead}
 use Rattle.table.proofs.Lists.{zero-one}
 use Rattle.table.specs.Bits.{bigEndian, bitsOf, field}
 use Rattle.table.specs.Cursor.{flaggedOf, passedOf, place, skippedOf, takenOf}
@@ -106,6 +107,7 @@ use Rattle.command.proofs.insert.read_insert.Reads as read-insert
 use Rattle.command.proofs.components.read_components.Reads as read-components
 use Rattle.command.proofs.components.blanks.Reads as blank-components
 use Rattle.section.proofs.read_command_part.Reads as read-command-part
+use Rattle.section.proofs.Refusal.number.Reads as section-refusal-number
 use Rattle.section.proofs.read_frame.Reads as read-frame
 use Rattle.section.proofs.read_section.Reads as read-section
 use Rattle.section.proofs.loop_of.Reads as loop-of
@@ -369,6 +371,9 @@ pub blank-components-answers : Answers blank-components.Asked blank-components.L
 blank-components-answers = record { takes-any = λ κ a. tt; is = λ κ a r e l. l }
 
 -- ---- section
+
+pub section-refusal-number-answers : Answers section-refusal-number.Asked section-refusal-number.Learnt (λ κ r e. r) (λ κ a. numberOf (SectionRead.Refused (a .0)))
+section-refusal-number-answers = record { takes-any = λ κ a. tt; is = λ κ a r e l. l }
 
 pub read-frame-answers : Answers read-frame.Asked read-frame.Learnt (λ κ r e. r) (λ κ a. frameOf (now (a .0)))
 read-frame-answers = record { takes-any = λ κ a. tt; is = λ κ a r e l. l }

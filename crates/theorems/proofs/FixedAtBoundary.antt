@@ -8,7 +8,7 @@ use Rattle.crc.specs.Crc.{crcOf}
 use Rattle.descriptor_form.specs.Canonical.{canonicalDescriptor, canonicalLoop}
 use Rattle.flat.specs.Flat.{flatAdjusted, flatHeaderRead, flatView}
 use Rattle.flat.specs.FlatCommand.{flatCommandRead, flatSplices}
-use Rattle.flat.specs.FlatSection.{flatSectionRead}
+use Rattle.flat.specs.FlatSection.{flatParts, flatSectionRead}
 use Rattle.flat_item_writer.specs.ItemGiven.{descriptorRefusal, descriptorWordsMade}
 use Rattle.flat_items.specs.FlatItem.{flatBeside, flatStep}
 use Rattle.flat_items.specs.FlatUpid.{flatUpid}
@@ -27,6 +27,7 @@ use Rattle.names.specs.Upid.{upidTypeEntry, upidTypeOf}
 use Rattle.pen.specs.Written.{answerOf, laterOf}
 use Rattle.scte35.specs.FlatNumber.{flatAnswer, flatName, timeHanded}
 use Rattle.section.specs.Section.{sectionOf}
+use Rattle.section.specs.declared.SectionRead.{SectionRead}
 use Rattle.section_writer.specs.Canonical.{canonicalSection}
 use Rattle.table.specs.Table.{flagNumber}
 use Rattle.upid.specs.Upid.{upidOf}
@@ -37,7 +38,8 @@ use Rattle.flat.proofs.headers.flat_header_read.Reads as flat-header-read
 use Rattle.flat.proofs.headers.read_flat_header.Reads as read-flat-header
 use Rattle.flat.proofs.headers.flat_adjusted.Reads as flat-adjusted
 use Rattle.flat.proofs.components.flat_splices.Reads as flat-splices
-use Rattle.flat.proofs.sections.read_flat_section.Reads as read-flat-section
+use Rattle.flat.proofs.sections.no_section.Reads as no-section
+use Rattle.flat.proofs.sections.flat_parts.Reads as flat-parts
 use Rattle.flat_items.proofs.beside.flat_beside.Reads as flat-beside
 use Rattle.flat_items.proofs.upids.flat_upid.Reads as flat-upid
 use Rattle.flat_items.proofs.steps.flat_step.Reads as flat-step
@@ -104,8 +106,11 @@ flat-adjusted-answers = record { takes-any = λ κ a. tt; is = λ κ a r e l. l 
 pub flat-splices-answers : Answers flat-splices.Asked flat-splices.Learnt (λ κ r e. r) (λ κ a. flatSplices (a .0) (a .1 .0))
 flat-splices-answers = record { takes-any = λ κ a. tt; is = λ κ a r e l. l }
 
-pub read-flat-section-answers : Answers read-flat-section.Asked read-flat-section.Learnt (λ κ r e. r) (λ κ a. flatSectionRead (sectionOf (now (a .0))))
-read-flat-section-answers = record { takes-any = λ κ a. tt; is = λ κ a r e l. l }
+pub no-section-answers : Answers no-section.Asked no-section.Learnt (λ κ r e. r) (λ κ a. flatSectionRead (SectionRead.Refused (a .0)))
+no-section-answers = record { takes-any = λ κ a. tt; is = λ κ a r e l. l }
+
+pub flat-parts-answers : Answers flat-parts.Asked flat-parts.Learnt (λ κ r e. r) (λ κ a. flatParts (a .0) (a .1 .0) (a .1 .1 .0))
+flat-parts-answers = record { takes-any = λ κ a. tt; is = λ κ a r e l. l }
 
 -- ---- flat_items: those of items and UPIDs
 
