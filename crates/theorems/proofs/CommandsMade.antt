@@ -128,6 +128,33 @@ tested (SpliceCommand.PrivateCommand p) places lent h =
       is = ap₂ (λ (s w : Bool). answer s w true (bytesOf (print (contents lent fs)))) s (private-fits p);
     }
 
+-- what 33 asks of a command
+abbrev pub fairOf : SpliceCommand → List ComponentSplice → Bool
+fairOf SpliceCommand.SpliceNull places = true
+fairOf (SpliceCommand.SpliceInsert i) places = fairInsert (counted i places)
+fairOf (SpliceCommand.TimeSignal t) places = notImmediate t
+fairOf SpliceCommand.BandwidthReservation places = true
+fairOf (SpliceCommand.PrivateCommand p) places = true
+
+fair-is : (c : SpliceCommand) (places : List ComponentSplice) (lent : List ℕ) (h : Held c places) → tested c places lent h .fair ≡ fairOf c places
+unfolding tested
+fair-is SpliceCommand.SpliceNull places lent h = refl
+fair-is (SpliceCommand.SpliceInsert i) places lent h = refl
+fair-is (SpliceCommand.TimeSignal t) places lent h = refl
+fair-is SpliceCommand.BandwidthReservation places lent h = refl
+fair-is (SpliceCommand.PrivateCommand p) places lent h = refl
+
+-- where none of 31, 32, 33 applies, bytes are made
+pub fair-made : (c : SpliceCommand) (places : List ComponentSplice) (lent : List ℕ) → Held c places → liesIn lent (privateView c) ≡ true → fit (commandNumbers c places) ≡ true → fairOf c places ≡ true
+    → (p : List ℕ) × (commandMade c places lent ≡ made p)
+fair-made c places lent h l f g =
+    let t = tested c places lent h in
+    let e : t .fair ≡ true = fair-is c places lent h ∙ g in
+    (t .payload, t .is ∙ passes (liesIn lent (privateView c)) (fit (commandNumbers c places)) (t .fair) (t .payload) l f e)
+  where
+    passes : (a b c : Bool) (p : List ℕ) → a ≡ true → b ≡ true → c ≡ true → answer a b c p ≡ made p
+    passes a b c p e f g = rw (e, f, g)
+
 -- what the tests say of what is made
 answer-made : (lies fits fair : Bool) (b p : List ℕ) → answer lies fits fair b ≡ made p → (lies ≡ true) × (fits ≡ true) × (b ≡ p)
 answer-made true true true b p e = (refl, refl, cc)

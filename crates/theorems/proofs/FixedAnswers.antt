@@ -3,11 +3,38 @@
 -- target's later bytes are fixed, `put-byte`, `put-number`, `put-bytes`. The programs' `list_input` has no answer and no target, and no line: it prints.
 use mathlib.Core.Path.{_≡_, refl, sym, _∙_}
 use denote.Ref.{now}
-use Rattle.names.specs.Flags.{networkAnswer, returnAnswer, restrictionsAnswer}
+use Prim.Native.Nat.{_%_, _*_, _+_, _-_, _/_, _^_}
+use lib.ListN.{getD, length}
+use mathlib.Core.List.{[], _∷_}
+use Rattle.command.specs.Command.{array, commandOf, componentsOf}
+use Rattle.command.specs.Insert.{insert}
+use Rattle.command.specs.Walk.{insertRead}
+use Rattle.crc.specs.Crc.{crcOf}
+use Rattle.crc_table.specs.Turns.{reversed, turns}
+use Rattle.descriptor.specs.Descriptor.{availOf, descriptorOf, dtmfOf, isCuei, reservedOf, segmentationOf as descriptorSegmentationOf, timeOf}
+use Rattle.descriptor.specs.Whole.{besideOf, besideRead, blankBeside, identifierRead, wholeOf}
+use Rattle.header.specs.Header.{headerOf}
+use Rattle.header.specs.Time.{adjustedOf, spliceTime, timeRead}
+use Rattle.items.specs.Items.{countOf, readingOf, stepOf}
+use Rattle.items.specs.Place.{viewOf}
+use Rattle.names.specs.Algorithm.{algorithmNumber, algorithmOf, fairAlgorithm}
+use Rattle.names.specs.Command.{commandNumber, commandTypeOf, fairCommand}
+use Rattle.names.specs.Flags.{networkAnswer, networkFlag, networkOf, restrictionsAnswer, restrictionsBits, restrictionsOf, returnAnswer, returnFlag, returnOf}
+use Rattle.names.specs.Segmentation.{fairSegmentation, segmentationNumber, segmentationOf}
+use Rattle.names.specs.Upid.{fairUpidType, upidTypeNumber, upidTypeOf}
 use Rattle.names.specs.declared.flags.NetworkRead.{NetworkRead}
-use Rattle.names.specs.declared.flags.ReturnRead.{ReturnRead}
 use Rattle.names.specs.declared.flags.RestrictionsRead.{RestrictionsRead}
+use Rattle.names.specs.declared.flags.ReturnRead.{ReturnRead}
+use Rattle.section.specs.Section.{frameOf, movedRead, numberOf, privateView, sectionOf}
+use Rattle.section.specs.Whole.{wholeSectionOf}
+use Rattle.section.specs.declared.SectionRead.{SectionRead}
 use Rattle.table.proofs.Lists.{zero-one}
+use Rattle.table.specs.Bits.{bigEndian, bitsOf, field}
+use Rattle.table.specs.Cursor.{flaggedOf, passedOf, place, skippedOf, takenOf}
+use Rattle.table.specs.Lent.{liesIn, stored, viewed}
+use Rattle.table.specs.Table.{bit, flagNumber, number, parse, part, reserved}
+use Rattle.upid.specs.Text.{textOf}
+use Rattle.upid.specs.Upid.{checkOf, eidrOf, partView, upidOf}
 use Rattle.crc.proofs.crc32.Reads as crc32
 use Rattle.crc.proofs.crc32_plain.Reads as crc32-plain
 use Rattle.crc_table.proofs.reverse.Reads as reverse
@@ -86,22 +113,29 @@ use Rattle.section.proofs.read_section.Reads as read-section
 use Rattle.section.proofs.loop_of.Reads as loop-of
 use Rattle.section.proofs.private_bytes_of.Reads as private-bytes-of
 use Rattle.section.proofs.whole.read_whole_section.Reads as read-whole-section
-use Rattle.theorems.specs.FixedAnswers.{Fixed, FixedIn}
+use Rattle.theorems.specs.FixedAnswers.{Answers, FixedIn}
+
+-- ---- what the lines say
+
+-- whatever has such a line has one answer: any two that its contract allows are seen to be the same
+pub answers-are-one : {K : Type 0} {A R E : K → Type 0} {asked : (κ : K) → A κ → Type 0} {learnt : (κ : K) → A κ → R κ → E κ → Type 0} {S : Type 0} {see : (κ : K) → R κ → E κ → S} {by : (κ : K) → A κ → S}
+    → Answers asked learnt see by → FixedIn asked learnt see
+answers-are-one h = record { takes-any = h .takes-any; seen = λ κ a x y e f p q. h .is κ a x e p ∙ sym (h .is κ a y f q) }
 
 -- ---- an answer is known by what it tells
-network-told : (x y : NetworkRead) → networkAnswer x ≡ networkAnswer y → x ≡ y
+pub network-told : (x y : NetworkRead) → networkAnswer x ≡ networkAnswer y → x ≡ y
 network-told (NetworkRead.Is a) (NetworkRead.Is b) e = cc
 network-told (NetworkRead.Is a) NetworkRead.Refused e = zero-one cc
 network-told NetworkRead.Refused (NetworkRead.Is b) e = zero-one cc
 network-told NetworkRead.Refused NetworkRead.Refused e = refl
 
-return-told : (x y : ReturnRead) → returnAnswer x ≡ returnAnswer y → x ≡ y
+pub return-told : (x y : ReturnRead) → returnAnswer x ≡ returnAnswer y → x ≡ y
 return-told (ReturnRead.Is a) (ReturnRead.Is b) e = cc
 return-told (ReturnRead.Is a) ReturnRead.Refused e = zero-one cc
 return-told ReturnRead.Refused (ReturnRead.Is b) e = zero-one cc
 return-told ReturnRead.Refused ReturnRead.Refused e = refl
 
-restrictions-told : (x y : RestrictionsRead) → restrictionsAnswer x ≡ restrictionsAnswer y → x ≡ y
+pub restrictions-told : (x y : RestrictionsRead) → restrictionsAnswer x ≡ restrictionsAnswer y → x ≡ y
 restrictions-told (RestrictionsRead.Is a) (RestrictionsRead.Is b) e = cc
 restrictions-told (RestrictionsRead.Is a) RestrictionsRead.Refused e = zero-one cc
 restrictions-told RestrictionsRead.Refused (RestrictionsRead.Is b) e = zero-one cc
@@ -109,252 +143,252 @@ restrictions-told RestrictionsRead.Refused RestrictionsRead.Refused e = refl
 
 -- ---- crc, crc_table
 
-pub crc32-is-fixed : Fixed crc32.Asked crc32.Learnt
-crc32-is-fixed = record { takes-any = λ κ a. tt; one-answer = λ κ a x y e f p q. p ∙ sym q }
+pub crc32-answers : Answers crc32.Asked crc32.Learnt (λ κ r e. r) (λ κ a. crcOf (now (a .0)))
+crc32-answers = record { takes-any = λ κ a. tt; is = λ κ a r e l. l }
 
-pub crc32-plain-is-fixed : Fixed crc32-plain.Asked crc32-plain.Learnt
-crc32-plain-is-fixed = record { takes-any = λ κ a. tt; one-answer = λ κ a x y e f p q. p ∙ sym q }
+pub crc32-plain-answers : Answers crc32-plain.Asked crc32-plain.Learnt (λ κ r e. r) (λ κ a. crcOf (now (a .0)))
+crc32-plain-answers = record { takes-any = λ κ a. tt; is = λ κ a r e l. l }
 
-pub reverse-is-fixed : Fixed reverse.Asked reverse.Learnt
-reverse-is-fixed = record { takes-any = λ κ a. tt; one-answer = λ κ a x y e f p q. p ∙ sym q }
+pub reverse-answers : Answers reverse.Asked reverse.Learnt (λ κ r e. r) (λ κ a. reversed (a .0))
+reverse-answers = record { takes-any = λ κ a. tt; is = λ κ a r e l. l }
 
-pub turned-56-is-fixed : Fixed turned-56.Asked turned-56.Learnt
-turned-56-is-fixed = record { takes-any = λ κ a. tt; one-answer = λ κ a x y e f p q. p ∙ sym q }
+pub turned-56-answers : Answers turned-56.Asked turned-56.Learnt (λ κ r e. r) (λ κ a. reversed (turns 56 ((a .0) % 256)))
+turned-56-answers = record { takes-any = λ κ a. tt; is = λ κ a r e l. l }
 
-pub turned-48-is-fixed : Fixed turned-48.Asked turned-48.Learnt
-turned-48-is-fixed = record { takes-any = λ κ a. tt; one-answer = λ κ a x y e f p q. p ∙ sym q }
+pub turned-48-answers : Answers turned-48.Asked turned-48.Learnt (λ κ r e. r) (λ κ a. reversed (turns 48 ((a .0) % 256)))
+turned-48-answers = record { takes-any = λ κ a. tt; is = λ κ a r e l. l }
 
-pub turned-40-is-fixed : Fixed turned-40.Asked turned-40.Learnt
-turned-40-is-fixed = record { takes-any = λ κ a. tt; one-answer = λ κ a x y e f p q. p ∙ sym q }
+pub turned-40-answers : Answers turned-40.Asked turned-40.Learnt (λ κ r e. r) (λ κ a. reversed (turns 40 ((a .0) % 256)))
+turned-40-answers = record { takes-any = λ κ a. tt; is = λ κ a r e l. l }
 
-pub turned-32-is-fixed : Fixed turned-32.Asked turned-32.Learnt
-turned-32-is-fixed = record { takes-any = λ κ a. tt; one-answer = λ κ a x y e f p q. p ∙ sym q }
+pub turned-32-answers : Answers turned-32.Asked turned-32.Learnt (λ κ r e. r) (λ κ a. reversed (turns 32 ((a .0) % 256)))
+turned-32-answers = record { takes-any = λ κ a. tt; is = λ κ a r e l. l }
 
 -- ---- table
 
-pub wide-is-fixed : Fixed wide.Asked wide.Learnt
-wide-is-fixed = record { takes-any = λ κ a. tt; one-answer = λ κ a x y e f p q. p .0 ∙ sym (q .0) }
+pub wide-answers : Answers wide.Asked wide.Learnt (λ κ r e. r) (λ κ a. (a .0))
+wide-answers = record { takes-any = λ κ a. tt; is = λ κ a r e l. l .0 }
 
-pub flag-number-is-fixed : Fixed flag-number.Asked flag-number.Learnt
-flag-number-is-fixed = record { takes-any = λ κ a. tt; one-answer = λ κ a x y e f p q. p .0 ∙ sym (q .0) }
+pub flag-number-answers : Answers flag-number.Asked flag-number.Learnt (λ κ r e. r) (λ κ a. flagNumber (a .0))
+flag-number-answers = record { takes-any = λ κ a. tt; is = λ κ a r e l. l .0 }
 
-pub byte-is-fixed : Fixed byte.Asked byte.Learnt
-byte-is-fixed = record { takes-any = λ κ a. tt; one-answer = λ κ a x y e f p q. p ∙ sym q }
+pub byte-answers : Answers byte.Asked byte.Learnt (λ κ r e. r) (λ κ a. getD (now (a .0)) (a .1 .0) 0)
+byte-answers = record { takes-any = λ κ a. tt; is = λ κ a r e l. l }
 
-pub bits-is-fixed : Fixed bits.Asked bits.Learnt
-bits-is-fixed = record { takes-any = λ κ a. tt; one-answer = λ κ a x y e f p q. p ∙ sym q }
+pub bits-answers : Answers bits.Asked bits.Learnt (λ κ r e. r) (λ κ a. field (bitsOf (now (a .0))) ((a .1 .0) * 8 + (a .1 .1 .0)) (a .1 .1 .1 .0) % 2 ^ 64)
+bits-answers = record { takes-any = λ κ a. tt; is = λ κ a r e l. l }
 
-pub big-endian-is-fixed : Fixed big-endian.Asked big-endian.Learnt
-big-endian-is-fixed = record { takes-any = λ κ a. tt; one-answer = λ κ a x y e f p q. p ∙ sym q }
+pub big-endian-answers : Answers big-endian.Asked big-endian.Learnt (λ κ r e. r) (λ κ a. field (bitsOf (now (a .0))) ((a .1 .0) * 8) ((a .1 .1 .0) * 8) % 2 ^ 64)
+big-endian-answers = record { takes-any = λ κ a. tt; is = λ κ a r e l. l }
 
-pub time33-is-fixed : Fixed time33.Asked time33.Learnt
-time33-is-fixed = record { takes-any = λ κ a. tt; one-answer = λ κ a x y e f p q. p ∙ sym q }
+pub time33-answers : Answers time33.Asked time33.Learnt (λ κ r e. r) (λ κ a. field (bitsOf (now (a .0))) ((a .1 .0) * 8 + 7) 33)
+time33-answers = record { takes-any = λ κ a. tt; is = λ κ a r e l. l }
 
-pub lies-in-is-fixed : Fixed lies-in.Asked lies-in.Learnt
-lies-in-is-fixed = record { takes-any = λ κ a. tt; one-answer = λ κ a x y e f p q. p ∙ sym q }
+pub lies-in-answers : Answers lies-in.Asked lies-in.Learnt (λ κ r e. r) (λ κ a. liesIn (now (a .0)) (a .1 .0))
+lies-in-answers = record { takes-any = λ κ a. tt; is = λ κ a r e l. l }
 
-pub view-is-fixed : FixedIn view.Asked view.Learnt (λ κ answer after. now answer)
-view-is-fixed = record { takes-any = λ κ a. tt; seen = λ κ a x y e f p q. p ∙ sym q }
+pub view-answers : Answers view.Asked view.Learnt (λ κ r e. now r) (λ κ a. viewed (now (a .0)) (a .1 .0))
+view-answers = record { takes-any = λ κ a. tt; is = λ κ a r e l. l }
 
-pub cursor-left-is-fixed : Fixed cursor-left.Asked cursor-left.Learnt
-cursor-left-is-fixed = record { takes-any = λ κ a. tt; one-answer = λ κ a x y e f p q. p ∙ sym q }
+pub cursor-left-answers : Answers cursor-left.Asked cursor-left.Learnt (λ κ r e. r) (λ κ a. (length (now (a .1 .0)) * 8 - place (a .0)) / 8)
+cursor-left-answers = record { takes-any = λ κ a. tt; is = λ κ a r e l. l }
 
-pub cursor-take-is-fixed : Fixed cursor-take.Asked cursor-take.Learnt
-cursor-take-is-fixed = record { takes-any = λ κ a. tt; one-answer = λ κ a x y e f p q. p ∙ sym q }
+pub cursor-take-answers : Answers cursor-take.Asked cursor-take.Learnt (λ κ r e. r) (λ κ a. takenOf (parse (number (a .1 .1 .0)) (bitsOf (now (a .1 .0))) (place (a .0))))
+cursor-take-answers = record { takes-any = λ κ a. tt; is = λ κ a r e l. l }
 
-pub cursor-flag-is-fixed : Fixed cursor-flag.Asked cursor-flag.Learnt
-cursor-flag-is-fixed = record { takes-any = λ κ a. tt; one-answer = λ κ a x y e f p q. p ∙ sym q }
+pub cursor-flag-answers : Answers cursor-flag.Asked cursor-flag.Learnt (λ κ r e. r) (λ κ a. flaggedOf (parse bit (bitsOf (now (a .1 .0))) (place (a .0))))
+cursor-flag-answers = record { takes-any = λ κ a. tt; is = λ κ a r e l. l }
 
-pub cursor-skip-is-fixed : Fixed cursor-skip.Asked cursor-skip.Learnt
-cursor-skip-is-fixed = record { takes-any = λ κ a. tt; one-answer = λ κ a x y e f p q. p ∙ sym q }
+pub cursor-skip-answers : Answers cursor-skip.Asked cursor-skip.Learnt (λ κ r e. r) (λ κ a. skippedOf (parse (reserved (a .1 .1 .0)) (bitsOf (now (a .1 .0))) (place (a .0))))
+cursor-skip-answers = record { takes-any = λ κ a. tt; is = λ κ a r e l. l }
 
-pub cursor-pass-is-fixed : Fixed cursor-pass.Asked cursor-pass.Learnt
-cursor-pass-is-fixed = record { takes-any = λ κ a. tt; one-answer = λ κ a x y e f p q. p ∙ sym q }
+pub cursor-pass-answers : Answers cursor-pass.Asked cursor-pass.Learnt (λ κ r e. r) (λ κ a. passedOf (parse (part (a .1 .1 .0)) (bitsOf (now (a .1 .0))) (place (a .0))))
+cursor-pass-answers = record { takes-any = λ κ a. tt; is = λ κ a r e l. l }
 
-pub put-byte-fixes-the-target : FixedIn put-byte.Asked put-byte.Learnt (λ κ answer after. now (after .0))
-put-byte-fixes-the-target = record { takes-any = λ κ a. tt; seen = λ κ a x y e f p q. p ∙ sym q }
+pub put-byte-leaves : Answers put-byte.Asked put-byte.Learnt (λ κ r e. now (e .0)) (λ κ a. stored (now (a .0)) (a .1 .0) ((a .1 .1 .0) ∷ []))
+put-byte-leaves = record { takes-any = λ κ a. tt; is = λ κ a r e l. l }
 
-pub put-number-fixes-the-target : FixedIn put-number.Asked put-number.Learnt (λ κ answer after. now (after .0))
-put-number-fixes-the-target = record { takes-any = λ κ a. tt; seen = λ κ a x y e f p q. p ∙ sym q }
+pub put-number-leaves : Answers put-number.Asked put-number.Learnt (λ κ r e. now (e .0)) (λ κ a. stored (now (a .0)) (a .1 .0) (bigEndian (a .1 .1 .0) (a .1 .1 .1 .0)))
+put-number-leaves = record { takes-any = λ κ a. tt; is = λ κ a r e l. l }
 
-pub put-bytes-fixes-the-target : FixedIn put-bytes.Asked put-bytes.Learnt (λ κ answer after. now (after .0))
-put-bytes-fixes-the-target = record { takes-any = λ κ a. tt; seen = λ κ a x y e f p q. p ∙ sym q }
+pub put-bytes-leaves : Answers put-bytes.Asked put-bytes.Learnt (λ κ r e. now (e .0)) (λ κ a. stored (now (a .0)) (a .1 .0) (now (a .1 .1 .0)))
+put-bytes-leaves = record { takes-any = λ κ a. tt; is = λ κ a r e l. l }
 
 -- ---- names
 
-pub algorithm-from-id-is-fixed : Fixed algorithm-from-id.Asked algorithm-from-id.Learnt
-algorithm-from-id-is-fixed = record { takes-any = λ κ a. tt; one-answer = λ κ a x y e f p q. p ∙ sym q }
+pub algorithm-from-id-answers : Answers algorithm-from-id.Asked algorithm-from-id.Learnt (λ κ r e. r) (λ κ a. algorithmOf (a .0))
+algorithm-from-id-answers = record { takes-any = λ κ a. tt; is = λ κ a r e l. l }
 
-pub algorithm-id-is-fixed : Fixed algorithm-id.Asked algorithm-id.Learnt
-algorithm-id-is-fixed = record { takes-any = λ κ a. tt; one-answer = λ κ a x y e f p q. p ∙ sym q }
+pub algorithm-id-answers : Answers algorithm-id.Asked algorithm-id.Learnt (λ κ r e. r) (λ κ a. algorithmNumber (a .0))
+algorithm-id-answers = record { takes-any = λ κ a. tt; is = λ κ a r e l. l }
 
-pub algorithm-fair-is-fixed : Fixed algorithm-fair.Asked algorithm-fair.Learnt
-algorithm-fair-is-fixed = record { takes-any = λ κ a. tt; one-answer = λ κ a x y e f p q. p ∙ sym q }
+pub algorithm-fair-answers : Answers algorithm-fair.Asked algorithm-fair.Learnt (λ κ r e. r) (λ κ a. fairAlgorithm (a .0))
+algorithm-fair-answers = record { takes-any = λ κ a. tt; is = λ κ a r e l. l }
 
-pub command-type-from-id-is-fixed : Fixed command-type-from-id.Asked command-type-from-id.Learnt
-command-type-from-id-is-fixed = record { takes-any = λ κ a. tt; one-answer = λ κ a x y e f p q. p ∙ sym q }
+pub command-type-from-id-answers : Answers command-type-from-id.Asked command-type-from-id.Learnt (λ κ r e. r) (λ κ a. commandTypeOf (a .0))
+command-type-from-id-answers = record { takes-any = λ κ a. tt; is = λ κ a r e l. l }
 
-pub command-type-id-is-fixed : Fixed command-type-id.Asked command-type-id.Learnt
-command-type-id-is-fixed = record { takes-any = λ κ a. tt; one-answer = λ κ a x y e f p q. p ∙ sym q }
+pub command-type-id-answers : Answers command-type-id.Asked command-type-id.Learnt (λ κ r e. r) (λ κ a. commandNumber (a .0))
+command-type-id-answers = record { takes-any = λ κ a. tt; is = λ κ a r e l. l }
 
-pub command-type-fair-is-fixed : Fixed command-type-fair.Asked command-type-fair.Learnt
-command-type-fair-is-fixed = record { takes-any = λ κ a. tt; one-answer = λ κ a x y e f p q. p ∙ sym q }
+pub command-type-fair-answers : Answers command-type-fair.Asked command-type-fair.Learnt (λ κ r e. r) (λ κ a. fairCommand (a .0))
+command-type-fair-answers = record { takes-any = λ κ a. tt; is = λ κ a r e l. l }
 
-pub upid-type-from-type-is-fixed : Fixed upid-type-from-type.Asked upid-type-from-type.Learnt
-upid-type-from-type-is-fixed = record { takes-any = λ κ a. tt; one-answer = λ κ a x y e f p q. p ∙ sym q }
+pub upid-type-from-type-answers : Answers upid-type-from-type.Asked upid-type-from-type.Learnt (λ κ r e. r) (λ κ a. upidTypeOf (a .0))
+upid-type-from-type-answers = record { takes-any = λ κ a. tt; is = λ κ a r e l. l }
 
-pub upid-type-id-is-fixed : Fixed upid-type-id.Asked upid-type-id.Learnt
-upid-type-id-is-fixed = record { takes-any = λ κ a. tt; one-answer = λ κ a x y e f p q. p ∙ sym q }
+pub upid-type-id-answers : Answers upid-type-id.Asked upid-type-id.Learnt (λ κ r e. r) (λ κ a. upidTypeNumber (a .0))
+upid-type-id-answers = record { takes-any = λ κ a. tt; is = λ κ a r e l. l }
 
-pub upid-type-fair-is-fixed : Fixed upid-type-fair.Asked upid-type-fair.Learnt
-upid-type-fair-is-fixed = record { takes-any = λ κ a. tt; one-answer = λ κ a x y e f p q. p ∙ sym q }
+pub upid-type-fair-answers : Answers upid-type-fair.Asked upid-type-fair.Learnt (λ κ r e. r) (λ κ a. fairUpidType (a .0))
+upid-type-fair-answers = record { takes-any = λ κ a. tt; is = λ κ a r e l. l }
 
-pub segmentation-type-from-id-is-fixed : Fixed segmentation-type-from-id.Asked segmentation-type-from-id.Learnt
-segmentation-type-from-id-is-fixed = record { takes-any = λ κ a. tt; one-answer = λ κ a x y e f p q. p ∙ sym q }
+pub segmentation-type-from-id-answers : Answers segmentation-type-from-id.Asked segmentation-type-from-id.Learnt (λ κ r e. r) (λ κ a. segmentationOf (a .0))
+segmentation-type-from-id-answers = record { takes-any = λ κ a. tt; is = λ κ a r e l. l }
 
-pub segmentation-type-id-is-fixed : Fixed segmentation-type-id.Asked segmentation-type-id.Learnt
-segmentation-type-id-is-fixed = record { takes-any = λ κ a. tt; one-answer = λ κ a x y e f p q. p ∙ sym q }
+pub segmentation-type-id-answers : Answers segmentation-type-id.Asked segmentation-type-id.Learnt (λ κ r e. r) (λ κ a. segmentationNumber (a .0))
+segmentation-type-id-answers = record { takes-any = λ κ a. tt; is = λ κ a r e l. l }
 
-pub segmentation-type-fair-is-fixed : Fixed segmentation-type-fair.Asked segmentation-type-fair.Learnt
-segmentation-type-fair-is-fixed = record { takes-any = λ κ a. tt; one-answer = λ κ a x y e f p q. p ∙ sym q }
+pub segmentation-type-fair-answers : Answers segmentation-type-fair.Asked segmentation-type-fair.Learnt (λ κ r e. r) (λ κ a. fairSegmentation (a .0))
+segmentation-type-fair-answers = record { takes-any = λ κ a. tt; is = λ κ a r e l. l }
 
-pub network-from-flag-is-fixed : Fixed network-from-flag.Asked network-from-flag.Learnt
-network-from-flag-is-fixed = record { takes-any = λ κ a. tt; one-answer = λ κ a x y e f p q. network-told x y (p ∙ sym q) }
+pub network-from-flag-answers : Answers network-from-flag.Asked network-from-flag.Learnt (λ κ r e. networkAnswer r) (λ κ a. networkOf (a .0))
+network-from-flag-answers = record { takes-any = λ κ a. tt; is = λ κ a r e l. l }
 
-pub network-flag-is-fixed : Fixed network-flag.Asked network-flag.Learnt
-network-flag-is-fixed = record { takes-any = λ κ a. tt; one-answer = λ κ a x y e f p q. p ∙ sym q }
+pub network-flag-answers : Answers network-flag.Asked network-flag.Learnt (λ κ r e. r) (λ κ a. networkFlag (a .0))
+network-flag-answers = record { takes-any = λ κ a. tt; is = λ κ a r e l. l }
 
-pub return-mode-from-flag-is-fixed : Fixed return-mode-from-flag.Asked return-mode-from-flag.Learnt
-return-mode-from-flag-is-fixed = record { takes-any = λ κ a. tt; one-answer = λ κ a x y e f p q. return-told x y (p ∙ sym q) }
+pub return-mode-from-flag-answers : Answers return-mode-from-flag.Asked return-mode-from-flag.Learnt (λ κ r e. returnAnswer r) (λ κ a. returnOf (a .0))
+return-mode-from-flag-answers = record { takes-any = λ κ a. tt; is = λ κ a r e l. l }
 
-pub return-mode-flag-is-fixed : Fixed return-mode-flag.Asked return-mode-flag.Learnt
-return-mode-flag-is-fixed = record { takes-any = λ κ a. tt; one-answer = λ κ a x y e f p q. p ∙ sym q }
+pub return-mode-flag-answers : Answers return-mode-flag.Asked return-mode-flag.Learnt (λ κ r e. r) (λ κ a. returnFlag (a .0))
+return-mode-flag-answers = record { takes-any = λ κ a. tt; is = λ κ a r e l. l }
 
-pub restrictions-from-bits-is-fixed : Fixed restrictions-from-bits.Asked restrictions-from-bits.Learnt
-restrictions-from-bits-is-fixed = record { takes-any = λ κ a. tt; one-answer = λ κ a x y e f p q. restrictions-told x y (p ∙ sym q) }
+pub restrictions-from-bits-answers : Answers restrictions-from-bits.Asked restrictions-from-bits.Learnt (λ κ r e. restrictionsAnswer r) (λ κ a. restrictionsOf (a .0))
+restrictions-from-bits-answers = record { takes-any = λ κ a. tt; is = λ κ a r e l. l }
 
-pub restrictions-bits-is-fixed : Fixed restrictions-bits.Asked restrictions-bits.Learnt
-restrictions-bits-is-fixed = record { takes-any = λ κ a. tt; one-answer = λ κ a x y e f p q. p ∙ sym q }
+pub restrictions-bits-answers : Answers restrictions-bits.Asked restrictions-bits.Learnt (λ κ r e. r) (λ κ a. restrictionsBits (a .0))
+restrictions-bits-answers = record { takes-any = λ κ a. tt; is = λ κ a r e l. l }
 
 -- ---- header
 
-pub read-header-is-fixed : Fixed read-header.Asked read-header.Learnt
-read-header-is-fixed = record { takes-any = λ κ a. tt; one-answer = λ κ a x y e f p q. p ∙ sym q }
+pub read-header-answers : Answers read-header.Asked read-header.Learnt (λ κ r e. r) (λ κ a. headerOf (now (a .0)))
+read-header-answers = record { takes-any = λ κ a. tt; is = λ κ a r e l. l }
 
-pub read-splice-time-is-fixed : Fixed read-splice-time.Asked read-splice-time.Learnt
-read-splice-time-is-fixed = record { takes-any = λ κ a. tt; one-answer = λ κ a x y e f p q. p ∙ sym q }
+pub read-splice-time-answers : Answers read-splice-time.Asked read-splice-time.Learnt (λ κ r e. r) (λ κ a. timeRead (parse spliceTime (bitsOf (now (a .0))) (place (a .1 .0))))
+read-splice-time-answers = record { takes-any = λ κ a. tt; is = λ κ a r e l. l }
 
-pub read-whole-time-is-fixed : Fixed read-whole-time.Asked read-whole-time.Learnt
-read-whole-time-is-fixed = record { takes-any = λ κ a. tt; one-answer = λ κ a x y e f p q. p ∙ sym q }
+pub read-whole-time-answers : Answers read-whole-time.Asked read-whole-time.Learnt (λ κ r e. r) (λ κ a. timeRead (parse spliceTime (bitsOf (now (a .0))) ((a .1 .0) * 8)))
+read-whole-time-answers = record { takes-any = λ κ a. tt; is = λ κ a r e l. l }
 
-pub adjusted-time-is-fixed : Fixed adjusted-time.Asked adjusted-time.Learnt
-adjusted-time-is-fixed = record { takes-any = λ κ a. tt; one-answer = λ κ a x y e f p q. p ∙ sym q }
+pub adjusted-time-answers : Answers adjusted-time.Asked adjusted-time.Learnt (λ κ r e. r) (λ κ a. adjustedOf (a .0) (a .1 .0))
+adjusted-time-answers = record { takes-any = λ κ a. tt; is = λ κ a r e l. l }
 
 -- ---- upid
 
-pub is-text-is-fixed : Fixed is-text.Asked is-text.Learnt
-is-text-is-fixed = record { takes-any = λ κ a. tt; one-answer = λ κ a x y e f p q. p ∙ sym q }
+pub is-text-answers : Answers is-text.Asked is-text.Learnt (λ κ r e. r) (λ κ a. textOf (now (a .0)))
+is-text-answers = record { takes-any = λ κ a. tt; is = λ κ a r e l. l }
 
-pub check-upid-is-fixed : Fixed check-upid.Asked check-upid.Learnt
-check-upid-is-fixed = record { takes-any = λ κ a. tt; one-answer = λ κ a x y e f p q. p ∙ sym q }
+pub check-upid-answers : Answers check-upid.Asked check-upid.Learnt (λ κ r e. r) (λ κ a. checkOf (a .0) (now (a .1 .0)))
+check-upid-answers = record { takes-any = λ κ a. tt; is = λ κ a r e l. l }
 
-pub read-upid-is-fixed : Fixed read-upid.Asked read-upid.Learnt
-read-upid-is-fixed = record { takes-any = λ κ a. tt; one-answer = λ κ a x y e f p q. p ∙ sym q }
+pub read-upid-answers : Answers read-upid.Asked read-upid.Learnt (λ κ r e. r) (λ κ a. upidOf (a .0) (now (a .1 .0)))
+read-upid-answers = record { takes-any = λ κ a. tt; is = λ κ a r e l. l }
 
-pub eidr-is-fixed : Fixed eidr.Asked eidr.Learnt
-eidr-is-fixed = record { takes-any = λ κ a. tt; one-answer = λ κ a x y e f p q. p ∙ sym q }
+pub eidr-answers : Answers eidr.Asked eidr.Learnt (λ κ r e. r) (λ κ a. eidrOf (a .0) (now (a .1 .0)))
+eidr-answers = record { takes-any = λ κ a. tt; is = λ κ a r e l. l }
 
 -- ---- descriptor
 
-pub is-cuei-is-fixed : Fixed is-cuei.Asked is-cuei.Learnt
-is-cuei-is-fixed = record { takes-any = λ κ a. tt; one-answer = λ κ a x y e f p q. p ∙ sym q }
+pub is-cuei-answers : Answers is-cuei.Asked is-cuei.Learnt (λ κ r e. r) (λ κ a. isCuei (a .0))
+is-cuei-answers = record { takes-any = λ κ a. tt; is = λ κ a r e l. l }
 
-pub read-descriptor-is-fixed : Fixed read-descriptor.Asked read-descriptor.Learnt
-read-descriptor-is-fixed = record { takes-any = λ κ a. tt; one-answer = λ κ a x y e f p q. p ∙ sym q }
+pub read-descriptor-answers : Answers read-descriptor.Asked read-descriptor.Learnt (λ κ r e. r) (λ κ a. descriptorOf (a .0) (a .1 .0) (now (a .1 .1 .0)))
+read-descriptor-answers = record { takes-any = λ κ a. tt; is = λ κ a r e l. l }
 
-pub read-avail-is-fixed : Fixed read-avail.Asked read-avail.Learnt
-read-avail-is-fixed = record { takes-any = λ κ a. tt; one-answer = λ κ a x y e f p q. p ∙ sym q }
+pub read-avail-answers : Answers read-avail.Asked read-avail.Learnt (λ κ r e. r) (λ κ a. availOf (now (a .0)))
+read-avail-answers = record { takes-any = λ κ a. tt; is = λ κ a r e l. l }
 
-pub read-dtmf-is-fixed : Fixed read-dtmf.Asked read-dtmf.Learnt
-read-dtmf-is-fixed = record { takes-any = λ κ a. tt; one-answer = λ κ a x y e f p q. p ∙ sym q }
+pub read-dtmf-answers : Answers read-dtmf.Asked read-dtmf.Learnt (λ κ r e. r) (λ κ a. dtmfOf (now (a .0)))
+read-dtmf-answers = record { takes-any = λ κ a. tt; is = λ κ a r e l. l }
 
-pub read-time-is-fixed : Fixed read-time.Asked read-time.Learnt
-read-time-is-fixed = record { takes-any = λ κ a. tt; one-answer = λ κ a x y e f p q. p ∙ sym q }
+pub read-time-answers : Answers read-time.Asked read-time.Learnt (λ κ r e. r) (λ κ a. timeOf (now (a .0)))
+read-time-answers = record { takes-any = λ κ a. tt; is = λ κ a r e l. l }
 
-pub read-reserved-is-fixed : Fixed read-reserved.Asked read-reserved.Learnt
-read-reserved-is-fixed = record { takes-any = λ κ a. tt; one-answer = λ κ a x y e f p q. p ∙ sym q }
+pub read-reserved-answers : Answers read-reserved.Asked read-reserved.Learnt (λ κ r e. r) (λ κ a. reservedOf (a .0) (now (a .1 .0)))
+read-reserved-answers = record { takes-any = λ κ a. tt; is = λ κ a r e l. l }
 
-pub read-segmentation-is-fixed : Fixed read-segmentation.Asked read-segmentation.Learnt
-read-segmentation-is-fixed = record { takes-any = λ κ a. tt; one-answer = λ κ a x y e f p q. p ∙ sym q }
+pub read-segmentation-answers : Answers read-segmentation.Asked read-segmentation.Learnt (λ κ r e. r) (λ κ a. descriptorSegmentationOf (now (a .0)))
+read-segmentation-answers = record { takes-any = λ κ a. tt; is = λ κ a r e l. l }
 
-pub read-beside-is-fixed : Fixed read-beside.Asked read-beside.Learnt
-read-beside-is-fixed = record { takes-any = λ κ a. tt; one-answer = λ κ a x y e f p q. p ∙ sym q }
+pub read-beside-answers : Answers read-beside.Asked read-beside.Learnt (λ κ r e. r) (λ κ a. besideOf (now (a .0)))
+read-beside-answers = record { takes-any = λ κ a. tt; is = λ κ a r e l. l }
 
-pub read-whole-is-fixed : Fixed read-whole.Asked read-whole.Learnt
-read-whole-is-fixed = record { takes-any = λ κ a. tt; one-answer = λ κ a x y e f p q. p ∙ sym q }
+pub read-whole-answers : Answers read-whole.Asked read-whole.Learnt (λ κ r e. r) (λ κ a. wholeOf (a .0) (a .1 .0) (now (a .1 .1 .0)))
+read-whole-answers = record { takes-any = λ κ a. tt; is = λ κ a r e l. l }
 
-pub blank-beside-is-fixed : Fixed blank-beside.Asked blank-beside.Learnt
-blank-beside-is-fixed = record { takes-any = λ κ a. tt; one-answer = λ κ a x y e f p q. p ∙ sym q }
+pub blank-beside-answers : Answers blank-beside.Asked blank-beside.Learnt (λ κ r e. r) (λ κ a. blankBeside)
+blank-beside-answers = record { takes-any = λ κ a. tt; is = λ κ a r e l. l }
 
-pub beside-of-is-fixed : Fixed beside-of.Asked beside-of.Learnt
-beside-of-is-fixed = record { takes-any = λ κ a. tt; one-answer = λ κ a x y e f p q. p ∙ sym q }
+pub beside-of-answers : Answers beside-of.Asked beside-of.Learnt (λ κ r e. r) (λ κ a. besideRead (a .0) (now (a .1 .0)))
+beside-of-answers = record { takes-any = λ κ a. tt; is = λ κ a r e l. l }
 
-pub identifier-of-is-fixed : Fixed identifier-of.Asked identifier-of.Learnt
-identifier-of-is-fixed = record { takes-any = λ κ a. tt; one-answer = λ κ a x y e f p q. p ∙ sym q }
+pub identifier-of-answers : Answers identifier-of.Asked identifier-of.Learnt (λ κ r e. r) (λ κ a. identifierRead (a .0) (a .1 .0))
+identifier-of-answers = record { takes-any = λ κ a. tt; is = λ κ a r e l. l }
 
 -- ---- items
 
-pub step-is-fixed : Fixed step.Asked step.Learnt
-step-is-fixed = record { takes-any = λ κ a. tt; one-answer = λ κ a x y e f p q. p ∙ sym q }
+pub step-answers : Answers step.Asked step.Learnt (λ κ r e. r) (λ κ a. stepOf (now (a .0)) (a .1 .0))
+step-answers = record { takes-any = λ κ a. tt; is = λ κ a r e l. l }
 
-pub count-items-is-fixed : Fixed count-items.Asked count-items.Learnt
-count-items-is-fixed = record { takes-any = λ κ a. tt; one-answer = λ κ a x y e f p q. p ∙ sym q }
+pub count-items-answers : Answers count-items.Asked count-items.Learnt (λ κ r e. r) (λ κ a. countOf (now (a .0)))
+count-items-answers = record { takes-any = λ κ a. tt; is = λ κ a r e l. l }
 
-pub view-of-is-fixed : Fixed view-of.Asked view-of.Learnt
-view-of-is-fixed = record { takes-any = λ κ a. tt; one-answer = λ κ a x y e f p q. p ∙ sym q }
+pub view-of-answers : Answers view-of.Asked view-of.Learnt (λ κ r e. r) (λ κ a. viewOf (a .0))
+view-of-answers = record { takes-any = λ κ a. tt; is = λ κ a r e l. l }
 
-pub part-bytes-is-fixed : FixedIn part-bytes.Asked part-bytes.Learnt (λ κ answer after. now answer)
-part-bytes-is-fixed = record { takes-any = λ κ a. tt; seen = λ κ a x y e f p q. p ∙ sym q }
+pub part-bytes-answers : Answers part-bytes.Asked part-bytes.Learnt (λ κ r e. now r) (λ κ a. viewed (now (a .0)) (partView (a .1 .0)))
+part-bytes-answers = record { takes-any = λ κ a. tt; is = λ κ a r e l. l }
 
-pub bytes-of-is-fixed : FixedIn bytes-of.Asked bytes-of.Learnt (λ κ answer after. now answer)
-bytes-of-is-fixed = record { takes-any = λ κ a. tt; seen = λ κ a x y e f p q. p ∙ sym q }
+pub bytes-of-answers : Answers bytes-of.Asked bytes-of.Learnt (λ κ r e. now r) (λ κ a. viewed (now (a .0)) (viewOf (a .1 .0)))
+bytes-of-answers = record { takes-any = λ κ a. tt; is = λ κ a r e l. l }
 
-pub read-item-is-fixed : Fixed read-item.Asked read-item.Learnt
-read-item-is-fixed = record { takes-any = λ κ a. tt; one-answer = λ κ a x y e f p q. p ∙ sym q }
+pub read-item-answers : Answers read-item.Asked read-item.Learnt (λ κ r e. r) (λ κ a. readingOf (now (a .0)) (a .1 .0))
+read-item-answers = record { takes-any = λ κ a. tt; is = λ κ a r e l. l }
 
 -- ---- command
 
-pub read-command-is-fixed : Fixed read-command.Asked read-command.Learnt
-read-command-is-fixed = record { takes-any = λ κ a. tt; one-answer = λ κ a x y e f p q. p ∙ sym q }
+pub read-command-answers : Answers read-command.Asked read-command.Learnt (λ κ r e. r) (λ κ a. commandOf (a .0) (now (a .1 .0)))
+read-command-answers = record { takes-any = λ κ a. tt; is = λ κ a r e l. l }
 
-pub read-insert-is-fixed : Fixed read-insert.Asked read-insert.Learnt
-read-insert-is-fixed = record { takes-any = λ κ a. tt; one-answer = λ κ a x y e f p q. p ∙ sym q }
+pub read-insert-answers : Answers read-insert.Asked read-insert.Learnt (λ κ r e. r) (λ κ a. insertRead (parse insert (bitsOf (now (a .0))) 0))
+read-insert-answers = record { takes-any = λ κ a. tt; is = λ κ a r e l. l }
 
-pub read-components-is-fixed : Fixed read-components.Asked read-components.Learnt
-read-components-is-fixed = record { takes-any = λ κ a. tt; one-answer = λ κ a x y e f p q. p ∙ sym q }
+pub read-components-answers : Answers read-components.Asked read-components.Learnt (λ κ r e. r) (λ κ a. componentsOf (now (a .0)))
+read-components-answers = record { takes-any = λ κ a. tt; is = λ κ a r e l. l }
 
-pub blank-components-is-fixed : Fixed blank-components.Asked blank-components.Learnt
-blank-components-is-fixed = record { takes-any = λ κ a. tt; one-answer = λ κ a x y e f p q. p ∙ sym q }
+pub blank-components-answers : Answers blank-components.Asked blank-components.Learnt (λ κ r e. r) (λ κ a. array [])
+blank-components-answers = record { takes-any = λ κ a. tt; is = λ κ a r e l. l }
 
 -- ---- section
 
-pub section-refusal-number-is-fixed : Fixed section-refusal-number.Asked section-refusal-number.Learnt
-section-refusal-number-is-fixed = record { takes-any = λ κ a. tt; one-answer = λ κ a x y e f p q. p ∙ sym q }
+pub section-refusal-number-answers : Answers section-refusal-number.Asked section-refusal-number.Learnt (λ κ r e. r) (λ κ a. numberOf (SectionRead.Refused (a .0)))
+section-refusal-number-answers = record { takes-any = λ κ a. tt; is = λ κ a r e l. l }
 
-pub read-frame-is-fixed : Fixed read-frame.Asked read-frame.Learnt
-read-frame-is-fixed = record { takes-any = λ κ a. tt; one-answer = λ κ a x y e f p q. p ∙ sym q }
+pub read-frame-answers : Answers read-frame.Asked read-frame.Learnt (λ κ r e. r) (λ κ a. frameOf (now (a .0)))
+read-frame-answers = record { takes-any = λ κ a. tt; is = λ κ a r e l. l }
 
-pub read-command-part-is-fixed : Fixed read-command-part.Asked read-command-part.Learnt
-read-command-part-is-fixed = record { takes-any = λ κ a. tt; one-answer = λ κ a x y e f p q. p ∙ sym q }
+pub read-command-part-answers : Answers read-command-part.Asked read-command-part.Learnt (λ κ r e. r) (λ κ a. movedRead (commandOf (a .0) (now (a .1 .0))))
+read-command-part-answers = record { takes-any = λ κ a. tt; is = λ κ a r e l. l }
 
-pub read-section-is-fixed : Fixed read-section.Asked read-section.Learnt
-read-section-is-fixed = record { takes-any = λ κ a. tt; one-answer = λ κ a x y e f p q. p ∙ sym q }
+pub read-section-answers : Answers read-section.Asked read-section.Learnt (λ κ r e. r) (λ κ a. sectionOf (now (a .0)))
+read-section-answers = record { takes-any = λ κ a. tt; is = λ κ a r e l. l }
 
-pub loop-of-is-fixed : FixedIn loop-of.Asked loop-of.Learnt (λ κ answer after. now answer)
-loop-of-is-fixed = record { takes-any = λ κ a. tt; seen = λ κ a x y e f p q. p ∙ sym q }
+pub loop-of-answers : Answers loop-of.Asked loop-of.Learnt (λ κ r e. now r) (λ κ a. viewed (now (a .0)) (a .1 .0 .descriptors))
+loop-of-answers = record { takes-any = λ κ a. tt; is = λ κ a r e l. l }
 
-pub private-bytes-of-is-fixed : FixedIn private-bytes-of.Asked private-bytes-of.Learnt (λ κ answer after. now answer)
-private-bytes-of-is-fixed = record { takes-any = λ κ a. tt; seen = λ κ a x y e f p q. p ∙ sym q }
+pub private-bytes-of-answers : Answers private-bytes-of.Asked private-bytes-of.Learnt (λ κ r e. now r) (λ κ a. viewed (now (a .0)) (privateView (a .1 .0)))
+private-bytes-of-answers = record { takes-any = λ κ a. tt; is = λ κ a r e l. l }
 
-pub read-whole-section-is-fixed : Fixed read-whole-section.Asked read-whole-section.Learnt
-read-whole-section-is-fixed = record { takes-any = λ κ a. tt; one-answer = λ κ a x y e f p q. p ∙ sym q }
+pub read-whole-section-answers : Answers read-whole-section.Asked read-whole-section.Learnt (λ κ r e. r) (λ κ a. wholeSectionOf (now (a .0)))
+read-whole-section-answers = record { takes-any = λ κ a. tt; is = λ κ a r e l. l }

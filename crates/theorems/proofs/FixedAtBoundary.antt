@@ -1,6 +1,36 @@
 -- Every public function of the C boundary fixes its answer and its target's later bytes, and asks nothing of the caller, as FixedAnswers.antt has it of the readers. Assumes nothing.
-use mathlib.Core.Path.{_≡_, sym, _∙_}
+use mathlib.Core.Path.{_≡_}
 use denote.Ref.{now}
+use lib.ListN.{drop}
+use mathlib.Core.List.{[], _∷_}
+use Rattle.command.specs.Command.{commandOf, componentsOf, countIn}
+use Rattle.crc.specs.Crc.{crcOf}
+use Rattle.descriptor_form.specs.Canonical.{canonicalDescriptor, canonicalLoop}
+use Rattle.flat.specs.Flat.{flatAdjusted, flatHeaderRead, flatView}
+use Rattle.flat.specs.FlatCommand.{flatCommandRead, flatSplices}
+use Rattle.flat.specs.FlatSection.{flatParts, flatSectionRead}
+use Rattle.flat_item_writer.specs.ItemGiven.{descriptorRefusal, descriptorWordsMade}
+use Rattle.flat_items.specs.FlatItem.{flatBeside, flatStep}
+use Rattle.flat_items.specs.FlatUpid.{flatUpid}
+use Rattle.flat_section_writer.specs.SectionGiven.{sectionWordsMade}
+use Rattle.flat_writer.specs.CommandGiven.{commandGiven, commandRefusal, commandWordsMade, componentsFrom}
+use Rattle.flat_writer.specs.Walk.{lower}
+use Rattle.flat_writer.specs.Words.{flatWritten, same, within, word}
+use Rattle.header.specs.Header.{headerOf}
+use Rattle.header.specs.Time.{adjustedOf}
+use Rattle.items.specs.Items.{readingOf, stepOf}
+use Rattle.names.specs.Algorithm.{algorithmEntry, algorithmOf}
+use Rattle.names.specs.Command.{commandEntry, commandTypeOf}
+use Rattle.names.specs.Flags.{networkFlag, networkOf, restrictionsBits, restrictionsOf, returnFlag, returnOf}
+use Rattle.names.specs.Segmentation.{segmentationEntry, segmentationOf}
+use Rattle.names.specs.Upid.{upidTypeEntry, upidTypeOf}
+use Rattle.pen.specs.Written.{answerOf, laterOf}
+use Rattle.scte35.specs.FlatNumber.{flatAnswer, flatName, timeHanded}
+use Rattle.section.specs.Section.{sectionOf}
+use Rattle.section.specs.declared.SectionRead.{SectionRead}
+use Rattle.section_writer.specs.Canonical.{canonicalSection}
+use Rattle.table.specs.Table.{flagNumber}
+use Rattle.upid.specs.Upid.{upidOf}
 use Rattle.flat.proofs.flat_flag.Reads as flat-flag
 use Rattle.flat.proofs.flat_view.Reads as flat-view
 use Rattle.flat.proofs.commands.flat_command_read.Reads as flat-command-read
@@ -51,180 +81,180 @@ use Rattle.scte35.proofs.writing.scte35_write_section_words.Reads as scte35-wri
 use Rattle.scte35.proofs.canonical.scte35_is_canonical_section.Reads as scte35-is-canonical-section
 use Rattle.scte35.proofs.canonical.scte35_is_canonical_loop.Reads as scte35-is-canonical-loop
 use Rattle.scte35.proofs.canonical.scte35_is_canonical_descriptor.Reads as scte35-is-canonical-descriptor
-use Rattle.theorems.specs.FixedAnswers.{Fixed, FixedIn}
+use Rattle.theorems.specs.FixedAnswers.{Answers}
 
 -- ---- flat: the flat forms of headers, commands and sections
 
-pub flat-flag-is-fixed : Fixed flat-flag.Asked flat-flag.Learnt
-flat-flag-is-fixed = record { takes-any = λ κ a. tt; one-answer = λ κ a x y e f p q. p ∙ sym q }
+pub flat-flag-answers : Answers flat-flag.Asked flat-flag.Learnt (λ κ r e. r) (λ κ a. flagNumber (a .0))
+flat-flag-answers = record { takes-any = λ κ a. tt; is = λ κ a r e l. l }
 
-pub flat-view-is-fixed : Fixed flat-view.Asked flat-view.Learnt
-flat-view-is-fixed = record { takes-any = λ κ a. tt; one-answer = λ κ a x y e f p q. p ∙ sym q }
+pub flat-view-answers : Answers flat-view.Asked flat-view.Learnt (λ κ r e. r) (λ κ a. flatView (a .0))
+flat-view-answers = record { takes-any = λ κ a. tt; is = λ κ a r e l. l }
 
-pub flat-command-read-is-fixed : Fixed flat-command-read.Asked flat-command-read.Learnt
-flat-command-read-is-fixed = record { takes-any = λ κ a. tt; one-answer = λ κ a x y e f p q. p ∙ sym q }
+pub flat-command-read-answers : Answers flat-command-read.Asked flat-command-read.Learnt (λ κ r e. r) (λ κ a. flatCommandRead (a .0))
+flat-command-read-answers = record { takes-any = λ κ a. tt; is = λ κ a r e l. l }
 
-pub flat-header-read-is-fixed : Fixed flat-header-read.Asked flat-header-read.Learnt
-flat-header-read-is-fixed = record { takes-any = λ κ a. tt; one-answer = λ κ a x y e f p q. p ∙ sym q }
+pub flat-header-read-answers : Answers flat-header-read.Asked flat-header-read.Learnt (λ κ r e. r) (λ κ a. flatHeaderRead (a .0))
+flat-header-read-answers = record { takes-any = λ κ a. tt; is = λ κ a r e l. l }
 
-pub read-flat-header-is-fixed : Fixed read-flat-header.Asked read-flat-header.Learnt
-read-flat-header-is-fixed = record { takes-any = λ κ a. tt; one-answer = λ κ a x y e f p q. p ∙ sym q }
+pub read-flat-header-answers : Answers read-flat-header.Asked read-flat-header.Learnt (λ κ r e. r) (λ κ a. flatHeaderRead (headerOf (now (a .0))))
+read-flat-header-answers = record { takes-any = λ κ a. tt; is = λ κ a r e l. l }
 
-pub flat-adjusted-is-fixed : Fixed flat-adjusted.Asked flat-adjusted.Learnt
-flat-adjusted-is-fixed = record { takes-any = λ κ a. tt; one-answer = λ κ a x y e f p q. p ∙ sym q }
+pub flat-adjusted-answers : Answers flat-adjusted.Asked flat-adjusted.Learnt (λ κ r e. r) (λ κ a. flatAdjusted (a .0))
+flat-adjusted-answers = record { takes-any = λ κ a. tt; is = λ κ a r e l. l }
 
-pub flat-splices-is-fixed : Fixed flat-splices.Asked flat-splices.Learnt
-flat-splices-is-fixed = record { takes-any = λ κ a. tt; one-answer = λ κ a x y e f p q. p ∙ sym q }
+pub flat-splices-answers : Answers flat-splices.Asked flat-splices.Learnt (λ κ r e. r) (λ κ a. flatSplices (a .0) (a .1 .0))
+flat-splices-answers = record { takes-any = λ κ a. tt; is = λ κ a r e l. l }
 
-pub no-section-is-fixed : Fixed no-section.Asked no-section.Learnt
-no-section-is-fixed = record { takes-any = λ κ a. tt; one-answer = λ κ a x y e f p q. p ∙ sym q }
+pub no-section-answers : Answers no-section.Asked no-section.Learnt (λ κ r e. r) (λ κ a. flatSectionRead (SectionRead.Refused (a .0)))
+no-section-answers = record { takes-any = λ κ a. tt; is = λ κ a r e l. l }
 
-pub flat-parts-is-fixed : Fixed flat-parts.Asked flat-parts.Learnt
-flat-parts-is-fixed = record { takes-any = λ κ a. tt; one-answer = λ κ a x y e f p q. p ∙ sym q }
+pub flat-parts-answers : Answers flat-parts.Asked flat-parts.Learnt (λ κ r e. r) (λ κ a. flatParts (a .0) (a .1 .0) (a .1 .1 .0))
+flat-parts-answers = record { takes-any = λ κ a. tt; is = λ κ a r e l. l }
 
 -- ---- flat_items: those of items and UPIDs
 
-pub flat-beside-is-fixed : Fixed flat-beside.Asked flat-beside.Learnt
-flat-beside-is-fixed = record { takes-any = λ κ a. tt; one-answer = λ κ a x y e f p q. p ∙ sym q }
+pub flat-beside-answers : Answers flat-beside.Asked flat-beside.Learnt (λ κ r e. r) (λ κ a. flatBeside (a .0))
+flat-beside-answers = record { takes-any = λ κ a. tt; is = λ κ a r e l. l }
 
-pub flat-upid-is-fixed : Fixed flat-upid.Asked flat-upid.Learnt
-flat-upid-is-fixed = record { takes-any = λ κ a. tt; one-answer = λ κ a x y e f p q. p ∙ sym q }
+pub flat-upid-answers : Answers flat-upid.Asked flat-upid.Learnt (λ κ r e. r) (λ κ a. flatUpid (a .0))
+flat-upid-answers = record { takes-any = λ κ a. tt; is = λ κ a r e l. l }
 
-pub flat-step-is-fixed : Fixed flat-step.Asked flat-step.Learnt
-flat-step-is-fixed = record { takes-any = λ κ a. tt; one-answer = λ κ a x y e f p q. p ∙ sym q }
+pub flat-step-answers : Answers flat-step.Asked flat-step.Learnt (λ κ r e. r) (λ κ a. flatStep (a .0))
+flat-step-answers = record { takes-any = λ κ a. tt; is = λ κ a r e l. l }
 
 -- ---- flat_writer, flat_item_writer, flat_section_writer: the writers from words. A slice that is handed back is fixed in its words.
 
-pub flat-written-is-fixed : Fixed flat-written.Asked flat-written.Learnt
-flat-written-is-fixed = record { takes-any = λ κ a. tt; one-answer = λ κ a x y e f p q. p ∙ sym q }
+pub flat-written-answers : Answers flat-written.Asked flat-written.Learnt (λ κ r e. r) (λ κ a. flatWritten (a .0))
+flat-written-answers = record { takes-any = λ κ a. tt; is = λ κ a r e l. l }
 
-pub lower-refusal-is-fixed : Fixed lower-refusal.Asked lower-refusal.Learnt
-lower-refusal-is-fixed = record { takes-any = λ κ a. tt; one-answer = λ κ a x y e f p q. p ∙ sym q }
+pub lower-refusal-answers : Answers lower-refusal.Asked lower-refusal.Learnt (λ κ r e. r) (λ κ a. record { refusal = lower (a .0) (a .1 .0); length = 0 })
+lower-refusal-answers = record { takes-any = λ κ a. tt; is = λ κ a r e l. l }
 
-pub word-at-is-fixed : Fixed word-at.Asked word-at.Learnt
-word-at-is-fixed = record { takes-any = λ κ a. tt; one-answer = λ κ a x y e f p q. p ∙ sym q }
+pub word-at-answers : Answers word-at.Asked word-at.Learnt (λ κ r e. r) (λ κ a. word (now (a .0)) (a .1 .0))
+word-at-answers = record { takes-any = λ κ a. tt; is = λ κ a r e l. l }
 
-pub words-from-is-fixed : FixedIn words-from.Asked words-from.Learnt (λ κ answer after. now answer)
-words-from-is-fixed = record { takes-any = λ κ a. tt; seen = λ κ a x y e f p q. p ∙ sym q }
+pub words-from-answers : Answers words-from.Asked words-from.Learnt (λ κ r e. now r) (λ κ a. drop (a .1 .0) (now (a .0)))
+words-from-answers = record { takes-any = λ κ a. tt; is = λ κ a r e l. l }
 
-pub are-within-is-fixed : Fixed are-within.Asked are-within.Learnt
-are-within-is-fixed = record { takes-any = λ κ a. tt; one-answer = λ κ a x y e f p q. p ∙ sym q }
+pub are-within-answers : Answers are-within.Asked are-within.Learnt (λ κ r e. r) (λ κ a. within (now (a .0)) (now (a .1 .0)))
+are-within-answers = record { takes-any = λ κ a. tt; is = λ κ a r e l. l }
 
-pub are-four-within-is-fixed : Fixed are-four-within.Asked are-four-within.Learnt
-are-four-within-is-fixed = record { takes-any = λ κ a. tt; one-answer = λ κ a x y e f p q. p ∙ sym q }
+pub are-four-within-answers : Answers are-four-within.Asked are-four-within.Learnt (λ κ r e. r) (λ κ a. within ((a .0) ∷ (a .1 .0) ∷ (a .1 .1 .0) ∷ (a .1 .1 .1 .0) ∷ []) (now (a .1 .1 .1 .1 .0)))
+are-four-within-answers = record { takes-any = λ κ a. tt; is = λ κ a r e l. l }
 
-pub are-same-is-fixed : Fixed are-same.Asked are-same.Learnt
-are-same-is-fixed = record { takes-any = λ κ a. tt; one-answer = λ κ a x y e f p q. p ∙ sym q }
+pub are-same-answers : Answers are-same.Asked are-same.Learnt (λ κ r e. r) (λ κ a. same (now (a .0)) (now (a .1 .0)))
+are-same-answers = record { takes-any = λ κ a. tt; is = λ κ a r e l. l }
 
-pub are-four-same-is-fixed : Fixed are-four-same.Asked are-four-same.Learnt
-are-four-same-is-fixed = record { takes-any = λ κ a. tt; one-answer = λ κ a x y e f p q. p ∙ sym q }
+pub are-four-same-answers : Answers are-four-same.Asked are-four-same.Learnt (λ κ r e. r) (λ κ a. same ((a .0) ∷ (a .1 .0) ∷ (a .1 .1 .0) ∷ (a .1 .1 .1 .0) ∷ []) (now (a .1 .1 .1 .1 .0)))
+are-four-same-answers = record { takes-any = λ κ a. tt; is = λ κ a r e l. l }
 
-pub command-given-is-fixed : Fixed command-given.Asked command-given.Learnt
-command-given-is-fixed = record { takes-any = λ κ a. tt; one-answer = λ κ a x y e f p q. p ∙ sym q }
+pub command-given-answers : Answers command-given.Asked command-given.Learnt (λ κ r e. r) (λ κ a. commandGiven (now (a .0)))
+command-given-answers = record { takes-any = λ κ a. tt; is = λ κ a r e l. l }
 
-pub count-in-is-fixed : Fixed count-in.Asked count-in.Learnt
-count-in-is-fixed = record { takes-any = λ κ a. tt; one-answer = λ κ a x y e f p q. p ∙ sym q }
+pub count-in-answers : Answers count-in.Asked count-in.Learnt (λ κ r e. r) (λ κ a. countIn (a .0))
+count-in-answers = record { takes-any = λ κ a. tt; is = λ κ a r e l. l }
 
-pub components-given-is-fixed : Fixed components-given.Asked components-given.Learnt
-components-given-is-fixed = record { takes-any = λ κ a. tt; one-answer = λ κ a x y e f p q. p ∙ sym q }
+pub components-given-answers : Answers components-given.Asked components-given.Learnt (λ κ r e. r) (λ κ a. componentsFrom (countIn (a .0)) (now (a .1 .0)))
+components-given-answers = record { takes-any = λ κ a. tt; is = λ κ a r e l. l }
 
-pub command-refusal-is-fixed : Fixed command-refusal.Asked command-refusal.Learnt
-command-refusal-is-fixed = record { takes-any = λ κ a. tt; one-answer = λ κ a x y e f p q. p ∙ sym q }
+pub command-refusal-answers : Answers command-refusal.Asked command-refusal.Learnt (λ κ r e. r) (λ κ a. commandRefusal (a .0) (now (a .1 .0)) (now (a .1 .1 .0)))
+command-refusal-answers = record { takes-any = λ κ a. tt; is = λ κ a r e l. l }
 
-pub write-command-words-is-fixed : Fixed write-command-words.Asked write-command-words.Learnt
-write-command-words-is-fixed = record { takes-any = λ κ a. tt; one-answer = λ κ a x y e f p q. p .0 ∙ sym (q .0) }
+pub write-command-words-answers : Answers write-command-words.Asked write-command-words.Learnt (λ κ r e. r) (λ κ a. flatWritten (answerOf (commandWordsMade (now (a .0)) (now (a .1 .0)) (now (a .1 .1 .0))) (now (a .1 .1 .1 .0))))
+write-command-words-answers = record { takes-any = λ κ a. tt; is = λ κ a r e l. l .0 }
 
-pub write-command-words-fixes-the-target : FixedIn write-command-words.Asked write-command-words.Learnt (λ κ answer after. now (after .1 .1 .1 .0))
-write-command-words-fixes-the-target = record { takes-any = λ κ a. tt; seen = λ κ a x y e f p q. p .1 ∙ sym (q .1) }
+pub write-command-words-leaves : Answers write-command-words.Asked write-command-words.Learnt (λ κ r e. now (e .1 .1 .1 .0)) (λ κ a. laterOf (commandWordsMade (now (a .0)) (now (a .1 .0)) (now (a .1 .1 .0))) (now (a .1 .1 .1 .0)))
+write-command-words-leaves = record { takes-any = λ κ a. tt; is = λ κ a r e l. l .1 }
 
-pub descriptor-refusal-is-fixed : Fixed descriptor-refusal.Asked descriptor-refusal.Learnt
-descriptor-refusal-is-fixed = record { takes-any = λ κ a. tt; one-answer = λ κ a x y e f p q. p ∙ sym q }
+pub descriptor-refusal-answers : Answers descriptor-refusal.Asked descriptor-refusal.Learnt (λ κ r e. r) (λ κ a. descriptorRefusal (a .0) (now (a .1 .0)) (now (a .1 .1 .0)))
+descriptor-refusal-answers = record { takes-any = λ κ a. tt; is = λ κ a r e l. l }
 
-pub write-descriptor-words-is-fixed : Fixed write-descriptor-words.Asked write-descriptor-words.Learnt
-write-descriptor-words-is-fixed = record { takes-any = λ κ a. tt; one-answer = λ κ a x y e f p q. p .0 ∙ sym (q .0) }
+pub write-descriptor-words-answers : Answers write-descriptor-words.Asked write-descriptor-words.Learnt (λ κ r e. r) (λ κ a. flatWritten (answerOf (descriptorWordsMade (now (a .0)) (now (a .1 .0)) (now (a .1 .1 .0))) (now (a .1 .1 .1 .0))))
+write-descriptor-words-answers = record { takes-any = λ κ a. tt; is = λ κ a r e l. l .0 }
 
-pub write-descriptor-words-fixes-the-target : FixedIn write-descriptor-words.Asked write-descriptor-words.Learnt (λ κ answer after. now (after .1 .1 .1 .0))
-write-descriptor-words-fixes-the-target = record { takes-any = λ κ a. tt; seen = λ κ a x y e f p q. p .1 ∙ sym (q .1) }
+pub write-descriptor-words-leaves : Answers write-descriptor-words.Asked write-descriptor-words.Learnt (λ κ r e. now (e .1 .1 .1 .0)) (λ κ a. laterOf (descriptorWordsMade (now (a .0)) (now (a .1 .0)) (now (a .1 .1 .0))) (now (a .1 .1 .1 .0)))
+write-descriptor-words-leaves = record { takes-any = λ κ a. tt; is = λ κ a r e l. l .1 }
 
-pub write-section-words-is-fixed : Fixed write-section-words.Asked write-section-words.Learnt
-write-section-words-is-fixed = record { takes-any = λ κ a. tt; one-answer = λ κ a x y e f p q. p .0 ∙ sym (q .0) }
+pub write-section-words-answers : Answers write-section-words.Asked write-section-words.Learnt (λ κ r e. r) (λ κ a. flatWritten (answerOf (sectionWordsMade (now (a .0)) (now (a .1 .0)) (now (a .1 .1 .0)) (now (a .1 .1 .1 .0)) (now (a .1 .1 .1 .1 .0))) (now (a .1 .1 .1 .1 .1 .0))))
+write-section-words-answers = record { takes-any = λ κ a. tt; is = λ κ a r e l. l .0 }
 
-pub write-section-words-fixes-the-target : FixedIn write-section-words.Asked write-section-words.Learnt (λ κ answer after. now (after .1 .1 .1 .1 .1 .0))
-write-section-words-fixes-the-target = record { takes-any = λ κ a. tt; seen = λ κ a x y e f p q. p .1 ∙ sym (q .1) }
+pub write-section-words-leaves : Answers write-section-words.Asked write-section-words.Learnt (λ κ r e. now (e .1 .1 .1 .1 .1 .0)) (λ κ a. laterOf (sectionWordsMade (now (a .0)) (now (a .1 .0)) (now (a .1 .1 .0)) (now (a .1 .1 .1 .0)) (now (a .1 .1 .1 .1 .0))) (now (a .1 .1 .1 .1 .1 .0)))
+write-section-words-leaves = record { takes-any = λ κ a. tt; is = λ κ a r e l. l .1 }
 
 -- ---- scte35: the exported functions
 
-pub scte35-read-header-is-fixed : Fixed scte35-read-header.Asked scte35-read-header.Learnt
-scte35-read-header-is-fixed = record { takes-any = λ κ a. tt; one-answer = λ κ a x y e f p q. p ∙ sym q }
+pub scte35-read-header-answers : Answers scte35-read-header.Asked scte35-read-header.Learnt (λ κ r e. r) (λ κ a. flatHeaderRead (headerOf (drop (a .1 .0) (now (a .0)))))
+scte35-read-header-answers = record { takes-any = λ κ a. tt; is = λ κ a r e l. l }
 
-pub scte35-read-section-is-fixed : Fixed scte35-read-section.Asked scte35-read-section.Learnt
-scte35-read-section-is-fixed = record { takes-any = λ κ a. tt; one-answer = λ κ a x y e f p q. p ∙ sym q }
+pub scte35-read-section-answers : Answers scte35-read-section.Asked scte35-read-section.Learnt (λ κ r e. r) (λ κ a. flatSectionRead (sectionOf (drop (a .1 .0) (now (a .0)))))
+scte35-read-section-answers = record { takes-any = λ κ a. tt; is = λ κ a r e l. l }
 
-pub scte35-read-command-is-fixed : Fixed scte35-read-command.Asked scte35-read-command.Learnt
-scte35-read-command-is-fixed = record { takes-any = λ κ a. tt; one-answer = λ κ a x y e f p q. p ∙ sym q }
+pub scte35-read-command-answers : Answers scte35-read-command.Asked scte35-read-command.Learnt (λ κ r e. r) (λ κ a. flatCommandRead (commandOf (a .0) (drop (a .1 .1 .0) (now (a .1 .0)))))
+scte35-read-command-answers = record { takes-any = λ κ a. tt; is = λ κ a r e l. l }
 
-pub scte35-read-insert-components-is-fixed : Fixed scte35-read-insert-components.Asked scte35-read-insert-components.Learnt
-scte35-read-insert-components-is-fixed = record { takes-any = λ κ a. tt; one-answer = λ κ a x y e f p q. p ∙ sym q }
+pub scte35-read-insert-components-answers : Answers scte35-read-insert-components.Asked scte35-read-insert-components.Learnt (λ κ r e. r) (λ κ a. flatSplices (commandOf 0x05 (drop (a .1 .0) (now (a .0)))) (componentsOf (drop (a .1 .0) (now (a .0)))))
+scte35-read-insert-components-answers = record { takes-any = λ κ a. tt; is = λ κ a r e l. l }
 
-pub scte35-read-item-is-fixed : Fixed scte35-read-item.Asked scte35-read-item.Learnt
-scte35-read-item-is-fixed = record { takes-any = λ κ a. tt; one-answer = λ κ a x y e f p q. p ∙ sym q }
+pub scte35-read-item-answers : Answers scte35-read-item.Asked scte35-read-item.Learnt (λ κ r e. r) (λ κ a. flatStep (stepOf (now (a .0)) (a .1 .0)))
+scte35-read-item-answers = record { takes-any = λ κ a. tt; is = λ κ a r e l. l }
 
-pub scte35-read-item-components-is-fixed : Fixed scte35-read-item-components.Asked scte35-read-item-components.Learnt
-scte35-read-item-components-is-fixed = record { takes-any = λ κ a. tt; one-answer = λ κ a x y e f p q. p ∙ sym q }
+pub scte35-read-item-components-answers : Answers scte35-read-item-components.Asked scte35-read-item-components.Learnt (λ κ r e. r) (λ κ a. flatBeside (readingOf (now (a .0)) (a .1 .0)))
+scte35-read-item-components-answers = record { takes-any = λ κ a. tt; is = λ κ a r e l. l }
 
-pub scte35-read-upid-is-fixed : Fixed scte35-read-upid.Asked scte35-read-upid.Learnt
-scte35-read-upid-is-fixed = record { takes-any = λ κ a. tt; one-answer = λ κ a x y e f p q. p ∙ sym q }
+pub scte35-read-upid-answers : Answers scte35-read-upid.Asked scte35-read-upid.Learnt (λ κ r e. r) (λ κ a. flatUpid (upidOf (a .0) (drop (a .1 .1 .0) (now (a .1 .0)))))
+scte35-read-upid-answers = record { takes-any = λ κ a. tt; is = λ κ a r e l. l }
 
-pub scte35-crc-is-fixed : Fixed scte35-crc.Asked scte35-crc.Learnt
-scte35-crc-is-fixed = record { takes-any = λ κ a. tt; one-answer = λ κ a x y e f p q. p ∙ sym q }
+pub scte35-crc-answers : Answers scte35-crc.Asked scte35-crc.Learnt (λ κ r e. r) (λ κ a. crcOf (drop (a .1 .0) (now (a .0))))
+scte35-crc-answers = record { takes-any = λ κ a. tt; is = λ κ a r e l. l }
 
-pub scte35-adjust-time-is-fixed : Fixed scte35-adjust-time.Asked scte35-adjust-time.Learnt
-scte35-adjust-time-is-fixed = record { takes-any = λ κ a. tt; one-answer = λ κ a x y e f p q. p ∙ sym q }
+pub scte35-adjust-time-answers : Answers scte35-adjust-time.Asked scte35-adjust-time.Learnt (λ κ r e. r) (λ κ a. flatAdjusted (adjustedOf (timeHanded (a .0) (a .1 .0)) (a .1 .1 .0)))
+scte35-adjust-time-answers = record { takes-any = λ κ a. tt; is = λ κ a r e l. l }
 
-pub scte35-classify-algorithm-is-fixed : Fixed scte35-classify-algorithm.Asked scte35-classify-algorithm.Learnt
-scte35-classify-algorithm-is-fixed = record { takes-any = λ κ a. tt; one-answer = λ κ a x y e f p q. p ∙ sym q }
+pub scte35-classify-algorithm-answers : Answers scte35-classify-algorithm.Asked scte35-classify-algorithm.Learnt (λ κ r e. r) (λ κ a. flatName algorithmEntry (algorithmOf (a .0)))
+scte35-classify-algorithm-answers = record { takes-any = λ κ a. tt; is = λ κ a r e l. l }
 
-pub scte35-classify-command-type-is-fixed : Fixed scte35-classify-command-type.Asked scte35-classify-command-type.Learnt
-scte35-classify-command-type-is-fixed = record { takes-any = λ κ a. tt; one-answer = λ κ a x y e f p q. p ∙ sym q }
+pub scte35-classify-command-type-answers : Answers scte35-classify-command-type.Asked scte35-classify-command-type.Learnt (λ κ r e. r) (λ κ a. flatName commandEntry (commandTypeOf (a .0)))
+scte35-classify-command-type-answers = record { takes-any = λ κ a. tt; is = λ κ a r e l. l }
 
-pub scte35-classify-upid-type-is-fixed : Fixed scte35-classify-upid-type.Asked scte35-classify-upid-type.Learnt
-scte35-classify-upid-type-is-fixed = record { takes-any = λ κ a. tt; one-answer = λ κ a x y e f p q. p ∙ sym q }
+pub scte35-classify-upid-type-answers : Answers scte35-classify-upid-type.Asked scte35-classify-upid-type.Learnt (λ κ r e. r) (λ κ a. flatName upidTypeEntry (upidTypeOf (a .0)))
+scte35-classify-upid-type-answers = record { takes-any = λ κ a. tt; is = λ κ a r e l. l }
 
-pub scte35-classify-segmentation-type-is-fixed : Fixed scte35-classify-segmentation-type.Asked scte35-classify-segmentation-type.Learnt
-scte35-classify-segmentation-type-is-fixed = record { takes-any = λ κ a. tt; one-answer = λ κ a x y e f p q. p ∙ sym q }
+pub scte35-classify-segmentation-type-answers : Answers scte35-classify-segmentation-type.Asked scte35-classify-segmentation-type.Learnt (λ κ r e. r) (λ κ a. flatName segmentationEntry (segmentationOf (a .0)))
+scte35-classify-segmentation-type-answers = record { takes-any = λ κ a. tt; is = λ κ a r e l. l }
 
-pub scte35-classify-network-indicator-is-fixed : Fixed scte35-classify-network-indicator.Asked scte35-classify-network-indicator.Learnt
-scte35-classify-network-indicator-is-fixed = record { takes-any = λ κ a. tt; one-answer = λ κ a x y e f p q. p ∙ sym q }
+pub scte35-classify-network-indicator-answers : Answers scte35-classify-network-indicator.Asked scte35-classify-network-indicator.Learnt (λ κ r e. r) (λ κ a. flatAnswer networkFlag (networkOf (a .0)))
+scte35-classify-network-indicator-answers = record { takes-any = λ κ a. tt; is = λ κ a r e l. l }
 
-pub scte35-classify-return-mode-is-fixed : Fixed scte35-classify-return-mode.Asked scte35-classify-return-mode.Learnt
-scte35-classify-return-mode-is-fixed = record { takes-any = λ κ a. tt; one-answer = λ κ a x y e f p q. p ∙ sym q }
+pub scte35-classify-return-mode-answers : Answers scte35-classify-return-mode.Asked scte35-classify-return-mode.Learnt (λ κ r e. r) (λ κ a. flatAnswer returnFlag (returnOf (a .0)))
+scte35-classify-return-mode-answers = record { takes-any = λ κ a. tt; is = λ κ a r e l. l }
 
-pub scte35-classify-device-restrictions-is-fixed : Fixed scte35-classify-device-restrictions.Asked scte35-classify-device-restrictions.Learnt
-scte35-classify-device-restrictions-is-fixed = record { takes-any = λ κ a. tt; one-answer = λ κ a x y e f p q. p ∙ sym q }
+pub scte35-classify-device-restrictions-answers : Answers scte35-classify-device-restrictions.Asked scte35-classify-device-restrictions.Learnt (λ κ r e. r) (λ κ a. flatAnswer restrictionsBits (restrictionsOf (a .0)))
+scte35-classify-device-restrictions-answers = record { takes-any = λ κ a. tt; is = λ κ a r e l. l }
 
-pub scte35-write-command-words-is-fixed : Fixed scte35-write-command-words.Asked scte35-write-command-words.Learnt
-scte35-write-command-words-is-fixed = record { takes-any = λ κ a. tt; one-answer = λ κ a x y e f p q. p .0 ∙ sym (q .0) }
+pub scte35-write-command-words-answers : Answers scte35-write-command-words.Asked scte35-write-command-words.Learnt (λ κ r e. r) (λ κ a. flatWritten (answerOf (commandWordsMade (now (a .0)) (now (a .1 .0)) (now (a .1 .1 .0))) (now (a .1 .1 .1 .0))))
+scte35-write-command-words-answers = record { takes-any = λ κ a. tt; is = λ κ a r e l. l .0 }
 
-pub scte35-write-command-words-fixes-the-target : FixedIn scte35-write-command-words.Asked scte35-write-command-words.Learnt (λ κ answer after. now (after .1 .1 .1 .0))
-scte35-write-command-words-fixes-the-target = record { takes-any = λ κ a. tt; seen = λ κ a x y e f p q. p .1 ∙ sym (q .1) }
+pub scte35-write-command-words-leaves : Answers scte35-write-command-words.Asked scte35-write-command-words.Learnt (λ κ r e. now (e .1 .1 .1 .0)) (λ κ a. laterOf (commandWordsMade (now (a .0)) (now (a .1 .0)) (now (a .1 .1 .0))) (now (a .1 .1 .1 .0)))
+scte35-write-command-words-leaves = record { takes-any = λ κ a. tt; is = λ κ a r e l. l .1 }
 
-pub scte35-write-descriptor-words-is-fixed : Fixed scte35-write-descriptor-words.Asked scte35-write-descriptor-words.Learnt
-scte35-write-descriptor-words-is-fixed = record { takes-any = λ κ a. tt; one-answer = λ κ a x y e f p q. p .0 ∙ sym (q .0) }
+pub scte35-write-descriptor-words-answers : Answers scte35-write-descriptor-words.Asked scte35-write-descriptor-words.Learnt (λ κ r e. r) (λ κ a. flatWritten (answerOf (descriptorWordsMade (now (a .0)) (now (a .1 .0)) (now (a .1 .1 .0))) (now (a .1 .1 .1 .0))))
+scte35-write-descriptor-words-answers = record { takes-any = λ κ a. tt; is = λ κ a r e l. l .0 }
 
-pub scte35-write-descriptor-words-fixes-the-target : FixedIn scte35-write-descriptor-words.Asked scte35-write-descriptor-words.Learnt (λ κ answer after. now (after .1 .1 .1 .0))
-scte35-write-descriptor-words-fixes-the-target = record { takes-any = λ κ a. tt; seen = λ κ a x y e f p q. p .1 ∙ sym (q .1) }
+pub scte35-write-descriptor-words-leaves : Answers scte35-write-descriptor-words.Asked scte35-write-descriptor-words.Learnt (λ κ r e. now (e .1 .1 .1 .0)) (λ κ a. laterOf (descriptorWordsMade (now (a .0)) (now (a .1 .0)) (now (a .1 .1 .0))) (now (a .1 .1 .1 .0)))
+scte35-write-descriptor-words-leaves = record { takes-any = λ κ a. tt; is = λ κ a r e l. l .1 }
 
-pub scte35-write-section-words-is-fixed : Fixed scte35-write-section-words.Asked scte35-write-section-words.Learnt
-scte35-write-section-words-is-fixed = record { takes-any = λ κ a. tt; one-answer = λ κ a x y e f p q. p .0 ∙ sym (q .0) }
+pub scte35-write-section-words-answers : Answers scte35-write-section-words.Asked scte35-write-section-words.Learnt (λ κ r e. r) (λ κ a. flatWritten (answerOf (sectionWordsMade (now (a .0)) (now (a .1 .0)) (now (a .1 .1 .0)) (now (a .1 .1 .1 .0)) (now (a .1 .1 .1 .1 .0))) (now (a .1 .1 .1 .1 .1 .0))))
+scte35-write-section-words-answers = record { takes-any = λ κ a. tt; is = λ κ a r e l. l .0 }
 
-pub scte35-write-section-words-fixes-the-target : FixedIn scte35-write-section-words.Asked scte35-write-section-words.Learnt (λ κ answer after. now (after .1 .1 .1 .1 .1 .0))
-scte35-write-section-words-fixes-the-target = record { takes-any = λ κ a. tt; seen = λ κ a x y e f p q. p .1 ∙ sym (q .1) }
+pub scte35-write-section-words-leaves : Answers scte35-write-section-words.Asked scte35-write-section-words.Learnt (λ κ r e. now (e .1 .1 .1 .1 .1 .0)) (λ κ a. laterOf (sectionWordsMade (now (a .0)) (now (a .1 .0)) (now (a .1 .1 .0)) (now (a .1 .1 .1 .0)) (now (a .1 .1 .1 .1 .0))) (now (a .1 .1 .1 .1 .1 .0)))
+scte35-write-section-words-leaves = record { takes-any = λ κ a. tt; is = λ κ a r e l. l .1 }
 
-pub scte35-is-canonical-section-is-fixed : Fixed scte35-is-canonical-section.Asked scte35-is-canonical-section.Learnt
-scte35-is-canonical-section-is-fixed = record { takes-any = λ κ a. tt; one-answer = λ κ a x y e f p q. p ∙ sym q }
+pub scte35-is-canonical-section-answers : Answers scte35-is-canonical-section.Asked scte35-is-canonical-section.Learnt (λ κ r e. r) (λ κ a. canonicalSection (drop (a .1 .0) (now (a .0))))
+scte35-is-canonical-section-answers = record { takes-any = λ κ a. tt; is = λ κ a r e l. l }
 
-pub scte35-is-canonical-loop-is-fixed : Fixed scte35-is-canonical-loop.Asked scte35-is-canonical-loop.Learnt
-scte35-is-canonical-loop-is-fixed = record { takes-any = λ κ a. tt; one-answer = λ κ a x y e f p q. p ∙ sym q }
+pub scte35-is-canonical-loop-answers : Answers scte35-is-canonical-loop.Asked scte35-is-canonical-loop.Learnt (λ κ r e. r) (λ κ a. canonicalLoop (drop (a .1 .0) (now (a .0))))
+scte35-is-canonical-loop-answers = record { takes-any = λ κ a. tt; is = λ κ a r e l. l }
 
-pub scte35-is-canonical-descriptor-is-fixed : Fixed scte35-is-canonical-descriptor.Asked scte35-is-canonical-descriptor.Learnt
-scte35-is-canonical-descriptor-is-fixed = record { takes-any = λ κ a. tt; one-answer = λ κ a x y e f p q. p ∙ sym q }
+pub scte35-is-canonical-descriptor-answers : Answers scte35-is-canonical-descriptor.Asked scte35-is-canonical-descriptor.Learnt (λ κ r e. r) (λ κ a. canonicalDescriptor (drop (a .1 .0) (now (a .0))))
+scte35-is-canonical-descriptor-answers = record { takes-any = λ κ a. tt; is = λ κ a r e l. l }

@@ -1,7 +1,11 @@
 -- The public functions of board, channels and flat_board, and those over C: each fixes its answer and the words that it is lent, and asks nothing of the
 -- caller, as FixedAnswers.antt has it of the readers. Assumes nothing.
-use mathlib.Core.Path.{_≡_, sym, _∙_}
+use mathlib.Core.Path.{_≡_}
 use denote.Ref.{now}
+use Rattle.board.specs.Board.{before, blankPlace, breaksOf, closeOf, emptyBoard, holds, isFree, openOf}
+use Rattle.board.specs.Breaks.{freeFrom}
+use Rattle.channels.specs.Channels.{closeOf as channelsCloseOf, emptyShared, openOf as channelsOpenOf}
+use Rattle.flat_board.specs.Lent.{closed, emptied, opened}
 use Rattle.board.proofs.blank_place.Reads as blank-place
 use Rattle.board.proofs.empty.Reads as empty-board
 use Rattle.board.proofs.free_place.Reads as free-place
@@ -18,76 +22,76 @@ use Rattle.flat_board.proofs.close_words.Reads as close-words
 use Rattle.scte35.proofs.board.scte35_board_empty.Reads as scte35-board-empty
 use Rattle.scte35.proofs.board.scte35_board_open.Reads as scte35-board-open
 use Rattle.scte35.proofs.board.scte35_board_close.Reads as scte35-board-close
-use Rattle.theorems.specs.FixedAnswers.{Fixed, FixedIn}
+use Rattle.theorems.specs.FixedAnswers.{Answers}
 
 -- ---- board
 
-pub blank-place-is-fixed : Fixed blank-place.Asked blank-place.Learnt
-blank-place-is-fixed = record { takes-any = λ κ a. tt; one-answer = λ κ a x y e f p q. p ∙ sym q }
+pub blank-place-answers : Answers blank-place.Asked blank-place.Learnt (λ κ r e. r) (λ κ a. blankPlace)
+blank-place-answers = record { takes-any = λ κ a. tt; is = λ κ a r e l. l }
 
-pub empty-board-is-fixed : Fixed empty-board.Asked empty-board.Learnt
-empty-board-is-fixed = record { takes-any = λ κ a. tt; one-answer = λ κ a x y e f p q. p ∙ sym q }
+pub empty-board-answers : Answers empty-board.Asked empty-board.Learnt (λ κ r e. r) (λ κ a. emptyBoard)
+empty-board-answers = record { takes-any = λ κ a. tt; is = λ κ a r e l. l }
 
-pub free-place-is-fixed : Fixed free-place.Asked free-place.Learnt
-free-place-is-fixed = record { takes-any = λ κ a. tt; one-answer = λ κ a x y e f p q. p .0 ∙ sym (q .0) }
+pub free-place-answers : Answers free-place.Asked free-place.Learnt (λ κ r e. r) (λ κ a. before isFree (a .0))
+free-place-answers = record { takes-any = λ κ a. tt; is = λ κ a r e l. l .0 }
 
-pub place-of-is-fixed : Fixed place-of.Asked place-of.Learnt
-place-of-is-fixed = record { takes-any = λ κ a. tt; one-answer = λ κ a x y e f p q. p .0 ∙ sym (q .0) }
+pub place-of-answers : Answers place-of.Asked place-of.Learnt (λ κ r e. r) (λ κ a. before (holds (a .1 .0)) (a .0))
+place-of-answers = record { takes-any = λ κ a. tt; is = λ κ a r e l. l .0 }
 
-pub free-id-is-fixed : Fixed free-id.Asked free-id.Learnt
-free-id-is-fixed = record { takes-any = λ κ a. tt; one-answer = λ κ a x y e f p q. p ∙ sym q }
+pub free-id-answers : Answers free-id.Asked free-id.Learnt (λ κ r e. r) (λ κ a. freeFrom (a .1 .1 .0) (breaksOf (a .0)) (a .1 .0))
+free-id-answers = record { takes-any = λ κ a. tt; is = λ κ a r e l. l }
 
-pub open-break-is-fixed : Fixed open-break.Asked open-break.Learnt
-open-break-is-fixed = record { takes-any = λ κ a. tt; one-answer = λ κ a x y e f p q. p ∙ sym q }
+pub open-break-answers : Answers open-break.Asked open-break.Learnt (λ κ r e. r) (λ κ a. openOf (a .0) (a .1 .0))
+open-break-answers = record { takes-any = λ κ a. tt; is = λ κ a r e l. l }
 
-pub close-break-is-fixed : Fixed close-break.Asked close-break.Learnt
-close-break-is-fixed = record { takes-any = λ κ a. tt; one-answer = λ κ a x y e f p q. p ∙ sym q }
+pub close-break-answers : Answers close-break.Asked close-break.Learnt (λ κ r e. r) (λ κ a. closeOf (a .0) (a .1 .0))
+close-break-answers = record { takes-any = λ κ a. tt; is = λ κ a r e l. l }
 
 -- ---- channels
 
-pub empty-shared-is-fixed : Fixed empty-shared.Asked empty-shared.Learnt
-empty-shared-is-fixed = record { takes-any = λ κ a. tt; one-answer = λ κ a x y e f p q. p ∙ sym q }
+pub empty-shared-answers : Answers empty-shared.Asked empty-shared.Learnt (λ κ r e. r) (λ κ a. emptyShared)
+empty-shared-answers = record { takes-any = λ κ a. tt; is = λ κ a r e l. l }
 
-pub open-on-channel-is-fixed : Fixed open-on-channel.Asked open-on-channel.Learnt
-open-on-channel-is-fixed = record { takes-any = λ κ a. tt; one-answer = λ κ a x y e f p q. p ∙ sym q }
+pub open-on-channel-answers : Answers open-on-channel.Asked open-on-channel.Learnt (λ κ r e. r) (λ κ a. channelsOpenOf (a .0) (a .1 .0) (a .1 .1 .0))
+open-on-channel-answers = record { takes-any = λ κ a. tt; is = λ κ a r e l. l }
 
-pub close-on-channel-is-fixed : Fixed close-on-channel.Asked close-on-channel.Learnt
-close-on-channel-is-fixed = record { takes-any = λ κ a. tt; one-answer = λ κ a x y e f p q. p ∙ sym q }
+pub close-on-channel-answers : Answers close-on-channel.Asked close-on-channel.Learnt (λ κ r e. r) (λ κ a. channelsCloseOf (a .0) (a .1 .0) (a .1 .1 .0))
+close-on-channel-answers = record { takes-any = λ κ a. tt; is = λ κ a r e l. l }
 
 -- ---- over C
 
-pub empty-words-is-fixed : Fixed empty-words.Asked empty-words.Learnt
-empty-words-is-fixed = record { takes-any = λ κ a. tt; one-answer = λ κ a x y e f p q. p .0 ∙ sym (q .0) }
+pub empty-words-answers : Answers empty-words.Asked empty-words.Learnt (λ κ r e. r) (λ κ a. emptied (now (a .0)) .answer)
+empty-words-answers = record { takes-any = λ κ a. tt; is = λ κ a r e l. l .0 }
 
-pub empty-words-fixes-the-target : FixedIn empty-words.Asked empty-words.Learnt (λ κ answer after. now (after .0))
-empty-words-fixes-the-target = record { takes-any = λ κ a. tt; seen = λ κ a x y e f p q. p .1 ∙ sym (q .1) }
+pub empty-words-leaves : Answers empty-words.Asked empty-words.Learnt (λ κ r e. now (e .0)) (λ κ a. emptied (now (a .0)) .words)
+empty-words-leaves = record { takes-any = λ κ a. tt; is = λ κ a r e l. l .1 }
 
-pub open-words-is-fixed : Fixed open-words.Asked open-words.Learnt
-open-words-is-fixed = record { takes-any = λ κ a. tt; one-answer = λ κ a x y e f p q. p .0 ∙ sym (q .0) }
+pub open-words-answers : Answers open-words.Asked open-words.Learnt (λ κ r e. r) (λ κ a. opened (now (a .0)) (a .1 .0) (a .1 .1 .0) .answer)
+open-words-answers = record { takes-any = λ κ a. tt; is = λ κ a r e l. l .0 }
 
-pub open-words-fixes-the-target : FixedIn open-words.Asked open-words.Learnt (λ κ answer after. now (after .0))
-open-words-fixes-the-target = record { takes-any = λ κ a. tt; seen = λ κ a x y e f p q. p .1 ∙ sym (q .1) }
+pub open-words-leaves : Answers open-words.Asked open-words.Learnt (λ κ r e. now (e .0)) (λ κ a. opened (now (a .0)) (a .1 .0) (a .1 .1 .0) .words)
+open-words-leaves = record { takes-any = λ κ a. tt; is = λ κ a r e l. l .1 }
 
-pub close-words-is-fixed : Fixed close-words.Asked close-words.Learnt
-close-words-is-fixed = record { takes-any = λ κ a. tt; one-answer = λ κ a x y e f p q. p .0 ∙ sym (q .0) }
+pub close-words-answers : Answers close-words.Asked close-words.Learnt (λ κ r e. r) (λ κ a. closed (now (a .0)) (a .1 .0) (a .1 .1 .0) .answer)
+close-words-answers = record { takes-any = λ κ a. tt; is = λ κ a r e l. l .0 }
 
-pub close-words-fixes-the-target : FixedIn close-words.Asked close-words.Learnt (λ κ answer after. now (after .0))
-close-words-fixes-the-target = record { takes-any = λ κ a. tt; seen = λ κ a x y e f p q. p .1 ∙ sym (q .1) }
+pub close-words-leaves : Answers close-words.Asked close-words.Learnt (λ κ r e. now (e .0)) (λ κ a. closed (now (a .0)) (a .1 .0) (a .1 .1 .0) .words)
+close-words-leaves = record { takes-any = λ κ a. tt; is = λ κ a r e l. l .1 }
 
-pub scte35-board-empty-is-fixed : Fixed scte35-board-empty.Asked scte35-board-empty.Learnt
-scte35-board-empty-is-fixed = record { takes-any = λ κ a. tt; one-answer = λ κ a x y e f p q. p .0 ∙ sym (q .0) }
+pub scte35-board-empty-answers : Answers scte35-board-empty.Asked scte35-board-empty.Learnt (λ κ r e. r) (λ κ a. emptied (now (a .0)) .answer)
+scte35-board-empty-answers = record { takes-any = λ κ a. tt; is = λ κ a r e l. l .0 }
 
-pub scte35-board-empty-fixes-the-target : FixedIn scte35-board-empty.Asked scte35-board-empty.Learnt (λ κ answer after. now (after .0))
-scte35-board-empty-fixes-the-target = record { takes-any = λ κ a. tt; seen = λ κ a x y e f p q. p .1 ∙ sym (q .1) }
+pub scte35-board-empty-leaves : Answers scte35-board-empty.Asked scte35-board-empty.Learnt (λ κ r e. now (e .0)) (λ κ a. emptied (now (a .0)) .words)
+scte35-board-empty-leaves = record { takes-any = λ κ a. tt; is = λ κ a r e l. l .1 }
 
-pub scte35-board-open-is-fixed : Fixed scte35-board-open.Asked scte35-board-open.Learnt
-scte35-board-open-is-fixed = record { takes-any = λ κ a. tt; one-answer = λ κ a x y e f p q. p .0 ∙ sym (q .0) }
+pub scte35-board-open-answers : Answers scte35-board-open.Asked scte35-board-open.Learnt (λ κ r e. r) (λ κ a. opened (now (a .0)) (a .1 .0) (a .1 .1 .0) .answer)
+scte35-board-open-answers = record { takes-any = λ κ a. tt; is = λ κ a r e l. l .0 }
 
-pub scte35-board-open-fixes-the-target : FixedIn scte35-board-open.Asked scte35-board-open.Learnt (λ κ answer after. now (after .0))
-scte35-board-open-fixes-the-target = record { takes-any = λ κ a. tt; seen = λ κ a x y e f p q. p .1 ∙ sym (q .1) }
+pub scte35-board-open-leaves : Answers scte35-board-open.Asked scte35-board-open.Learnt (λ κ r e. now (e .0)) (λ κ a. opened (now (a .0)) (a .1 .0) (a .1 .1 .0) .words)
+scte35-board-open-leaves = record { takes-any = λ κ a. tt; is = λ κ a r e l. l .1 }
 
-pub scte35-board-close-is-fixed : Fixed scte35-board-close.Asked scte35-board-close.Learnt
-scte35-board-close-is-fixed = record { takes-any = λ κ a. tt; one-answer = λ κ a x y e f p q. p .0 ∙ sym (q .0) }
+pub scte35-board-close-answers : Answers scte35-board-close.Asked scte35-board-close.Learnt (λ κ r e. r) (λ κ a. closed (now (a .0)) (a .1 .0) (a .1 .1 .0) .answer)
+scte35-board-close-answers = record { takes-any = λ κ a. tt; is = λ κ a r e l. l .0 }
 
-pub scte35-board-close-fixes-the-target : FixedIn scte35-board-close.Asked scte35-board-close.Learnt (λ κ answer after. now (after .0))
-scte35-board-close-fixes-the-target = record { takes-any = λ κ a. tt; seen = λ κ a x y e f p q. p .1 ∙ sym (q .1) }
+pub scte35-board-close-leaves : Answers scte35-board-close.Asked scte35-board-close.Learnt (λ κ r e. now (e .0)) (λ κ a. closed (now (a .0)) (a .1 .0) (a .1 .1 .0) .words)
+scte35-board-close-leaves = record { takes-any = λ κ a. tt; is = λ κ a r e l. l .1 }

@@ -23,14 +23,14 @@ use Rattle.table.proofs.Steps.{Reads, reads-in, reads-number, reads-flag, reads
 use Rattle.table.specs.Bits.{pick, bitsOf, field}
 use Rattle.table.specs.Table.{Table, done, must, inside, uimsbf, ones, list, Answer, got, parse}
 
-got-same : {X : Type 0} {x y : X} {m n : ℕ} → got x m ≡ got y n → x ≡ y
+pub got-same : {X : Type 0} {x y : X} {m n : ℕ} → got x m ≡ got y n → x ≡ y
 got-same e = cc
 
 carried : {a b : SpliceMode} {cs ds : List ComponentSplice} → a ≡ b → cs ≡ ds → (length ds ≡ count b) × (timesFit ds ≡ true) → (length cs ≡ count a) × (timesFit cs ≡ true)
 carried e f h = rw (e, f) h
 
 module _ (s : List ℕ) where
-  time-fits : (at : ℕ) (t : SpliceTime) (m : ℕ) → parse spliceTime (bitsOf s) at ≡ got t m → ticks t < 2 ^ 33
+  pub time-fits : (at : ℕ) (t : SpliceTime) (m : ℕ) → parse spliceTime (bitsOf s) at ≡ got t m → ticks t < 2 ^ 33
   unfolding spliceTime
   time-fits at t m e = go (eqb (field (bitsOf s) at 1) 1) (reads-flag s at _ _ t m e .1)
     where
@@ -44,7 +44,7 @@ module _ (s : List ℕ) where
           let z : t ≡ Unspecified = cc in
           rw z (omega arith)
 
-  unless-fits : (b : Bool) (at : ℕ) (t : SpliceTime) (m : ℕ) → parse (timeUnless b) (bitsOf s) at ≡ got t m → ticks t < 2 ^ 33
+  pub unless-fits : (b : Bool) (at : ℕ) (t : SpliceTime) (m : ℕ) → parse (timeUnless b) (bitsOf s) at ≡ got t m → ticks t < 2 ^ 33
   unfolding timeUnless
   unless-fits true at t m e = let z : t ≡ Immediate = cc in rw z (omega arith)
   unless-fits false at t m e = time-fits at t m e

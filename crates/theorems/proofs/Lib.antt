@@ -27,6 +27,8 @@ pub mod WritableFields
 pub mod WritableUpids
 pub mod WritablePayloads
 pub mod Writable
+pub mod WritableCommands
+pub mod WritableInserts
 pub mod Answers
 pub mod NumbersFit
 pub mod CommandsMade
@@ -40,3 +42,4 @@ pub mod ItemsTyped
 pub mod LoopsOverC
 pub mod SectionsOverC
 pub mod Theorems
+pub mod WritableSections

@@ -22,9 +22,8 @@ use Rattle.section.specs.declared.Section.{Section}
 use Rattle.section.specs.declared.SectionRead.{SectionRead}
 use Rattle.table.specs.Lent.{viewed}
 use Rattle.table.specs.declared.View.{View}
-use Rattle.upid.proofs.Theorems.{only-a-mid-has-parts, every-byte-lies-in-one-part}
-use Rattle.upid.specs.Cover.{All, none, more, whole, Once}
-use Rattle.upid.specs.Upid.{upidOf}
+use Rattle.upid.proofs.Theorems.{only-a-mid-has-parts}
+use Rattle.upid.specs.Cover.{All, none, more}
 use Rattle.theorems.specs.Identifiers.{
   Identifier,
   OneRun,
@@ -37,10 +36,6 @@ use Rattle.theorems.specs.Identifiers.{
   identifiersOfItem,
   loopIn,
   identifiersOf,
-  midOf,
-  midsOf,
-  Unsplit,
-  partsRead,
 }
 use Rattle.theorems.proofs.Framed.{laid, private-in}
 use Rattle.theorems.proofs.Items.{Found, found, mid-of, eidr-of, beside-runs}
@@ -97,18 +92,6 @@ module _ (s : List ℕ) (i : Identifier) (r : OneRun s i) (fits : length (i .byt
   loop-identifiers : All (OneRun s) (each (identifiersOfItem (i .start) (i .bytes)) (itemsOf (i .bytes)))
   loop-identifiers = all-each (identifiersOfItem (i .start) (i .bytes)) (λ x h. h) (each-item item-runs (walked (i .bytes) fits))
 
-  one-mid : (o : ℕ) (u : SegmentationUpid) → Found (i .bytes) o (stepOf (i .bytes) o .next) u → All (Unsplit s) (midOf (i .start) (i .bytes) u)
-  one-mid o u f = go (eqb (u .kind) 13) refl
-    where
-      go : (t : Bool) → eqb (u .kind) 13 ≡ t → All (Unsplit s) (cond t (inLent (i .start) (i .bytes) (u .bytes) ∷ []) [])
-      go true t = more (mid-of s i r o _ u f (eqb-true _ _ t)) none
-      go false t = none
-
-  loop-mids : All (Unsplit s) (each (λ (y : Listed). each (midOf (i .start) (i .bytes)) (upidsOf (y .step .item))) (itemsOf (i .bytes)))
-  loop-mids =
-      all-each (λ (y : Listed). each (midOf (i .start) (i .bytes)) (upidsOf (y .step .item))) (λ y h. h)
-      (each-item (λ o inside. all-each (midOf (i .start) (i .bytes)) (one-mid o) (found (clause (i .bytes) o))) (walked (i .bytes) fits))
-
 -- ---- of a section
 
 module _ (s : List ℕ) (x : Section) (e : sectionOf s ≡ SectionRead.Is x) where
@@ -139,15 +122,6 @@ module _ (s : List ℕ) (x : Section) (e : sectionOf s ≡ SectionRead.Is x) whe
       let c : All (OneRun s) (ofPrivate (λ p. inSection s (p .«private_bytes») ∷ []) [] (x .command)) = rw (l .command) (command-runs _ (l .read) (omega (arith, l .fits)) (l .from)) in
       all-append c
       (loop-identifiers s (inSection s (x .descriptors)) loop-run loop-short)
-
-  pub mids-unsplit : All (Unsplit s) (midsOf s x)
-  unfolding midsOf
-  mids-unsplit = loop-mids s (inSection s (x .descriptors)) loop-run loop-short
-
-  -- byte by byte
-  pub bytes-in-one-part : All (λ mid. All (λ m. m .kind ≡ 13 → Once (partsRead 13 (mid .bytes)) m) (whole (mid .bytes) ∷ partsRead 13 (mid .bytes))) (midsOf s x)
-  unfolding upidOf
-  bytes-in-one-part = all-into (λ mid u. every-byte-lies-in-one-part (mid .bytes) (rw (u .accepted) tt)) mids-unsplit
 
   pub bytes-in-one-item : (i : ℕ) → i < length (loopIn s x) → times i (itemsOf (loopIn s x)) ≡ 1
   bytes-in-one-item i h = every-byte-lies-in-one-item (loopIn s x) loop-short i h

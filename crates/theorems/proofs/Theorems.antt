@@ -13,6 +13,7 @@ use Rattle.command.specs.declared.CommandRead.{CommandRead}
 use Rattle.command.specs.declared.SpliceCommand.{SpliceCommand}
 use Rattle.command.specs.declared.components.ComponentSplice.{ComponentSplice}
 use Rattle.command.specs.declared.insert.Insert.{Insert}
+use Rattle.command.specs.declared.insert.Insertion.{Insertion}
 use Rattle.command.specs.declared.insert.SpliceInsert.{SpliceInsert}
 use Rattle.command_measure.specs.Made.{commandMade}
 use Rattle.crc.specs.Crc.{crcOf}
@@ -71,15 +72,17 @@ use Rattle.section.specs.Section.{commandType, commandBytes, commandLength, loo
 use Rattle.section.specs.declared.Section.{Section}
 use Rattle.section.specs.declared.SectionRead.{SectionRead}
 use Rattle.section_writer.specs.Canonical.{canonicalSection}
+use Rattle.section_writer.specs.Frame.{sectionLength}
 use Rattle.section_writer.specs.Writing.{kindOf, sectionMade}
 use Rattle.table.specs.Bits.{AllBytes}
+use Rattle.table.specs.Lent.{viewed}
 use Rattle.table.specs.Writing.{Made, made}
 use Rattle.upid.specs.Cover.{All, whole, Once}
 use Rattle.upid.proofs.Answers as upids
 use Rattle.upid.specs.Upid.{checkOf, listOf, unlessRefused}
-use Rattle.theorems.specs.Identifiers.{OneRun, inSection, inLent, partsRead, loopIn, identifiersOf, midsOf, Unsplit}
+use Rattle.theorems.specs.Identifiers.{OneRun, inSection, inLent, partsRead, loopIn, identifiersOf, Unsplit}
 use Rattle.theorems.specs.Listing.{ListsItem, ListsCommand}
-use Rattle.theorems.specs.Making.{CommandMakes, SectionBytes, SectionMakes}
+use Rattle.theorems.specs.Making.{CommandPayload, CommandMakes, SectionBytes, SectionMakes}
 use Rattle.theorems.specs.Numbers.{OnlyBy}
 use Rattle.theorems.specs.OverC.{componentsAnswered, splicesWords, wordsMadeAt}
 use Rattle.theorems.specs.Rows.{Holds, rows}
@@ -106,6 +109,8 @@ use Rattle.theorems.proofs.Tolerated as tolerated
 use Rattle.theorems.proofs.Whole as whole-runs
 use Rattle.theorems.proofs.Worked as worked
 use Rattle.theorems.proofs.Writable as writable
+use Rattle.theorems.proofs.WritableInserts as writable-inserts
+use Rattle.theorems.proofs.WritableSections as writable-sections
 use Rattle.theorems.proofs.WrittenBack as written-back
 
 -- ---- acceptance
@@ -188,7 +193,8 @@ pub every-upid-of-the-section-is-whole : (s : List ℕ) (x : Section) → sectio
     → WholeUpid s (upidAt s (x .descriptors .at + offset + 6)) (x .descriptors .at) (loopIn s x) (readingOf (loopIn s x) offset .beside .eidr) (i .«segmentation_upid»)
 every-upid-of-the-section-is-whole = whole-runs.whole-upid
 
--- and where it is a MID, it is not split
+-- The incident: where it is a MID, no identifier of it is split. It is read as its parts, each of them, at every level, exactly the run of the section that the two bytes before it announce; the direct
+-- parts of each MID cover it once; and no other part is in the list, which goes by the bytes, "outer part before its inner ones".
 pub no-mid-that-is-read-is-split : (s : List ℕ) (x : Section) → sectionOf s ≡ SectionRead.Is x → (offset : ℕ) (d : SegmentationDescriptor) (i : SegmentationInsert)
     → stepOf (loopIn s x) offset .item ≡ Item.Is (Descriptor.Segmentation d) → d .«descriptor_detail» ≡ SegmentationDetail.Insert i
     → i .«segmentation_upid» .kind ≡ 13 → Unsplit s (inLent (x .descriptors .at) (loopIn s x) (i .«segmentation_upid» .bytes))
@@ -232,12 +238,6 @@ the-items-cover-the-loop-of-the-section = sections.items-cover
 pub an-ending-refusal-takes-the-rest-of-the-loop : (s : List ℕ) (x : Section) → sectionOf s ≡ SectionRead.Is x → (offset : ℕ) → Ends (drop offset (loopIn s x))
     → TakesRest (loopIn s x) (stepOf (loopIn s x) offset)
 an-ending-refusal-takes-the-rest-of-the-loop = sections.ending-takes-rest
-
--- The incident: no identifier of a MID is split. Each UPID of a section that is a MID is read as its parts, each of them, at every level, exactly the run of
--- the section that the two bytes before it announce; the direct parts of each MID cover it once; and no other part is in the list, which goes by the bytes,
--- "outer part before its inner ones".
-pub no-mid-of-the-section-is-split : (s : List ℕ) (x : Section) → sectionOf s ≡ SectionRead.Is x → All (Unsplit s) (midsOf s x)
-no-mid-of-the-section-is-split = sections.mids-unsplit
 
 -- ---- writing
 
@@ -308,6 +308,18 @@ a-canonical-section-is-what-is-written-of-its-items s x a e c = items-written.lo
 pub what-is-read-can-be-written : (s : List ℕ) (x : Section) → AllBytes s → sectionOf s ≡ SectionRead.Is x → (offset : ℕ) (d : Descriptor) → stepOf (loopIn s x) offset .item ≡ Item.Is d → Writable (loopIn s x) offset d
 what-is-read-can-be-written s x a e = writable.section-written s x a
 
+-- So of its command with what stands beside it, but for "insert reserved other than 127": bytes are made, a canonical payload that reads as it
+pub what-is-read-of-a-command-can-be-written : (s : List ℕ) (x : Section) → AllBytes s → sectionOf s ≡ SectionRead.Is x → ((i : Insertion) → x .command ≡ SpliceCommand.SpliceInsert i → i .reserved ≡ 127)
+    → (p : List ℕ) × (commandMade (x .command) (componentsOf (commandBytes s)) s ≡ made p) × CommandPayload (x .command) (componentsOf (commandBytes s)) s p
+what-is-read-of-a-command-can-be-written = writable-inserts.every-command-written
+
+-- So of a section: its header and its command, around any canonical loop with which it is no longer than a section can be (34), are made a canonical section that reads as these
+pub what-is-read-of-a-section-can-be-written : (s : List ℕ) (x : Section) → AllBytes s → sectionOf s ≡ SectionRead.Is x → ((i : Insertion) → x .command ≡ SpliceCommand.SpliceInsert i → i .reserved ≡ 127)
+    → (loop : List ℕ) → AllBytes loop → canonicalLoop loop ≡ true → ((p : List ℕ) → commandMade (x .command) (componentsOf (commandBytes s)) s ≡ made p → sectionLength (length p) (length loop) ≤ 4096)
+    → (b : List ℕ) × (sectionMade (x .header) (commandMade (x .command) (componentsOf (commandBytes s)) s) (kindOf (x .command)) loop ≡ made b)
+    × SectionBytes (x .header) (x .command) (componentsOf (commandBytes s)) s loop b
+what-is-read-of-a-section-can-be-written = writable-sections.section-written
+
 -- "reading what the writer wrote gives what it was handed": the header; the command, with its components and the bytes of its view; and the loop. And what is written is canonical.
 pub what-is-written-reads-back : (h : SpliceInfoHeader) (c : SpliceCommand) (places : List ComponentSplice) (lent loop : List ℕ) → length places ≡ 255 → countIn c ≤ 255 → AllBytes lent → AllBytes loop
     → (b : List ℕ) → sectionMade h (commandMade c places lent) (kindOf c) loop ≡ made b → SectionBytes h c places lent loop b
@@ -338,9 +350,10 @@ pub each-byte-of-the-loop-lies-in-one-item : (s : List ℕ) (x : Section) → se
 each-byte-of-the-loop-lies-in-one-item = sections.bytes-in-one-item
 
 -- "the direct parts of each accepted MID, heads included, cover that MID once", byte by byte: each byte of a MID, at every depth, lies in exactly one of its direct parts
-pub each-byte-of-a-mid-lies-in-one-part : (s : List ℕ) (x : Section) → sectionOf s ≡ SectionRead.Is x
-    → All (λ mid. All (λ m. m .kind ≡ 13 → Once (partsRead 13 (mid .bytes)) m) (whole (mid .bytes) ∷ partsRead 13 (mid .bytes))) (midsOf s x)
-each-byte-of-a-mid-lies-in-one-part = sections.bytes-in-one-part
+pub each-byte-of-a-mid-lies-in-one-part : (s : List ℕ) (x : Section) → sectionOf s ≡ SectionRead.Is x → (offset : ℕ) (d : SegmentationDescriptor) (i : SegmentationInsert)
+    → stepOf (loopIn s x) offset .item ≡ Item.Is (Descriptor.Segmentation d) → d .«descriptor_detail» ≡ SegmentationDetail.Insert i → i .«segmentation_upid» .kind ≡ 13
+    → let b : List ℕ = viewed (loopIn s x) (i .«segmentation_upid» .bytes) in All (λ m. m .kind ≡ 13 → Once (partsRead 13 b) m) (whole b ∷ partsRead 13 b)
+each-byte-of-a-mid-lies-in-one-part = whole-runs.whole-mid-bytes
 
 -- The incident, when it is written back: each item of a canonical section is written again, and what is written, read alone, has the same UPID. So each MID
 -- has the same bytes and the same parts, at every level.
@@ -414,7 +427,7 @@ sections-of-20-bytes-are-accepted = worked.empty-accepted
 pub a-null-is-such-a-section : EmptyCommand spliceNull × (length spliceNull ≡ 20) × (loopLength spliceNull ≡ 0) × (commandType spliceNull ≡ 0)
 a-null-is-such-a-section = worked.null-is-one
 
--- The incident, worked out (`no-mid-of-the-section-is-split`, `writing-back-splits-no-mid` say it of every section): a section whose MID has a part of 8 bytes and one of 12 is read as these two, whole
+-- The incident, worked out (`no-mid-that-is-read-is-split`, `writing-back-splits-no-mid` say it of every section): a section whose MID has a part of 8 bytes and one of 12 is read as these two, whole
 pub eight-and-twelve-bytes-are-read-whole : Identified eightAndTwelve (
     record { start = 35; len = 24; bytes = both }
     ∷ record { start = 37; len = 8; bytes = eight }

@@ -22,9 +22,10 @@ use Rattle.table.specs.Bits.{pick, bitsOf, field, AllBytes}
 use Rattle.table.specs.Lent.{viewed, shifted, noView}
 use Rattle.table.specs.Table.{Answer, got, short, parse}
 use Rattle.table.specs.declared.View.{View}
-use Rattle.upid.specs.Cover.{All}
+use Rattle.upid.proofs.Theorems.{every-byte-lies-in-one-part}
+use Rattle.upid.specs.Cover.{All, whole, Once}
 use Rattle.upid.specs.Upid as upid
-use Rattle.upid.specs.Upid.{checkOf, reportedOf}
+use Rattle.upid.specs.Upid.{upidOf, checkOf, reportedOf}
 use Rattle.upid.specs.declared.Refusal.{Refusal}
 use Rattle.upid.specs.declared.UpidRead.the-variants.{Fine}
 use Rattle.descriptor.specs.Descriptor.{movedRefusal, reportedUpid, descriptorOf}
@@ -52,7 +53,7 @@ use Rattle.section.specs.Section.{commandLength, commandBytes, moved, sectionOf
 use Rattle.section.specs.declared.Section.{Section}
 use Rattle.section.specs.declared.SectionRead.{SectionRead}
 use Rattle.section_writer.proofs.Numbers.{bytes-take, bytes-drop, byte-in}
-use Rattle.theorems.specs.Identifiers.{Identifier, OneRun, inSection, inLent, upidsOf, loopIn, Unsplit}
+use Rattle.theorems.specs.Identifiers.{Identifier, OneRun, inSection, inLent, partsRead, upidsOf, loopIn, Unsplit}
 use Rattle.theorems.specs.Whole.{Exactly, WholeUpid, fieldsBefore, upidAt, WholeDetail, WholeText, WholeRefusal, WholeItem, WholeAt, WholePrivate, WholeCommand}
 use Rattle.theorems.proofs.Framed.{laid}
 use Rattle.theorems.proofs.Items.{Found, found, unsplit, mid-of}
@@ -413,6 +414,12 @@ module _ (s : List ℕ) (x : Section) (e : sectionOf s ≡ SectionRead.Is x) whe
         let f : All (Found (loopIn s x) offset (stepOf (loopIn s x) offset .next)) (upidsOf (Item.Is (Descriptor.Segmentation d))) = rw is at (found (clause (loopIn s x) offset)) in
         let g : All (Found (loopIn s x) offset (stepOf (loopIn s x) offset .next)) (i .«segmentation_upid» ∷ []) = rw detail at f in
         mid-of s (inSection s (x .descriptors)) (loop-run s x e) offset (stepOf (loopIn s x) offset .next) (i .«segmentation_upid») (all-first g) k
+
+    -- byte by byte
+    pub whole-mid-bytes : i .«segmentation_upid» .kind ≡ 13 → let b : List ℕ = viewed (loopIn s x) (i .«segmentation_upid» .bytes) in
+        All (λ m. m .kind ≡ 13 → Once (partsRead 13 b) m) (whole b ∷ partsRead 13 b)
+    unfolding upidOf
+    whole-mid-bytes k = every-byte-lies-in-one-part (viewed (loopIn s x) (i .«segmentation_upid» .bytes)) (rw (whole-mid k .accepted) tt)
 
 -- ---- what this rules out: a UPID that is cut. One that has a view and is whole has as many bytes as the section announces.
 

@@ -56,13 +56,13 @@ read-is f r x m c e g =
     cc
 
 -- the components that stand in their array are those that were read
-counted-is : (x : WithComponents Insertion) → Counted x → counted (x .value) (array (x .components)) ≡ x
+pub counted-is : (x : WithComponents Insertion) → Counted x → counted (x .value) (array (x .components)) ≡ x
 unfolding array
 counted-is x h =
     ap (λ (cs : List ComponentSplice). record { value = x .value; components = cs })
     (take-at (x .components) (replicate (255 - length (x .components)) blank) _ h)
 
-components-are : (p : List ℕ) (x : WithComponents Insertion) (m : ℕ) → parse insert (bitsOf p) 0 ≡ got x m → componentsOf p ≡ array (x .components)
+pub components-are : (p : List ℕ) (x : WithComponents Insertion) (m : ℕ) → parse insert (bitsOf p) 0 ≡ got x m → componentsOf p ≡ array (x .components)
 unfolding componentsOf
 components-are p x m e = rw e
 

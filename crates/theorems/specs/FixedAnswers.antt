@@ -7,12 +7,17 @@ use mathlib.Core.Path.{_≡_}
 
 -- K are the lifetimes of a signature; A, R and E its arguments, its answer, and its parameters at exit.
 module _ {K : Type 0} {A R E : K → Type 0} (asked : (κ : K) → A κ → Type 0) (learnt : (κ : K) → A κ → R κ → E κ → Type 0) where
-  -- The function takes any arguments; and what is seen of the answer and of the parameters at exit is the same in any two that its contract allows.
+  -- The function takes any arguments; and what is seen of its answer and of its parameters at exit is what the definition, `by`, gives of the arguments
+  pub record Answers {S : Type 0} (see : (κ : K) → R κ → E κ → S) (by : (κ : K) → A κ → S) : Type 0 where
+    pub takes-any : (κ : K) (a : A κ) → asked κ a
+    pub is : (κ : K) (a : A κ) (r : R κ) (e : E κ) → learnt κ a r e → see κ r e ≡ by κ a
+
+  -- The same without a definition's name: what is seen is the same in any two answers that the contract allows
   pub record FixedIn {S : Type 0} (see : (κ : K) → R κ → E κ → S) : Type 0 where
     pub takes-any : (κ : K) (a : A κ) → asked κ a
     pub seen : (κ : K) (a : A κ) (x y : R κ) (e f : E κ) → learnt κ a x e → learnt κ a y f → see κ x e ≡ see κ y f
 
-  -- the same of the answer itself
+  -- of the answer itself
   pub record Fixed : Type 0 where
     pub takes-any : (κ : K) (a : A κ) → asked κ a
     pub one-answer : (κ : K) (a : A κ) (x y : R κ) (e f : E κ) → learnt κ a x e → learnt κ a y f → x ≡ y

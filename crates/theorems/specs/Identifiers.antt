@@ -109,13 +109,7 @@ loopIn s x = viewed s (x .descriptors)
 unfoldable pub identifiersOf : List ℕ → Section → List Identifier
 identifiersOf s x = ofPrivate (λ p. inSection s (p .«private_bytes») ∷ []) [] (x .command) ++ each (identifiersOfItem (x .descriptors .at) (loopIn s x)) (itemsOf (loopIn s x))
 
--- ---- the MIDs of a section
-
-abbrev pub midOf : ℕ → List ℕ → SegmentationUpid → List Identifier
-midOf base loop u = cond (eqb (u .kind) 13) (inLent base loop (u .bytes) ∷ []) []
-
-unfoldable pub midsOf : List ℕ → Section → List Identifier
-midsOf s x = each (λ (y : Listed). each (midOf (x .descriptors .at) (loopIn s x)) (upidsOf (y .step .item))) (itemsOf (loopIn s x))
+-- ---- a MID of a section
 
 -- a part of a MID, in the section: it is one run, and the two bytes before it are its own head, its type and its length
 pub record Announced (s : List ℕ) (p : Part) (i : Identifier) : Type 0 where

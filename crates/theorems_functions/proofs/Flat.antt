@@ -1,0 +1,195 @@
+-- The words of an answer over C say what the answer says. Assumes nothing.
+--     item-lies     an item whose identifier is whole
+--     parts-flat    the parts of a UPID, field by field
+use Prim.Native.Nat.{ℕ, zero, suc, _+_, _-_, _≤_, _<_}
+use mathlib.Core.Bool.{Bool, true, false}
+use mathlib.Core.List.{List, [], _∷_, _++_, map}
+use mathlib.Core.Path.{_≡_, refl, ap, sym, _∙_}
+use native.Mathlib.Omega.{arith}
+use lib.ListN.{length, take, drop, getD}
+use lib.Seq.{take-at}
+use borrow.Author.Tests.{eqb-false}
+use Rattle.descriptor.specs.declared.Descriptor.{Descriptor}
+use Rattle.descriptor.specs.declared.segmentation.SegmentationDetail.{SegmentationDetail}
+use Rattle.descriptor.specs.declared.segmentation.SegmentationDescriptor.{SegmentationDescriptor}
+use Rattle.descriptor.specs.declared.segmentation.SegmentationInsert.{SegmentationInsert}
+use Rattle.flat.specs.Flat.{flatView}
+use Rattle.flat_items.specs.FlatItem.{bareSegmentation, wholeSegmentation, itemWith, noTimes, segmentationItem, flatDescriptor, bareItem, flatItem, refusalIn, valuesIn, flatStep}
+use Rattle.flat_items.specs.FlatUpid.{three, flatPart, noParts, flatUpidRead, flatUpid}
+use Rattle.flat_items.specs.declared.steps.FlatStep.{FlatStep}
+use Rattle.items.specs.Items as items
+use Rattle.items.specs.declared.Item.{Item}
+use Rattle.items.specs.declared.ItemRefusal.{ItemRefusal}
+use Rattle.items.specs.declared.Step.{Step}
+use Rattle.items.specs.declared.reading.Reading.{Reading}
+use Rattle.loop_laws.specs.Loops.{Pairs}
+use Rattle.loop_laws.specs.Loops.Pairs.{over, pair}
+use Rattle.table.specs.Bits.{bitsOf, field}
+use Rattle.table.specs.declared.View.{View}
+use Rattle.theorems.specs.Identifiers.{Identifier, inLent}
+use Rattle.theorems.specs.Whole.{Exactly, WholeUpid, WholeDetail, WholeRefusal, WholeItem}
+use Rattle.upid.specs.Upid as upid
+use Rattle.upid.specs.Upid.{upidOf, checkOf, eidrOf, listOf, listed, unlessRefused, partsIn}
+use Rattle.upid.specs.declared.Part.{Part}
+use Rattle.upid.specs.declared.Refusal.{Refusal}
+use Rattle.upid.specs.declared.Upid.{Upid}
+use Rattle.upid.specs.declared.UpidRead.{UpidRead}
+use Rattle.theorems_functions.specs.Flat.{Lies, UpidLies, TextLies, ItemLies, SamePart, upidRefusal}
+
+-- a refusal has a number
+numbered : (r : ItemRefusal) → 1 ≤ items.numberOf r
+unfolding items.numberOf upid.numberOf
+numbered ItemRefusal.InvalidDescriptorLength = omega arith
+numbered (ItemRefusal.Other Refusal.TooLong) = omega arith
+numbered (ItemRefusal.Other (Refusal.Short expected actual)) = omega arith
+numbered (ItemRefusal.Other Refusal.Mismatch) = omega arith
+numbered (ItemRefusal.Other (Refusal.NotText kind v)) = omega arith
+numbered (ItemRefusal.Other (Refusal.WrongLength kind expected actual)) = omega arith
+
+module _ (s : List ℕ) (base : ℕ) (loop : List ℕ) where
+  lies-of : (at n : ℕ) (v : View) → Exactly s at n (inLent base loop v) → Lies s base at n (flatView v)
+  lies-of at n v e = record { there = e .there; starts = ap (λ (i : Identifier). i .start) (e .is); long = ap (λ (i : Identifier). i .len) (e .is) }
+
+  module _ (offset : ℕ) (r : Reading) (next : ℕ) where
+    abbrev stepWith : Item → Step
+    stepWith it = record { item = it; identifier = r .step .identifier; next = next }
+
+    -- an item of a kind without an identifier
+    none-lies : (f : FlatStep) (k : ℕ) → f .item .kind ≡ k → k ≤ 5 → (k ≡ 2 → ⊥) → (k ≡ 4 → ⊥) → f .refusal ≡ 0 → ItemLies s (base + offset) base f
+    none-lies f k e h two four z = record {
+      kinds = omega (arith, e);
+      dtmf = λ d. absurd (two (sym e ∙ d));
+      segmentation = λ d. absurd (four (sym e ∙ d));
+      reserved = λ d. absurd (omega (arith, e));
+      refused = λ d. absurd (omega (arith, e));
+      text = λ d. absurd (omega (arith, z));
+      read = λ n. z;
+    }
+
+    -- a segmentation descriptor with its detail
+    abbrev withDetail : ℕ → SegmentationDetail → Item
+    withDetail event d = Item.Is (Descriptor.Segmentation (record { «segmentation_event_id» = event; «descriptor_detail» = d }))
+
+    detail-lies : (event : ℕ) (d : SegmentationDetail) → WholeDetail s (base + offset + 6) base loop (r .beside .eidr) d → ItemLies s (base + offset) base (flatStep (stepWith (withDetail event d)))
+    unfolding flatStep flatItem refusalIn flatDescriptor segmentationItem bareItem wholeSegmentation
+    detail-lies event SegmentationDetail.Cancel w = none-lies (flatStep (stepWith (withDetail event SegmentationDetail.Cancel))) 3 refl (omega arith) (eqb-false 3 2 refl) (eqb-false 3 4 refl) refl
+    detail-lies event (SegmentationDetail.Insert i) w = record {
+      kinds = omega arith;
+      dtmf = λ d. absurd (eqb-false 4 2 refl d);
+      segmentation = λ d. record { kind = w .kind; bytes = λ some plain. lies-of _ _ (i .«segmentation_upid» .bytes) (w .bytes some plain) };
+      reserved = λ d. absurd (eqb-false 4 6 refl d);
+      refused = λ d. absurd (eqb-false 4 7 refl d);
+      text = λ d. absurd (eqb-false 0 24 refl d);
+      read = λ n. refl;
+    }
+
+    -- a refused one, which has a text if it is refused with 24
+    refused-lies : (q : ItemRefusal) → (items.numberOf q ≡ 24 → TextLies s (base + offset + 6) base (three (items.valuesOf q))) → ItemLies s (base + offset) base (flatStep (stepWith (Item.Refused q)))
+    unfolding flatStep flatItem refusalIn valuesIn bareItem
+    refused-lies q text = record {
+      kinds = omega arith;
+      dtmf = λ d. absurd (eqb-false 7 2 refl d);
+      segmentation = λ d. absurd (eqb-false 7 4 refl d);
+      reserved = λ d. absurd (eqb-false 7 6 refl d);
+      refused = λ d. numbered q;
+      text = text;
+      read = λ n. absurd (n refl);
+    }
+
+    refusal-lies : (q : ItemRefusal) → WholeRefusal s (base + offset + 6) base loop q → ItemLies s (base + offset) base (flatStep (stepWith (Item.Refused q)))
+    unfolding items.numberOf upid.numberOf items.valuesOf upid.valuesOf
+    refusal-lies ItemRefusal.InvalidDescriptorLength w = refused-lies ItemRefusal.InvalidDescriptorLength (λ e. absurd (eqb-false 22 24 refl e))
+    refusal-lies (ItemRefusal.Other Refusal.TooLong) w = refused-lies (ItemRefusal.Other Refusal.TooLong) (λ e. absurd (eqb-false 2 24 refl e))
+    refusal-lies (ItemRefusal.Other (Refusal.Short expected actual)) w = refused-lies (ItemRefusal.Other (Refusal.Short expected actual)) (λ e. absurd (eqb-false 21 24 refl e))
+    refusal-lies (ItemRefusal.Other Refusal.Mismatch) w = refused-lies (ItemRefusal.Other Refusal.Mismatch) (λ e. absurd (eqb-false 23 24 refl e))
+    refusal-lies (ItemRefusal.Other (Refusal.NotText kind v)) w = refused-lies (ItemRefusal.Other (Refusal.NotText kind v)) (λ e. record {
+      kind = kind;
+      at = v .at;
+      len = v .len;
+      are = refl;
+      behind = w .behind;
+      there = omega (arith, w .whole .there, ap (λ (i : Identifier). i .len) (w .whole .is));
+      type = w .kind;
+      long = ap (λ (i : Identifier). i .len) (w .whole .is);
+    })
+    refusal-lies (ItemRefusal.Other (Refusal.WrongLength kind expected actual)) w = refused-lies (ItemRefusal.Other (Refusal.WrongLength kind expected actual)) (λ e. absurd (eqb-false 25 24 refl e))
+
+    item-lies : (it : Item) → WholeItem s base loop offset r it → ItemLies s (base + offset) base (flatStep (stepWith it))
+    unfolding flatStep flatItem refusalIn flatDescriptor segmentationItem bareItem wholeSegmentation
+    item-lies Item.End w = none-lies (flatStep (stepWith Item.End)) 0 refl (omega arith) (eqb-false 0 2 refl) (eqb-false 0 4 refl) refl
+    item-lies (Item.Refused q) w = refusal-lies q w
+    item-lies (Item.Is (Descriptor.Avail x)) w = none-lies (flatStep (stepWith (Item.Is (Descriptor.Avail x)))) 1 refl (omega arith) (eqb-false 1 2 refl) (eqb-false 1 4 refl) refl
+    item-lies (Item.Is (Descriptor.Dtmf x)) w = record {
+      kinds = omega arith;
+      dtmf = λ d. lies-of _ _ (x .«dtmf_chars») w;
+      segmentation = λ d. absurd (eqb-false 2 4 refl d);
+      reserved = λ d. absurd (eqb-false 2 6 refl d);
+      refused = λ d. absurd (eqb-false 2 7 refl d);
+      text = λ d. absurd (eqb-false 0 24 refl d);
+      read = λ n. refl;
+    }
+    item-lies (Item.Is (Descriptor.Segmentation x)) w = detail-lies (x .«segmentation_event_id») (x .«descriptor_detail») w
+    item-lies (Item.Is (Descriptor.Time x)) w = none-lies (flatStep (stepWith (Item.Is (Descriptor.Time x)))) 5 refl (omega arith) (eqb-false 5 2 refl) (eqb-false 5 4 refl) refl
+    item-lies (Item.Is (Descriptor.Reserved tag v)) w = record {
+      kinds = omega arith;
+      dtmf = λ d. absurd (eqb-false 6 2 refl d);
+      segmentation = λ d. absurd (eqb-false 6 4 refl d);
+      reserved = λ d. (lies-of _ _ v (w .0), ap (λ (l : List ℕ). field (bitsOf l) 0 32) (ap (λ (i : Identifier). i .bytes) (w .1 .is)));
+      refused = λ d. absurd (eqb-false 6 7 refl d);
+      text = λ d. absurd (eqb-false 0 24 refl d);
+      read = λ n. refl;
+    }
+
+  pub step-lies : (offset : ℕ) (r : Reading) → WholeItem s base loop offset r (r .step .item) → ItemLies s (base + offset) base (flatStep (r .step))
+  step-lies offset r w = item-lies offset r (r .step .next) (r .step .item) w
+
+-- ---- an item that has a UPID of type k by its words
+
+pub record UpidOf (k : ℕ) (st : Step) : Type 0 where
+  pub descriptor : SegmentationDescriptor
+  pub insert : SegmentationInsert
+  pub is : st .item ≡ Item.Is (Descriptor.Segmentation descriptor)
+  pub detail : descriptor .«descriptor_detail» ≡ SegmentationDetail.Insert insert
+  pub kind : insert .«segmentation_upid» .kind ≡ k
+  pub bytes : flatStep st .item .bytes ≡ flatView (insert .«segmentation_upid» .bytes)
+
+module _ (k : ℕ) (id : List ℕ) (next : ℕ) where
+  upid-detail : (event : ℕ) (d : SegmentationDetail) → segmentationItem event d .kind ≡ 4 → segmentationItem event d .segmentation .«segmentation_upid_type» ≡ k
+      → UpidOf k (record { item = Item.Is (Descriptor.Segmentation (record { «segmentation_event_id» = event; «descriptor_detail» = d })); identifier = id; next = next })
+  unfolding flatItem flatDescriptor segmentationItem bareItem wholeSegmentation flatStep
+  upid-detail event SegmentationDetail.Cancel e t = absurd (eqb-false 3 4 refl e)
+  upid-detail event (SegmentationDetail.Insert i) e t =
+      record { descriptor = record { «segmentation_event_id» = event; «descriptor_detail» = SegmentationDetail.Insert i }; insert = i; is = refl; detail = refl; kind = t; bytes = refl }
+
+  upid-by : (it : Item) → flatItem it .kind ≡ 4 → flatItem it .segmentation .«segmentation_upid_type» ≡ k → UpidOf k (record { item = it; identifier = id; next = next })
+  unfolding flatItem flatDescriptor segmentationItem bareItem wholeSegmentation flatStep
+  upid-by Item.End e t = absurd (eqb-false 0 4 refl e)
+  upid-by (Item.Refused q) e t = absurd (eqb-false 7 4 refl e)
+  upid-by (Item.Is (Descriptor.Avail x)) e t = absurd (eqb-false 1 4 refl e)
+  upid-by (Item.Is (Descriptor.Dtmf x)) e t = absurd (eqb-false 2 4 refl e)
+  upid-by (Item.Is (Descriptor.Segmentation x)) e t = upid-detail (x .«segmentation_event_id») (x .«descriptor_detail») e t
+  upid-by (Item.Is (Descriptor.Time x)) e t = absurd (eqb-false 5 4 refl e)
+  upid-by (Item.Is (Descriptor.Reserved tag v)) e t = absurd (eqb-false 6 4 refl e)
+
+pub upid-of-item : (k : ℕ) (st : Step) → flatStep st .item .kind ≡ 4 → flatStep st .item .segmentation .«segmentation_upid_type» ≡ k → UpidOf k st
+unfolding flatStep
+upid-of-item k st e t = upid-by k (st .identifier) (st .next) (st .item) e t
+
+-- ---- the parts of a UPID
+
+pairs-flat : (n : ℕ) (ps : List Part) → Pairs SamePart (take n (map flatPart ps)) (take n ps)
+unfolding flatPart
+pairs-flat zero ps = over
+pairs-flat (suc n) [] = over
+pairs-flat (suc n) (p ∷ ps) = pair (record { kinds = refl; levels = refl; starts = refl; lens = refl }) (pairs-flat n ps)
+
+by-read : (c : UpidRead) (eidr : List ℕ) (ps : List Part) → let u : Upid = record { read = c; eidr = eidr; list = listed (unlessRefused c ps) } in
+    (flatUpid u .refusal ≡ upidRefusal c) × (flatUpid u .count ≡ length (partsIn u)) × Pairs SamePart (take (flatUpid u .count) (flatUpid u .parts)) (partsIn u)
+unfolding flatUpid flatUpidRead listed unlessRefused
+by-read (UpidRead.Fine k) eidr ps = (refl, sym (ap length (take-at ps _ (length ps) refl)), pairs-flat (length ps) _)
+by-read (UpidRead.Refused r) eidr ps = (refl, refl, over)
+
+pub parts-flat : (kind : ℕ) (bytes : List ℕ) → (flatUpid (upidOf kind bytes) .refusal ≡ upidRefusal (checkOf kind bytes)) × (flatUpid (upidOf kind bytes) .count ≡ length (partsIn (upidOf kind bytes)))
+    × Pairs SamePart (take (flatUpid (upidOf kind bytes) .count) (flatUpid (upidOf kind bytes) .parts)) (partsIn (upidOf kind bytes))
+unfolding upidOf
+parts-flat kind bytes = by-read (checkOf kind bytes) (eidrOf kind bytes) (listOf kind 1 0 bytes)

@@ -1,0 +1,333 @@
+-- The product's demands over C, of the exported functions: whoever meets their contracts gives this on every input. `ReadsSectionC s f` is what `scte35_read_section` may answer
+-- of the bytes s that stand from its offset to the end, and so on. Assumes nothing.
+use Prim.Native.Nat.{ℕ, _+_, _-_, _≤_}
+use mathlib.Core.Bool.{Bool, true}
+use mathlib.Core.List.{List, [], _∷_}
+use mathlib.Core.Path.{_≡_, refl, ap, sym, subst, _∙_}
+use native.Mathlib.Omega.{arith}
+use lib.ListN.{length, take, drop, getD}
+use denote.Ref.{now}
+use borrow.Author.Tests.{eqb-false}
+use Rattle.command.specs.Command.{commandOf, componentsOf}
+use Rattle.flat.specs.Flat.{flatView}
+use Rattle.flat.specs.FlatCommand.{flatSplices}
+use Rattle.flat.specs.FlatSection.{flatSectionRead}
+use Rattle.flat.specs.declared.FlatView.{FlatView}
+use Rattle.flat.specs.declared.components.FlatSplices.{FlatSplices}
+use Rattle.flat.specs.declared.sections.FlatSection.{FlatSection}
+use Rattle.flat_item_writer.specs.ItemGiven.{descriptorWordsMade}
+use Rattle.flat_items.specs.FlatItem.{flatStep, flatBeside}
+use Rattle.flat_items.specs.FlatUpid.{flatUpid}
+use Rattle.flat_items.specs.declared.beside.FlatBeside.{FlatBeside}
+use Rattle.flat_items.specs.declared.steps.FlatStep.{FlatStep}
+use Rattle.flat_items.specs.declared.upids.FlatPart.{FlatPart}
+use Rattle.flat_items.specs.declared.upids.FlatUpid.{FlatUpid}
+use Rattle.flat_section_writer.specs.SectionGiven.{sectionWordsMade}
+use Rattle.flat_section_writer.specs.SectionWords.{headerWords}
+use Rattle.flat_writer.specs.CommandWords.{commandWords}
+use Rattle.flat_writer.specs.Words.{flatWritten}
+use Rattle.flat_writer.specs.declared.FlatWritten.{FlatWritten}
+use Rattle.items.proofs.Places.{all-into}
+use Rattle.items.specs.Items.{stepOf, readingOf, Listed, itemsOf}
+use Rattle.items.specs.Cover.{runOf}
+use Rattle.items.specs.declared.Item.{Item}
+use Rattle.items.specs.declared.Step.{Step}
+use Rattle.items.specs.declared.reading.Reading.{Reading}
+use Rattle.loop_laws.specs.Loops.{Pairs}
+use Rattle.loop_laws.specs.Loops.Pairs.{over, pair}
+use Rattle.pen.specs.Written.{answerOf, laterOf}
+use Rattle.pen.specs.declared.Written.{Written}
+use Rattle.section.specs.Section.{commandLength, commandBytes, conditions, first, loopPlace, loopLength, sectionOf, numberOf}
+use Rattle.section.specs.declared.Refusal.{Refusal}
+use Rattle.section.specs.declared.Section.{Section}
+use Rattle.section.specs.declared.SectionRead.{SectionRead}
+use Rattle.section_writer.specs.Canonical.{canonicalSection}
+use Rattle.table.specs.Bits.{AllBytes}
+use Rattle.table.specs.Lent.{viewed}
+use Rattle.table.specs.Writing.{Made, made}
+use Rattle.table.proofs.Lists.{zero-one}
+use Rattle.theorems.proofs.Runs.{viewed-is, viewed-inside}
+use Rattle.theorems.proofs.Sections.{loop-short}
+use Rattle.theorems.proofs.Theorems as demands
+use Rattle.theorems.specs.Boards.{May}
+use Rattle.theorems.specs.Identifiers.{Identifier, inLent, loopIn, partsRead, Announced, Unsplit}
+use Rattle.theorems.specs.OverC.{splicesWords, componentsAnswered, stepWords, besideWords, wordsMadeAt}
+use Rattle.theorems.specs.Whole.{upidAt, WholeAt}
+use Rattle.upid.specs.Cover.{All}
+use Rattle.upid.specs.Cover.All.{none, more}
+use Rattle.upid.specs.Upid.{checkOf, upidOf, partsIn, partView}
+use Rattle.upid.specs.declared.Part.{Part}
+use Rattle.upid.specs.declared.UpidRead.{UpidRead}
+use Rattle.scte35.proofs.canonical.scte35_is_canonical_section.Reads as scte35-is-canonical-section
+use Rattle.scte35.proofs.scte35_read_insert_components.Reads as scte35-read-insert-components
+use Rattle.scte35.proofs.scte35_read_item.Reads as scte35-read-item
+use Rattle.scte35.proofs.scte35_read_item_components.Reads as scte35-read-item-components
+use Rattle.scte35.proofs.scte35_read_section.Reads as scte35-read-section
+use Rattle.scte35.proofs.scte35_read_upid.Reads as scte35-read-upid
+use Rattle.scte35.proofs.writing.scte35_write_command_words.Reads as scte35-write-command-words
+use Rattle.scte35.proofs.writing.scte35_write_descriptor_words.Reads as scte35-write-descriptor-words
+use Rattle.scte35.proofs.writing.scte35_write_section_words.Reads as scte35-write-section-words
+use Rattle.theorems_functions.specs.Flat.{Lies, taken, ItemLies, upidRefusal, SamePart, PartLies, PutsFlat}
+use Rattle.theorems_functions.specs.Slices.{Slice, reportedAs}
+use Rattle.theorems_functions.proofs.Flat as flat
+use Rattle.theorems_functions.proofs.Slices.{reported-as}
+use Rattle.theorems_functions.proofs.Writes as writes
+
+-- ---- what the contracts allow
+
+abbrev pub ReadsSectionC : List ℕ → FlatSection → Type 0
+ReadsSectionC s f = May scte35-read-section.Learnt {S = List ℕ} {T = FlatSection} (λ κ a. drop (a .1 .0) (now (a .0))) (λ κ r e. r) s f
+
+reads-section-so : {s : List ℕ} {f : FlatSection} → ReadsSectionC s f → f ≡ flatSectionRead (sectionOf s)
+reads-section-so d = sym (d .left) ∙ d .learnt-so ∙ ap (λ (v : List ℕ). flatSectionRead (sectionOf v)) (d .taken)
+
+abbrev pub ReadsItemC : List ℕ → ℕ → FlatStep → Type 0
+ReadsItemC loop offset f = May scte35-read-item.Learnt {S = List ℕ × ℕ} {T = FlatStep} (λ κ a. (now (a .0), a .1 .0)) (λ κ r e. r) (loop, offset) f
+
+reads-item-so : {loop : List ℕ} {offset : ℕ} {f : FlatStep} → ReadsItemC loop offset f → f ≡ flatStep (stepOf loop offset)
+reads-item-so d = sym (d .left) ∙ d .learnt-so ∙ ap (λ (v : List ℕ × ℕ). flatStep (stepOf (v .0) (v .1))) (d .taken)
+
+abbrev pub ReadsBesideC : List ℕ → ℕ → FlatBeside → Type 0
+ReadsBesideC loop offset f = May scte35-read-item-components.Learnt {S = List ℕ × ℕ} {T = FlatBeside} (λ κ a. (now (a .0), a .1 .0)) (λ κ r e. r) (loop, offset) f
+
+reads-beside-so : {loop : List ℕ} {offset : ℕ} {f : FlatBeside} → ReadsBesideC loop offset f → f ≡ flatBeside (readingOf loop offset)
+reads-beside-so d = sym (d .left) ∙ d .learnt-so ∙ ap (λ (v : List ℕ × ℕ). flatBeside (readingOf (v .0) (v .1))) (d .taken)
+
+abbrev pub ReadsUpidC : ℕ → List ℕ → FlatUpid → Type 0
+ReadsUpidC kind bytes f = May scte35-read-upid.Learnt {S = ℕ × List ℕ} {T = FlatUpid} (λ κ a. (a .0, drop (a .1 .1 .0) (now (a .1 .0)))) (λ κ r e. r) (kind, bytes) f
+
+reads-upid-so : {kind : ℕ} {bytes : List ℕ} {f : FlatUpid} → ReadsUpidC kind bytes f → f ≡ flatUpid (upidOf kind bytes)
+reads-upid-so d = sym (d .left) ∙ d .learnt-so ∙ ap (λ (v : ℕ × List ℕ). flatUpid (upidOf (v .0) (v .1))) (d .taken)
+
+-- of an insert's payload
+abbrev pub ReadsComponentsC : List ℕ → FlatSplices → Type 0
+ReadsComponentsC payload f = May scte35-read-insert-components.Learnt {S = List ℕ} {T = FlatSplices} (λ κ a. drop (a .1 .0) (now (a .0))) (λ κ r e. r) payload f
+
+reads-components-so : {payload : List ℕ} {f : FlatSplices} → ReadsComponentsC payload f → f ≡ flatSplices (commandOf 0x05 payload) (componentsOf payload)
+reads-components-so d = sym (d .left) ∙ d .learnt-so ∙ ap (λ (v : List ℕ). flatSplices (commandOf 0x05 v) (componentsOf v)) (d .taken)
+
+abbrev pub TellsCanonicalC : List ℕ → Bool → Type 0
+TellsCanonicalC s r = May scte35-is-canonical-section.Learnt {S = List ℕ} {T = Bool} (λ κ a. drop (a .1 .0) (now (a .0))) (λ κ r e. r) s r
+
+tells-canonical-so : {s : List ℕ} {r : Bool} → TellsCanonicalC s r → r ≡ canonicalSection s
+tells-canonical-so d = sym (d .left) ∙ d .learnt-so ∙ ap canonicalSection (d .taken)
+
+-- the words of header, command and components, lent bytes and loop; the target, the answer and the target's later bytes
+abbrev pub WritesSectionC : List ℕ → List ℕ → List ℕ → List ℕ → List ℕ → List ℕ → FlatWritten → List ℕ → Type 0
+WritesSectionC header command components lent loop target answer later =
+    May scte35-write-section-words.Learnt {S = List ℕ × (List ℕ × (List ℕ × (List ℕ × (List ℕ × List ℕ))))} {T = FlatWritten × List ℕ}
+    (λ κ a. (now (a .0), (now (a .1 .0), (now (a .1 .1 .0), (now (a .1 .1 .1 .0), (now (a .1 .1 .1 .1 .0), now (a .1 .1 .1 .1 .1 .0)))))))
+    (λ κ r e. (r, now (e .1 .1 .1 .1 .1 .0))) (header, (command, (components, (lent, (loop, target))))) (answer, later)
+
+writes-section-so : {header command components lent loop target : List ℕ} {answer : FlatWritten} {later : List ℕ} → WritesSectionC header command components lent loop target answer later
+    → (answer ≡ flatWritten (answerOf (sectionWordsMade header command components lent loop) target)) × (later ≡ laterOf (sectionWordsMade header command components lent loop) target)
+writes-section-so d = (
+  sym (ap (λ (v : FlatWritten × List ℕ). v .0) (d .left)) ∙ d .learnt-so .0
+      ∙ ap (λ (v : List ℕ × (List ℕ × (List ℕ × (List ℕ × (List ℕ × List ℕ))))). flatWritten (answerOf (sectionWordsMade (v .0) (v .1 .0) (v .1 .1 .0) (v .1 .1 .1 .0) (v .1 .1 .1 .1 .0)) (v .1 .1 .1 .1 .1))) (d .taken),
+  sym (ap (λ (v : FlatWritten × List ℕ). v .1) (d .left)) ∙ d .learnt-so .1
+      ∙ ap (λ (v : List ℕ × (List ℕ × (List ℕ × (List ℕ × (List ℕ × List ℕ))))). laterOf (sectionWordsMade (v .0) (v .1 .0) (v .1 .1 .0) (v .1 .1 .1 .0) (v .1 .1 .1 .1 .0)) (v .1 .1 .1 .1 .1)) (d .taken),
+)
+
+-- the words of a step and of what stands beside it
+abbrev pub WritesDescriptorC : List ℕ → List ℕ → List ℕ → List ℕ → FlatWritten → List ℕ → Type 0
+WritesDescriptorC step beside lent target answer later =
+    May scte35-write-descriptor-words.Learnt {S = List ℕ × (List ℕ × (List ℕ × List ℕ))} {T = FlatWritten × List ℕ}
+    (λ κ a. (now (a .0), (now (a .1 .0), (now (a .1 .1 .0), now (a .1 .1 .1 .0))))) (λ κ r e. (r, now (e .1 .1 .1 .0))) (step, (beside, (lent, target))) (answer, later)
+
+writes-descriptor-so : {step beside lent target : List ℕ} {answer : FlatWritten} {later : List ℕ} → WritesDescriptorC step beside lent target answer later
+    → (answer ≡ flatWritten (answerOf (descriptorWordsMade step beside lent) target)) × (later ≡ laterOf (descriptorWordsMade step beside lent) target)
+writes-descriptor-so d = (
+  sym (ap (λ (v : FlatWritten × List ℕ). v .0) (d .left)) ∙ d .learnt-so .0
+      ∙ ap (λ (v : List ℕ × (List ℕ × (List ℕ × List ℕ))). flatWritten (answerOf (descriptorWordsMade (v .0) (v .1 .0) (v .1 .1 .0)) (v .1 .1 .1))) (d .taken),
+  sym (ap (λ (v : FlatWritten × List ℕ). v .1) (d .left)) ∙ d .learnt-so .1
+      ∙ ap (λ (v : List ℕ × (List ℕ × (List ℕ × List ℕ))). laterOf (descriptorWordsMade (v .0) (v .1 .0) (v .1 .1 .0)) (v .1 .1 .1)) (d .taken),
+)
+
+-- ---- acceptance
+
+flat-number : (r : SectionRead) → flatSectionRead r .refusal ≡ numberOf r
+unfolding flatSectionRead numberOf
+flat-number (SectionRead.Is x) = refl
+flat-number (SectionRead.Refused r) = refl
+
+-- the number is that of the first condition of 1 to 11 that holds, and 0 exactly where none does
+pub scte35-read-section-refuses-in-order : (s : List ℕ) (f : FlatSection) → ReadsSectionC s f → f .refusal ≡ first 1 (conditions s)
+scte35-read-section-refuses-in-order s f d = ap (λ (v : FlatSection). v .refusal) (reads-section-so d) ∙ flat-number (sectionOf s) ∙ demands.refusals-1-to-11-in-order s
+
+-- ---- an accepted section
+
+is-read : (r : SectionRead) → numberOf r ≡ 0 → (x : Section) × (r ≡ SectionRead.Is x)
+unfolding numberOf
+is-read (SectionRead.Is x) e = (x, refl)
+is-read (SectionRead.Refused Refusal.TooShort) e = absurd (omega arith)
+is-read (SectionRead.Refused Refusal.TooLong) e = absurd (omega arith)
+is-read (SectionRead.Refused Refusal.OtherTable) e = absurd (omega arith)
+is-read (SectionRead.Refused Refusal.WrongCrc) e = absurd (omega arith)
+is-read (SectionRead.Refused Refusal.NoHeader) e = absurd (omega arith)
+is-read (SectionRead.Refused Refusal.Encrypted) e = absurd (omega arith)
+is-read (SectionRead.Refused Refusal.CommandTooLong) e = absurd (omega arith)
+is-read (SectionRead.Refused Refusal.NoLoopLength) e = absurd (omega arith)
+is-read (SectionRead.Refused Refusal.LoopTooLong) e = absurd (omega arith)
+is-read (SectionRead.Refused Refusal.UnknownCommand) e = absurd (omega arith)
+is-read (SectionRead.Refused Refusal.MalformedCommand) e = absurd (omega arith)
+
+-- what is read, where there is no refusal
+record Accepted (s : List ℕ) (f : FlatSection) : Type 0 where
+  section : Section
+  is : sectionOf s ≡ SectionRead.Is section
+  base : f .descriptors .at ≡ section .descriptors .at
+  loop : taken s (f .descriptors) ≡ loopIn s section
+
+accepted : (s : List ℕ) (f : FlatSection) → ReadsSectionC s f → f .refusal ≡ 0 → Accepted s f
+unfolding flatSectionRead
+accepted s f d z =
+    let n : numberOf (sectionOf s) ≡ 0 = sym (flat-number (sectionOf s)) ∙ sym (ap (λ (v : FlatSection). v .refusal) (reads-section-so d)) ∙ z in
+    let r = is-read (sectionOf s) n in
+    let v : f .descriptors ≡ flatView (r .0 .descriptors) = ap (λ (y : FlatSection). y .descriptors) (reads-section-so d ∙ ap flatSectionRead (r .1)) in
+    record {
+      section = r .0;
+      is = r .1;
+      base = ap (λ (y : FlatView). y .at) v;
+      loop = ap (taken s) v ∙ sym (viewed-is s (r .0 .descriptors) (demands.the-loop-is-one-run-of-the-section s (r .0) (r .1) .inside));
+    }
+
+items-lie : (s : List ℕ) (f : FlatSection) (offset : ℕ) (i : FlatStep) → AllBytes s → (x : Accepted s f) → ReadsItemC (taken s (f .descriptors)) offset i → ItemLies s (f .descriptors .at + offset) (f .descriptors .at) i
+unfolding readingOf
+items-lie s f offset i a x q =
+    let e : i ≡ flatStep (stepOf (loopIn s (x .section)) offset) = reads-item-so q ∙ ap (λ (l : List ℕ). flatStep (stepOf l offset)) (x .loop) in
+    let w : WholeAt s (x .section) offset (readingOf (loopIn s (x .section)) offset) = demands.every-identifier-of-an-item-is-whole s (x .section) (x .is) a offset in
+    let h : ItemLies s (x .section .descriptors .at + offset) (x .section .descriptors .at) i = rw e (flat.step-lies s (x .section .descriptors .at) (loopIn s (x .section)) offset (readingOf (loopIn s (x .section)) offset) w) in
+    subst (λ (n : ℕ). ItemLies s (n + offset) n i) (sym (x .base)) h
+
+eidr-lies : (s : List ℕ) (f : FlatSection) (offset : ℕ) (i : FlatStep) (b : FlatBeside) → AllBytes s → (x : Accepted s f) → ReadsItemC (taken s (f .descriptors)) offset i
+    → ReadsBesideC (taken s (f .descriptors)) offset b → i .item .kind ≡ 4 → i .item .segmentation .«segmentation_upid_type» ≡ 10
+    → let h : ℕ = upidAt s (f .descriptors .at + offset + 6) in (getD s h 0 ≡ 10) × (getD s (h + 1) 0 ≡ 12) × Slice s (h + 2) 12 (b .eidr)
+unfolding flatBeside
+eidr-lies s f offset i b a x q r four ten =
+    let e : i ≡ flatStep (stepOf (loopIn s (x .section)) offset) = reads-item-so q ∙ ap (λ (l : List ℕ). flatStep (stepOf l offset)) (x .loop) in
+    let m = flat.upid-of-item 10 (stepOf (loopIn s (x .section)) offset) (ap (λ (v : FlatStep). v .item .kind) (sym e) ∙ four) (ap (λ (v : FlatStep). v .item .segmentation .«segmentation_upid_type») (sym e) ∙ ten) in
+    let w = demands.every-upid-of-the-section-is-whole s (x .section) (x .is) offset (m .descriptor) (m .insert) (m .is) (m .detail) a .eidr (m .kind) in
+    let g : b .eidr ≡ readingOf (loopIn s (x .section)) offset .beside .eidr = ap (λ (v : FlatBeside). v .eidr) (reads-beside-so r ∙ ap (λ (l : List ℕ). flatBeside (readingOf l offset)) (x .loop)) in
+    subst (λ (n : ℕ). (getD s (upidAt s (n + offset + 6)) 0 ≡ 10) × (getD s (upidAt s (n + offset + 6) + 1) 0 ≡ 12) × Slice s (upidAt s (n + offset + 6) + 2) 12 (b .eidr)) (sym (x .base))
+    (subst (λ (y : List ℕ). (getD s (upidAt s (x .section .descriptors .at + offset + 6)) 0 ≡ 10) × (getD s (upidAt s (x .section .descriptors .at + offset + 6) + 1) 0 ≡ 12)
+    × Slice s (upidAt s (x .section .descriptors .at + offset + 6) + 2) 12 y) (sym g) w)
+
+-- Wholeness over `scte35_read_item`, at any offset of the loop of a section that is not refused: the place and the length of its identifier in the section are those that the section's own bytes announce,
+-- and a refused item has its refusal's number
+pub the-items-over-c-are-whole : (s : List ℕ) (f : FlatSection) (offset : ℕ) (i : FlatStep) → AllBytes s → ReadsSectionC s f → f .refusal ≡ 0 → ReadsItemC (taken s (f .descriptors)) offset i
+    → ItemLies s (f .descriptors .at + offset) (f .descriptors .at) i
+the-items-over-c-are-whole s f offset i a d z q = items-lie s f offset i a (accepted s f d z) q
+
+-- An EIDR, which stands beside its item: `scte35_read_item_components` at the same offset answers the very twelve bytes
+pub the-eidr-over-c-is-whole : (s : List ℕ) (f : FlatSection) (offset : ℕ) (i : FlatStep) (b : FlatBeside) → AllBytes s → ReadsSectionC s f → f .refusal ≡ 0
+    → ReadsItemC (taken s (f .descriptors)) offset i → ReadsBesideC (taken s (f .descriptors)) offset b → i .item .kind ≡ 4 → i .item .segmentation .«segmentation_upid_type» ≡ 10
+    → let h : ℕ = upidAt s (f .descriptors .at + offset + 6) in (getD s h 0 ≡ 10) × (getD s (h + 1) 0 ≡ 12) × Slice s (h + 2) 12 (b .eidr)
+the-eidr-over-c-is-whole s f offset i b a d z q r four ten = eidr-lies s f offset i b a (accepted s f d z) q r four ten
+
+-- Of `scte35_read_upid` the first `count` parts are those of the UPID, field by field, and its refusal is that of what is read
+pub the-parts-over-c-are-those-of-the-upid : (kind : ℕ) (bytes : List ℕ) (u : FlatUpid) → ReadsUpidC kind bytes u
+    → (u .refusal ≡ upidRefusal (checkOf kind bytes)) × (u .count ≡ length (partsRead kind bytes)) × Pairs SamePart (take (u .count) (u .parts)) (partsRead kind bytes)
+the-parts-over-c-are-those-of-the-upid kind bytes u d = rw (reads-upid-so d) (flat.parts-flat kind bytes)
+
+-- a MID that is accepted has bytes
+some-byte : (b : List ℕ) → checkOf 13 b ≡ UpidRead.Fine 13 → 1 ≤ length b
+unfolding checkOf
+some-byte [] e = let z : _≡_ {A = ℕ} 0 13 = cc in absurd (eqb-false 0 13 refl z)
+some-byte (x ∷ b) e = omega arith
+
+parts-lie : (s : List ℕ) (mid : Identifier) {qs : List FlatPart} {ps : List Part} → Pairs SamePart qs ps → All (λ (p : Part). Announced s p (inLent (mid .start) (mid .bytes) (partView p))) ps
+    → All (PartLies s (mid .start)) qs
+parts-lie s mid over none = none
+parts-lie s mid (pair {x = q} {y = p} h hs) (more a rest) =
+    let l : q .len ≡ getD s (mid .start + q .start - 1) 0 = h .lens ∙ a .len ∙ ap (λ (n : ℕ). getD s (mid .start + n - 1) 0) (sym (h .starts)) in
+    more {x = q} (record {
+      behind = omega (arith, a .behind, h .starts);
+      there = omega (arith, a .unbroken .inside, h .starts, h .lens);
+      kind = h .kinds ∙ a .kind ∙ reported-as _ ∙ ap (λ (n : ℕ). reportedAs (getD s (mid .start + n - 2) 0)) (sym (h .starts));
+      long = l;
+    }) (parts-lie s mid hs rest)
+
+mid-lies : (s : List ℕ) (f : FlatSection) (offset : ℕ) (i : FlatStep) (u : FlatUpid) (x : Accepted s f) → ReadsItemC (taken s (f .descriptors)) offset i
+    → i .item .kind ≡ 4 → i .item .segmentation .«segmentation_upid_type» ≡ 13 → ReadsUpidC 13 (taken (taken s (f .descriptors)) (i .item .bytes)) u
+    → (u .refusal ≡ 0) × All (PartLies s (f .descriptors .at + i .item .bytes .at)) (take (u .count) (u .parts))
+mid-lies s f offset i u x q four mid r =
+    let e : i ≡ flatStep (stepOf (loopIn s (x .section)) offset) = reads-item-so q ∙ ap (λ (l : List ℕ). flatStep (stepOf l offset)) (x .loop) in
+    let m = flat.upid-of-item 13 (stepOf (loopIn s (x .section)) offset) (ap (λ (v : FlatStep). v .item .kind) (sym e) ∙ four) (ap (λ (v : FlatStep). v .item .segmentation .«segmentation_upid_type») (sym e) ∙ mid) in
+    let v : i .item .bytes ≡ flatView (m .insert .«segmentation_upid» .bytes) = ap (λ (v : FlatStep). v .item .bytes) e ∙ m .bytes in
+    let w : Unsplit s (inLent (x .section .descriptors .at) (loopIn s (x .section)) (m .insert .«segmentation_upid» .bytes)) =
+    demands.no-mid-that-is-read-is-split s (x .section) (x .is) offset (m .descriptor) (m .insert) (m .is) (m .detail) (m .kind) in
+    let b : taken (taken s (f .descriptors)) (i .item .bytes) ≡ viewed (loopIn s (x .section)) (m .insert .«segmentation_upid» .bytes) =
+    ap (λ (l : List ℕ). taken l (i .item .bytes)) (x .loop) ∙ ap (taken (loopIn s (x .section))) v ∙ sym (viewed-is (loopIn s (x .section)) (m .insert .«segmentation_upid» .bytes) (viewed-inside (loopIn s (x .section)) (m .insert .«segmentation_upid» .bytes) (some-byte _ (w .accepted)))) in
+    let k : ReadsUpidC 13 (viewed (loopIn s (x .section)) (m .insert .«segmentation_upid» .bytes)) u = rw b at r in
+    let p = the-parts-over-c-are-those-of-the-upid 13 _ u k in
+    let lie : All (PartLies s (x .section .descriptors .at + m .insert .«segmentation_upid» .bytes .at)) (take (u .count) (u .parts)) = (parts-lie s (inLent (x .section .descriptors .at) (loopIn s (x .section)) (m .insert .«segmentation_upid» .bytes)) (p .2) (w .parts)) in
+    let there : x .section .descriptors .at + m .insert .«segmentation_upid» .bytes .at ≡ f .descriptors .at + i .item .bytes .at = omega (arith, x .base, ap (λ (y : FlatView). y .at) v) in
+    (p .0 ∙ ap upidRefusal (w .accepted), subst (λ (n : ℕ). All (PartLies s n) (take (u .count) (u .parts))) there lie)
+
+-- So of a MID of the section: each part, at every level, lies in the section where it says, with as many bytes as its own head announces, of the type that is written there
+pub the-parts-of-a-mid-over-c-are-whole : (s : List ℕ) (f : FlatSection) (offset : ℕ) (i : FlatStep) (u : FlatUpid) → AllBytes s → ReadsSectionC s f → f .refusal ≡ 0 → ReadsItemC (taken s (f .descriptors)) offset i
+    → i .item .kind ≡ 4 → i .item .segmentation .«segmentation_upid_type» ≡ 13 → ReadsUpidC 13 (taken (taken s (f .descriptors)) (i .item .bytes)) u
+    → (u .refusal ≡ 0) × All (PartLies s (f .descriptors .at + i .item .bytes .at)) (take (u .count) (u .parts))
+the-parts-of-a-mid-over-c-are-whole s f offset i u a d z q four mid r = mid-lies s f offset i u (accepted s f d z) q four mid r
+
+-- ---- writing
+
+puts-flat : (m : Made) (b target : List ℕ) (answer : FlatWritten) (later : List ℕ) → m ≡ made b → answer ≡ flatWritten (answerOf m target) → later ≡ laterOf m target → PutsFlat b target answer later
+unfolding flatWritten
+puts-flat m b target answer later e f g =
+    let p = writes.puts b target in
+    let a : answer ≡ flatWritten (answerOf (made b) target) = f ∙ ap (λ (n : Made). flatWritten (answerOf n target)) e in
+    let l : later ≡ laterOf (made b) target = g ∙ ap (λ (n : Made). laterOf n target) e in
+    record {
+      fits = λ h.
+          let w : answer ≡ flatWritten (Written.Wrote (length b)) = a ∙ ap flatWritten (p .fits h .0) in
+          (ap (λ (v : FlatWritten). v .refusal) w, ap (λ (v : FlatWritten). v .«length») w, l ∙ p .fits h .1);
+      short = λ h. (ap (λ (v : FlatWritten). v .refusal) (a ∙ ap flatWritten (p .short h .0)), l ∙ p .short h .1);
+    }
+
+-- Demand 2 over C: the words that are read of a canonical section, its header's (without the last two) and its command's, those of its components, read of its bytes up to its command's end, and its loop, written, are that section
+pub a-canonical-section-over-c-is-written-back : (s : List ℕ) (f : FlatSection) (places : FlatSplices) (target : List ℕ) (answer : FlatWritten) (later : List ℕ) → AllBytes s
+    → TellsCanonicalC s true → ReadsSectionC s f → f .refusal ≡ 0 → ReadsComponentsC (drop 14 (take (14 + commandLength s) s)) places
+    → WritesSectionC (headerWords (f .header)) (commandWords (f .command)) (splicesWords places) s (taken s (f .descriptors)) target answer later → PutsFlat s target answer later
+a-canonical-section-over-c-is-written-back s f places target answer later a t d z c p =
+    let x = accepted s f d z in
+    let w = writes-section-so p in
+    let m : sectionWordsMade (headerWords (f .header)) (commandWords (f .command)) (splicesWords places) s (taken s (f .descriptors)) ≡ made s =
+    ap (λ (v : FlatSection). sectionWordsMade (headerWords (v .header)) (commandWords (v .command)) (splicesWords places) s (taken s (f .descriptors))) (reads-section-so d)
+    ∙ ap (λ (v : FlatSplices). sectionWordsMade (headerWords (flatSectionRead (sectionOf s) .header)) (commandWords (flatSectionRead (sectionOf s) .command)) (splicesWords v) s (taken s (f .descriptors))) (reads-components-so c)
+    ∙ ap (λ (l : List ℕ). sectionWordsMade (headerWords (flatSectionRead (sectionOf s) .header)) (commandWords (flatSectionRead (sectionOf s) .command)) (splicesWords (componentsAnswered s)) s l) (x .loop)
+    ∙ demands.a-canonical-section-is-what-is-written-of-its-words s (x .section) a (x .is) (sym (tells-canonical-so t)) in
+    puts-flat _ s target answer later m (w .0) (w .1)
+
+-- and each of its items, of the words of its step and of what stands beside it, is its own bytes
+pub the-items-of-a-canonical-section-over-c-are-written-back : (s : List ℕ) (f : FlatSection) → AllBytes s → TellsCanonicalC s true → ReadsSectionC s f → f .refusal ≡ 0
+    → All (λ (y : Listed). (i : FlatStep) (beside : FlatBeside) (target : List ℕ) (answer : FlatWritten) (later : List ℕ) → ReadsItemC (taken s (f .descriptors)) (y .offset) i
+    → ReadsBesideC (taken s (f .descriptors)) (y .offset) beside → WritesDescriptorC (stepWords i) (besideWords beside) (taken s (f .descriptors)) target answer later
+    → PutsFlat (runOf (taken s (f .descriptors)) y) target answer later) (itemsOf (taken s (f .descriptors)))
+the-items-of-a-canonical-section-over-c-are-written-back s f a t d z =
+    let x = accepted s f d z in
+    let loop : List ℕ = taken s (f .descriptors) in
+    let h : All (λ (y : Listed). wordsMadeAt loop y ≡ made (runOf loop y)) (itemsOf loop) = rw (x .loop) (demands.the-items-of-a-canonical-section-are-written-of-their-words s (x .section) a (x .is) (sym (tells-canonical-so t))) in
+    let fits : length loop ≤ 4076 = rw (x .loop) (loop-short s (x .section) (x .is)) in
+    all-into (λ y k i beside target answer later q b p.
+    let w = writes-descriptor-so p in
+    let m : descriptorWordsMade (stepWords i) (besideWords beside) loop ≡ made (runOf loop y) = rw (reads-item-so q, reads-beside-so b, sym (k .1)) (k .0) in
+    puts-flat _ (runOf loop y) target answer later m (w .0) (w .1)) (writes.with-steps loop fits h)
+
+-- "A refused write leaves the target's bytes"
+left : (m : Made) (target : List ℕ) (n : ℕ) → flatWritten (answerOf m target) .refusal ≡ n → (n ≡ 0 → ⊥) → laterOf m target ≡ target
+unfolding flatWritten
+left m target n e some = go (answerOf m target) refl e
+  where
+    go : (w : Written) → answerOf m target ≡ w → flatWritten w .refusal ≡ n → laterOf m target ≡ target
+    go (Written.Wrote k) h e = absurd (some (sym e))
+    go (Written.Refused k) h e = demands.a-refused-write-changes-no-byte m target k h
+
+pub a-refused-section-over-c-changes-no-byte : (κ : _) (a : _) (r : FlatWritten) (e : _) → scte35-write-section-words.Learnt κ a r e → (r .refusal ≡ 0 → ⊥) → now (e .1 .1 .1 .1 .1 .0) ≡ now (a .1 .1 .1 .1 .1 .0)
+a-refused-section-over-c-changes-no-byte κ a r e l some = l .1 ∙ left _ _ (r .refusal) (ap (λ (v : FlatWritten). v .refusal) (sym (l .0))) some
+
+pub a-refused-descriptor-over-c-changes-no-byte : (κ : _) (a : _) (r : FlatWritten) (e : _) → scte35-write-descriptor-words.Learnt κ a r e → (r .refusal ≡ 0 → ⊥) → now (e .1 .1 .1 .0) ≡ now (a .1 .1 .1 .0)
+a-refused-descriptor-over-c-changes-no-byte κ a r e l some = l .1 ∙ left _ _ (r .refusal) (ap (λ (v : FlatWritten). v .refusal) (sym (l .0))) some
+
+pub a-refused-command-over-c-changes-no-byte : (κ : _) (a : _) (r : FlatWritten) (e : _) → scte35-write-command-words.Learnt κ a r e → (r .refusal ≡ 0 → ⊥) → now (e .1 .1 .1 .0) ≡ now (a .1 .1 .1 .0)
+a-refused-command-over-c-changes-no-byte κ a r e l some = l .1 ∙ left _ _ (r .refusal) (ap (λ (v : FlatWritten). v .refusal) (sym (l .0))) some

@@ -1,0 +1,223 @@
+-- The product's demands, of the functions: whoever meets their contracts, as the checker makes them of the sources, gives this on every input. `ReadsSection s r` is what
+-- `read_section` may answer of the bytes s, and so on (Contracts.antt). So a contract that is changed together with its body is refused here, where the definitions alone would not notice.
+-- The same over C: OverC.antt. Assumes nothing.
+use Prim.Native.Nat.{ℕ, _+_, _≤_}
+use mathlib.Core.Bool.{Bool, true}
+use mathlib.Core.List.{List, [], _∷_, map}
+use mathlib.Core.Path.{_≡_, refl, ap, ap₂, sym, _∙_}
+use lib.ListN.{length, take, drop}
+use denote.Ref.{now}
+use Rattle.command.specs.Command.{countIn, componentsOf}
+use Rattle.command.specs.declared.SpliceCommand.{SpliceCommand}
+use Rattle.command_measure.specs.Made.{commandMade}
+use Rattle.descriptor.specs.declared.Descriptor.{Descriptor}
+use Rattle.descriptor.specs.declared.segmentation.SegmentationDescriptor.{SegmentationDescriptor}
+use Rattle.descriptor.specs.declared.segmentation.SegmentationDetail.{SegmentationDetail}
+use Rattle.descriptor.specs.declared.segmentation.SegmentationInsert.{SegmentationInsert}
+use Rattle.descriptor_writer.specs.Stores.{Writes}
+use Rattle.items.proofs.Places.{all-into}
+use Rattle.items.specs.Cover.{joined, runOf, Covered}
+use Rattle.items.specs.Items.{stepOf, readingOf, Listed, itemsOf}
+use Rattle.items.specs.Place.{viewOf}
+use Rattle.items.specs.declared.Item.{Item}
+use Rattle.items.specs.declared.Step.{Step}
+use Rattle.items.specs.declared.reading.Reading.{Reading}
+use Rattle.loop_laws.specs.Loops.{Given, WrittenAgain, Pairs}
+use Rattle.loop_laws.specs.Loops.Pairs.{over, pair}
+use Rattle.pen.specs.Written.{answerOf, laterOf}
+use Rattle.pen.specs.declared.Written.{Written}
+use Rattle.section.specs.Section.{commandBytes, conditions, first, sectionOf, numberOf, None}
+use Rattle.section.specs.Whole.{besideCommand, wholeSectionOf}
+use Rattle.section.specs.declared.Section.{Section}
+use Rattle.section.specs.declared.SectionRead.{SectionRead}
+use Rattle.section.specs.declared.whole.WholeSection.{WholeSection}
+use Rattle.section_writer.specs.Canonical.{canonicalSection}
+use Rattle.section_writer.specs.Writing.{kindOf, sectionMade}
+use Rattle.table.specs.Bits.{AllBytes}
+use Rattle.table.specs.Lent.{viewed}
+use Rattle.table.specs.Writing.{Made, made}
+use Rattle.theorems.proofs.Sections.{loop-short}
+use Rattle.theorems.proofs.Theorems as demands
+use Rattle.theorems.specs.Identifiers.{inLent, loopIn, partsRead, Unsplit}
+use Rattle.theorems.specs.Making.{HasHeader, SectionBytes}
+use Rattle.theorems.specs.Same.{SameHeader, SameSections}
+use Rattle.theorems.specs.Whole.{upidAt, WholeAt}
+use Rattle.upid.specs.Cover.{All}
+use Rattle.upid.specs.Cover.All.{none, more}
+use Rattle.upid.specs.Upid.{upidOf, partsIn, partView}
+use Rattle.upid.specs.declared.Part.{Part}
+use Rattle.upid.specs.declared.Upid.{Upid}
+use Rattle.command_writer.proofs.write_bare_command.Reads as write-bare-command
+use Rattle.command_writer.proofs.write_command.Reads as write-command
+use Rattle.descriptor_writer.proofs.write_bare_descriptor.Reads as write-bare-descriptor
+use Rattle.descriptor_writer.proofs.write_descriptor.Reads as write-descriptor
+use Rattle.section_writer.proofs.write_bare_section.Reads as write-bare-section
+use Rattle.section_writer.proofs.write_section.Reads as write-section
+use Rattle.theorems_functions.specs.Calls.{Stepped, SectionGiven, Puts}
+use Rattle.theorems_functions.specs.Slices.{ItemSlice, PartSlice, Parted, PrivateSlice}
+use Rattle.theorems_functions.proofs.Contracts.{ReadsSection, reads-section-so, ReadsWholeSection, reads-whole-section-so, Steps, steps-so, ReadsItem, reads-item-so, ReadsUpid, reads-upid-so, GivesLoop, gives-loop-so, GivesPrivate, gives-private-so, GivesBytes, gives-bytes-so, GivesPart, gives-part-so, TellsCanonical, tells-canonical-so, WritesSection, writes-section-so, WritesDescriptor, writes-descriptor-so, sectionFrom}
+use Rattle.theorems_functions.proofs.Slices as slices
+use Rattle.theorems_functions.proofs.Steps as steps
+use Rattle.theorems_functions.proofs.Writes as writes
+
+-- ---- acceptance
+
+-- "A section is accepted exactly when none of 1 to 11 applies", and else refused with the number of the first that does
+pub read-section-refuses-in-order : (s : List ℕ) (r : SectionRead) → ReadsSection s r → numberOf r ≡ first 1 (conditions s)
+read-section-refuses-in-order s r d = ap numberOf (reads-section-so d) ∙ demands.refusals-1-to-11-in-order s
+
+pub read-section-accepts : (s : List ℕ) (r : SectionRead) → ReadsSection s r → None (conditions s) → (x : Section) × (r ≡ SectionRead.Is x)
+read-section-accepts s r d n = let x = demands.accepted-if-none-applies s n in (x .0, reads-section-so d ∙ x .1)
+
+-- ---- covering
+
+-- the loop that is handed back, stepped through from 0 to the end: "the loop's items in order cover the loop once", and no other cutting does
+pub the-items-that-are-stepped-cover-the-loop : (s : List ℕ) (x : Section) (loop : List ℕ) (xs : List Listed) → ReadsSection s (SectionRead.Is x) → GivesLoop s x loop → Stepped (Steps loop) 0 xs
+    → Covered loop xs
+the-items-that-are-stepped-cover-the-loop s x loop xs d g w =
+    let e : sectionOf s ≡ SectionRead.Is x = sym (reads-section-so d) in
+    let l : loop ≡ loopIn s x = gives-loop-so g in
+    let fits : length loop ≤ 4076 = rw l (loop-short s x e) in
+    let z : xs ≡ itemsOf (loopIn s x) = steps.stepped-items loop fits (Steps loop) (λ offset st. steps-so) w ∙ ap itemsOf l in
+    rw (z, l) (demands.the-items-cover-the-loop-of-the-section s x e)
+
+-- ---- whole identifiers: the very slices that are handed back
+
+-- Of the item that is read at any offset of the loop: `bytes_of` hands back its DTMF characters, UPID, private bytes or the text of refusal 24 whole, as many bytes of the section as it announces there,
+-- and the EIDR and the identifier that stand beside it are such runs
+pub the-bytes-of-an-item-are-whole : (s : List ℕ) (x : Section) (loop : List ℕ) (offset : ℕ) (r : Reading) (b : List ℕ) → AllBytes s
+    → ReadsSection s (SectionRead.Is x) → GivesLoop s x loop → ReadsItem loop offset r → GivesBytes loop (r .step .item) b → ItemSlice s (x .descriptors .at + offset) r b (r .step .item)
+the-bytes-of-an-item-are-whole s x loop offset r b a d g i h =
+    let e : sectionOf s ≡ SectionRead.Is x = sym (reads-section-so d) in
+    let l : loop ≡ loopIn s x = gives-loop-so g in
+    let q : r ≡ readingOf (loopIn s x) offset = reads-item-so i ∙ ap (λ (y : List ℕ). readingOf y offset) l in
+    let w : WholeAt s x offset r = rw q (demands.every-identifier-of-an-item-is-whole s x e a offset) in
+    slices.read-slice s (x .descriptors .at) (loopIn s x) offset r b w (gives-bytes-so h ∙ ap (λ (y : List ℕ). viewed y (viewOf (r .step .item))) l)
+
+-- the step says what the full reading says
+pub steps-are-read : (loop : List ℕ) (offset : ℕ) (st : Step) (r : Reading) → Steps loop offset st → ReadsItem loop offset r → st ≡ r .step
+unfolding readingOf
+steps-are-read loop offset st r d i = steps-so d ∙ ap (λ (y : Reading). y .step) (sym (reads-item-so i))
+
+-- Where it is a MID: `read_upid` of these bytes answers parts that cover it once, and each MID in it, in no other way; and `part_bytes` hands back each of them, at every level, whole: as many bytes
+-- of the section as its own head announces, of the type that is written there
+pub the-bytes-of-a-part-are-whole : (s : List ℕ) (x : Section) (loop : List ℕ) (offset : ℕ) (st : Step) (d : SegmentationDescriptor) (i : SegmentationInsert) (b : List ℕ) (u : Upid)
+    → ReadsSection s (SectionRead.Is x) → GivesLoop s x loop → Steps loop offset st → st .item ≡ Item.Is (Descriptor.Segmentation d) → d .«descriptor_detail» ≡ SegmentationDetail.Insert i
+    → i .«segmentation_upid» .kind ≡ 13 → GivesBytes loop (st .item) b → ReadsUpid 13 b u
+    → Parted b (partsIn u) × All (λ (p : Part). (c : List ℕ) → GivesPart b p c → PartSlice s (x .descriptors .at + i .«segmentation_upid» .bytes .at) p c) (partsIn u)
+the-bytes-of-a-part-are-whole s x loop offset st d i b u rs g t is detail k h ru =
+    let e : sectionOf s ≡ SectionRead.Is x = sym (reads-section-so rs) in
+    let l : loop ≡ loopIn s x = gives-loop-so g in
+    let there : stepOf (loopIn s x) offset .item ≡ Item.Is (Descriptor.Segmentation d) = ap (λ (y : List ℕ). stepOf y offset .item) (sym l) ∙ ap (λ (y : Step). y .item) (sym (steps-so t)) ∙ is in
+    let m : Unsplit s (inLent (x .descriptors .at) (loopIn s x) (i .«segmentation_upid» .bytes)) = demands.no-mid-that-is-read-is-split s x e offset d i there detail k in
+    let v : viewOf (st .item) ≡ i .«segmentation_upid» .bytes = ap viewOf is ∙ slices.mid-view d i detail k in
+    let c : b ≡ viewed (loopIn s x) (i .«segmentation_upid» .bytes) = gives-bytes-so h ∙ ap (λ (y : List ℕ). viewed y (viewOf (st .item))) l ∙ ap (viewed (loopIn s x)) v in
+    let ps : partsIn u ≡ partsRead 13 (viewed (loopIn s x) (i .«segmentation_upid» .bytes)) = ap partsIn (reads-upid-so ru) ∙ ap (λ (y : List ℕ). partsIn (upidOf 13 y)) c in
+    slices.parts-whole s (inLent (x .descriptors .at) (loopIn s x) (i .«segmentation_upid» .bytes)) b (partsIn u) (GivesPart b) (λ p c. gives-part-so) m c ps
+
+-- the private bytes of a command
+pub the-private-bytes-are-whole : (s : List ℕ) (x : Section) (b : List ℕ) → ReadsSection s (SectionRead.Is x) → GivesPrivate s (x .command) b → PrivateSlice s b (x .command)
+the-private-bytes-are-whole s x b d g = rw (gives-private-so g) (slices.private-slice s (x .command) (demands.the-private-bytes-of-the-section-are-whole s x (sym (reads-section-so d))))
+
+-- ---- writing
+
+-- Demand 2: what is read of a canonical section, written with the components that stand beside it and the loop as it is handed back, is that section
+pub a-canonical-section-is-written-back : (s : List ℕ) (w : WholeSection) (x : Section) (loop target : List ℕ) (answer : Written) (later : List ℕ) → AllBytes s
+    → TellsCanonical s true → ReadsWholeSection s w → w .read ≡ SectionRead.Is x → GivesLoop s x loop
+    → WritesSection (record { header = x .header; command = x .command; components = w .components; lent = s; loop = loop }) target answer later → Puts s target answer later
+a-canonical-section-is-written-back s w x loop target answer later a t d r g p =
+    let e : sectionOf s ≡ SectionRead.Is x = writes.whole-read s w x (reads-whole-section-so d) r in
+    let c : w .components ≡ besideCommand (x .command) (commandBytes s) = writes.whole-beside s w x (reads-whole-section-so d) r in
+    let m : sectionMade (x .header) (commandMade (x .command) (w .components) s) (kindOf (x .command)) loop ≡ made s =
+    rw (c, writes.beside-serves (x .command) (commandBytes s) s, gives-loop-so g) (demands.a-canonical-section-is-what-is-written-of-its-reading s x a e (sym (tells-canonical-so t))) in
+    writes.puts-made _ s target answer later m (writes-section-so p)
+
+-- An item of a loop that is read by `read_item` and written by `write_descriptor`: the bytes that were written
+pub record Rewrites (loop : List ℕ) (y : Listed) (b : List ℕ) : Type 0 where
+  pub reading : Reading
+  pub descriptor : Descriptor
+  pub target : List ℕ
+  pub number : ℕ
+  pub later : List ℕ
+  pub reads : ReadsItem loop (y .offset) reading
+  pub is : reading .step .item ≡ Item.Is descriptor
+  pub writes : WritesDescriptor (record { descriptor = descriptor; identifier = reading .step .identifier; beside = reading .beside; lent = loop }) target (Written.Wrote number) later
+  pub bytes : b ≡ take number later
+
+rewritten : (loop : List ℕ) {xs : List Listed} {bs : List (List ℕ)} → All (writes.Again loop) xs → Pairs (Rewrites loop) xs bs → bs ≡ map (runOf loop) xs
+rewritten loop none over = refl
+rewritten loop (more {x = y} h hs) (pair q qs) =
+    let w : Puts (runOf loop y) (q .target) (Written.Wrote (q .number)) (q .later) =
+    writes.item-back loop y h (q .reading) (q .descriptor) (reads-item-so (q .reads)) (q .is) (q .target) (Written.Wrote (q .number)) (q .later) (writes-descriptor-so (q .writes)) in
+    ap₂ (λ (v : List ℕ) (vs : List (List ℕ)). v ∷ vs) (q .bytes ∙ writes.put-start (runOf loop y) (q .target) (q .number) (q .later) w) (rewritten loop hs qs)
+
+-- and so by items: what is written of each, read by `read_item` at its offset, is the item's own bytes
+pub the-items-of-a-canonical-section-are-written-back : (s : List ℕ) (x : Section) (loop : List ℕ) → AllBytes s → TellsCanonical s true → ReadsSection s (SectionRead.Is x) → GivesLoop s x loop
+    → All (λ (y : Listed). (r : Reading) (d : Descriptor) (target : List ℕ) (answer : Written) (later : List ℕ) → ReadsItem loop (y .offset) r → r .step .item ≡ Item.Is d
+    → WritesDescriptor (record { descriptor = d; identifier = r .step .identifier; beside = r .beside; lent = loop }) target answer later → Puts (runOf loop y) target answer later) (itemsOf loop)
+the-items-of-a-canonical-section-are-written-back s x loop a t d g =
+    let e : sectionOf s ≡ SectionRead.Is x = sym (reads-section-so d) in
+    let l : loop ≡ loopIn s x = gives-loop-so g in
+    let fits : length loop ≤ 4076 = rw l (loop-short s x e) in
+    let h : All (WrittenAgain loop) (itemsOf loop) = rw l (demands.a-canonical-section-is-what-is-written-of-its-items s x a e (sym (tells-canonical-so t)) .0) in
+    all-into (λ y h r d target answer later i is p. writes.item-back loop y h r d (reads-item-so i) is target answer later (writes-descriptor-so p)) (writes.all-again loop fits h)
+
+-- Demand 2 in one statement: the loop stepped through, each of its items read and written, what was written joined in order, and the section written around it: that is the section
+pub a-canonical-section-is-written-back-by-its-items : (s : List ℕ) (w : WholeSection) (x : Section) (loop : List ℕ) (xs : List Listed) (bs : List (List ℕ)) (target : List ℕ) (answer : Written) (later : List ℕ)
+    → AllBytes s → TellsCanonical s true → ReadsWholeSection s w → w .read ≡ SectionRead.Is x → GivesLoop s x loop → Stepped (Steps loop) 0 xs → Pairs (Rewrites loop) xs bs
+    → WritesSection (record { header = x .header; command = x .command; components = w .components; lent = s; loop = joined bs }) target answer later → Puts s target answer later
+a-canonical-section-is-written-back-by-its-items s w x loop xs bs target answer later a t d r g st rw-all p =
+    let e : sectionOf s ≡ SectionRead.Is x = writes.whole-read s w x (reads-whole-section-so d) r in
+    let l : loop ≡ loopIn s x = gives-loop-so g in
+    let fits : length loop ≤ 4076 = rw l (loop-short s x e) in
+    let z : xs ≡ itemsOf loop = steps.stepped-items loop fits (Steps loop) (λ offset st. steps-so) st in
+    let o : All (WrittenAgain loop) (itemsOf loop) = rw l (demands.a-canonical-section-is-what-is-written-of-its-items s x a e (sym (tells-canonical-so t)) .0) in
+    let h : All (writes.Again loop) xs = rw z (writes.all-again loop fits o) in
+    let j : joined (map (runOf loop) xs) ≡ loop = rw (z, l) (demands.the-items-cover-the-loop-of-the-section s x e .cutting .joins) in
+    let k : joined bs ≡ loop = ap joined (rewritten loop h rw-all) ∙ j in
+    let c : w .components ≡ besideCommand (x .command) (commandBytes s) = writes.whole-beside s w x (reads-whole-section-so d) r in
+    let m : sectionMade (x .header) (commandMade (x .command) (w .components) s) (kindOf (x .command)) (joined bs) ≡ made s =
+    rw (c, writes.beside-serves (x .command) (commandBytes s) s, k, l) (demands.a-canonical-section-is-what-is-written-of-its-reading s x a e (sym (tells-canonical-so t))) in
+    writes.puts-made _ s target answer later m (writes-section-so p)
+
+-- "reading what the writer wrote gives what it was handed": whatever was written is a canonical section with this header, this command, its components and bytes, and this loop (`SectionBytes`,
+-- theorems/specs/Making.antt), which the reader accepts and the test calls canonical
+pub what-is-written-is-read-back : (g : SectionGiven) (target : List ℕ) (n : ℕ) (later : List ℕ) → length (g .components) ≡ 255 → countIn (g .command) ≤ 255 → AllBytes (g .lent) → AllBytes (g .loop)
+    → WritesSection g target (Written.Wrote n) later → SectionBytes (g .header) (g .command) (g .components) (g .lent) (g .loop) (take n later)
+what-is-written-is-read-back g target n later places count lent loop p =
+    let c = demands.an-accepted-write-changes-only-its-result (sectionFrom g) target n (sym (writes-section-so p .answer)) in
+    let b : take n later ≡ c .result = ap (take n) (writes-section-so p .target-later) ∙ c .start in
+    rw b (demands.what-is-written-reads-back (g .header) (g .command) (g .components) (g .lent) (g .loop) places count lent loop (c .result) (c .is))
+
+pub what-is-written-is-accepted : (g : SectionGiven) (target : List ℕ) (n : ℕ) (later : List ℕ) → length (g .components) ≡ 255 → countIn (g .command) ≤ 255 → AllBytes (g .lent) → AllBytes (g .loop)
+    → WritesSection g target (Written.Wrote n) later → (r : SectionRead) (t : Bool) → ReadsSection (take n later) r → TellsCanonical (take n later) t
+    → (t ≡ true) × (y : Section) × (r ≡ SectionRead.Is y) × SameHeader (y .header) (g .header)
+what-is-written-is-accepted g target n later places count lent loop p r t d q =
+    let h : HasHeader (g .header) (take n later) = what-is-written-is-read-back g target n later places count lent loop p .header in
+    (tells-canonical-so q ∙ h .form, h .reading, reads-section-so d ∙ h .reads, h .same)
+
+-- Demand 3: two canonical sections with equal readings are one
+pub canonical-sections-with-equal-readings-are-one : (s r : List ℕ) (x y : Section) → AllBytes s → AllBytes r → TellsCanonical s true → TellsCanonical r true
+    → ReadsSection s (SectionRead.Is x) → ReadsSection r (SectionRead.Is y) → SameSections s x r y → s ≡ r
+canonical-sections-with-equal-readings-are-one s r x y a b t u d e same =
+    demands.canonical-sections-of-equal-answers-are-one s r x y a b (sym (reads-section-so d)) (sym (reads-section-so e)) (sym (tells-canonical-so t)) (sym (tells-canonical-so u)) same
+
+-- ---- "A refused write leaves the target's bytes": of each writer, the target at exit is that at entry
+
+pub a-refused-section-changes-no-byte : (κ : _) (a : _) (r : Written) (e : _) (n : ℕ) → write-section.Learnt κ a r e → r ≡ Written.Refused n → now (e .1 .1 .1 .1 .1 .0) ≡ now (a .1 .1 .1 .1 .1 .0)
+a-refused-section-changes-no-byte κ a r e n l f = l .1 ∙ demands.a-refused-write-changes-no-byte _ _ n (sym (l .0) ∙ f)
+
+pub a-refused-bare-section-changes-no-byte : (κ : _) (a : _) (r : Written) (e : _) (n : ℕ) → write-bare-section.Learnt κ a r e → r ≡ Written.Refused n → now (e .1 .1 .1 .1 .0) ≡ now (a .1 .1 .1 .1 .0)
+a-refused-bare-section-changes-no-byte κ a r e n l f = l .1 ∙ demands.a-refused-write-changes-no-byte _ _ n (sym (l .0) ∙ f)
+
+pub a-refused-command-changes-no-byte : (κ : _) (a : _) (r : Written) (e : _) (n : ℕ) → write-command.Learnt κ a r e → r ≡ Written.Refused n → now (e .1 .1 .1 .0) ≡ now (a .1 .1 .1 .0)
+a-refused-command-changes-no-byte κ a r e n l f = l .1 ∙ demands.a-refused-write-changes-no-byte _ _ n (sym (l .0) ∙ f)
+
+pub a-refused-bare-command-changes-no-byte : (κ : _) (a : _) (r : Written) (e : _) (n : ℕ) → write-bare-command.Learnt κ a r e → r ≡ Written.Refused n → now (e .1 .1 .0) ≡ now (a .1 .1 .0)
+a-refused-bare-command-changes-no-byte κ a r e n l f = l .1 ∙ demands.a-refused-write-changes-no-byte _ _ n (sym (l .0) ∙ f)
+
+pub a-refused-descriptor-changes-no-byte : (κ : _) (a : _) (r : Written) (e : _) (n : ℕ) → write-descriptor.Learnt κ a r e → r ≡ Written.Refused n → now (e .1 .1 .1 .1 .0) ≡ now (a .1 .1 .1 .1 .0)
+a-refused-descriptor-changes-no-byte κ a r e n l f = l .target-later ∙ demands.a-refused-write-changes-no-byte _ _ n (sym (l .answer) ∙ f)
+
+pub a-refused-bare-descriptor-changes-no-byte : (κ : _) (a : _) (r : Written) (e : _) (n : ℕ) → write-bare-descriptor.Learnt κ a r e → r ≡ Written.Refused n → now (e .1 .1 .1 .1 .0) ≡ now (a .1 .1 .1 .1 .0)
+a-refused-bare-descriptor-changes-no-byte κ a r e n l f = l .target-later ∙ demands.a-refused-write-changes-no-byte _ _ n (sym (l .answer) ∙ f)

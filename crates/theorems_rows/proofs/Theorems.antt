@@ -1,0 +1,173 @@
+-- Worked sections, and each refusal of an item and of a UPID by its own words. A reader needs the specs of this crate beside this file. (Those of a section, 1 to 11: theorems/proofs/Theorems.antt,
+-- `refusals-1-to-11-in-order`; of an adjusted time, 32: `numbers-of-34-bits-are-not-adjusted` there; of a short target, 36: `Puts` in theorems_functions.) Assumes nothing.
+use Prim.Native.Nat.{ℕ, _+_, _-_, _≤_, _<_}
+use mathlib.Core.Bool.{true, false}
+use mathlib.Core.List.{List, [], _∷_}
+use mathlib.Core.Path.{_≡_, refl, sym, _∙_}
+use native.Mathlib.Omega.{arith}
+use lib.ListN.{length, take, drop, getD}
+use Rattle.descriptor.proofs.Plains.{avail-short, avail-is, time-short, time-is, reserved-is}
+use Rattle.descriptor.specs.Descriptor.{availOf, timeOf, reservedOf, cuei, descriptorOf, isCuei}
+use Rattle.descriptor.specs.declared.Descriptor.{Descriptor}
+use Rattle.descriptor.specs.declared.DescriptorRead.{DescriptorRead}
+use Rattle.header.proofs.Headers.{header-refused, header-there}
+use Rattle.header.specs.Header as header
+use Rattle.header.specs.Header.{headerOf}
+use Rattle.header.specs.declared.header.HeaderRead.{HeaderRead}
+use Rattle.header.specs.declared.header.SpliceInfoHeader.{SpliceInfoHeader}
+use Rattle.items.specs.Items.{stepOf, wholeAt}
+use Rattle.items.specs.declared.Item.{Item}
+use Rattle.names.specs.Flags.{Answer, networkOf, returnOf, restrictionsOf}
+use Rattle.section.specs.Section.{sectionOf}
+use Rattle.section.specs.declared.Section.{Section}
+use Rattle.section.specs.declared.SectionRead.{SectionRead}
+use Rattle.section_writer.specs.Canonical.{canonicalSection}
+use Rattle.table.specs.Bits.{bitsOf, field}
+use Rattle.theorems.specs.Same.{SameSections}
+use Rattle.theorems.specs.Sections.{EmptyCommand, Identified}
+use Rattle.upid.specs.Cover.{All}
+use Rattle.upid.specs.Text.{textOf}
+use Rattle.upid.specs.Upid.{checkOf}
+use Rattle.upid.specs.declared.Refusal.{Refusal}
+use Rattle.upid.specs.declared.UpidRead.{UpidRead}
+use Rattle.theorems_rows.specs.Refusals.{StepRefused, UpidRefused, kindOf, fixedLengths, texts, plainLengths}
+use Rattle.theorems_rows.specs.Sections.{eighteen, nineteen, insertSection, otherInsertSection, everyIdentifier, everyDescriptor}
+use Rattle.theorems_rows.proofs.Refusals as refusals
+use Rattle.theorems_rows.proofs.Worked as worked
+
+-- ---- worked sections
+
+-- there are sections of which "18 and 19 bytes give 8" speaks
+pub there-are-sections-of-18-and-19-bytes : (EmptyCommand eighteen × (length eighteen ≡ 18)) × (EmptyCommand nineteen × (length nineteen ≡ 19))
+there-are-sections-of-18-and-19-bytes = (worked.eighteen-is-one, worked.nineteen-is-one)
+
+-- all identifiers of a section that has every kind of them, in order: private bytes, DTMF, an EIDR, a reserved descriptor's bytes and identifier, a MID, the MID in it, its part, and the text of refusal 24
+pub all-identifiers-of-a-section : Identified everyIdentifier (
+    record { start = 18; len = 3; bytes = 0x01 ∷ 0x02 ∷ 0x03 ∷ [] }
+    ∷ record { start = 31; len = 1; bytes = 0x34 ∷ [] }
+    ∷ record { start = 46; len = 12; bytes = 0x10 ∷ 0x11 ∷ 0x12 ∷ 0x13 ∷ 0x14 ∷ 0x15 ∷ 0x16 ∷ 0x17 ∷ 0x18 ∷ 0x19 ∷ 0x1A ∷ 0x1B ∷ [] }
+    ∷ record { start = 67; len = 2; bytes = 0xAA ∷ 0xBB ∷ [] }
+    ∷ record { start = 63; len = 4; bytes = 0x41 ∷ 0x42 ∷ 0x43 ∷ 0x44 ∷ [] }
+    ∷ record { start = 83; len = 6; bytes = 0x0D ∷ 0x04 ∷ 0x01 ∷ 0x02 ∷ 0xAA ∷ 0xBB ∷ [] }
+    ∷ record { start = 85; len = 4; bytes = 0x01 ∷ 0x02 ∷ 0xAA ∷ 0xBB ∷ [] }
+    ∷ record { start = 87; len = 2; bytes = 0xAA ∷ 0xBB ∷ [] }
+    ∷ record { start = 106; len = 12; bytes = 0xFF ∷ 0x41 ∷ 0x42 ∷ 0x43 ∷ 0x44 ∷ 0x31 ∷ 0x32 ∷ 0x33 ∷ 0x34 ∷ 0x35 ∷ 0x36 ∷ 0x37 ∷ [] } ∷ [])
+all-identifiers-of-a-section = worked.every-identifier
+
+-- "equal readings, only the first canonical": row m's inserts as sections are two, and have equal readings
+pub two-sections-with-equal-readings : (x : Section) × (y : Section) × (sectionOf insertSection ≡ SectionRead.Is x) × (sectionOf otherInsertSection ≡ SectionRead.Is y)
+    × SameSections insertSection x otherInsertSection y × (insertSection ≡ otherInsertSection → ⊥)
+two-sections-with-equal-readings = (worked.insertReading, worked.insertReading, worked.insert-read, worked.other-insert-read, worked.same-insert, worked.other-bytes)
+
+-- there is a canonical section with an insert by components and every kind of descriptor
+pub a-canonical-section-with-every-descriptor : canonicalSection everyDescriptor ≡ true
+a-canonical-section-with-every-descriptor = worked.every-descriptor-canonical
+
+-- ---- 5: "a header alone under 11, its only refusal"
+
+pub a-header-under-11-bytes-is-refused-with-5 : (s : List ℕ) → length s < 11 → (headerOf s ≡ HeaderRead.TooShort) × (header.numberOf (headerOf s) ≡ 5)
+a-header-under-11-bytes-is-refused-with-5 s h = (header-refused s h, rw (header-refused s h))
+
+pub any-other-header-is-read : (s : List ℕ) → 11 ≤ length s → (x : SpliceInfoHeader) × (headerOf s ≡ HeaderRead.Header x)
+any-other-header-is-read = header-there
+
+-- ---- 12: "a flag number over 1 or a restriction number over 3"
+
+pub flags-over-1-are-refused-with-12 : (networkOf 2 ≡ Answer.refuses 12 []) × (returnOf 2 ≡ Answer.refuses 12 []) × (restrictionsOf 4 ≡ Answer.refuses 12 [])
+    × (networkOf 255 ≡ Answer.refuses 12 []) × (returnOf 255 ≡ Answer.refuses 12 []) × (restrictionsOf 255 ≡ Answer.refuses 12 [])
+unfolding networkOf returnOf restrictionsOf
+flags-over-1-are-refused-with-12 = (refl, refl, refl, refl, refl, refl)
+
+-- ---- "Loop items": each rule, with its number, its values in order, and the next offset
+
+-- 2: "loop over 4,076"
+pub a-loop-over-4076-bytes-is-refused-with-2 : (loop : List ℕ) (offset : ℕ) → 4076 < length loop → StepRefused (stepOf loop offset) 2 [] (length loop)
+a-loop-over-4076-bytes-is-refused-with-2 = refusals.refusal-2
+
+-- "At or past the end it says so, next offset the length"
+pub at-or-past-the-end-it-says-so : (loop : List ℕ) (offset : ℕ) → length loop ≤ 4076 → length loop ≤ offset → (stepOf loop offset .item ≡ Item.End) × (stepOf loop offset .next ≡ length loop)
+at-or-past-the-end-it-says-so = refusals.at-the-end
+
+-- "R from 1 to 5: refusal 21 (2, 0); the loop ends, next offset its length"
+pub one-to-five-bytes-are-refused-with-21 : (loop : List ℕ) (offset : ℕ) → length loop ≤ 4076 → offset < length loop → length loop - offset ≤ 5 → StepRefused (stepOf loop offset) 21 (2 ∷ 0 ∷ []) (length loop)
+one-to-five-bytes-are-refused-with-21 = refusals.few-left
+
+-- "R at least 6, length L, L + 2 > R: 21 (L + 2, 0); ends"
+pub an-item-that-does-not-fit-is-refused-with-21 : (loop : List ℕ) (offset : ℕ) → length loop ≤ 4076 → offset + 6 ≤ length loop → length loop - offset < getD loop (offset + 1) 0 + 2
+    → StepRefused (stepOf loop offset) 21 ((getD loop (offset + 1) 0 + 2) ∷ 0 ∷ []) (length loop)
+an-item-that-does-not-fit-is-refused-with-21 = refusals.too-long-for-the-rest
+
+-- "L = 255 that fits: 22; ends"
+pub an-item-of-255-bytes-is-refused-with-22 : (loop : List ℕ) (offset : ℕ) → length loop ≤ 4076 → offset + 6 ≤ length loop → getD loop (offset + 1) 0 + 2 ≤ length loop - offset
+    → 254 < getD loop (offset + 1) 0 → StepRefused (stepOf loop offset) 22 [] (length loop)
+an-item-of-255-bytes-is-refused-with-22 = refusals.length-255
+
+-- "L from 0 to 3: 21 (6, L + 2); the next item follows after L + 2 bytes"
+pub an-item-under-4-bytes-is-refused-with-21 : (loop : List ℕ) (offset : ℕ) → length loop ≤ 4076 → offset + 6 ≤ length loop → getD loop (offset + 1) 0 + 2 ≤ length loop - offset
+    → getD loop (offset + 1) 0 ≤ 3 → StepRefused (stepOf loop offset) 21 (6 ∷ (getD loop (offset + 1) 0 + 2) ∷ []) (offset + (getD loop (offset + 1) 0 + 2))
+an-item-under-4-bytes-is-refused-with-21 = refusals.length-below-4
+
+-- "Else tag, L, identifier of 4; the descriptor's payload is handed to its reader as a part of L - 4 bytes": no other item is refused by the loop
+pub any-other-item-is-read-by-its-descriptor : (loop : List ℕ) (offset : ℕ) → length loop ≤ 4076 → offset + 6 ≤ length loop → getD loop (offset + 1) 0 + 2 ≤ length loop - offset
+    → 4 ≤ getD loop (offset + 1) 0 → getD loop (offset + 1) 0 ≤ 254 → stepOf loop offset ≡ wholeAt loop offset (getD loop (offset + 1) 0)
+any-other-item-is-read-by-its-descriptor = refusals.else-read
+
+-- ---- the kind is what tag and identifier say
+
+-- "Identifier "CUEI", by tag: 0 avail, 1 DTMF, 2 segmentation, 3 time": what is read is of that kind
+pub a-descriptor-of-cuei-is-of-its-tag : (s : List ℕ) (tag : ℕ) (d : Descriptor) → tag ≤ 3 → descriptorOf tag cuei s ≡ DescriptorRead.Is d → kindOf d ≡ tag
+a-descriptor-of-cuei-is-of-its-tag = refusals.cuei-kind
+
+-- "Other tags or identifiers: reserved, with tag, identifier and bytes": never refused, and with all bytes
+pub another-tag-is-reserved : (s : List ℕ) (tag : ℕ) (id : List ℕ) → 3 < tag → descriptorOf tag id s ≡ DescriptorRead.Is (Descriptor.Reserved tag (record { at = 0; len = length s }))
+another-tag-is-reserved s tag id h = refusals.other-tag s tag id h ∙ sym (reserved-is s tag)
+
+pub another-identifier-is-reserved : (s : List ℕ) (tag a b c d : ℕ) → (a ≡ 0x43 → b ≡ 0x55 → c ≡ 0x45 → d ≡ 0x49 → ⊥)
+    → descriptorOf tag (a ∷ b ∷ c ∷ d ∷ []) s ≡ DescriptorRead.Is (Descriptor.Reserved tag (record { at = 0; len = length s }))
+another-identifier-is-reserved s tag a b c d h = refusals.other-identifier s tag a b c d h ∙ sym (reserved-is s tag)
+
+-- "0 avail: 32 bits. Shorter: 21 (4, actual)"
+pub an-avail-is-read-of-4-bytes : (s : List ℕ) → (length s < 4 → descriptorOf 0 cuei s ≡ DescriptorRead.Refused (Refusal.Short 4 (length s)))
+    × (4 ≤ length s → descriptorOf 0 cuei s ≡ DescriptorRead.Is (Descriptor.Avail (record { «provider_avail_id» = field (bitsOf s) 0 32 })))
+unfolding descriptorOf isCuei
+an-avail-is-read-of-4-bytes s = (λ h. sym (avail-short s h), λ h. sym (avail-is s _ h refl))
+
+-- "3 time: seconds 48, nanoseconds 32, offset 16. Shorter: 21 (12, actual)"
+pub a-time-is-read-of-12-bytes : (s : List ℕ) → (length s < 12 → descriptorOf 3 cuei s ≡ DescriptorRead.Refused (Refusal.Short 12 (length s)))
+    × (12 ≤ length s → descriptorOf 3 cuei s
+    ≡ DescriptorRead.Is (Descriptor.Time (record { «tai_seconds» = field (bitsOf s) 0 48; «tai_nanoseconds» = field (bitsOf s) 48 32; «utc_offset» = field (bitsOf s) 80 16 })))
+unfolding descriptorOf isCuei
+a-time-is-read-of-12-bytes s = (λ h. sym (time-short s h), λ h. sym (time-is s _ _ _ h refl refl refl))
+
+-- ---- "Identifiers": a UPID alone (of a MID: theorems/proofs/Theorems.antt, and rows h to j)
+
+-- 2: "UPID over 255 bytes"
+pub a-upid-over-255-bytes-is-refused-with-2 : (b : List ℕ) (k : ℕ) → 255 < length b → UpidRefused (checkOf k b) 2 []
+a-upid-over-255-bytes-is-refused-with-2 = refusals.upid-too-long
+
+-- 23: "a nonempty UPID of type 0"
+pub a-upid-of-type-0-is-refused-with-23 : (b : List ℕ) → 1 ≤ length b → length b ≤ 255 → UpidRefused (checkOf 0 b) 23 []
+a-upid-of-type-0-is-refused-with-23 = refusals.upid-of-type-0
+
+-- 25: "UPID of wrong length, with type as written, expected, actual"
+pub a-upid-of-wrong-length-is-refused-with-25 : (b : List ℕ) → 1 ≤ length b → length b ≤ 255
+    → All (λ (t : ℕ × ℕ). (length b ≡ t .1 → ⊥) → UpidRefused (checkOf (t .0) b) 25 (t .0 ∷ t .1 ∷ length b ∷ [])) fixedLengths
+a-upid-of-wrong-length-is-refused-with-25 = refusals.upid-of-wrong-length
+
+-- 24: "UPID text not UTF-8, with type and its bytes as a view"
+pub a-text-that-is-no-utf8-is-refused-with-24 : (b : List ℕ) → 1 ≤ length b → length b ≤ 255
+    → All (λ (t : ℕ × ℕ). length b ≡ t .1 → textOf b ≡ false → UpidRefused (checkOf (t .0) b) 24 (t .0 ∷ 0 ∷ t .1 ∷ [])) texts
+a-text-that-is-no-utf8-is-refused-with-24 = refusals.upid-no-text
+
+-- and no other is refused: texts, types of a fixed length (both ISANs report 6), and all other types, which take any bytes
+pub a-text-is-read : (b : List ℕ) → 1 ≤ length b → length b ≤ 255 → All (λ (t : ℕ × ℕ). length b ≡ t .1 → textOf b ≡ true → checkOf (t .0) b ≡ UpidRead.Fine (t .0)) texts
+a-text-is-read = refusals.upid-text
+
+pub a-upid-of-its-length-is-read : (b : List ℕ) → 1 ≤ length b → length b ≤ 255 → All (λ (t : ℕ × (ℕ × ℕ)). length b ≡ t .1 .0 → checkOf (t .0) b ≡ UpidRead.Fine (t .1 .1)) plainLengths
+a-upid-of-its-length-is-read = refusals.upid-of-length
+
+pub untested-types-take-any-bytes : (b : List ℕ) → 1 ≤ length b → length b ≤ 255 → All (λ (k : ℕ). checkOf k b ≡ UpidRead.Fine k) (1 ∷ 9 ∷ 11 ∷ 12 ∷ 14 ∷ [])
+untested-types-take-any-bytes = refusals.upid-untested
+
+pub types-above-14-take-any-bytes : (b : List ℕ) → 1 ≤ length b → length b ≤ 255 → (k : ℕ) → 15 ≤ k → checkOf k b ≡ UpidRead.Fine k
+types-above-14-take-any-bytes = refusals.upid-above-14

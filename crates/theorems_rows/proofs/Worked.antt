@@ -1,0 +1,136 @@
+-- Sections that are worked out, by computation. Assumes nothing.
+use Prim.Native.Nat.{ℕ}
+use mathlib.Core.Bool.{true, false}
+use mathlib.Core.List.{List, [], _∷_}
+use mathlib.Core.Path.{_≡_, refl, ap}
+use lib.ListN.{length, getD}
+use borrow.Author.Tests.{eqb-false}
+use Rattle.command.specs.Command.{commandOf, componentsOf, private, read, array}
+use Rattle.command.specs.Insert.{insert, active, moded, ending, breakDuration, timeUnless, component, blank}
+use Rattle.command.specs.declared.SpliceCommand.{SpliceCommand}
+use Rattle.command.specs.declared.insert.SpliceInsert.{SpliceInsert}
+use Rattle.command.specs.declared.insert.SpliceMode.{SpliceMode}
+use Rattle.command.specs.declared.insert.Break.{Break}
+use Rattle.names.specs.declared.flags.NetworkIndicator.{NetworkIndicator}
+use Rattle.canonical_command.specs.Canonical.{canonicalCommand}
+use Rattle.descriptor.specs.Segmentation as segment
+use Rattle.descriptor_form.specs.Canonical.{canonicalUpid, canonicalSegmentation, canonicalPayload, canonicalDescriptor, canonicalFrom, canonicalLoop}
+use Rattle.section_writer.specs.Canonical.{canonicalFrame, canonicalSection}
+use Rattle.crc.specs.Crc.{crcOf, crcBits, crcBit}
+use Rattle.descriptor.specs.Descriptor.{descriptorOf, isCuei, segmentationOf, insertOf, inserted, dtmfOf, reservedOf}
+use Rattle.descriptor.specs.Plain.{avail, dtmf, time, privateBytes}
+use Rattle.descriptor.specs.Segmentation.{deliveryRestrictions, mode, duration, writtenUpid, parts, front, subSegments, back, head, segmentation}
+use Rattle.descriptor.specs.Whole.{besideOf, besideIn, filled}
+use Rattle.header.specs.Header.{headerOf, headerRead, spliceHeader}
+use Rattle.header.specs.Time.{spliceTime}
+use Rattle.items.specs.Items.{readAt, wholeAt, stepOf, itemsFrom, itemsOf}
+use Rattle.loop_laws.specs.Loops.Pairs.{over}
+use Rattle.names.specs.Algorithm.{algorithmOf}
+use Rattle.names.specs.Command as names
+use Rattle.section.specs.Section.{commandLength, commandType, commandBytes, roomAfter, loopLength, loopPlace, frameIn, moved, movedRead, accepted, frameOf, sectionOf, numberOf}
+use Rattle.section.specs.declared.Section.{Section}
+use Rattle.section.specs.declared.SectionRead.{SectionRead}
+use Rattle.table.specs.Lent.{viewed}
+use Rattle.table.specs.Table.{number, bit, reserved, part, remaining, list, canonicalBy}
+use Rattle.theorems.specs.Identifiers.{identifiersOf}
+use Rattle.theorems.specs.Same.{SameSections}
+use Rattle.theorems.specs.Sections.{EmptyCommand, Identified}
+use Rattle.upid.specs.Text.{textOf, done, step, within}
+use Rattle.upid.specs.Upid.{upidOf, checkOf, readOf, walkOf, _then_, plainOf, lengthOf, isText, reportedOf, listOf, partsOf, listed, unlessRefused, eidrOf}
+use Rattle.theorems_rows.specs.Sections.{eighteen, nineteen, insertSection, otherInsertSection, everyIdentifier, everyDescriptor}
+
+pub eighteen-is-one : EmptyCommand eighteen × (length eighteen ≡ 18)
+unfolding crcOf crcBits crcBit commandLength
+eighteen-is-one = (record { table = refl; crc = refl; clear = refl; size = refl }, refl)
+
+pub nineteen-is-one : EmptyCommand nineteen × (length nineteen ≡ 19)
+unfolding crcOf crcBits crcBit commandLength
+nineteen-is-one = (record { table = refl; crc = refl; clear = refl; size = refl }, refl)
+
+-- every kind of identifier, in order
+pub every-identifier : Identified everyIdentifier (
+    record { start = 18; len = 3; bytes = 0x01 ∷ 0x02 ∷ 0x03 ∷ [] }
+    ∷ record { start = 31; len = 1; bytes = 0x34 ∷ [] }
+    ∷ record { start = 46; len = 12; bytes = 0x10 ∷ 0x11 ∷ 0x12 ∷ 0x13 ∷ 0x14 ∷ 0x15 ∷ 0x16 ∷ 0x17 ∷ 0x18 ∷ 0x19 ∷ 0x1A ∷ 0x1B ∷ [] }
+    ∷ record { start = 67; len = 2; bytes = 0xAA ∷ 0xBB ∷ [] }
+    ∷ record { start = 63; len = 4; bytes = 0x41 ∷ 0x42 ∷ 0x43 ∷ 0x44 ∷ [] }
+    ∷ record { start = 83; len = 6; bytes = 0x0D ∷ 0x04 ∷ 0x01 ∷ 0x02 ∷ 0xAA ∷ 0xBB ∷ [] }
+    ∷ record { start = 85; len = 4; bytes = 0x01 ∷ 0x02 ∷ 0xAA ∷ 0xBB ∷ [] }
+    ∷ record { start = 87; len = 2; bytes = 0xAA ∷ 0xBB ∷ [] }
+    ∷ record { start = 106; len = 12; bytes = 0xFF ∷ 0x41 ∷ 0x42 ∷ 0x43 ∷ 0x44 ∷ 0x31 ∷ 0x32 ∷ 0x33 ∷ 0x34 ∷ 0x35 ∷ 0x36 ∷ 0x37 ∷ [] } ∷ [])
+unfolding everyIdentifier identifiersOf sectionOf frameOf frameIn accepted movedRead moved commandLength commandType commandBytes roomAfter loopLength loopPlace crcOf crcBits crcBit headerOf headerRead spliceHeader spliceTime commandOf private itemsOf itemsFrom stepOf wholeAt readAt descriptorOf isCuei segmentationOf insertOf inserted dtmfOf reservedOf dtmf privateBytes head front parts deliveryRestrictions mode duration writtenUpid back subSegments segmentation besideOf besideIn filled number bit reserved part remaining list viewed upidOf checkOf readOf walkOf _then_ plainOf lengthOf isText reportedOf listOf partsOf listed unlessRefused eidrOf textOf done step within
+every-identifier = record {
+  section = record {
+    header = record {
+      «protocol_version» = 0;
+      «encrypted_packet» = false;
+      «encryption_algorithm» = algorithmOf 0;
+      «pts_adjustment» = 0;
+      «cw_index» = 255;
+      tier = 4095;
+      «splice_command_length» = 7;
+      «splice_command_type» = names.commandTypeOf 255;
+    };
+    command = SpliceCommand.PrivateCommand (record { identifier = 0x41424344; «private_bytes» = record { at = 18; len = 3 } });
+    descriptors = record { at = 23; len = 98 };
+    payload = record { at = 14; len = 7 };
+  };
+  accepted = refl;
+  identified = refl;
+}
+
+-- ---- row m's inserts, as sections
+
+unfoldable pub insertReading : Section
+insertReading = record {
+  header = record {
+    «protocol_version» = 0;
+    «encrypted_packet» = false;
+    «encryption_algorithm» = algorithmOf 0;
+    «pts_adjustment» = 0;
+    «cw_index» = 255;
+    tier = 4095;
+    «splice_command_length» = 11;
+    «splice_command_type» = names.commandTypeOf 5;
+  };
+  command = SpliceCommand.SpliceInsert (record {
+    «splice_event_id» = 1;
+    reserved = 127;
+    «splice_detail» = SpliceInsert.Insert (record {
+      «network_indicator» = NetworkIndicator.In;
+      «splice_mode» = SpliceMode.Components 0;
+      duration = Break.Absent;
+      «unique_program_id» = 0;
+      «avail_num» = 0;
+      «avails_expected» = 0;
+    });
+  });
+  descriptors = record { at = 27; len = 0 };
+  payload = record { at = 14; len = 11 };
+}
+
+pub insert-read : sectionOf insertSection ≡ SectionRead.Is insertReading
+unfolding insertReading sectionOf frameOf frameIn accepted movedRead moved commandLength commandType commandBytes roomAfter loopLength loopPlace crcOf crcBits crcBit headerOf headerRead spliceHeader commandOf insert active moded ending breakDuration timeUnless component number bit reserved part remaining list
+insert-read = refl
+
+pub other-insert-read : sectionOf otherInsertSection ≡ SectionRead.Is insertReading
+unfolding insertReading sectionOf frameOf frameIn accepted movedRead moved commandLength commandType commandBytes roomAfter loopLength loopPlace crcOf crcBits crcBit headerOf headerRead spliceHeader commandOf insert active moded ending breakDuration timeUnless component number bit reserved part remaining list
+other-insert-read = refl
+
+pub same-insert : SameSections insertSection insertReading otherInsertSection insertReading
+unfolding insertReading itemsOf itemsFrom viewed
+same-insert = record {
+  headers = record { version = refl; encrypted = refl; algorithm = refl; adjustment = refl; index = refl; tiers = refl };
+  commands = refl;
+  components = refl;
+  bytes = refl;
+  items = over;
+}
+
+pub other-bytes : insertSection ≡ otherInsertSection → ⊥
+other-bytes e = eqb-false 0x0F 0x1F refl (ap (λ (l : List ℕ). getD l 19 0) e)
+
+-- ---- a canonical section with every kind of descriptor
+pub every-descriptor-canonical : canonicalSection everyDescriptor ≡ true
+unfolding everyDescriptor canonicalSection canonicalFrame canonicalCommand canonicalLoop canonicalFrom canonicalDescriptor canonicalPayload canonicalSegmentation canonicalBy canonicalUpid numberOf sectionOf frameOf frameIn accepted movedRead moved commandLength commandType commandBytes roomAfter loopLength loopPlace crcOf crcBits crcBit headerOf headerRead spliceHeader spliceTime commandOf insert active moded ending breakDuration timeUnless component isCuei avail dtmf time privateBytes segmentation head front parts deliveryRestrictions mode segment.component duration writtenUpid back subSegments number bit reserved part remaining list viewed checkOf readOf walkOf _then_ plainOf lengthOf isText reportedOf textOf done step within
+every-descriptor-canonical = refl
