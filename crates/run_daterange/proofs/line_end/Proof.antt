@@ -1,41 +1,36 @@
+-- `line_end`: a place of the text, or its end.
+use Prim.Native.Nat.{_-_, _≤_}
+use native.Mathlib.Omega.{arith}
+use lib.ListN.{length}
 use Rattle.run_daterange.proofs.line_end.Statement.{statement}
 use Rattle.run_daterange.proofs.line_end.Tie as tie
-use Rattle.run_daterange.proofs.line_end.Reads as reads
-use Rattle.run_daterange.proofs.line_end.Lts as lts
 
 abbrev Inv-loop : tie.InvT-loop
-Inv-loop text at i₀ i = ?
+Inv-loop text at i₀ i = (at ≤ i) × (i ≤ length text)
 
 abbrev μ-loop : tie.MeasureT-loop
-μ-loop text at i₀ i = ?
+μ-loop text at i₀ i = length text - i
 
--- src/main.rt:115:5
 loop-holds : tie.Need-loop-holds Inv-loop μ-loop
-loop-holds c = ?
+loop-holds c = (omega arith, c .before .pre)
 
--- src/main.rt:116:12
 shared-slice-read-if1 : tie.Need-shared-slice-read-if1 Inv-loop μ-loop
-shared-slice-read-if1 c = ?
+shared-slice-read-if1 c = omega arith
 
--- src/main.rt:117:13
 returns : tie.Need-returns Inv-loop μ-loop
-returns c = ?
+returns c = (omega arith, omega arith)
 
--- src/main.rt:119:9
 add-i : tie.Need-add-i Inv-loop μ-loop
-add-i c = ?
+add-i c = omega arith
 
--- src/main.rt:115:5
 loop-less : tie.Need-loop-less Inv-loop μ-loop
-loop-less c = ?
+loop-less c = omega arith
 
--- src/main.rt:115:5
 loop-again : tie.Need-loop-again Inv-loop μ-loop
-loop-again c = ?
+loop-again c = (omega arith, omega arith)
 
--- src/main.rt:110:1
 returns-2 : tie.Need-returns-2 Inv-loop μ-loop
-returns-2 c = ?
+returns-2 c = (omega arith, omega arith)
 
 pub line-end-spec : {M : Type 1} → statement M
 line-end-spec =

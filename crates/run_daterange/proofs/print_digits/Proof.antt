@@ -1,47 +1,39 @@
+-- `print_digits` is safe: it looks at no byte past the buffer.
+use Prim.Native.Nat.{_-_, _≤_}
+use native.Mathlib.Omega.{arith}
+use borrow.Author.Needs.{needs}
 use Rattle.run_daterange.proofs.print_digits.Statement.{statement}
 use Rattle.run_daterange.proofs.print_digits.Tie as tie
-use Rattle.run_daterange.proofs.print_digits.Reads as reads
-use Rattle.run_daterange.proofs.print_digits.Lts as lts
-use Rattle.io.proofs.print_hex.Reads as print-hex-reads
-use Rattle.table.proofs.numbers.wide.Reads as wide-reads
 
 abbrev Inv-loop : tie.InvT-loop
-Inv-loop bytes size i₀ i = ?
+Inv-loop bytes size i₀ i = i ≤ size
 
 abbrev μ-loop : tie.MeasureT-loop
-μ-loop bytes size i₀ i = ?
+μ-loop bytes size i₀ i = size - i
 
--- src/main.rt:36:5
 loop-holds : tie.Need-loop-holds Inv-loop μ-loop
-loop-holds c = ?
+loop-holds c = omega arith
 
--- src/main.rt:38:35
 shared-slice-read-wide : tie.Need-shared-slice-read-wide Inv-loop μ-loop
-shared-slice-read-wide c = ?
+shared-slice-read-wide c = search needs
 
--- src/main.rt:38:30
 wide-requires : tie.Need-wide-requires Inv-loop μ-loop
-wide-requires c κs = ?
+wide-requires c κs = search needs
 
--- src/main.rt:38:13
 print-hex-requires : tie.Need-print-hex-requires Inv-loop μ-loop
-print-hex-requires c κs = ?
+print-hex-requires c κs = search needs
 
--- src/main.rt:40:9
 add-i : tie.Need-add-i Inv-loop μ-loop
-add-i c = ?
+add-i c = omega arith
 
--- src/main.rt:36:5
 loop-less : tie.Need-loop-less Inv-loop μ-loop
-loop-less c = ?
+loop-less c = omega arith
 
--- src/main.rt:36:5
 loop-again : tie.Need-loop-again Inv-loop μ-loop
-loop-again c = ?
+loop-again c = omega arith
 
--- src/main.rt:34:1
 returns : tie.Need-returns Inv-loop μ-loop
-returns c = ?
+returns c = search needs
 
 pub print-digits-spec : {M : Type 1} → statement M
 print-digits-spec =
