@@ -6,6 +6,7 @@ ghost use lib.ListN.{length};
 use daterange::write_daterange;
 use daterange_line::Cue;
 use daterange_line::Read;
+use daterange_line::Reading;
 use daterange_line::read_line;
 use pen::Written;
 use table::lent::view;
@@ -65,6 +66,21 @@ fn write_held(n: u64, buffer: &[u8], size: usize, id: &[u8], date: &[u8], out: &
     }
 }
 
+fn print_reading(n: u64, line: &[u8], x: Reading, buffer: &[u8]) {
+    let id = x.id;
+    let date = x.date;
+    let cue = x.cue;
+    print_name(n, cue);
+    io::write_all(1, b" id ");
+    io::write_all(1, view(line, id));
+    io::write_all(1, b" date ");
+    io::write_all(1, view(line, date));
+    io::write_all(1, b" section ");
+    print_digits(buffer, x.len);
+    io::write_all(1, b"\n");
+}
+
+// The section that was read last stands at the buffer's start; its length is told.
 fn read_one(n: u64, line: &[u8], held: usize, buffer: &mut [u8], out: &mut [u8]) -> usize {
     match read_line(line, buffer) {
         Read::Refused(r) => {
@@ -74,18 +90,9 @@ fn read_one(n: u64, line: &[u8], held: usize, buffer: &mut [u8], out: &mut [u8])
         Read::Is(x) => {
             let id = x.id;
             let date = x.date;
-            let cue = x.cue;
-            let size = x.len;
-            print_name(n, cue);
-            io::write_all(1, b" id ");
-            io::write_all(1, view(line, id));
-            io::write_all(1, b" date ");
-            io::write_all(1, view(line, date));
-            io::write_all(1, b" section ");
-            print_digits(buffer, size);
-            io::write_all(1, b"\n");
-            write_held(n, buffer, size, view(line, id), view(line, date), out);
-            return size;
+            print_reading(n, line, x, buffer);
+            write_held(n, buffer, x.len, view(line, id), view(line, date), out);
+            return x.len;
         }
     }
 }

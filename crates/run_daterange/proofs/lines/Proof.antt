@@ -1,67 +1,56 @@
+-- `lines` is safe: each line lies in the text, and the next begins behind it.
+use Prim.Native.Nat.{_-_, _+_, _≤_}
+use mathlib.Core.Path.{_≡_}
+use native.Mathlib.Omega.{arith}
+use lib.ListN.{length}
+use borrow.Author.Needs.{needs}
 use Rattle.run_daterange.proofs.lines.Statement.{statement}
 use Rattle.run_daterange.proofs.lines.Tie as tie
-use Rattle.run_daterange.proofs.lines.Reads as reads
-use Rattle.run_daterange.proofs.lines.Lts as lts
-use Rattle.run_daterange.proofs.line_end.Reads as line-end-reads
-use Rattle.run_daterange.proofs.one.Reads as one-reads
 
 abbrev Inv-loop : tie.InvT-loop
-Inv-loop text buffer₀ out₀ at₀ n₀ held₀ buffer out at n held = ?
+Inv-loop text buffer₀ out₀ at₀ n₀ held₀ buffer out at n held = (at ≤ length text + 1) × (n ≤ at + 1) × (length buffer ≡ length buffer₀) × (length out ≡ length out₀)
 
 abbrev μ-loop : tie.MeasureT-loop
-μ-loop text buffer₀ out₀ at₀ n₀ held₀ buffer out at n held = ?
+μ-loop text buffer₀ out₀ at₀ n₀ held₀ buffer out at n held = length text + 1 - at
 
--- src/main.rt:128:5
 loop-holds : tie.Need-loop-holds Inv-loop μ-loop
-loop-holds c = ?
+loop-holds c = search needs
 
--- src/main.rt:129:13
 line-end-requires : tie.Need-line-end-requires Inv-loop μ-loop
-line-end-requires c κs = ?
+line-end-requires c κs = search needs
 
--- src/main.rt:130:23
 sub-one : tie.Need-sub-one Inv-loop μ-loop
-sub-one c = ?
+sub-one c = search needs
 
--- src/main.rt:130:23
 part-one-start : tie.Need-part-one-start Inv-loop μ-loop
-part-one-start c = ?
+part-one-start c = search needs
 
--- src/main.rt:130:23
 part-one-end : tie.Need-part-one-end Inv-loop μ-loop
-part-one-end c = ?
+part-one-end c = search needs
 
--- src/main.rt:130:9
 one-requires : tie.Need-one-requires Inv-loop μ-loop
-one-requires c κs = ?
+one-requires c κs = search needs
 
--- src/main.rt:131:14
 add-at : tie.Need-add-at Inv-loop μ-loop
-add-at c = ?
+add-at c = search needs
 
--- src/main.rt:132:9
 add-n : tie.Need-add-n Inv-loop μ-loop
-add-n c = ?
+add-n c = search needs
 
--- src/main.rt:128:5
 loop-less : tie.Need-loop-less Inv-loop μ-loop
-loop-less c = ?
+loop-less c = search needs
 
--- src/main.rt:128:5
 loop-again : tie.Need-loop-again Inv-loop μ-loop
-loop-again c = ?
+loop-again c = search needs
 
--- src/main.rt:124:1
 same-length : tie.Need-same-length Inv-loop μ-loop
-same-length c = ?
+same-length c = search needs
 
--- src/main.rt:124:1
 same-length-2 : tie.Need-same-length-2 Inv-loop μ-loop
-same-length-2 c = ?
+same-length-2 c = search needs
 
--- src/main.rt:124:1
 returns : tie.Need-returns Inv-loop μ-loop
-returns c = ?
+returns c = search needs
 
 pub lines-spec : {M : Type 1} → statement M
 lines-spec =

@@ -1,11 +1,13 @@
 -- `write_held` is safe: the section lies in the buffer.
+use mathlib.Core.Path.{sym}
 use native.Mathlib.Omega.{arith}
+use lib.Seq.{length-take-le}
 use borrow.Author.Needs.{needs}
 use Rattle.run_daterange.proofs.write_held.Statement.{statement}
 use Rattle.run_daterange.proofs.write_held.Tie as tie
 
 slice-aggregate-write-one : tie.Need-slice-aggregate-write-one
-slice-aggregate-write-one c = omega arith
+slice-aggregate-write-one c = sym (length-take-le _ _ (omega arith))
 
 write-one-requires : tie.Need-write-one-requires
 write-one-requires c κs = search needs
