@@ -644,7 +644,7 @@ struct scte35_daterange {
 /*
  * The line of a section.
  * Takes the section, in all bytes from the offset on, an ID and a START-DATE, and the target. Writes #EXT-X-DATERANGE:ID="..",START-DATE="..",SCTE35-OUT=0x..
- * in this order, hexadecimal digits in capitals, no line end: 49 bytes, with ID and date, and two for each byte of the section; a byte less of SCTE35-IN. The
+ * in this order, hexadecimal digits in capitals, no line end: 50 bytes, with ID and date, and two for each byte of the section; a byte less of SCTE35-IN. The
  * name is SCTE35-OUT for a splice insert, not cancelled, that leaves the network, SCTE35-IN for one that returns, SCTE35-CMD for all else. ID and date are not
  * looked at but for 53: whether the date is one is the caller's part. Refuses with 1 to 11 for the section, 53, and 36, in this order; a refused write changes
  * no byte. Stack: 2 KB.

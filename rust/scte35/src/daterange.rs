@@ -74,8 +74,8 @@ pub fn write_daterange(section: &[u8], id: &[u8], date: &[u8], target: &mut [u8]
 
 /// The same, as bytes of their own.
 pub fn write_daterange_to_vec(section: &[u8], id: &[u8], date: &[u8]) -> Result<Vec<u8>, Refusal> {
-    // 49 bytes of tag, names and quotes at most
-    let mut target = vec![0; 49 + id.len() + date.len() + 2 * section.len().min(MAX_SECTION)];
+    // 50 bytes of tag, names and quotes at most
+    let mut target = vec![0; 50 + id.len() + date.len() + 2 * section.len().min(MAX_SECTION)];
     let length = write_daterange(section, id, date, &mut target)?;
     target.truncate(length);
     Ok(target)
