@@ -1,4 +1,4 @@
-//! daterange N SEED: at least N lines, drawn and damaged, and a tenth as many writes, through the proved reader and writer and plain second ones; ends with 1
+//! daterange N SEED: at least N lines, drawn and damaged, and a twelfth as many writes, through the proved reader and writer and plain second ones; ends with 1
 //! on a difference and on a case that was not reached.
 //! daterange real FILE: the lines of FILE, each behind what it is to be answered, as host/playlists.txt has them.
 //! daterange playlist N SEED: a playlist with N lines that are written here, for another reader; in comments what each was written of.

@@ -1,5 +1,4 @@
-#!/usr/bin/python3
-"""playlist-peer.py FILE: a playlist of `daterange playlist` through python3-m3u8: of each line the ID, the date and the cue that it reads are what was written."""
+"""playlist.py FILE: a playlist of `daterange playlist` through python3-m3u8: of each line the ID, the date and the cue that it reads are what was written."""
 import sys
 
 import m3u8
