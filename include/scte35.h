@@ -658,9 +658,9 @@ struct scte35_written scte35_write_daterange(const uint8_t *s, size_t n, size_t 
  * of other names are passed over, and of SCTE35-CMD, SCTE35-OUT and SCTE35-IN the first in the line is used. The section's bytes go into the target and are not
  * judged: hand them to scte35_read_section. Refuses with 52, 51, 36, in this order; then no byte of the target is changed. Stack: 1 KB.
  *
- * A line costs at most 14 instructions a character where the cue stands last, and 12 more for each character that stands before an attribute, as the name is
- * looked for there: of n characters at most 4 n * n in all, which a line of some thousand attributes comes near. A caller who is sent hostile lines bounds their
- * length.
+ * A line of a long cue that stands last costs at most 14 instructions a character. Each name is looked for among the attributes before it: every attribute
+ * behind the cue costs some 6 more for each of the cue's characters, and a line of n characters in very many attributes at most 4 n * n in all (measured:
+ * docs/COST.md). A caller who is sent hostile lines bounds their length.
  */
 struct scte35_daterange scte35_read_daterange(const uint8_t *s, size_t n, size_t at, uint8_t *target, size_t target_length);
 

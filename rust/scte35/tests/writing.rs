@@ -279,7 +279,15 @@ fn refused_lines() {
     let text = String::from_utf8(line.clone()).unwrap();
     let read = |text: &str| read_daterange(text.as_bytes(), &mut [0; 20]).err();
     assert_eq!(read(&text), None);
-    for wrong in ["".into(), text[1..].into(), text.to_lowercase(), format!("{text},"), format!("{text}0"), format!("{text},ID=\"1\""), text.replace("\"1\"", "1")] {
+    for wrong in [
+        "".into(),
+        text[1..].into(),
+        text.to_lowercase(),
+        format!("{text},"),
+        format!("{text}0"),
+        format!("{text},ID=\"1\""),
+        text.replace("\"1\"", "1"),
+    ] {
         assert_eq!(read(&wrong), Some(Refusal::MalformedLine), "{wrong}");
     }
     for wrong in [text.replace("ID=", "IDS="), text.replace("START-DATE", "END-DATE"), text.replace("SCTE35-CMD", "X")] {

@@ -3,7 +3,8 @@
 //! daterange real FILE: the lines of FILE, each behind what it is to be answered, as host/playlists.txt has them.
 //! daterange playlist N SEED: a playlist with N lines that are written here, for another reader; in comments what each was written of.
 //! daterange gate FOLDER: `stdin` and `stdout` of crates/run_daterange.
-//! daterange turn read|write|many N TIMES: for a count of instructions: a section of N bytes read or written, or a line of N attributes read, so many times.
+//! daterange turn read|write|section|behind|many N TIMES: for a count of instructions, so many times: the line of a section of N bytes read or written, the
+//! section read, a line read with N attributes behind a cue of 4,000 bytes, or one of N attributes and no cue.
 use differ::answer::{hex, unhex};
 use differ::packets::{cue, table};
 use differ::playlist::{plain, Playlists};
@@ -89,7 +90,8 @@ fn playlist(n: usize, seed: u64) {
         let (id, date) = (format!("cue, {k}"), format!("2026-01-01T{:02}:{:02}:{:02}.000Z", k / 3600 % 24, k / 60 % 60, k % 60));
         let line = scte35::write_daterange_to_vec(&section, id.as_bytes(), date.as_bytes()).expect("a cue is written");
         let name = plain::name(&section).expect("a cue");
-        writeln!(out, "# {id}|{date}|{name}|0x{}\n{}\n#EXTINF:6.0,\n{k}.ts", hex(&section).to_uppercase(), String::from_utf8(line).expect("text")).unwrap();
+        writeln!(out, "# {id}|{date}|{name}|0x{}\n{}\n#EXTINF:6.0,\n{k}.ts", hex(&section).to_uppercase(), String::from_utf8(line).expect("text"))
+            .unwrap();
     }
     print!("{out}");
 }
@@ -205,10 +207,18 @@ fn gate(folder: &str) {
 }
 
 fn turn(what: &str, n: usize, times: u64) {
-    let section = closed([unhex("FC301100000000000000FFF000000000"), vec![0; n.saturating_sub(20)]].concat());
+    let bytes = match what {
+        "many" => 20,
+        "behind" => 4000,
+        _ => n,
+    };
+    let section = closed([unhex("FC301100000000000000FFF000000000"), vec![0; bytes.saturating_sub(20)]].concat());
     let mut line = scte35::write_daterange_to_vec(&section, b"a1", b"2026-01-01T00:00:00Z").expect("a null command with spare bytes");
-    if what == "many" {
-        line = format!("{HEAD}{}", (0..n).map(|k| format!("{k:X}=1,")).collect::<String>() + "ID=\"1\"").into_bytes();
+    let others: Vec<String> = (0..n).map(|k| format!("{k:X}=1")).collect();
+    match what {
+        "many" => line = format!("{HEAD}{}", others.join(",")).into_bytes(),
+        "behind" => others.iter().for_each(|x| line.extend([b",", x.as_bytes()].concat())),
+        _ => {}
     }
     let mut target = vec![0; line.len()];
     for _ in 0..times {
@@ -232,6 +242,6 @@ fn main() {
         ["gate", folder] => gate(folder),
         ["turn", what, n, times] => turn(what, number(n) as usize, number(times)),
         [n, seed] => compare(number(n), number(seed)),
-        _ => panic!("daterange N SEED | real FILE | playlist N SEED | gate FOLDER | turn read|write|section|many N TIMES"),
+        _ => panic!("daterange N SEED | real FILE | playlist N SEED | gate FOLDER | turn read|write|section|behind|many N TIMES"),
     }
 }

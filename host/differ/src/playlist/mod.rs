@@ -121,7 +121,11 @@ impl Playlists {
     }
 
     fn unknown(&mut self) -> Vec<u8> {
-        let mut name = self.rng.pick(&["X-A", "CLASS", "DURATION", "PLANNED-DURATION", "END-DATE", "SCTE35", "SCTE35-CMD-", "IDS", "START", "1", "-"]).as_bytes().to_vec();
+        let mut name = self
+            .rng
+            .pick(&["X-A", "CLASS", "DURATION", "PLANNED-DURATION", "END-DATE", "SCTE35", "SCTE35-CMD-", "IDS", "START", "1", "-"])
+            .as_bytes()
+            .to_vec();
         if self.rng.bit() {
             name.extend(self.rng.below(1000).to_string().into_bytes());
         }

@@ -20,7 +20,13 @@ pub fn words(command: Command) -> Command {
         .arg(text("id", "ID", "The ID of each line"))
         .arg(text("date", "DATE", "The START-DATE of each line, as it is to stand there"))
         .arg(Arg::new("read").long("read").action(ArgAction::SetTrue).help("The words are lines, @FILE or - (or none) for lines or a whole playlist"))
-        .arg(Arg::new("json").long("json").action(ArgAction::SetTrue).requires("read").help("An object a cue, a line each, as `cue show --json`, with the line's own"))
+        .arg(
+            Arg::new("json")
+                .long("json")
+                .action(ArgAction::SetTrue)
+                .requires("read")
+                .help("An object a cue, a line each, as `cue show --json`, with the line's own"),
+        )
         .after_help(
             "SCTE35-OUT for a splice insert that leaves the network, SCTE35-IN for one that returns, SCTE35-CMD for all\n\
              else. Of a playlist all lines are passed over that do not begin with #EXT-X-DATERANGE: and such a line\n\
@@ -178,7 +184,8 @@ mod tests {
         );
         let out = cue(&["daterange", "--read", "--json"]).write_stdin(list.clone()).output().expect("runs");
         assert_eq!(out.status.code(), Some(0), "{}", String::from_utf8_lossy(&out.stderr));
-        let lines: Vec<Value> = out.stdout.split(|b| *b == b'\n').filter(|l| !l.is_empty()).map(|l| serde_json::from_slice(l).expect("JSON")).collect();
+        let lines: Vec<Value> =
+            out.stdout.split(|b| *b == b'\n').filter(|l| !l.is_empty()).map(|l| serde_json::from_slice(l).expect("JSON")).collect();
         assert_eq!(lines.len(), 2);
         assert_eq!(lines[0]["daterange"], serde_json::json!({ "id": "1", "start_date": DATE, "attribute": "SCTE35-OUT" }));
         assert_eq!(lines[1]["daterange"]["id"], "2");
@@ -204,7 +211,8 @@ mod tests {
             assert!(stderr(&["daterange", "--read", &line], 1).ends_with(&format!("(refusal {number})\n")), "{line}");
         }
         // the cue of a line that is read may itself be refused
-        assert!(stderr(&["daterange", "--read", &format!("#EXT-X-DATERANGE:ID=\"1\",START-DATE=\"{DATE}\",SCTE35-CMD=0xFC30")], 1).contains("(refusal 1)"));
+        assert!(stderr(&["daterange", "--read", &format!("#EXT-X-DATERANGE:ID=\"1\",START-DATE=\"{DATE}\",SCTE35-CMD=0xFC30")], 1)
+            .contains("(refusal 1)"));
         for words in [vec!["daterange", NULL], vec!["daterange", "--id", "1", NULL], vec!["daterange", "--read", "--id", "1", "-"]] {
             stderr(&words, 2);
         }
