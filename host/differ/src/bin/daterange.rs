@@ -19,7 +19,7 @@ fn wanted() -> Vec<(&'static str, String)> {
     add("refused", &["36", "51", "52"]);
     add("read", &["SCTE35-CMD", "SCTE35-OUT", "SCTE35-IN", "the first of several cues", "with unknown attributes", "though something was changed"]);
     add("written", &["SCTE35-CMD", "SCTE35-OUT", "SCTE35-IN"]);
-    add("not written", &["3", "4", "6", "7", "8", "9", "10", "11", "36", "53"]);
+    add("not written", &["1", "2", "3", "4", "5", "6", "7", "8", "9", "10", "11", "36", "53"]);
     add("attributes", &["0", "1", "2", "3", "4", "5", "6", "7 and more"]);
     out
 }

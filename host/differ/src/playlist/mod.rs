@@ -1,7 +1,7 @@
 //! Lines of streaming playlists: drawn and damaged, through the proved reader and writer and through plain second ones.
 pub mod plain;
 
-use crate::answer::hex;
+use crate::answer::{hex, unhex};
 use crate::packets::cue;
 use crate::rng::Rng;
 use mpeg2ts_reader::mpegts_crc::sum32;
@@ -192,7 +192,7 @@ impl Playlists {
 
     /// A line that is drawn, and what comes of it when it is damaged.
     pub fn drawn(&mut self) {
-        let list = self.attributes();
+        let list = if self.rng.one_in(300) { vec![] } else { self.attributes() };
         self.count("attributes", if list.len() > 6 { "7 and more".into() } else { list.len().to_string() });
         let mut line = [b"#EXT-X-DATERANGE:".to_vec(), list.join(&b","[..])].concat();
         let room = match self.rng.below(10) {
@@ -220,9 +220,35 @@ impl Playlists {
         }
     }
 
+    /// A section for each refusal that is seldom met by chance.
+    fn faulty(&mut self) -> Vec<u8> {
+        match self.rng.below(7) {
+            0 => vec![0xFC, 0x30],
+            1 => vec![0xFC; 4097],
+            k => {
+                let mut section = unhex(
+                    [
+                        "FC3004",
+                        "FC301100800000000000FFF000000000",
+                        "FC301100000000000000FFF003000000",
+                        "FC300F00000000000000FFF00000",
+                        "FC301100000000000000FFF000000001",
+                    ][k - 2],
+                );
+                let crc = sum32(&section);
+                section.extend(crc.to_be_bytes());
+                section
+            }
+        }
+    }
+
     /// A section that is drawn, written under a drawn ID and date; some of them are damaged, some with a right CRC again.
     pub fn write_drawn(&mut self) {
-        let mut section = if self.rng.one_in(3) { self.section() } else { cue(&mut self.rng) };
+        let mut section = match self.rng.below(30) {
+            0 => self.faulty(),
+            1..=10 => self.section(),
+            _ => cue(&mut self.rng),
+        };
         if self.rng.one_in(3) {
             let at = self.rng.below(section.len().min(24));
             section[at] = self.rng.byte();
