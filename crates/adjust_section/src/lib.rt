@@ -8,7 +8,6 @@ ghost use Rattle.section.specs.Section.{sectionOf, numberOf};
 ghost use Rattle.table.specs.Lent.{stored};
 use crc::crc32;
 use pen::Written;
-use section::Refusal;
 use section::SectionRead;
 use section::read_section;
 use table::numbers::time33;
@@ -22,19 +21,7 @@ fn refusal_number(r: SectionRead) -> u8
 {
     match r {
         SectionRead::Is(_) => 0,
-        SectionRead::Refused(x) => match x {
-            Refusal::TooShort => 1,
-            Refusal::TooLong => 2,
-            Refusal::OtherTable => 3,
-            Refusal::WrongCrc => 4,
-            Refusal::NoHeader => 5,
-            Refusal::Encrypted => 6,
-            Refusal::CommandTooLong => 7,
-            Refusal::NoLoopLength => 8,
-            Refusal::LoopTooLong => 9,
-            Refusal::UnknownCommand => 10,
-            Refusal::MalformedCommand => 11,
-        },
+        SectionRead::Refused(x) => x.number(),
     }
 }
 

@@ -3,7 +3,7 @@
 ghost use mathlib.Core.Path.{_≡_};
 ghost use lib.ListN.{getD, set};
 ghost use Rattle.transport_packet.specs.Packet.{numberOf};
-ghost use Rattle.transport.specs.Assembler.{freshAssembler, fedOf, takenOf};
+ghost use Rattle.transport.specs.Assembler.{freshAssembler, holding, fedOf, takenOf};
 ghost use Rattle.c_packet.specs.PacketWords.{stateIn, keptIn, fedNumber, keptFed, takenNumber, keptTaken};
 use transport::Assembler;
 use transport::Fed;
@@ -79,6 +79,19 @@ fn keep(words: &mut [u64], a: Assembler)
     put_word(words, 3, a.at);
 }
 
+// What `take` changes of the state: the PID and the counter stay.
+fn keep_place(words: &mut [u64], held: usize, at: usize)
+    ensures { λ _. ⌜ now (words .exit) ≡ keptIn (now (words .entry)) (holding (stateIn (now (words .entry))) held at) ⌝ }
+{
+    if 4 <= words.len() {
+        words[2] = held as u64;
+        words[3] = at as u64;
+        return;
+    }
+    put_word(words, 2, held);
+    put_word(words, 3, at);
+}
+
 // The state before the first packet of a PID.
 pub fn start_words(pid: u64, words: &mut [u64])
     ensures { λ _. ⌜ now (words .exit) ≡ keptIn (now (words .entry)) (freshAssembler pid) ⌝ }
@@ -111,11 +124,11 @@ pub fn take_words(words: &mut [u64], packet: &[u8], buffer: &mut [u8]) -> u64
     let taken = take(state_in(words), packet, buffer);
     match taken {
         Taken::Section(size, a) => {
-            keep(words, a);
+            keep_place(words, a.held, a.at);
             return size as u64;
         }
         Taken::Done(a) => {
-            keep(words, a);
+            keep_place(words, a.held, a.at);
             return 0;
         }
     }

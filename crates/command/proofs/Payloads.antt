@@ -1,5 +1,5 @@
 -- What the reader of a payload by its type answers.
-use Prim.Native.Nat.{ℕ, _+_, _*_, _-_, _/_, _<_, _≤_}
+use Prim.Native.Nat.{ℕ, _+_, _*_, _-_, _/_, _%_, _^_, _<_, _≤_}
 use mathlib.Core.Bool.{Bool, true, false}
 use mathlib.Core.List.{List, [], _∷_}
 use mathlib.Core.Path.{_≡_, refl, ap, sym, _∙_}
@@ -13,17 +13,11 @@ use Rattle.header.specs.declared.time.TimeRead.{TimeRead}
 use Rattle.header.specs.declared.time.Timed.{Timed}
 use Rattle.header.proofs.Times.{timed-got, timed-lacks}
 use Rattle.table.specs.Bits.{pick, bitsOf, field}
-use Rattle.table.specs.Cursor.{place, takenOf}
 use Rattle.table.specs.Table.{done, number, Answer, got, short, parse}
-use Rattle.table.specs.declared.cursor.Number.{Number}
 use Rattle.table.specs.declared.cursor.Short.{Short}
-use Rattle.table.specs.declared.cursor.Taken.{Taken}
-use Rattle.table.proofs.Bits.{length-bits}
-use Rattle.table.proofs.Cursors.{stops-number}
-use Rattle.table.proofs.Laws.{field-there}
 use Rattle.table.proofs.Lists.{zero-one}
-use Rattle.table.proofs.Steppings.{taken-got}
-use Rattle.table.proofs.Steps.{takes-number, takes-remaining, takes-part, reads-number, reads-part}
+use Rattle.table.proofs.Reading.{bits-are}
+use Rattle.table.proofs.Steps.{takes-number, lacks-number, takes-remaining, takes-part, reads-number, reads-part}
 use Rattle.command.specs.Command.{private, read, empty, commandOf}
 use Rattle.command.specs.Insert.{WithComponents, insert}
 use Rattle.command.specs.Walk.{insertRead}
@@ -61,26 +55,19 @@ no-insertion (short y a) x e = refl
 
 -- ---- a private command
 module _ (s : List ℕ) where
-  pub no-identifier : (x : Short) → Taken.Lacks x ≡ takenOf (parse (number 32) (bitsOf s) 0) → CommandRead.Malformed ≡ read SpliceCommand.PrivateCommand (parse private (bitsOf s) 0)
+  pub no-identifier : length s < 4 → CommandRead.Malformed ≡ read SpliceCommand.PrivateCommand (parse private (bitsOf s) 0)
   unfolding private
-  no-identifier x e = rw (stops-number s 0 32 _ _ x e)
+  no-identifier h = rw (lacks-number s 0 32 _ _ (omega (arith, h)))
 
-  module _ (n : Number) (en : Taken.Got n ≡ takenOf (parse (number 32) (bitsOf s) 0)) where
-    there : (32 ≤ length s * 8) × (n .value ≡ field (bitsOf s) 0 32)
-    unfolding number
-    there =
-        let i = field-there 32 (λ (v : ℕ). v) done (bitsOf s) 0 (n .value) (place (n .next)) (taken-got s 32 0 n (omega arith) en .0) in
-        (omega (arith, i .0, length-bits s), cc)
+  pub identifier-is : (v : ℕ) → v ≡ field (bitsOf s) 0 32 % 2 ^ 64 → (v ≡ field (bitsOf s) 0 32) × (v < 2 ^ 32)
+  identifier-is v e = bits-are s 0 32 v (omega arith) e
 
-    pub four : 4 ≤ length s
-    four = omega (arith, there .0)
-
-    pub identified : CommandRead.Is (SpliceCommand.PrivateCommand (record { identifier = n .value; «private_bytes» = record { at = 4; len = length s - 4 } }))
-        ≡ read SpliceCommand.PrivateCommand (parse private (bitsOf s) 0)
-    unfolding private
-    identified =
-        let m : (length s * 8 - 32) / 8 ≡ length s - 4 = omega arith in
-        rw (← m) (ap (read SpliceCommand.PrivateCommand) (sym (takes-number s 0 32 (n .value) _ _ (there .0) (there .1) ∙ takes-remaining s 32 _ _ ∙ takes-part s 32 _ _ _ (omega (arith, four)))))
+  pub identified : (v : ℕ) → 4 ≤ length s → v ≡ field (bitsOf s) 0 32
+      → CommandRead.Is (SpliceCommand.PrivateCommand (record { identifier = v; «private_bytes» = record { at = 4; len = length s - 4 } })) ≡ read SpliceCommand.PrivateCommand (parse private (bitsOf s) 0)
+  unfolding private
+  identified v four e =
+      let m : (length s * 8 - 32) / 8 ≡ length s - 4 = omega arith in
+      rw (← m) (ap (read SpliceCommand.PrivateCommand) (sym (takes-number s 0 32 v _ _ (omega (arith, four)) e ∙ takes-remaining s 32 _ _ ∙ takes-part s 32 _ _ _ (omega (arith, four)))))
 
 -- ---- by the type
 by-type : (k n : ℕ) (s : List ℕ) (r : CommandRead) → k ≡ n → r ≡ commandOf n s → r ≡ commandOf k s

@@ -13,8 +13,7 @@ use header::time::SpliceTime;
 use header::time::TimeRead;
 use header::time::read_whole_time;
 use table::View;
-use table::cursor::Cursor;
-use table::cursor::Taken;
+use table::numbers::big_endian;
 
 pub mod components;
 pub mod insert;
@@ -63,18 +62,16 @@ fn read_time_signal(s: &[u8]) -> CommandRead
 fn read_private(s: &[u8]) -> CommandRead
     ensures { λ r. ⌜ r ≡ read SpliceCommand.PrivateCommand (parse private (bitsOf (now (s .entry))) 0) ⌝ }
 {
-    let c = Cursor { byte: 0, bit: 0 };
-    let identifier = match c.take(s, 32) {
-        Taken::Got(n) => n,
-        Taken::Lacks(_) => return CommandRead::Malformed,
-    };
-    let rest = View {
-        at: 4,
-        len: s.len() - 4,
-    };
+    if s.len() < 4 {
+        return CommandRead::Malformed;
+    }
+    let identifier = big_endian(s, 0, 4) as u32;
     CommandRead::Is(SpliceCommand::PrivateCommand(Private {
-        identifier: identifier.value as u32,
-        private_bytes: rest,
+        identifier,
+        private_bytes: View {
+            at: 4,
+            len: s.len() - 4,
+        },
     }))
 }
 

@@ -1,4 +1,4 @@
--- What `read_flat_section` builds is the flat form of the section's reading.
+-- What is built of a section's parts is the flat form of its reading.
 use Prim.Native.Nat.{ℕ, _+_, _-_}
 use mathlib.Core.List.{List}
 use mathlib.Core.Path.{_≡_, refl, ap, sym, _∙_}

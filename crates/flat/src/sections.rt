@@ -1,6 +1,5 @@
 // A section: header, command, and where its descriptor loop and its command's payload lie.
 ghost use mathlib.Core.Path.{_≡_};
-ghost use Rattle.section.specs.Section.{numberOf, sectionOf};
 ghost use Rattle.section.specs.declared.SectionRead.{SectionRead};
 ghost use Rattle.flat.specs.FlatSection.{flatSectionRead, flatParts};
 use crate::FlatView;
@@ -10,14 +9,9 @@ use crate::commands::no_command;
 use crate::flat_view;
 use crate::headers::FlatHeader;
 use crate::headers::no_header;
-use crate::headers::read_flat_header;
-use command::CommandRead;
 use command::SpliceCommand;
 use section::Frame;
-use section::FrameRead;
 use section::Refusal;
-use section::read_command_part;
-use section::read_frame;
 
 #[repr(C)]
 pub struct FlatSection {
@@ -28,31 +22,12 @@ pub struct FlatSection {
     pub payload: FlatView,
 }
 
-// Document 01's number.
-fn number(r: Refusal) -> u64
-    ensures { λ x. ⌜ x ≡ numberOf (SectionRead.Refused r) ⌝ }
-{
-    match r {
-        Refusal::TooShort => 1,
-        Refusal::TooLong => 2,
-        Refusal::OtherTable => 3,
-        Refusal::WrongCrc => 4,
-        Refusal::NoHeader => 5,
-        Refusal::Encrypted => 6,
-        Refusal::CommandTooLong => 7,
-        Refusal::NoLoopLength => 8,
-        Refusal::LoopTooLong => 9,
-        Refusal::UnknownCommand => 10,
-        Refusal::MalformedCommand => 11,
-    }
-}
-
 // A refused section: its number alone.
-fn no_section(r: Refusal) -> FlatSection
+pub fn no_section(r: Refusal) -> FlatSection
     ensures { λ x. ⌜ x ≡ flatSectionRead (SectionRead.Refused r) ⌝ }
 {
     FlatSection {
-        refusal: number(r),
+        refusal: r.number() as u64,
         header: no_header(0),
         command: no_command(0, 0),
         descriptors: FlatView { at: 0, len: 0 },
@@ -61,7 +36,7 @@ fn no_section(r: Refusal) -> FlatSection
 }
 
 // One that is read: its header, its command, and where its parts lie.
-fn flat_parts(header: FlatHeader, command: SpliceCommand, frame: Frame) -> FlatSection
+pub fn flat_parts(header: FlatHeader, command: SpliceCommand, frame: Frame) -> FlatSection
     ensures { λ r. ⌜ r ≡ flatParts header command frame ⌝ }
 {
     let descriptors = frame.descriptors;
@@ -72,52 +47,5 @@ fn flat_parts(header: FlatHeader, command: SpliceCommand, frame: Frame) -> FlatS
         command: flat_command(command),
         descriptors: flat_view(descriptors),
         payload: flat_view(payload),
-    }
-}
-
-// The same, built in an arm for each type of command: answers that meet behind a match are held word by word.
-fn flat_section(header: FlatHeader, command: SpliceCommand, frame: Frame) -> FlatSection
-    ensures { λ r. ⌜ r ≡ flatParts header command frame ⌝ }
-{
-    match command {
-        SpliceCommand::SpliceNull => return flat_parts(header, SpliceCommand::SpliceNull, frame),
-        SpliceCommand::SpliceInsert(i) => return flat_parts(
-            header,
-            SpliceCommand::SpliceInsert(i),
-            frame,
-        ),
-        SpliceCommand::TimeSignal(t) => return flat_parts(
-            header,
-            SpliceCommand::TimeSignal(t),
-            frame,
-        ),
-        SpliceCommand::BandwidthReservation => return flat_parts(
-            header,
-            SpliceCommand::BandwidthReservation,
-            frame,
-        ),
-        SpliceCommand::PrivateCommand(p) => return flat_parts(
-            header,
-            SpliceCommand::PrivateCommand(p),
-            frame,
-        ),
-    }
-}
-
-// The section in these bytes. Its header is read as numbers, its command as `read_section` reads it.
-pub fn read_flat_section(s: &[u8]) -> FlatSection
-    ensures { λ r. ⌜ r ≡ flatSectionRead (sectionOf (now (s .entry))) ⌝ }
-{
-    let frame = match read_frame(s) {
-        FrameRead::Whole(f) => f,
-        FrameRead::Refused(r) => return no_section(r),
-    };
-    let header = read_flat_header(&s[3..]);
-    let payload = frame.command;
-    let end = 14 + payload.len;
-    match read_command_part(s[13], &s[14..end]) {
-        CommandRead::Is(c) => return flat_section(header, c, frame),
-        CommandRead::UnknownType => return no_section(Refusal::UnknownCommand),
-        CommandRead::Malformed => return no_section(Refusal::MalformedCommand),
     }
 }

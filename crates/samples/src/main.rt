@@ -8,7 +8,6 @@ use command::insert::Insertion;
 use command::insert::SpliceInsert;
 use command::insert::SpliceMode;
 use header::time::SpliceTime;
-use section::Refusal;
 use section::Section;
 use section::SectionRead;
 use section::read_section;
@@ -17,22 +16,6 @@ use section::read_section;
 fn item(label: &[u8], number: u64) {
     io::write_all(1, label);
     io::print_decimal(1, number);
-}
-
-fn number(refusal: Refusal) -> u64 {
-    match refusal {
-        Refusal::TooShort => 1,
-        Refusal::TooLong => 2,
-        Refusal::OtherTable => 3,
-        Refusal::WrongCrc => 4,
-        Refusal::NoHeader => 5,
-        Refusal::Encrypted => 6,
-        Refusal::CommandTooLong => 7,
-        Refusal::NoLoopLength => 8,
-        Refusal::LoopTooLong => 9,
-        Refusal::UnknownCommand => 10,
-        Refusal::MalformedCommand => 11,
-    }
 }
 
 fn word(command: SpliceCommand) {
@@ -96,7 +79,7 @@ fn accepted(s: Section) {
 fn report(bytes: &[u8]) {
     match read_section(bytes) {
         SectionRead::Is(s) => accepted(s),
-        SectionRead::Refused(r) => item(b"refused ", number(r)),
+        SectionRead::Refused(r) => item(b"refused ", r.number() as u64),
     }
     io::write_all(1, b"\n");
 }

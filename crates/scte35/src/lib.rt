@@ -15,6 +15,8 @@ ghost use Rattle.items.specs.Items.{stepOf, readingOf};
 ghost use Rattle.section.specs.Section.{sectionOf};
 ghost use Rattle.upid.specs.Upid.{upidOf};
 ghost use Rattle.scte35.specs.FlatNumber.{timeHanded};
+use command::CommandRead;
+use command::SpliceCommand;
 use command::components::read_components;
 use command::read_command;
 use crc::crc32;
@@ -27,7 +29,8 @@ use flat::headers::FlatHeader;
 use flat::headers::flat_adjusted;
 use flat::headers::read_flat_header;
 use flat::sections::FlatSection;
-use flat::sections::read_flat_section;
+use flat::sections::flat_parts;
+use flat::sections::no_section;
 use flat_items::beside::FlatBeside;
 use flat_items::beside::flat_beside;
 use flat_items::steps::FlatStep;
@@ -38,6 +41,10 @@ use header::time::SpliceTime;
 use header::time::adjusted_time;
 use items::iteration::step;
 use items::reading::read_item;
+use section::FrameRead;
+use section::Refusal;
+use section::read_command_part;
+use section::read_frame;
 use upid::read_upid;
 
 pub mod abi;
@@ -67,11 +74,51 @@ pub extern "C" fn scte35_read_header(s: &[u8], at: usize) -> FlatHeader
     read_flat_header(rest(s, at))
 }
 
+// Its header is read as numbers, its command as `read_section` reads it. There is a return in an arm for each type of answer: answers that meet behind a
+// match, or behind a call, are held word by word.
 #[no_mangle]
 pub extern "C" fn scte35_read_section(s: &[u8], at: usize) -> FlatSection
     ensures { λ r. ⌜ r ≡ flatSectionRead (sectionOf (drop at (now (s .entry)))) ⌝ }
 {
-    read_flat_section(rest(s, at))
+    let t = rest(s, at);
+    let frame = match read_frame(t) {
+        FrameRead::Whole(f) => f,
+        FrameRead::Refused(r) => return no_section(r),
+    };
+    let header = read_flat_header(&t[3..]);
+    let payload = frame.command;
+    let end = 14 + payload.len;
+    match read_command_part(t[13], &t[14..end]) {
+        CommandRead::Is(command) => match command {
+            SpliceCommand::SpliceNull => return flat_parts(
+                header,
+                SpliceCommand::SpliceNull,
+                frame,
+            ),
+            SpliceCommand::SpliceInsert(i) => return flat_parts(
+                header,
+                SpliceCommand::SpliceInsert(i),
+                frame,
+            ),
+            SpliceCommand::TimeSignal(time) => return flat_parts(
+                header,
+                SpliceCommand::TimeSignal(time),
+                frame,
+            ),
+            SpliceCommand::BandwidthReservation => return flat_parts(
+                header,
+                SpliceCommand::BandwidthReservation,
+                frame,
+            ),
+            SpliceCommand::PrivateCommand(p) => return flat_parts(
+                header,
+                SpliceCommand::PrivateCommand(p),
+                frame,
+            ),
+        },
+        CommandRead::UnknownType => return no_section(Refusal::UnknownCommand),
+        CommandRead::Malformed => return no_section(Refusal::MalformedCommand),
+    }
 }
 
 // The command of a type, in its payload.

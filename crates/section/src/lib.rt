@@ -2,7 +2,8 @@
 ghost use mathlib.Core.Path.{_≡_};
 ghost use Prim.Native.Nat.{_+_, _*_, _<_, _≤_};
 ghost use lib.ListN.{length};
-ghost use Rattle.section.specs.Section.{commandLength, commandType, commandBytes, frameIn, moved, movedRead, accepted, frameOf, sectionOf, privateView};
+ghost use Rattle.section.specs.Section.{commandLength, commandType, commandBytes, frameIn, moved, movedRead, accepted, frameOf, sectionOf, numberOf, privateView};
+ghost use Rattle.section.specs.declared.SectionRead.{SectionRead};
 ghost use Rattle.table.specs.Lent.{viewed};
 ghost use Rattle.section.specs.Walk.{viewStart, layoutOf};
 ghost use Rattle.table.specs.Bits.{bitsOf, field};
@@ -44,6 +45,27 @@ pub enum Refusal {
     LoopTooLong,
     UnknownCommand,
     MalformedCommand,
+}
+
+impl Refusal {
+    // Document 01's number.
+    pub fn number(self) -> u8
+        ensures { λ x. ⌜ x ≡ numberOf (SectionRead.Refused self) ⌝ }
+    {
+        match self {
+            Refusal::TooShort => 1,
+            Refusal::TooLong => 2,
+            Refusal::OtherTable => 3,
+            Refusal::WrongCrc => 4,
+            Refusal::NoHeader => 5,
+            Refusal::Encrypted => 6,
+            Refusal::CommandTooLong => 7,
+            Refusal::NoLoopLength => 8,
+            Refusal::LoopTooLong => 9,
+            Refusal::UnknownCommand => 10,
+            Refusal::MalformedCommand => 11,
+        }
+    }
 }
 
 // Where the two parts lie whose lengths a section says: the command's payload, and the loop.
@@ -133,8 +155,9 @@ fn read_layout(s: &[u8]) -> FrameRead
     })
 }
 
-// Where command and loop lie, in a section whose parts are all there. Only its command is still to be read.
-pub fn read_frame(s: &[u8]) -> FrameRead
+// Refusals 1 to 9, in their order. A function of its own: its answers meet in `read_frame`, which is then so small that the compiler puts it in place of
+// its calls.
+fn test_frame(s: &[u8]) -> FrameRead
     ensures { λ r. ⌜ r ≡ frameOf (now (s .entry)) ⌝ }
 {
     if s.len() < 3 {
@@ -155,9 +178,17 @@ pub fn read_frame(s: &[u8]) -> FrameRead
     read_layout(s)
 }
 
+// Where command and loop lie, in a section whose parts are all there. Only its command is still to be read.
+pub fn read_frame(s: &[u8]) -> FrameRead
+    ensures { λ r. ⌜ r ≡ frameOf (now (s .entry)) ⌝ }
+{
+    test_frame(s)
+}
+
 // ---- the reading
 
-// The command of a type, in its payload, as a section has it: its views count from the section's first byte, 14 bytes before the payload.
+// The command of a type, in its payload, as a section has it: its views count from the section's first byte, 14 bytes before the payload. The C boundary's:
+// it has one caller, so that no command is handed on by value.
 pub fn read_command_part(kind: u8, payload: &[u8]) -> CommandRead
     ensures { λ r. ⌜ r ≡ movedRead (commandOf kind (now (payload .entry))) ⌝ }
 {
@@ -180,10 +211,10 @@ fn read_parts(s: &[u8], frame: Frame) -> SectionRead
     let payload = frame.command;
     let descriptors = frame.descriptors;
     let end = 14 + payload.len;
-    match read_command_part(s[13], &s[14..end]) {
-        CommandRead::Is(command) => SectionRead::Is(Section {
+    match read_command(s[13], &s[14..end]) {
+        CommandRead::Is(c) => SectionRead::Is(Section {
             header,
-            command,
+            command: move_command(c, 14),
             descriptors,
             payload,
         }),

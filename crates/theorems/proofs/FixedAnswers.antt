@@ -80,6 +80,7 @@ use Rattle.command.proofs.insert.read_insert.Reads as read-insert
 use Rattle.command.proofs.components.read_components.Reads as read-components
 use Rattle.command.proofs.components.blanks.Reads as blank-components
 use Rattle.section.proofs.read_command_part.Reads as read-command-part
+use Rattle.section.proofs.Refusal.number.Reads as section-refusal-number
 use Rattle.section.proofs.read_frame.Reads as read-frame
 use Rattle.section.proofs.read_section.Reads as read-section
 use Rattle.section.proofs.loop_of.Reads as loop-of
@@ -336,6 +337,9 @@ pub blank-components-is-fixed : Fixed blank-components.Asked blank-components.Le
 blank-components-is-fixed = record { takes-any = λ κ a. tt; one-answer = λ κ a x y e f p q. p ∙ sym q }
 
 -- ---- section
+
+pub section-refusal-number-is-fixed : Fixed section-refusal-number.Asked section-refusal-number.Learnt
+section-refusal-number-is-fixed = record { takes-any = λ κ a. tt; one-answer = λ κ a x y e f p q. p ∙ sym q }
 
 pub read-frame-is-fixed : Fixed read-frame.Asked read-frame.Learnt
 read-frame-is-fixed = record { takes-any = λ κ a. tt; one-answer = λ κ a x y e f p q. p ∙ sym q }

@@ -8,7 +8,8 @@ use Rattle.flat.proofs.headers.flat_header_read.Reads as flat-header-read
 use Rattle.flat.proofs.headers.read_flat_header.Reads as read-flat-header
 use Rattle.flat.proofs.headers.flat_adjusted.Reads as flat-adjusted
 use Rattle.flat.proofs.components.flat_splices.Reads as flat-splices
-use Rattle.flat.proofs.sections.read_flat_section.Reads as read-flat-section
+use Rattle.flat.proofs.sections.no_section.Reads as no-section
+use Rattle.flat.proofs.sections.flat_parts.Reads as flat-parts
 use Rattle.flat_items.proofs.beside.flat_beside.Reads as flat-beside
 use Rattle.flat_items.proofs.upids.flat_upid.Reads as flat-upid
 use Rattle.flat_items.proofs.steps.flat_step.Reads as flat-step
@@ -75,8 +76,11 @@ flat-adjusted-is-fixed = record { takes-any = λ κ a. tt; one-answer = λ κ a 
 pub flat-splices-is-fixed : Fixed flat-splices.Asked flat-splices.Learnt
 flat-splices-is-fixed = record { takes-any = λ κ a. tt; one-answer = λ κ a x y e f p q. p ∙ sym q }
 
-pub read-flat-section-is-fixed : Fixed read-flat-section.Asked read-flat-section.Learnt
-read-flat-section-is-fixed = record { takes-any = λ κ a. tt; one-answer = λ κ a x y e f p q. p ∙ sym q }
+pub no-section-is-fixed : Fixed no-section.Asked no-section.Learnt
+no-section-is-fixed = record { takes-any = λ κ a. tt; one-answer = λ κ a x y e f p q. p ∙ sym q }
+
+pub flat-parts-is-fixed : Fixed flat-parts.Asked flat-parts.Learnt
+flat-parts-is-fixed = record { takes-any = λ κ a. tt; one-answer = λ κ a x y e f p q. p ∙ sym q }
 
 -- ---- flat_items: those of items and UPIDs
 

@@ -13,6 +13,7 @@ use Rattle.transport_packet.specs.declared.sections.Next.{Next}
 use Rattle.transport_packet.specs.declared.sections.Next.the-variants.{Nothing, Long, Part, Whole}
 use Rattle.transport.specs.declared.Assembler.{Assembler}
 use Rattle.transport.specs.declared.Fed.the-variants as fed
+use Rattle.transport.specs.declared.Taken.{Taken}
 use Rattle.transport.specs.declared.Taken.the-variants as taken
 use Rattle.transport_packet.specs.declared.packet.Refusal.{Refusal}
 use Rattle.transport_packet.specs.declared.packet.Refusal.the-variants.{SectionLengthTooLarge}
@@ -20,7 +21,7 @@ use Rattle.transport_packet.specs.declared.packet.Head.the-variants as head
 use Rattle.transport_packet.specs.Packet.{headOf}
 use Rattle.transport_packet.specs.Sections.{nextOf, cutFrom, cut}
 use Rattle.transport.specs.Step.{goesOn, cutOf, before}
-use Rattle.transport.specs.Assembler.{atRest, holding, giving, takenFrom, takenOf, kept, keeping, answering, underFor, fedBy, fedWith, fedOf}
+use Rattle.transport.specs.Assembler.{TakenTo, atRest, holding, giving, wholeIn, found, takenFrom, takenOf, kept, keeping, answering, underFor, fedBy, fedWith, fedOf}
 use Rattle.transport_packet.proofs.Next.{whole-shown}
 use Rattle.transport.proofs.Buffer.{stored-on, stored-same}
 use Rattle.table.proofs.Stores.{stored-nil}
@@ -69,8 +70,59 @@ module _ (a : Assembler) (p b : List ℕ) where
       rw (← n, take-all (length (drop (a .at) p)) (drop (a .at) p) (omega arith)) (sym (from-part a (drop (a .at) p) b e))
 
   pub at-whole : (size : ℕ) → nextOf (drop (a .at) p) ≡ Whole size
-      → giving (taken.Section size (holding a 0 (a .at + size))) (stored b 0 (take (a .at + size - a .at) (drop (a .at) p))) ≡ takenFrom a (drop (a .at) p) b
-  at-whole size e = let n : a .at + size - a .at ≡ size = omega arith in rw n (sym (from-whole a (drop (a .at) p) b size e))
+      → giving (found a size 0 (a .at + size)) (stored b 0 (take (a .at + size - a .at) (drop (a .at) p))) ≡ takenFrom a (drop (a .at) p) b
+  at-whole size e =
+      let n : a .at + size - a .at ≡ size = omega arith in
+      rw (n, ne-eqb size 0 (λ z. omega (arith, whole-shown (drop (a .at) p) size e .is))) (sym (from-whole a (drop (a .at) p) b size e))
+
+  -- the section under way, if it is whole
+  pub taken-held : 0 < wholeIn (take (a .held) b) → giving (taken.Section (wholeIn (take (a .held) b)) (holding a 0 (a .at))) b ≡ takenOf a p b
+  taken-held h = go (nextOf (take (a .held) b)) refl
+    where
+      go : (k : Next) → nextOf (take (a .held) b) ≡ k → giving (taken.Section (wholeIn (take (a .held) b)) (holding a 0 (a .at))) b ≡ takenOf a p b
+      go Nothing e = let n : 0 < 0 = rw e at h in absurd (omega arith)
+      go Long e = let n : 0 < 0 = rw e at h in absurd (omega arith)
+      go Part e = let n : 0 < 0 = rw e at h in absurd (omega arith)
+      go (Whole size) e = rw e (sym (taken-whole a p b size e))
+
+  -- and else the packet's
+  pub taken-next : wholeIn (take (a .held) b) ≤ 0 → takenFrom a (drop (a .at) p) b ≡ takenOf a p b
+  taken-next h = go (nextOf (take (a .held) b)) refl
+    where
+      go : (k : Next) → nextOf (take (a .held) b) ≡ k → takenFrom a (drop (a .at) p) b ≡ takenOf a p b
+      go Nothing e = sym (taken-nothing a p b e)
+      go Long e = sym (taken-long a p b e)
+      go Part e = sym (taken-part a p b e)
+      go (Whole size) e = let n : size ≤ 0 = rw e at h in absurd (omega (arith, whole-shown (take (a .held) b) size e .is))
+
+-- the state behind what was taken
+abbrev pub later : Taken → Assembler
+later (taken.Section size a) = a
+later (taken.Done a) = a
+
+-- as the state before it, but for the bytes held and the place
+abbrev pub Keeps : Assembler → TakenTo → Type 0
+Keeps a t = holding a (later (t .answer) .held) (later (t .answer) .at) ≡ later (t .answer)
+
+from-keeps : (a : Assembler) (s b : List ℕ) → Keeps a (takenFrom a s b)
+unfolding takenFrom
+from-keeps a s b = go (nextOf s) refl
+  where
+    go : (k : Next) → nextOf s ≡ k → Keeps a (takenFrom a s b)
+    go Nothing e = rw e
+    go Long e = rw e
+    go Part e = rw e
+    go (Whole size) e = rw e
+
+-- neither the PID nor the counter is another
+pub take-keeps : (a : Assembler) (p b : List ℕ) → Keeps a (takenOf a p b)
+take-keeps a p b = go (nextOf (take (a .held) b)) refl
+  where
+    go : (k : Next) → nextOf (take (a .held) b) ≡ k → Keeps a (takenOf a p b)
+    go Nothing e = rw (taken-nothing a p b e) (from-keeps a (drop (a .at) p) b)
+    go Long e = rw (taken-long a p b e) (from-keeps a (drop (a .at) p) b)
+    go Part e = rw (taken-part a p b e) (from-keeps a (drop (a .at) p) b)
+    go (Whole size) e = rw (taken-whole a p b size e)
 
 -- ---- `feed`, by the head
 

@@ -6,7 +6,7 @@ ghost use mathlib.Core.Path.{_≡_};
 ghost use Prim.Native.Nat.{_≤_};
 ghost use lib.ListN.{length, take, drop};
 ghost use Rattle.transport.specs.Step.{follows, before};
-ghost use Rattle.transport.specs.Assembler.{freshAssembler, holding, underFor, fedBy, fedOf, takenFrom, takenOf};
+ghost use Rattle.transport.specs.Assembler.{freshAssembler, holding, underFor, fedBy, fedOf, giving, wholeIn, found, takenFrom, takenOf};
 use table::store::put_bytes;
 use transport_packet::packet::Head;
 use transport_packet::packet::Refusal;
@@ -158,23 +158,61 @@ pub fn feed(a: Assembler, packet: &[u8], buffer: &mut [u8]) -> Fed
     }
 }
 
+// What is found for `take`, in numbers, which the compiler keeps in registers: a section of so many bytes (0: nothing is left of this packet), and
+// the bytes under way and the place in the packet behind it.
+struct Found {
+    size: usize,
+    held: usize,
+    at: usize,
+}
+
+// How many bytes the section has that is whole in these at the buffer's start; 0 where none is.
+fn whole_in(buffer: &[u8], held: usize) -> usize
+    ensures { λ r. ⌜ r ≡ wholeIn (take held (now (buffer .entry))) ⌝ }
+{
+    let count = held_in(buffer, held);
+    let next = next_at(&buffer[..count], 0);
+    match next {
+        Next::Nothing => return 0,
+        Next::Long => return 0,
+        Next::Part => return 0,
+        Next::Whole(size) => return size,
+    }
+}
+
 // The next section that begins in the packet.
-fn take_from(a: Assembler, packet: &[u8], buffer: &mut [u8]) -> Taken
-    ensures { λ r. ⌜ record { answer = r; buffer = now (buffer .exit) } ≡ takenFrom a (drop (a .at) (now (packet .entry))) (now (buffer .entry)) ⌝ }
+fn take_from(a: Assembler, packet: &[u8], buffer: &mut [u8]) -> Found
+    ensures { λ r. ⌜ giving (found a (r .size) (r .held) (r .at)) (now (buffer .exit)) ≡ takenFrom a (drop (a .at) (now (packet .entry))) (now (buffer .entry)) ⌝ }
 {
     let at = a.at;
     let next = next_at(packet, at);
     match next {
-        Next::Nothing => return Taken::Done(hold(a, a.held, 188)),
-        Next::Long => return Taken::Done(hold(a, a.held, 188)),
+        Next::Nothing => return Found {
+            size: 0,
+            held: a.held,
+            at: 188,
+        },
+        Next::Long => return Found {
+            size: 0,
+            held: a.held,
+            at: 188,
+        },
         Next::Part => {
             put_bytes(buffer, 0, &packet[at..]);
-            return Taken::Done(hold(a, packet.len() - at, 188));
+            return Found {
+                size: 0,
+                held: packet.len() - at,
+                at: 188,
+            };
         }
         Next::Whole(size) => {
             let end = at + size;
             put_bytes(buffer, 0, &packet[at..end]);
-            return Taken::Section(size, hold(a, 0, end));
+            return Found {
+                size,
+                held: 0,
+                at: end,
+            };
         }
     }
 }
@@ -183,12 +221,14 @@ fn take_from(a: Assembler, packet: &[u8], buffer: &mut [u8]) -> Taken
 pub fn take(a: Assembler, packet: &[u8], buffer: &mut [u8]) -> Taken
     ensures { λ r. ⌜ record { answer = r; buffer = now (buffer .exit) } ≡ takenOf a (now (packet .entry)) (now (buffer .entry)) ⌝ }
 {
-    let held = held_in(buffer, a.held);
-    let next = next_at(&buffer[..held], 0);
-    match next {
-        Next::Nothing => return take_from(a, packet, buffer),
-        Next::Long => return take_from(a, packet, buffer),
-        Next::Part => return take_from(a, packet, buffer),
-        Next::Whole(size) => return Taken::Section(size, hold(a, 0, a.at)),
+    let size = whole_in(buffer, a.held);
+    if 0 < size {
+        return Taken::Section(size, hold(a, 0, a.at));
     }
+    let next = take_from(a, packet, buffer);
+    let later = hold(a, next.held, next.at);
+    if next.size == 0 {
+        return Taken::Done(later);
+    }
+    Taken::Section(next.size, later)
 }

@@ -29,6 +29,10 @@ pub(crate) fn next_on(buffer: &[u8], held: usize, packet: &[u8], at: usize, firs
         return Next::Nothing;
     }
     let count = held + (first - at);
+    // as nearly every time
+    if 3 <= held {
+        return next_by(count, buffer[0], length_of(buffer[1], buffer[2]));
+    }
     let lead = byte(buffer, 0);
     if count < 3 {
         return next_by(count, lead, 0);

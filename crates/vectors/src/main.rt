@@ -3,7 +3,6 @@
 // program compares the two. `host/vectors` makes both files; every refusal of a reader and every kind of item is among the inputs, and
 // those are left out whose answers differ as docs/DIFFERENCES.md says in 1 to 3. Refusals 1 and 2, which the crate does not have, are as the rules say.
 ghost use Prim.Native.Nat.{_<_};
-use section::Refusal;
 use section::SectionRead;
 use section::loop_of;
 use section::read_section;
@@ -16,28 +15,12 @@ mod descriptors;
 mod say;
 mod upids;
 
-fn number(refusal: Refusal) -> u64 {
-    match refusal {
-        Refusal::TooShort => 1,
-        Refusal::TooLong => 2,
-        Refusal::OtherTable => 3,
-        Refusal::WrongCrc => 4,
-        Refusal::NoHeader => 5,
-        Refusal::Encrypted => 6,
-        Refusal::CommandTooLong => 7,
-        Refusal::NoLoopLength => 8,
-        Refusal::LoopTooLong => 9,
-        Refusal::UnknownCommand => 10,
-        Refusal::MalformedCommand => 11,
-    }
-}
-
 // Header and command in one line, then a line for each item of the loop.
 fn section(s: &[u8]) {
     match read_section(s) {
         SectionRead::Refused(r) => {
             io::write_all(1, b"refused");
-            say::value(number(r));
+            say::value(r.number() as u64);
             io::write_all(1, b"\n");
         }
         SectionRead::Is(x) => {

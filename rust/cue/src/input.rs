@@ -1,6 +1,7 @@
 //! Where cues come from: words of the command line, files, standard input; as hexadecimal, base64 or raw bytes.
 use crate::console::{Console, WRONG};
 use clap::{Arg, ArgAction, ArgMatches, Command};
+use indicatif::{ProgressBar, ProgressStyle};
 use std::ffi::{OsStr, OsString};
 use std::fmt::{self, Display};
 use std::fs::File;
@@ -318,13 +319,13 @@ fn from_base64(text: &[u8], digits: &mut Vec<u8>, bytes: &mut Vec<u8>) -> Result
     base64::decode_config_buf(digits, base64::STANDARD_NO_PAD, bytes).map_err(NoCue::Base64)
 }
 
-/// How far a file is read, said on standard error where that is a terminal.
+/// How far a file is read: a bar on standard error where that is a terminal.
 #[derive(Default)]
 pub struct Progress {
     size: Option<u64>,
     read: u64,
-    shown: Option<Instant>,
-    on_screen: bool,
+    next: Option<Instant>,
+    bar: Option<ProgressBar>,
 }
 
 impl Progress {
@@ -353,25 +354,31 @@ impl Progress {
     fn show(&mut self, count: u64, what: &str) {
         let Some(size) = self.size else { return };
         let now = Instant::now();
-        match self.shown {
-            // what is over soon needs no line
-            None => self.shown = Some(now + Duration::from_secs(1)),
+        match self.next {
+            // what is over soon needs no bar
+            None => self.next = Some(now + Duration::from_secs(1)),
             Some(next) if now >= next => {
-                self.shown = Some(now + Duration::from_millis(250));
-                self.on_screen = true;
-                let _ = write!(io::stderr(), "\r{count} {what}, {} %", self.read * 100 / size);
+                self.next = Some(now + Duration::from_millis(250));
+                let bar = self.bar.get_or_insert_with(|| bar(size));
+                bar.set_position(self.read);
+                bar.set_message(format!("{count} {what}"));
             }
             Some(_) => {}
         }
     }
 
-    /// Takes the line from the screen.
+    /// Takes the bar from the screen.
     pub fn clear(&mut self) {
-        if self.on_screen {
-            self.on_screen = false;
-            let _ = write!(io::stderr(), "\r{:40}\r", "");
+        if let Some(bar) = self.bar.take() {
+            bar.finish_and_clear();
         }
     }
+}
+
+/// A bar of so many bytes, their share, and a message.
+fn bar(size: u64) -> ProgressBar {
+    let style = ProgressStyle::with_template("{wide_bar} {percent:>3} %  {msg}").unwrap_or_else(|_| ProgressStyle::default_bar());
+    ProgressBar::new(size).with_style(style)
 }
 
 #[cfg(test)]

@@ -2,8 +2,8 @@
 use mathlib.Core.Path.{_≡_, ap, sym, _∙_}
 use native.Mathlib.Omega.{arith}
 use Rattle.command.specs.declared.CommandRead.{CommandRead}
-use Rattle.section.specs.Section.{movedRead, accepted}
-use Rattle.section.proofs.Framing.{no-header, section-is, size-at, header-at, command-at}
+use Rattle.section.specs.Section.{accepted}
+use Rattle.section.proofs.Framing.{commandRead, no-header, section-is, size-at, header-at, command-at, within-four, is-moved, unknown-moved, malformed-moved}
 use borrow.Author.Needs.{needs}
 use Rattle.section.proofs.read_parts.Statement.{statement}
 use Rattle.section.proofs.read_parts.Tie as tie
@@ -39,32 +39,38 @@ add-end c =
     let a = st .args in
     omega (arith, size-at (a .s .now) (a .frame) (st .pre .0))
 
-shared-slice-read-read-command-part : tie.Need-shared-slice-read-read-command-part
-shared-slice-read-read-command-part c = search needs
+shared-slice-read-read-command : tie.Need-shared-slice-read-read-command
+shared-slice-read-read-command c = search needs
 
-sub-read-command-part : tie.Need-sub-read-command-part
-sub-read-command-part c =
+sub-read-command : tie.Need-sub-read-command
+sub-read-command c =
     let st = c .before .before .before .before .before .before .before .before .before .before in
     let a = st .args in
     omega (arith, size-at (a .s .now) (a .frame) (st .pre .0), st .pre .1)
 
-part-read-command-part-start : tie.Need-part-read-command-part-start
-part-read-command-part-start c =
+part-read-command-start : tie.Need-part-read-command-start
+part-read-command-start c =
     let st = c .before .before .before .before .before .before .before .before .before .before in
     let a = st .args in
     omega (arith, size-at (a .s .now) (a .frame) (st .pre .0), st .pre .1)
 
-part-read-command-part-end : tie.Need-part-read-command-part-end
-part-read-command-part-end c =
+part-read-command-end : tie.Need-part-read-command-end
+part-read-command-end c =
     let st = c .before .before .before .before .before .before .before .before .before .before in
     let a = st .args in
     omega (arith, size-at (a .s .now) (a .frame) (st .pre .0), st .pre .1)
 
-read-command-part-requires : tie.Need-read-command-part-requires
-read-command-part-requires c κs = search needs
+read-command-requires : tie.Need-read-command-requires
+read-command-requires c κs = search needs
 
-enum-known-command : tie.Need-enum-known-command
-enum-known-command c = search needs
+enum-known-c : tie.Need-enum-known-c
+enum-known-c c = search needs
+
+move-command-requires : tie.Need-move-command-requires
+move-command-requires c κs =
+    let d = c .before in
+    let r = d .before .before in
+    (within-four _ _ _ (sym (r .read-command .ensures) ∙ d .c .given .1), omega arith)
 
 enum-told-2 : tie.Need-enum-told-2
 enum-told-2 c = search needs
@@ -75,13 +81,13 @@ enum-told-3 c = search needs
 returns-2 : tie.Need-returns-2
 unfolding accepted
 returns-2 c =
-    let r = c .before .before .before in
+    let r = c .before .before .before .before in
     let h = r .before .before .before .before .before .before .before in
     let g = h .before .before in
     let st = g .before .before .before in
     let a = st .args in
-    let read : _ ≡ movedRead _ = sym (c .before .command .given .1) ∙ r .read-command-part .ensures ∙ ap movedRead (command-at (a .s .now) (a .frame) (st .pre .0)) in
-    section-is (a .s .now) (a .frame) _ _ (sym (header-at (a .s .now)) ∙ sym (g .read-header .ensures) ∙ h .h .given .1) read (st .pre .0)
+    let read : commandRead (a .s .now) ≡ _ = sym (command-at (a .s .now) (a .frame) (st .pre .0)) ∙ sym (r .read-command .ensures) ∙ c .before .before .c .given .1 in
+    section-is (a .s .now) (a .frame) _ _ (sym (header-at (a .s .now)) ∙ sym (g .read-header .ensures) ∙ h .h .given .1) (is-moved _ _ _ read (c .move-command .ensures)) (st .pre .0)
 
 returns-3 : tie.Need-returns-3
 unfolding accepted
@@ -91,8 +97,8 @@ returns-3 c =
     let g = h .before .before in
     let st = g .before .before .before in
     let a = st .args in
-    let read : _ ≡ movedRead _ = sym (c .enum-told2 .given .1) ∙ r .read-command-part .ensures ∙ ap movedRead (command-at (a .s .now) (a .frame) (st .pre .0)) in
-    section-is (a .s .now) (a .frame) _ _ (sym (header-at (a .s .now)) ∙ sym (g .read-header .ensures) ∙ h .h .given .1) read (st .pre .0)
+    let read : commandRead (a .s .now) ≡ _ = sym (command-at (a .s .now) (a .frame) (st .pre .0)) ∙ sym (r .read-command .ensures) ∙ c .enum-told2 .given .1 in
+    section-is (a .s .now) (a .frame) _ _ (sym (header-at (a .s .now)) ∙ sym (g .read-header .ensures) ∙ h .h .given .1) (unknown-moved _ read) (st .pre .0)
 
 returns-4 : tie.Need-returns-4
 unfolding accepted
@@ -102,8 +108,8 @@ returns-4 c =
     let g = h .before .before in
     let st = g .before .before .before in
     let a = st .args in
-    let read : _ ≡ movedRead _ = sym (c .enum-told3 .given .1) ∙ r .read-command-part .ensures ∙ ap movedRead (command-at (a .s .now) (a .frame) (st .pre .0)) in
-    section-is (a .s .now) (a .frame) _ _ (sym (header-at (a .s .now)) ∙ sym (g .read-header .ensures) ∙ h .h .given .1) read (st .pre .0)
+    let read : commandRead (a .s .now) ≡ _ = sym (command-at (a .s .now) (a .frame) (st .pre .0)) ∙ sym (r .read-command .ensures) ∙ c .enum-told3 .given .1 in
+    section-is (a .s .now) (a .frame) _ _ (sym (header-at (a .s .now)) ∙ sym (g .read-header .ensures) ∙ h .h .given .1) (malformed-moved _ read) (st .pre .0)
 
 pub read-parts-spec : {M : Type 1} → statement M
 read-parts-spec =
@@ -117,12 +123,13 @@ read-parts-spec =
     enum-told
     returns
     add-end
-    shared-slice-read-read-command-part
-    sub-read-command-part
-    part-read-command-part-start
-    part-read-command-part-end
-    read-command-part-requires
-    enum-known-command
+    shared-slice-read-read-command
+    sub-read-command
+    part-read-command-start
+    part-read-command-end
+    read-command-requires
+    enum-known-c
+    move-command-requires
     enum-told-2
     enum-told-3
     returns-2

@@ -1,4 +1,4 @@
--- `flat::sections::no_section` meets its contract. Assumes nothing.
+-- `flat::sections::no_section`: its number, and nothing else.
 use borrow.Author.Needs.{needs}
 use Rattle.flat.specs.FlatSection.{flatSectionRead}
 use Rattle.flat.proofs.sections.no_section.Statement.{statement}
@@ -6,6 +6,9 @@ use Rattle.flat.proofs.sections.no_section.Tie as tie
 
 number-requires : tie.Need-number-requires
 number-requires c κs = search needs
+
+cast-t3 : tie.Need-cast-t3
+cast-t3 c = search needs
 
 no-header-requires : tie.Need-no-header-requires
 no-header-requires c κs = search needs
@@ -18,4 +21,5 @@ unfolding flatSectionRead
 returns c = rw (c .before .before .number .ensures, c .before .no-header .ensures, c .no-command .ensures)
 
 pub no-section-spec : {M : Type 1} → statement M
-no-section-spec = tie.close (tie.spec number-requires no-header-requires no-command-requires returns)
+no-section-spec =
+    tie.close (tie.spec number-requires cast-t3 no-header-requires no-command-requires returns)

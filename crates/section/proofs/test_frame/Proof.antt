@@ -1,9 +1,9 @@
--- `section::read_frame`, refusal by refusal.
+-- `section::test_frame`, refusal by refusal.
 use mathlib.Core.Path.{_≡_, refl, ap, sym, _∙_}
 use Rattle.section.proofs.Framing.{is-short, is-long, is-other, is-wrong, is-headless, is-framed}
 use borrow.Author.Needs.{needs}
-use Rattle.section.proofs.read_frame.Statement.{statement}
-use Rattle.section.proofs.read_frame.Tie as tie
+use Rattle.section.proofs.test_frame.Statement.{statement}
+use Rattle.section.proofs.test_frame.Tie as tie
 
 returns : tie.Need-returns
 returns c =
@@ -67,8 +67,8 @@ returns-6 c =
     let a = i₁ .before .before .args in
     is-framed (a .s .now) (i₁ .if1 .left) (i₂ .if2 .left) (i₃ .if3 .left) (sym (k .crc32 .ensures) ∙ i₄ .if4 .left) _ (i₅ .if5 .left) (c .read-layout .ensures)
 
-pub read-frame-spec : {M : Type 1} → statement M
-read-frame-spec =
+pub test-frame-spec : {M : Type 1} → statement M
+test-frame-spec =
     tie.close
     (tie.spec
     returns

@@ -1,8 +1,8 @@
--- `flat::sections::number` meets its contract. Assumes nothing.
+-- `section::Refusal::number`: a row of `numberOf` each.
 use borrow.Author.Needs.{needs}
 use Rattle.section.specs.Section.{numberOf}
-use Rattle.flat.proofs.sections.number.Statement.{statement}
-use Rattle.flat.proofs.sections.number.Tie as tie
+use Rattle.section.proofs.Refusal.number.Statement.{statement}
+use Rattle.section.proofs.Refusal.number.Tie as tie
 
 enum-told : tie.Need-enum-told
 enum-told c = search needs
