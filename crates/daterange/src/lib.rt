@@ -2,15 +2,12 @@
 ghost use mathlib.Core.Path.{_≡_};
 ghost use Rattle.daterange.specs.Choice.{leaving, inserted, cueFor, daterangeMade};
 ghost use Rattle.pen.specs.Written.{answerOf, laterOf};
-ghost use Rattle.section.specs.Section.{numberOf};
-ghost use Rattle.section.specs.declared.SectionRead.{SectionRead};
 use command::SpliceCommand;
 use command::insert::SpliceInsert;
 use daterange_line::Cue;
 use daterange_writer::write_line;
 use names::flags::NetworkIndicator;
 use pen::Written;
-use section::Refusal;
 use section::SectionRead;
 use section::read_section;
 
@@ -51,25 +48,6 @@ fn cue_for(c: SpliceCommand) -> Cue
     }
 }
 
-// The number of a section's refusal.
-fn number(r: Refusal) -> u8
-    ensures { λ n. ⌜ n ≡ numberOf (SectionRead.Refused r) ⌝ }
-{
-    match r {
-        Refusal::TooShort => 1,
-        Refusal::TooLong => 2,
-        Refusal::OtherTable => 3,
-        Refusal::WrongCrc => 4,
-        Refusal::NoHeader => 5,
-        Refusal::Encrypted => 6,
-        Refusal::CommandTooLong => 7,
-        Refusal::NoLoopLength => 8,
-        Refusal::LoopTooLong => 9,
-        Refusal::UnknownCommand => 10,
-        Refusal::MalformedCommand => 11,
-    }
-}
-
 // The line of a section, without a line end, from the target's first byte on; or a refusal: 1 to 11 for the section, 53, 36. A refused write changes no byte.
 pub fn write_daterange(section: &[u8], id: &[u8], date: &[u8], target: &mut [u8]) -> Written
     ensures answer { λ r. ⌜ r ≡ answerOf (daterangeMade (now (section .entry)) (now (id .entry)) (now (date .entry))) (now (target .entry)) ⌝ }
@@ -80,6 +58,6 @@ pub fn write_daterange(section: &[u8], id: &[u8], date: &[u8], target: &mut [u8]
             let command = s.command;
             return write_line(section, cue_for(command), id, date, target);
         }
-        SectionRead::Refused(r) => return Written::Refused(number(r)),
+        SectionRead::Refused(r) => return Written::Refused(r.number()),
     }
 }
