@@ -47,10 +47,11 @@ uint32_t scte35_abi(void);
  *
  * 1 to 11 are of a section; 5 of a header alone, too, 10 and 11 of a command alone, 2 of a loop or a UPID. 12 is of a number that should be a flag's. 21 to 25
  * are of an item or a UPID, never of the section around it. 31 to 36 are of a value that is to be written; 32 of a time or a section that is to be adjusted,
- * too, and of the adjustment; 36 of that section's target and of a board's words. 61 to 63 are of a board, 71 to 75 of a transport packet.
+ * too, and of the adjustment; 36 of that section's target, of a line's, and of a board's words. 51 and 52 are of a line of a playlist that is read, 53 of one
+ * that is written. 61 to 63 are of a board, 71 to 75 of a transport packet.
  *
- * 1 to 12, 31 to 36, and 71 to 75 are looked at in order of number, and the first that applies is the answer; of a board 36, then 63, then 61 or 62. Of 21 to
- * 25 it is the first fault in layout order.
+ * 1 to 12, 31 to 36, and 71 to 75 are looked at in order of number, and the first that applies is the answer; of a board 36, then 63, then 61 or 62; of a line
+ * that is read 52, 51, 36, of one that is written 1 to 11, 53, 36. Of 21 to 25 it is the first fault in layout order.
  *
  * Values: of 21 the bytes expected and the actual ones; of 24 the type as written, and the text as a view: place and length; of 25 the type as written, the
  * length expected and the actual one.
@@ -84,6 +85,9 @@ uint32_t scte35_abi(void);
     X(RESULT_TOO_LONG, 34, "ResultTooLong", "a descriptor's length over 254, or a section over 4,096 bytes") \
     X(LOOP_NOT_CANONICAL, 35, "LoopNotCanonical", "the descriptor loop that is handed in is not canonical") \
     X(TARGET_TOO_SHORT, 36, "TargetTooShort", "the target is shorter than the result") \
+    X(ATTRIBUTE_MISSING, 51, "AttributeMissing", "a line without ID, START-DATE or any of the three cue attributes") \
+    X(MALFORMED_LINE, 52, "MalformedLine", "no EXT-X-DATERANGE line, or a repeated name, or a value of another kind than its name asks for") \
+    X(UNQUOTABLE, 53, "Unquotable", "an ID or date that holds a double quote, CR or LF") \
     X(BOARD_FULL, 61, "BoardFull", "as many breaks are open as may be") \
     X(NOT_OPEN, 62, "NotOpen", "no open break has this event id") \
     X(NO_SUCH_CHANNEL, 63, "NoSuchChannel", "the channel is neither 0 nor 1") \
@@ -624,6 +628,42 @@ struct scte35_adjustment scte35_undo_adjustment(uint64_t a);
  */
 struct scte35_written scte35_adjust_section(const uint8_t *s, size_t n, size_t at, uint64_t adjustment, uint8_t *target, size_t target_length);
 
+/* ---- cues in streaming playlists: an EXT-X-DATERANGE line of RFC 8216, without its line end */
+
+/* the three names of a cue's attribute */
+enum scte35_cue_name { SCTE35_CUE_NAME_CMD = 1, SCTE35_CUE_NAME_OUT = 2, SCTE35_CUE_NAME_IN = 3 };
+
+struct scte35_daterange {
+    uint64_t refusal;
+    struct scte35_view id; /* the value of ID without its quotes, counted from s[at] */
+    struct scte35_view date; /* that of START-DATE */
+    uint64_t name; /* enum scte35_cue_name: the one that was used */
+    uint64_t length; /* how many bytes of the section stand in the target */
+};
+
+/*
+ * The line of a section.
+ * Takes the section, in all bytes from the offset on, an ID and a START-DATE, and the target. Writes #EXT-X-DATERANGE:ID="..",START-DATE="..",SCTE35-OUT=0x..
+ * in this order, hexadecimal digits in capitals, no line end: 50 bytes, with ID and date, and two for each byte of the section; a byte less of SCTE35-IN. The
+ * name is SCTE35-OUT for a splice insert, not cancelled, that leaves the network, SCTE35-IN for one that returns, SCTE35-CMD for all else. ID and date are not
+ * looked at but for 53: whether the date is one is the caller's part. Refuses with 1 to 11 for the section, 53, and 36, in this order; a refused write changes
+ * no byte. Stack: 2 KB.
+ */
+struct scte35_written scte35_write_daterange(const uint8_t *s, size_t n, size_t at, const uint8_t *id, size_t id_length, const uint8_t *date,
+                                             size_t date_length, uint8_t *target, size_t target_length);
+
+/*
+ * What a line says.
+ * Takes the line, all bytes from the offset on, and a target for the section; half the line's length is always enough. Attributes stand in any order, those
+ * of other names are passed over, and of SCTE35-CMD, SCTE35-OUT and SCTE35-IN the first in the line is used. The section's bytes go into the target and are not
+ * judged: hand them to scte35_read_section. Refuses with 52, 51, 36, in this order; then no byte of the target is changed. Stack: 1 KB.
+ *
+ * A line of a long cue that stands last costs at most 14 instructions a character. Each name is looked for among the attributes before it: every attribute
+ * behind the cue costs some 6 more for each of the cue's characters, and a line of n characters in very many attributes at most 4 n * n in all (measured:
+ * docs/COST.md). A caller who is sent hostile lines bounds their length.
+ */
+struct scte35_daterange scte35_read_daterange(const uint8_t *s, size_t n, size_t at, uint8_t *target, size_t target_length);
+
 /* ---- named numbers */
 
 enum scte35_class { SCTE35_CLASS_NAMED = 0, SCTE35_CLASS_RESERVED = 1, SCTE35_CLASS_PRIVATE = 2 };
@@ -740,6 +780,7 @@ SCTE35_WORDS(scte35_upid, 18 + 127 * 4);
 SCTE35_WORDS(scte35_written, 2);
 SCTE35_WORDS(scte35_adjusted_time, 3);
 SCTE35_WORDS(scte35_adjustment, 2);
+SCTE35_WORDS(scte35_daterange, 7);
 SCTE35_WORDS(scte35_number, 3);
 SCTE35_WORDS(scte35_board_answer, 2);
 

@@ -125,6 +125,8 @@ enum { painted = 400 * 1024, paint = 0xA5 };
     }
 
 static uint8_t section[SCTE35_MAX_SECTION], loop[SCTE35_MAX_LOOP], mid[256], target[SCTE35_MAX_SECTION], gathered[SCTE35_MAX_SECTION];
+static uint8_t line[2 * SCTE35_MAX_SECTION + 53];
+static const uint8_t id_of_line[] = {'1'};
 static size_t section_length, loop_length;
 static struct scte35_header header;
 static struct scte35_command command;
@@ -135,12 +137,13 @@ static struct scte35_item_components beside;
 static struct scte35_upid upid;
 static struct scte35_adjusted_time adjusted;
 static struct scte35_adjustment adjustment;
+static struct scte35_daterange daterange;
 static uint64_t packets[SCTE35_PACKET_WORDS], board[SCTE35_BOARD_WORDS];
 static struct scte35_board_answer answer;
 /* of PID 500: a start, counter 0, pointer 0, a section of 5 bytes, then zeros, which are no stuffing */
 static const uint8_t packet[SCTE35_PACKET] = {0x47, 0x41, 0xF4, 0x10, 0x00, 0xFC, 0x30, 0x02, 0xAA, 0xBB};
 static struct scte35_number number;
-static struct scte35_written written;
+static struct scte35_written written, lined;
 static volatile uint32_t told;
 
 MEASURED(scte35_abi, told = scte35_abi())
@@ -163,6 +166,8 @@ MEASURED(scte35_move_time, adjusted = scte35_move_time(SCTE35_TIME_AT, 1, 1))
 MEASURED(scte35_chain_adjustments, adjustment = scte35_chain_adjustments(1, 1))
 MEASURED(scte35_undo_adjustment, adjustment = scte35_undo_adjustment(1))
 MEASURED(scte35_adjust_section, written = scte35_adjust_section(section, section_length, 0, 1, target, sizeof target))
+MEASURED(scte35_write_daterange, lined = scte35_write_daterange(section, section_length, 0, id_of_line, 1, id_of_line, 1, line, sizeof line))
+MEASURED(scte35_read_daterange, daterange = scte35_read_daterange(line, lined.length, 0, gathered, sizeof gathered))
 MEASURED(scte35_classify_algorithm, number = scte35_classify_algorithm(33))
 MEASURED(scte35_classify_command_type, number = scte35_classify_command_type(8))
 MEASURED(scte35_classify_upid_type, number = scte35_classify_upid_type(200))
@@ -180,9 +185,9 @@ MEASURED(scte35_packet_take, told = scte35_packet_take(packets, SCTE35_PACKET_WO
 #define EACH(X)                                                                                                                                              \
     X(abi) X(crc) X(read_header) X(read_section) X(read_command) X(read_insert_components) X(read_item) X(read_item_components) X(read_upid)                 \
     X(is_canonical_section) X(is_canonical_loop) X(is_canonical_descriptor) X(adjust_section) X(write_command_words) X(write_descriptor_words)               \
-    X(write_section_words) X(adjust_time) X(move_time) X(chain_adjustments) X(undo_adjustment) X(classify_algorithm) X(classify_command_type)                \
-    X(classify_upid_type) X(classify_segmentation_type) X(classify_network_indicator) X(classify_return_mode) X(classify_device_restrictions)                \
-    X(packet_start) X(packet_feed) X(packet_take) X(board_empty) X(board_open) X(board_close)
+    X(write_section_words) X(write_daterange) X(read_daterange) X(adjust_time) X(move_time) X(chain_adjustments) X(undo_adjustment)                          \
+    X(classify_algorithm) X(classify_command_type) X(classify_upid_type) X(classify_segmentation_type) X(classify_network_indicator)                         \
+    X(classify_return_mode) X(classify_device_restrictions) X(packet_start) X(packet_feed) X(packet_take) X(board_empty) X(board_open) X(board_close)
 
 #define PLACE(name) size_t name;
 static struct { EACH(PLACE) } most;
@@ -244,6 +249,7 @@ static void around(size_t count)
     EACH(MEASURE)
     CHECK(!whole.refusal && whole.command.insert.mode.component_count == count);
     CHECK(!step.refusal && !beside.refusal && !upid.refusal && upid.count == SCTE35_MAX_PARTS);
+    CHECK(!lined.refusal && !daterange.refusal && daterange.length == section_length && daterange.id.len == 1 && line[daterange.id.at] == '1');
     /* what was measured is what writes: the command of the section itself */
     command = whole.command;
     header = whole.header;

@@ -53,6 +53,7 @@ pub mod board;
 pub mod canonical;
 pub mod numbers;
 pub mod packet;
+pub mod playlist;
 pub mod writing;
 
 // The bytes from an offset on.

@@ -6,6 +6,7 @@ pub mod FixedAnswers
 pub mod FixedAtBoundary
 pub mod FixedAtWriter
 pub mod FixedBoard
+pub mod FixedDaterange
 pub mod BoardOverC
 pub mod FixedInterface
 pub mod FixedTransport

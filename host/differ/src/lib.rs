@@ -6,6 +6,7 @@ pub mod families;
 pub mod make;
 pub mod ours;
 pub mod packets;
+pub mod playlist;
 pub mod rng;
 pub mod run;
 pub mod say;

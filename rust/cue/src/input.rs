@@ -203,7 +203,7 @@ impl Display for TooLong {
 }
 
 /// The next line, and how many bytes it took; none at the end. Of a line that is too long the rest is passed over.
-fn next_line(reader: &mut impl BufRead, line: &mut Vec<u8>) -> io::Result<Option<Result<usize, TooLong>>> {
+pub fn next_line(reader: &mut impl BufRead, line: &mut Vec<u8>) -> io::Result<Option<Result<usize, TooLong>>> {
     line.clear();
     let read = reader.by_ref().take(MAX_LINE as u64 + 1).read_until(b'\n', line)?;
     if read == 0 {

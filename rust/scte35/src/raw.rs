@@ -106,6 +106,7 @@ words! {
     Upid { refusal: u64, values: [u64; 3], upid_type: u64, eidr: [u64; 12], count: u64, parts: [Part; 127] }
     AdjustedTime { refusal: u64, kind: u64, ticks: u64 }
     Adjustment { refusal: u64, adjustment: u64 }
+    Daterange { refusal: u64, id: View, date: View, name: u64, length: u64 }
     Number { refusal: u64, class: u64, number: u64 }
     Written { refusal: u64, length: u64 }
 }
@@ -125,6 +126,18 @@ extern "C" {
     fn scte35_chain_adjustments(a: u64, b: u64) -> Adjustment;
     fn scte35_undo_adjustment(a: u64) -> Adjustment;
     fn scte35_adjust_section(s: *const u8, n: usize, at: usize, adjustment: u64, target: *mut u8, target_length: usize) -> Written;
+    fn scte35_write_daterange(
+        s: *const u8,
+        n: usize,
+        at: usize,
+        id: *const u8,
+        id_length: usize,
+        date: *const u8,
+        date_length: usize,
+        target: *mut u8,
+        target_length: usize,
+    ) -> Written;
+    fn scte35_read_daterange(s: *const u8, n: usize, at: usize, target: *mut u8, target_length: usize) -> Daterange;
     fn scte35_write_command_words(
         command: *const u64,
         command_words: usize,
@@ -264,6 +277,18 @@ pub fn adjust_section(s: &[u8], at: usize, adjustment: u64, target: &mut [u8]) -
     unsafe { scte35_adjust_section(s.as_ptr(), s.len(), at, adjustment, target.as_mut_ptr(), target.len()) }
 }
 
+/// `scte35_write_daterange`
+#[inline]
+pub fn write_daterange(s: &[u8], at: usize, id: &[u8], date: &[u8], target: &mut [u8]) -> Written {
+    unsafe { scte35_write_daterange(s.as_ptr(), s.len(), at, id.as_ptr(), id.len(), date.as_ptr(), date.len(), target.as_mut_ptr(), target.len()) }
+}
+
+/// `scte35_read_daterange`
+#[inline]
+pub fn read_daterange(s: &[u8], at: usize, target: &mut [u8]) -> Daterange {
+    unsafe { scte35_read_daterange(s.as_ptr(), s.len(), at, target.as_mut_ptr(), target.len()) }
+}
+
 /// `scte35_write_command_words`
 #[inline]
 pub fn write_command_words(command: &[u64], components: &[u64], lent: &[u8], target: &mut [u8]) -> Written {
@@ -340,6 +365,7 @@ const _: () = {
     assert!(words::<Upid>() == 18 + 127 * 4);
     assert!(words::<AdjustedTime>() == 3);
     assert!(words::<Adjustment>() == 2);
+    assert!(words::<Daterange>() == 7);
     assert!(words::<Number>() == 3);
     assert!(words::<Written>() == 2);
 };

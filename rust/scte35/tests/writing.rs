@@ -251,3 +251,58 @@ fn a_section_with_its_adjustment_moved() {
         assert_eq!(adjust_section_to_vec(&sample[..17], 1 << 33), Err(Refusal::WrongCrc));
     }
 }
+
+/// A section's line, under the name that its command chooses, and back.
+#[test]
+fn lines_of_playlists() {
+    let date = b"2026-01-01T00:00:00Z";
+    let returns = closed(unhex("FC301B00000000000000FFF00A05000000017F5F000101010000 00000000"));
+    let cancelled = closed(unhex("FC301600000000000000FFF0050500000001FF0000 00000000"));
+    for (section, name) in [(unhex(SAMPLES[1]), CueName::Out), (returns, CueName::In), (cancelled, CueName::Cmd), (unhex(SAMPLES[0]), CueName::Cmd)] {
+        let digits: String = section.iter().map(|b| format!("{b:02X}")).collect();
+        let line = write_daterange_to_vec(&section, b"a, b", date).unwrap();
+        assert_eq!(line, format!("#EXT-X-DATERANGE:ID=\"a, b\",START-DATE=\"2026-01-01T00:00:00Z\",{}=0x{digits}", name.name()).into_bytes());
+        let mut room = vec![0; section.len()];
+        let back = read_daterange(&line, &mut room).unwrap();
+        assert_eq!((back.id, &back.date[..], back.name, back.section), (&b"a, b"[..], &date[..], name, &section[..]));
+        // another order, and an attribute of another name
+        let turned = format!("#EXT-X-DATERANGE:{}=0X{digits},X-A=\"=,\",START-DATE=\"2026-01-01T00:00:00Z\",ID=\"a, b\"", name.name());
+        let mut other = vec![0; section.len()];
+        assert_eq!(read_daterange(turned.as_bytes(), &mut other), read_daterange(&line, &mut room));
+    }
+}
+
+#[test]
+fn refused_lines() {
+    let null = closed(unhex(SAMPLES[3]));
+    let line = write_daterange_to_vec(&null, b"1", b"2").unwrap();
+    let text = String::from_utf8(line.clone()).unwrap();
+    let read = |text: &str| read_daterange(text.as_bytes(), &mut [0; 20]).err();
+    assert_eq!(read(&text), None);
+    for wrong in [
+        "".into(),
+        text[1..].into(),
+        text.to_lowercase(),
+        format!("{text},"),
+        format!("{text}0"),
+        format!("{text},ID=\"1\""),
+        text.replace("\"1\"", "1"),
+    ] {
+        assert_eq!(read(&wrong), Some(Refusal::MalformedLine), "{wrong}");
+    }
+    for wrong in [text.replace("ID=", "IDS="), text.replace("START-DATE", "END-DATE"), text.replace("SCTE35-CMD", "X")] {
+        assert_eq!(read(&wrong), Some(Refusal::AttributeMissing), "{wrong}");
+    }
+    // nothing is changed where it is refused
+    let mut room = [7; 19];
+    assert_eq!(read_daterange(&line, &mut room), Err(Refusal::TargetTooShort));
+    assert_eq!(room, [7; 19]);
+    let mut target = vec![7; line.len()];
+    assert_eq!(write_daterange(&null, b"1\"", b"2", &mut target), Err(Refusal::Unquotable));
+    assert_eq!(write_daterange(&null, b"1", b"\n", &mut target), Err(Refusal::Unquotable));
+    assert_eq!(write_daterange(&null, b"1", b"2", &mut target[1..]), Err(Refusal::TargetTooShort));
+    assert_eq!(write_daterange(&null[1..], b"\"", b"2", &mut target), Err(Refusal::OtherTable));
+    assert_eq!(target, vec![7; line.len()]);
+    assert_eq!(write_daterange(&null, b"1", b"2", &mut target), Ok(line.len()));
+    assert_eq!(target, line);
+}

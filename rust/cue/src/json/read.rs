@@ -32,7 +32,7 @@ type Made<T> = Result<T, Fault>;
 /// The section's bytes, by the proved writers.
 pub fn section(value: Value) -> Made<Vec<u8>> {
     let mut top = Object::new(String::new(), value)?;
-    top.forget(&["cue", "packet", "length", "splice_command_length", "splice_command_type", "descriptor_loop_length"]);
+    top.forget(&["cue", "packet", "daterange", "length", "splice_command_length", "splice_command_type", "descriptor_loop_length"]);
     if let Some(refusal) = top.map.remove("refusal") {
         return Err(refused_before("the cue", &refusal));
     }

@@ -233,8 +233,13 @@ fn output_is_held_to_the_schema() {
     for (_, item, _) in refused_items() {
         cues += &format!("{}\n", around(&item));
     }
-    let count = cues.lines().count();
-    let shown = cue(&["show", "--json", "--as", "hex", "-"]).write_stdin(cues).output().unwrap().stdout;
+    let mut count = cues.lines().count();
+    let mut shown = cue(&["show", "--json", "--as", "hex", "-"]).write_stdin(cues.clone()).output().unwrap().stdout;
+    // those of a playlist have the line's own beside them; of the refused ones no line is written
+    let lines = cue(&["daterange", "--id", "1", "--date", "now", "--as", "hex", "-"]).write_stdin(cues).output().unwrap().stdout;
+    let lines = [lines, b"#EXT-X-DATERANGE:ID=\"\",START-DATE=\"\",SCTE35-IN=0xFC30\n".to_vec()].concat();
+    count += lines.iter().filter(|b| **b == b'\n').count();
+    shown.extend(cue(&["daterange", "--read", "--json"]).write_stdin(lines).output().unwrap().stdout);
     let here = std::path::Path::new(env!("CARGO_MANIFEST_DIR"));
     let held = assert_cmd::Command::new("/usr/bin/python3")
         .arg(here.join("tests/held.py"))

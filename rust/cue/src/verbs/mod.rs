@@ -19,7 +19,7 @@ macro_rules! verbs {
     };
 }
 
-verbs!(show, identifiers, map, check, make, adjust, sections, completions);
+verbs!(show, identifiers, map, check, make, adjust, sections, daterange, completions);
 
 #[cfg(test)]
 pub mod tests;

@@ -1,0 +1,4 @@
+pub mod Runs
+pub mod Cuts
+pub mod Wholes
+pub mod Lists

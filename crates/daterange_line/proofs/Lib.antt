@@ -1,0 +1,9 @@
+pub mod Hexadecimal
+pub mod Searches
+pub mod Turns
+pub mod Names
+pub mod Walks
+pub mod Looks
+pub mod Octets
+pub mod Values
+pub mod Answers
