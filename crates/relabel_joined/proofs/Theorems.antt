@@ -1,4 +1,4 @@
--- The laws of the four levels, joined: what r.md asks of the result, but for the code.
+-- The laws of the four levels, joined: what is asked of the result, but for the code.
 use Prim.Native.Nat.{ℕ, zero, suc, _+_, _≤_, _<_}
 use mathlib.Core.List.{List, _∷_, _++_}
 use mathlib.Core.Path.{_≡_, refl, sym, ap, subst, _∙_}
@@ -25,7 +25,7 @@ use Rattle.relabel_payload.specs.Payload.{payload, Holed}
 use Rattle.relabel_section.proofs.Frames.{new-loop-fits, old-loop-fits}
 use Rattle.relabel_section.proofs.Theorems.{header-and-command-stay}
 use Rattle.relabel_upid.specs.Kept.{Relabelled}
-use Rattle.relabel_upid.specs.Relabel.{relabelMade}
+use Rattle.relabel_upid.specs.Relabel.{upidMade}
 use Rattle.relabel_upid.proofs.Theorems.{every-other-identifier-stays, the-upid-itself}
 use Rattle.relabel_joined.specs.Relabel.{kindThen, itemThen, relabelled, Kept}
 
@@ -34,14 +34,14 @@ fine-of (Fine q) h = (q, refl)
 fine-of (Refused r) h = absurd h
 
 -- what is made of a UPID is accepted under the type that it then has
-made-fine : (kind : ℕ) (top : List ℕ) (part k : ℕ) (new b : List ℕ) → relabelMade kind top part k new ≡ made b → (q : ℕ) × (checkOf (kindThen part kind k) b ≡ Fine q)
+made-fine : (kind : ℕ) (top : List ℕ) (part k : ℕ) (new b : List ℕ) → upidMade kind top part k new ≡ made b → (q : ℕ) × (checkOf (kindThen part kind k) b ≡ Fine q)
 unfolding upidOf
 made-fine kind top zero k new b e = fine-of (checkOf k b) (the-upid-itself kind top k new b e .1)
 made-fine kind top (suc i) k new b e =
     let x = every-other-identifier-stays kind top i k new b e in
     fine-of (checkOf kind b) (subst (λ (t : ℕ). Accepted (checkOf t b)) (sym (x .0)) (x .1 .accepted))
 
-made-byte : (kind : ℕ) (top : List ℕ) (part k : ℕ) (new b : List ℕ) → k < 256 → relabelMade kind top part k new ≡ made b → kindThen part kind k < 256
+made-byte : (kind : ℕ) (top : List ℕ) (part k : ℕ) (new b : List ℕ) → k < 256 → upidMade kind top part k new ≡ made b → kindThen part kind k < 256
 made-byte kind top zero k new b h e = h
 made-byte kind top (suc i) k new b h e = omega (arith, every-other-identifier-stays kind top i k new b e .0)
 
@@ -50,7 +50,7 @@ made-byte kind top (suc i) k new b h e = omega (arith, every-other-identifier-st
 -- Then the relabelled section is accepted, its header, its command and every other item read the same, and of the item itself only the UPID differs. What becomes of
 -- the UPID is said by `every-other-identifier-stays` and `the-upid-itself` (relabel_upid).
 pub everything-else-stays : (s : List ℕ) (old : Section) (lead : List Listed) (x : Listed) (tail : List Listed) (event : ℕ) (i : SegmentationInsert) (pay : List ℕ) (h : Holed pay event i)
-    (part k : ℕ) (new b : List ℕ) → sectionOf s ≡ SectionRead.Is old → itemsOf (loopBytes s) ≡ lead ++ (x ∷ tail) → k < 256 → relabelMade (h .kind) (h .bytes) part k new ≡ made b
+    (part k : ℕ) (new b : List ℕ) → sectionOf s ≡ SectionRead.Is old → itemsOf (loopBytes s) ≡ lead ++ (x ∷ tail) → k < 256 → upidMade (h .kind) (h .bytes) part k new ≡ made b
     → length (payload (h .fore) (h .post) (kindThen part (h .kind) k) b) ≤ 250
     → length (relabelled s x (h .fore) (h .post) (kindThen part (h .kind) k) b) ≤ 4096
     → Kept s old lead x tail event i (h .fore) (h .post) (kindThen part (h .kind) k) b

@@ -28,8 +28,9 @@ use Rattle.descriptor.specs.declared.segmentation.SegmentationDetail.{Segmentat
 use Rattle.descriptor.specs.declared.segmentation.SegmentationDetail.the-variants.{Cancel, Insert}
 use Rattle.descriptor.specs.declared.segmentation.SegmentationInsert.{SegmentationInsert}
 use Rattle.descriptor.specs.declared.segmentation.SegmentationUpid.{SegmentationUpid}
-use Rattle.relabel_payload.specs.Payload.{payload, Holed}
+use Rattle.relabel_payload.specs.Payload.{payload, upidHead, Holed}
 use Rattle.relabel_payload.proofs.Fronts.{blind-head, ends-head, Split, split-front, Written, written-is, written-puts}
+use Rattle.relabel_payload.proofs.Spots.{head-at}
 use Rattle.relabel_payload.proofs.Swaps.{swap, Sightless, sightless-inside, sightless-pick, later, shift, ends-at}
 
 -- what a table reads
@@ -219,6 +220,9 @@ module _ (s : List ℕ) (event : ℕ) (i : SegmentationInsert) (bytes : (k : ℕ
       ap (λ (x : Fore). x .front .«segmentation_upid») (sym (split .is)) ∙ split .has (split .upid) ∙ written .upid
       ∙ ap (λ (n : ℕ). record { kind = written .kind; bytes = record { at = n + 2; len = length (written .bytes) } }) (sym fore-size)
 
+  place-is : length fore ≡ upidHead s
+  place-is = omega (arith, ap (λ (u : SegmentationUpid). u .bytes .at) upid-is, head-at s bytes (p .h) (p .a) (p .head-is) (p .f) (p .m) (p .front-is))
+
   fine-is : checkOf (written .kind) (written .bytes) ≡ UpidRead.Fine (p .q)
   fine-is =
       sym (ap (λ (u : SegmentationUpid). checkOf (u .kind) (viewed s (u .bytes))) upid-is
@@ -300,6 +304,7 @@ module _ (s : List ℕ) (event : ℕ) (i : SegmentationInsert) (bytes : (k : ℕ
         bytes = written .bytes;
         post = written .post;
         is = is-holed;
+        place = place-is;
         reported = p .q;
         fine = fine-is;
         upid = ap (λ (j : SegmentationInsert). j .«segmentation_upid») (sym (p .is)) ∙ ap (λ (w : SegmentationUpid). reportedUpid (p .q) (w .bytes)) upid-is;

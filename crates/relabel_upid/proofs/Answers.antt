@@ -22,7 +22,7 @@ use Rattle.upid.proofs.Answers.{no-mid-no-parts, refused-no-parts}
 use Rattle.upid.proofs.Walks.{check-mid, check-short}
 use Rattle.relabel_upid.specs.Hole.{Hole, headed, filled}
 use Rattle.relabel_upid.specs.Kept.{Identifier, identifiersIn, identifiersAt, insideOf, afterPart, identifiersThen, widened, moved, renewed, partsThen, writtenKind, Relabelled}
-use Rattle.relabel_upid.specs.Relabel.{instead, mended, spliced, partAt, replacedIn, replaced, taken, wholeMade, partMade, relabelMade}
+use Rattle.relabel_upid.specs.Relabel.{instead, mended, spliced, partAt, replacedIn, replaced, taken, wholeMade, partMade, upidMade}
 use Rattle.relabel_upid.proofs.Holes.{levelAt, startAt, recorded, inner, before, behind, list-filled, Fair, FairCut, accepted-filled, Found, find, front, back, cut-filled, length-front, length-filled}
 use Rattle.relabel_upid.proofs.Places.{spot, mend-front, before-widened, behind-moved}
 use Rattle.relabel_upid.proofs.Told.{told-append, same-before, same-behind, reported-list, told-own}
@@ -284,13 +284,13 @@ pub record Able (kind : ℕ) (top : List ℕ) (i k : ℕ) (new : List ℕ) : Typ
   pub short : instead (partAt (partsIn (upidOf kind top)) i) (length new) (length top) ≤ 255
   pub fair : taken (readOf k 0 new) ≡ true
 
-pub able-made : (kind : ℕ) (top : List ℕ) (i k : ℕ) (new : List ℕ) → Able kind top i k new → relabelMade kind top (suc i) k new ≡ made (replacedIn top (partsIn (upidOf kind top)) i k new)
-unfolding relabelMade partMade
+pub able-made : (kind : ℕ) (top : List ℕ) (i k : ℕ) (new : List ℕ) → Able kind top i k new → upidMade kind top (suc i) k new ≡ made (replacedIn top (partsIn (upidOf kind top)) i k new)
+unfolding upidMade partMade
 able-made kind top i k new h = rw (lt-leb _ _ (h .there), le-ltb _ _ (h .short), h .fair)
 
-pub made-able : (kind : ℕ) (top : List ℕ) (i k : ℕ) (new b : List ℕ) → relabelMade kind top (suc i) k new ≡ made b
+pub made-able : (kind : ℕ) (top : List ℕ) (i k : ℕ) (new b : List ℕ) → upidMade kind top (suc i) k new ≡ made b
     → Able kind top i k new × (b ≡ replacedIn top (partsIn (upidOf kind top)) i k new)
-unfolding relabelMade partMade
+unfolding upidMade partMade
 made-able kind top i k new b = go (leb (length (partsIn (upidOf kind top))) i) refl (ltb 255 (instead (partAt (partsIn (upidOf kind top)) i) (length new) (length top))) refl (taken (readOf k 0 new)) refl
   where
     result : List ℕ
@@ -362,7 +362,7 @@ module _ (top : List ℕ) (i k : ℕ) (new : List ℕ) (a : Accepted (checkOf 13
         fair = accepted-taken _ old-fair;
       }
 
-  back-is : relabelMade 13 (whole .0) (suc i) (writtenKind top old) (bytesOf top old) ≡ made top
+  back-is : upidMade 13 (whole .0) (suc i) (writtenKind top old) (bytesOf top old) ≡ made top
   back-is =
       able-made 13 (whole .0) i (writtenKind top old) (bytesOf top old) back-able
       ∙ ap (λ (ps : List Part). made (replacedIn (whole .0) ps i (writtenKind top old) (bytesOf top old))) result-parts
@@ -385,7 +385,7 @@ module _ (top : List ℕ) (i k : ℕ) (new : List ℕ) (a : Accepted (checkOf 13
   pub relabelled : Relabelled top i k new (replaced top i k new)
   relabelled = subst (Relabelled top i k new) (sym result-is) relabelled-whole
 
-pub relabelled-made : (kind : ℕ) (top : List ℕ) (i k : ℕ) (new b : List ℕ) → relabelMade kind top (suc i) k new ≡ made b → (kind ≡ 13) × Relabelled top i k new b
+pub relabelled-made : (kind : ℕ) (top : List ℕ) (i k : ℕ) (new b : List ℕ) → upidMade kind top (suc i) k new ≡ made b → (kind ≡ 13) × Relabelled top i k new b
 relabelled-made kind top i k new b e =
     let x = made-able kind top i k new b e in
     let y = has-parts kind top i (x .0 .there) in
@@ -413,7 +413,7 @@ module _ (top : List ℕ) (i : ℕ) (a : Accepted (checkOf 13 top)) (h : i < len
   mine-stays : replacedIn top (partsIn (upidOf 13 top)) i (writtenKind top mine) (bytesOf top mine) ≡ top
   mine-stays = subst (λ (ps : List Part). replacedIn top ps i (writtenKind top (partAt ps i)) (bytesOf top (partAt ps i)) ≡ top) (sym (parts-of-mid top a)) (stays top i (check-mid top a) mine-there)
 
-  pub same-again : relabelMade 13 top (suc i) (writtenKind top mine) (bytesOf top mine) ≡ made top
+  pub same-again : upidMade 13 top (suc i) (writtenKind top mine) (bytesOf top mine) ≡ made top
   same-again =
       able-made 13 top i (writtenKind top mine) (bytesOf top mine)
       (record { there = h; short = omega (arith, mine-short .0, mine-short .1, check-short 13 top a); fair = accepted-taken _ mine-fair })
@@ -436,8 +436,8 @@ one-hole top i a hi =
           (subst (λ (j : ℕ). replacedIn (filled h c) (listOf 13 1 0 (filled h c)) j (d .kind) (d .payload) ≡ filled h d) (x .count) (refilled c d h (x .fair))),
     )
 
-pub whole-made-is : (kind : ℕ) (top : List ℕ) (k : ℕ) (new b : List ℕ) → relabelMade kind top 0 k new ≡ made b → (b ≡ new) × Accepted (checkOf k b) × (0 < length b)
-unfolding relabelMade wholeMade
+pub whole-made-is : (kind : ℕ) (top : List ℕ) (k : ℕ) (new b : List ℕ) → upidMade kind top 0 k new ≡ made b → (b ≡ new) × Accepted (checkOf k b) × (0 < length b)
+unfolding upidMade wholeMade
 whole-made-is kind top k new b = go (eqb (length top) 0 || not (taken (checkOf kind top))) (ltb 255 (length new)) refl (eqb (length new) 0) refl (taken (readOf k 0 new)) refl
   where
     go : (t u : Bool) → ltb 255 (length new) ≡ u → (v : Bool) → eqb (length new) 0 ≡ v → (x : Bool) → taken (readOf k 0 new) ≡ x

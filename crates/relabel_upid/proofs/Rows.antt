@@ -17,7 +17,7 @@ use Rattle.upid.specs.declared.Part.{Part}
 use Rattle.upid.proofs.Laws.{list-plain}
 use Rattle.upid.proofs.Theorems.{eight-and-twelve}
 use Rattle.relabel_upid.specs.Kept.{Identifier, told, identifiersIn, identifiersOf, identifiersAt, identifiersThen, insideOf, afterPart}
-use Rattle.relabel_upid.specs.Relabel.{instead, around, mended, spliced, partAt, replacedIn, taken, wholeMade, partMade, relabelMade}
+use Rattle.relabel_upid.specs.Relabel.{instead, around, mended, spliced, partAt, replacedIn, taken, wholeMade, partMade, upidMade}
 use Rattle.relabel_upid.proofs.Answers.{Able, able-made, accepted-taken, relabelled-made}
 use Rattle.relabel_upid.proofs.Told.{reported-other}
 
@@ -51,7 +51,7 @@ module _ (j k m : ℕ) (a b n : List ℕ) (la : length a ≡ 8) (lb : length b �
         fair = accepted-taken _ mn;
       }
 
-  pub eight-becomes-twelve : relabelMade 13 (j ∷ (8 ∷ (a ++ (k ∷ (12 ∷ b))))) 1 m n ≡ made (m ∷ (12 ∷ (n ++ (k ∷ (12 ∷ b)))))
+  pub eight-becomes-twelve : upidMade 13 (j ∷ (8 ∷ (a ++ (k ∷ (12 ∷ b))))) 1 m n ≡ made (m ∷ (12 ∷ (n ++ (k ∷ (12 ∷ b)))))
   unfolding spliced mended
   eight-becomes-twelve =
       able-made 13 top 0 m n able
@@ -128,10 +128,10 @@ rows =
 
 pub data Hold : List Row → Type 0 where
   none : Hold []
-  more : {r : Row} {rs : List Row} → relabelMade (r .kind) (r .top) (r .part) (r .new-kind) (r .new) ≡ r .answer → Hold rs → Hold (r ∷ rs)
+  more : {r : Row} {rs : List Row} → upidMade (r .kind) (r .top) (r .part) (r .new-kind) (r .new) ≡ r .answer → Hold rs → Hold (r ∷ rs)
 
 pub rows-hold : Hold rows
-unfolding rows relabelMade wholeMade partMade spliced mended around taken upidOf checkOf readOf walkOf _then_ plainOf lengthOf isText reportedOf listOf partsOf listed unlessRefused textOf done step within
+unfolding rows upidMade wholeMade partMade spliced mended around taken upidOf checkOf readOf walkOf _then_ plainOf lengthOf isText reportedOf listOf partsOf listed unlessRefused textOf done step within
 rows-hold =
     more refl (more refl (more refl (more refl (more refl (more refl
     (more refl (more refl (more refl (more refl (more refl

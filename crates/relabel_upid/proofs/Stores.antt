@@ -20,7 +20,7 @@ use Rattle.upid.proofs.Answers.{at-most-127, all-127}
 use Rattle.upid.proofs.Tree.{all-map}
 use Rattle.upid.proofs.Walks.{check-mid}
 use Rattle.relabel_upid.specs.Hole.{Hole, here, inside, past, filled}
-use Rattle.relabel_upid.specs.Relabel.{instead, around, mended, spliced, partAt, taken, wholeMade, partMade, relabelMade}
+use Rattle.relabel_upid.specs.Relabel.{instead, around, mended, spliced, partAt, taken, wholeMade, partMade, upidMade}
 use Rattle.relabel_upid.specs.Walk.{Mends, Mendable, Ahead, Storable}
 use Rattle.relabel_upid.proofs.Answers.{part-is, take-is, parts-of-mid, has-parts}
 use Rattle.relabel_upid.proofs.Holes.{startAt, recorded, inner, before, Fair, Found, find, length-front, length-filled}
@@ -249,11 +249,11 @@ module _ (kind k i : ℕ) (top new : List ℕ) (list : PartList) (is : list ≡ 
         spliced-size top list i p k new (top ++ new)
         (storable kind top i list is there p e new (top ++ new) short h (omega (arith, length-append top new)))
 
-pub relabel-zero : (kind k part : ℕ) (top new : List ℕ) → part ≡ 0 → relabelMade kind top part k new ≡ wholeMade kind top k new
-unfolding relabelMade
+pub relabel-zero : (kind k part : ℕ) (top new : List ℕ) → part ≡ 0 → upidMade kind top part k new ≡ wholeMade kind top k new
+unfolding upidMade
 relabel-zero kind k part top new h = rw h
 
-pub relabel-more : (kind k part : ℕ) (top new : List ℕ) → (part ≡ 0 → ⊥) → relabelMade kind top part k new ≡ partMade kind top (part - 1) k new
-unfolding relabelMade
+pub relabel-more : (kind k part : ℕ) (top new : List ℕ) → (part ≡ 0 → ⊥) → upidMade kind top part k new ≡ partMade kind top (part - 1) k new
+unfolding upidMade
 relabel-more kind k zero top new h = absurd (h refl)
 relabel-more kind k (suc i) top new h = let e : suc i - 1 ≡ i = omega arith in ap (λ (j : ℕ). partMade kind top j k new) (sym e)

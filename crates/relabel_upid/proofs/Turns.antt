@@ -22,7 +22,7 @@ use Rattle.upid.specs.declared.PartList.{PartList}
 use Rattle.upid.specs.declared.UpidRead.{UpidRead}
 use Rattle.upid.specs.declared.UpidRead.the-variants.{Fine, Refused}
 use Rattle.upid.proofs.Laws.{read-nil, read-more}
-use Rattle.relabel_upid.specs.Relabel.{instead, around, mended, partAt, replacedIn, taken, wholeMade, partMade}
+use Rattle.relabel_upid.specs.Relabel.{instead, around, mended, partAt, replacedIn, taken, wholeMade, partMade, upTo}
 use Rattle.relabel_upid.specs.Walk.{Mends, Mendable}
 use Rattle.relabel_upid.proofs.Anywhere.{anywhere}
 
@@ -194,3 +194,11 @@ mended-elsewhere p n (q ∷ qs) s j (more h hs) = mended-elsewhere p n qs _ j hs
     go : (t : Bool) → around p q ≡ t → getD (pick t (set s (q .start - 1) (instead p n (q .len))) s) j 0 ≡ getD s j 0
     go true e = getD-set-other s (q .start - 1) j (instead p n (q .len)) 0 (λ f. h e (sym f))
     go false e = refl
+
+-- ---- no longer than there is room for
+module _ (limit : ℕ) (m : Made) (b : List ℕ) (e : m ≡ made b) where
+  pub up-to-over : limit < length b → upTo limit m ≡ refused 34
+  up-to-over h = rw (e, lt-leb _ _ h)
+
+  pub up-to-fits : length b ≤ limit → upTo limit m ≡ made b
+  up-to-fits h = rw (e, le-leb _ _ h)
