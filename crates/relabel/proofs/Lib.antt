@@ -1,0 +1,3 @@
+pub mod Stores
+pub mod Ats
+pub mod Cuts
