@@ -113,7 +113,7 @@ glue : (h fo tw X cu fi b po be sp : List ℕ) (tag len K m : ℕ)
     ≡ ((h ++ (fo ++ tw)) ++ ((X ++ (tag ∷ [])) ++ (len ∷ ((cu ++ fi) ++ (K ∷ (m ∷ [])))))) ++ (b ++ (po ++ (be ++ sp)))
 glue h fo tw X cu fi b po be sp tag len K m = simp append-assoc
 
-loop-there : (s : List ℕ) → 20 + commandLength s + loopLength s ≤ length s → loopBytes s ≡ run s (16 + commandLength s) (loopLength s)
+pub loop-there : (s : List ℕ) → 20 + commandLength s + loopLength s ≤ length s → loopBytes s ≡ run s (16 + commandLength s) (loopLength s)
 unfolding viewed loopPlace
 loop-there s room =
     let h : 16 + commandLength s + loopLength s ≤ length s = omega arith in

@@ -35,13 +35,15 @@ fitting s offset part k (refused n) = refused n
 fitting s offset part k (made b) =
     pick (leb (length (payloadThen s offset part k b)) 250 && leb (length (sectionThen s offset part k b)) 4096) (made (sectionThen s offset part k b)) (refused 34)
 
--- The section s in which part number `part` (0 for the UPID itself) of the item at `offset` becomes an identifier of type k with the bytes `new`; or a refusal:
--- 1 to 11 for the section; 41 for an item that is none, refused, cancelled or no segmentation descriptor; 41 for a UPID that is none or has no such part, 32, 33
--- (`upidMade`); 34; and 36 by `answerOf`.
-unfoldable pub relabelMade : List ℕ → ℕ → ℕ → ℕ → List ℕ → Made
-relabelMade s offset part k new =
-    pick (eqb (numberOf (sectionOf s)) 0)
-    (pick (found (loopBytes s) offset)
+-- where the section is accepted: 41 for an item that is none, refused, cancelled or no segmentation descriptor; 41 for a UPID that is none or has no such part,
+-- 32, 33 (`upidMade`); 34
+unfoldable pub loopMade : List ℕ → ℕ → ℕ → ℕ → List ℕ → Made
+loopMade s offset part k new =
+    pick (found (loopBytes s) offset)
     (fitting s offset part k (upidMade (kindIn (payloadIn s offset)) (upidIn (payloadIn s offset)) part k new))
-    (refused 41))
-    (refused (numberOf (sectionOf s)))
+    (refused 41)
+
+-- The section s in which part number `part` (0 for the UPID itself) of the item at `offset` becomes an identifier of type k with the bytes `new`; or a refusal:
+-- 1 to 11 for the section, then those of `loopMade`, and 36 by `answerOf`.
+unfoldable pub relabelMade : List ℕ → ℕ → ℕ → ℕ → List ℕ → Made
+relabelMade s offset part k new = pick (eqb (numberOf (sectionOf s)) 0) (loopMade s offset part k new) (refused (numberOf (sectionOf s)))

@@ -6,11 +6,17 @@ ghost use lib.ListN.{length, getD};
 ghost use Rattle.pen.specs.Written.{answerOf, laterOf};
 ghost use Rattle.relabel_joined.specs.Relabel.{kindThen};
 ghost use Rattle.table.specs.Lent.{stored};
-//ghost use Rattle.relabel.specs.Relabel.{relabelMade};
-ghost use Rattle.relabel.specs.Walk.{Lies, Takes, Limit, oldSize, headOf, itemOf, sealed, placedMade};
+ghost use Rattle.relabel.specs.Relabel.{loopMade, relabelMade};
+ghost use Rattle.section.specs.Section.{commandLength, loopLength};
+ghost use Rattle.relabel.specs.Walk.{Spotted, placeIn, Lies, Takes, Limit, oldSize, headOf, itemOf, sealed, placedMade};
+use adjust_section::refusal_number;
 use crc::crc32;
 use pen::Written;
+use relabel_found::finds_insert;
+use relabel_found::upid_head;
 use relabel_upid::relabel_upid;
+use section::SectionRead;
+use section::read_section;
 use table::numbers::wide;
 use table::store::put_byte;
 use table::store::put_bytes;
@@ -151,4 +157,83 @@ fn relabel_at(
     };
     store_around(section, p, kind_then(part, kind, k), n, target);
     Written::Wrote(others + n)
+}
+
+// How many bytes the UPID at a place may have: the item's length is at most 254, and the section's 4,096.
+fn limit_of(section: &[u8], p: Place) -> usize
+    requires { ⌜ Lies (now section) p ⌝ }
+    ensures { λ r. ⌜ Limit (now (section .entry)) p r ⌝ }
+{
+    let own = p.item + 1;
+    let old = p.end - (p.head + 2);
+    let item = size_of(section[own]) - old;
+    let others = section.len() - old;
+    lesser(254 - item, 4096 - others)
+}
+
+// The place of the item at an offset of the loop, where one is found.
+fn place_of(section: &[u8], list: usize, len: usize, offset: usize) -> Place
+    requires { ⌜ Spotted (now section) offset × (list ≡ 16 + commandLength (now section)) × (len ≡ loopLength (now section)) ⌝ }
+    ensures { λ r. ⌜ r ≡ placeIn (now (section .entry)) offset ⌝ }
+{
+    let item = list + offset;
+    let own = item + 1;
+    let start = item + 6;
+    let stop = item + 2 + size_of(section[own]);
+    let head = start + upid_head(&section[start..stop]);
+    let counts = head + 1;
+    let end = head + 2 + size_of(section[counts]);
+    Place {
+        list,
+        len,
+        item,
+        head,
+        end,
+    }
+}
+
+// The identifier in a section that is accepted.
+fn relabel_in(
+    section: &[u8],
+    list: usize,
+    len: usize,
+    offset: usize,
+    part: usize,
+    k: u8,
+    new: &[u8],
+    target: &mut [u8],
+) -> Written
+    requires { ⌜ (list ≡ 16 + commandLength (now section)) × (len ≡ loopLength (now section)) × (20 + commandLength (now section) + loopLength (now section) ≤ length (now section)) × (length (now section) ≤ 4096) ⌝ }
+    ensures answer { λ r. ⌜ r ≡ answerOf (loopMade (now (section .entry)) offset part k (now (new .entry))) (now (target .entry)) ⌝ }
+    ensures bytes { λ _. ⌜ now (target .exit) ≡ laterOf (loopMade (now (section .entry)) offset part k (now (new .entry))) (now (target .entry)) ⌝ }
+{
+    let end = list + len;
+    if !finds_insert(&section[list..end], offset) {
+        return Written::Refused(41);
+    }
+    let p = place_of(section, list, len, offset);
+    let limit = limit_of(section, p);
+    relabel_at(section, p, limit, part, k, new, target)
+}
+
+// The section in which part number `part` of the item at `offset` of its loop becomes an identifier of type `k` with the bytes `new`, from the target's first
+// byte on; or a refusal: 1 to 11 for the section, 41, 32, 33, 34, 36. Part 0 is the UPID itself, part n the n-th of its MID's parts as `read_upid` lists them.
+pub fn relabel(
+    section: &[u8],
+    offset: usize,
+    part: usize,
+    k: u8,
+    new: &[u8],
+    target: &mut [u8],
+) -> Written
+    ensures answer { λ r. ⌜ r ≡ answerOf (relabelMade (now (section .entry)) offset part k (now (new .entry))) (now (target .entry)) ⌝ }
+    ensures bytes { λ _. ⌜ now (target .exit) ≡ laterOf (relabelMade (now (section .entry)) offset part k (now (new .entry))) (now (target .entry)) ⌝ }
+{
+    let read = read_section(section);
+    let x = match read {
+        SectionRead::Is(x) => x,
+        SectionRead::Refused(_) => return Written::Refused(refusal_number(read)),
+    };
+    let place = x.descriptors;
+    relabel_in(section, place.at, place.len, offset, part, k, new, target)
 }
