@@ -46,6 +46,7 @@ pub mod board;
 pub mod canonical;
 pub mod numbers;
 pub mod packet;
+pub mod relabelling;
 pub mod writing;
 
 // The bytes from an offset on.

@@ -8,6 +8,7 @@ pub mod FixedAtWriter
 pub mod FixedBoard
 pub mod BoardOverC
 pub mod FixedInterface
+pub mod FixedRelabel
 pub mod FixedTransport
 pub mod Framed
 pub mod Runs

@@ -19,7 +19,7 @@ macro_rules! verbs {
     };
 }
 
-verbs!(show, identifiers, map, check, make, adjust, sections, completions);
+verbs!(show, identifiers, map, check, make, adjust, relabel, sections, completions);
 
 #[cfg(test)]
 pub mod tests;
