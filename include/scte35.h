@@ -469,7 +469,7 @@ struct scte35_upid {
 
 /*
  * A UPID, and the parts of a MID.
- * Takes the type as written, and the UPID's bytes from the offset to the end. Refuses with 2, 21, 23 to 25. Stack: 22 KB, for a MID 128 levels deep.
+ * Takes the type as written, and the UPID's bytes from the offset to the end. Refuses with 2, 21, 23 to 25. Stack: 24 KB, for a MID 128 levels deep.
  */
 struct scte35_upid scte35_read_upid(uint8_t upid_type, const uint8_t *s, size_t n, size_t at);
 
@@ -636,7 +636,8 @@ struct scte35_written scte35_adjust_section(const uint8_t *s, size_t n, size_t a
  * section_length) and the CRC mended; no other byte is changed, whatever the section holds. Refuses with 1 to 11 for the section; 41 where no item of the loop
  * begins at the offset, or one that is refused, cancelled or no segmentation descriptor, or where its UPID is none or has no such part; 32 where the UPID would
  * have more than 255 bytes; 33 where its reader refuses the new identifier there, or it is an empty UPID; 34 where the descriptor's length would be over 254 or
- * the section over 4,096 bytes; and 36 where the target is shorter than the result, in this order; a refused write changes no byte. Stack: 8 KB.
+ * the section over 4,096 bytes; and 36 where the target is shorter than the result, in this order; a refused write changes no byte. Stack: 24 KB, for a MID
+ * 128 levels deep.
  */
 struct scte35_written scte35_relabel(const uint8_t *s, size_t n, size_t offset, size_t part, uint8_t upid_type, const uint8_t *bytes, size_t bytes_length,
                                      uint8_t *target, size_t target_length);

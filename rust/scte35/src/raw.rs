@@ -278,19 +278,7 @@ pub fn adjust_section(s: &[u8], at: usize, adjustment: u64, target: &mut [u8]) -
 /// `scte35_relabel`
 #[inline]
 pub fn relabel(s: &[u8], offset: usize, part: usize, upid_type: u8, bytes: &[u8], target: &mut [u8]) -> Written {
-    unsafe {
-        scte35_relabel(
-            s.as_ptr(),
-            s.len(),
-            offset,
-            part,
-            upid_type,
-            bytes.as_ptr(),
-            bytes.len(),
-            target.as_mut_ptr(),
-            target.len(),
-        )
-    }
+    unsafe { scte35_relabel(s.as_ptr(), s.len(), offset, part, upid_type, bytes.as_ptr(), bytes.len(), target.as_mut_ptr(), target.len()) }
 }
 
 /// `scte35_write_command_words`
