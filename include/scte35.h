@@ -47,11 +47,12 @@ uint32_t scte35_abi(void);
  *
  * 1 to 11 are of a section; 5 of a header alone, too, 10 and 11 of a command alone, 2 of a loop or a UPID. 12 is of a number that should be a flag's. 21 to 25
  * are of an item or a UPID, never of the section around it. 31 to 36 are of a value that is to be written; 32 of a time or a section that is to be adjusted,
- * too, and of the adjustment; 36 of that section's target, of a line's, and of a board's words. 51 and 52 are of a line of a playlist that is read, 53 of one
- * that is written. 61 to 63 are of a board, 71 to 75 of a transport packet.
+ * too, and of the adjustment; 36 of that section's target, of a line's, and of a board's words. 41 is of an identifier that is to be replaced. 51 and 52 are
+ * of a line of a playlist that is read, 53 of one that is written. 61 to 63 are of a board, 71 to 75 of a transport packet.
  *
- * 1 to 12, 31 to 36, and 71 to 75 are looked at in order of number, and the first that applies is the answer; of a board 36, then 63, then 61 or 62; of a line
- * that is read 52, 51, 36, of one that is written 1 to 11, 53, 36. Of 21 to 25 it is the first fault in layout order.
+ * 1 to 12, 31 to 36, and 71 to 75 are looked at in order of number, and the first that applies is the answer; of a board 36, then 63, then 61 or 62; of an
+ * identifier 1 to 11, then 41, then 32, 33, 34, 36; of a line that is read 52, 51, 36, of one that is written 1 to 11, 53, 36. Of 21 to 25 it is the first
+ * fault in layout order.
  *
  * Values: of 21 the bytes expected and the actual ones; of 24 the type as written, and the text as a view: place and length; of 25 the type as written, the
  * length expected and the actual one.
@@ -85,6 +86,7 @@ uint32_t scte35_abi(void);
     X(RESULT_TOO_LONG, 34, "ResultTooLong", "a descriptor's length over 254, or a section over 4,096 bytes") \
     X(LOOP_NOT_CANONICAL, 35, "LoopNotCanonical", "the descriptor loop that is handed in is not canonical") \
     X(TARGET_TOO_SHORT, 36, "TargetTooShort", "the target is shorter than the result") \
+    X(NO_SUCH_IDENTIFIER, 41, "NoSuchIdentifier", "no identifier stands there that can be replaced") \
     X(ATTRIBUTE_MISSING, 51, "AttributeMissing", "a line without ID, START-DATE or any of the three cue attributes") \
     X(MALFORMED_LINE, 52, "MalformedLine", "no EXT-X-DATERANGE line, or a repeated name, or a value of another kind than its name asks for") \
     X(UNQUOTABLE, 53, "Unquotable", "an ID or date that holds a double quote, CR or LF") \
@@ -471,7 +473,7 @@ struct scte35_upid {
 
 /*
  * A UPID, and the parts of a MID.
- * Takes the type as written, and the UPID's bytes from the offset to the end. Refuses with 2, 21, 23 to 25. Stack: 22 KB, for a MID 128 levels deep.
+ * Takes the type as written, and the UPID's bytes from the offset to the end. Refuses with 2, 21, 23 to 25. Stack: 24 KB, for a MID 128 levels deep.
  */
 struct scte35_upid scte35_read_upid(uint8_t upid_type, const uint8_t *s, size_t n, size_t at);
 
@@ -627,6 +629,22 @@ struct scte35_adjustment scte35_undo_adjustment(uint64_t a);
  * no byte. Stack: 2 KB.
  */
 struct scte35_written scte35_adjust_section(const uint8_t *s, size_t n, size_t at, uint64_t adjustment, uint8_t *target, size_t target_length);
+
+/* ---- one identifier replaced, every other one kept */
+
+/*
+ * A section in which one identifier is replaced.
+ * Takes the section, the offset of an item of its loop as scte35_read_item counts it, which identifier (part 0 is the item's UPID itself, part k the k-th of
+ * its MID's parts as scte35_read_upid lists them, from 1 on, at any level), and the new one: its type as it is written, and its bytes. Writes the section with
+ * that identifier's type, length and bytes replaced, and every length around it (each MID's around it, the UPID's, the descriptor's, the loop's,
+ * section_length) and the CRC mended; no other byte is changed, whatever the section holds. Refuses with 1 to 11 for the section; 41 where no item of the loop
+ * begins at the offset, or one that is refused, cancelled or no segmentation descriptor, or where its UPID is none or has no such part; 32 where the UPID would
+ * have more than 255 bytes; 33 where its reader refuses the new identifier there, or it is an empty UPID; 34 where the descriptor's length would be over 254 or
+ * the section over 4,096 bytes; and 36 where the target is shorter than the result, in this order; a refused write changes no byte. Stack: 24 KB, for a MID
+ * 128 levels deep.
+ */
+struct scte35_written scte35_relabel(const uint8_t *s, size_t n, size_t offset, size_t part, uint8_t upid_type, const uint8_t *bytes, size_t bytes_length,
+                                     uint8_t *target, size_t target_length);
 
 /* ---- cues in streaming playlists: an EXT-X-DATERANGE line of RFC 8216, without its line end */
 

@@ -165,6 +165,7 @@ MEASURED(scte35_adjust_time, adjusted = scte35_adjust_time(SCTE35_TIME_AT, 1, 1)
 MEASURED(scte35_move_time, adjusted = scte35_move_time(SCTE35_TIME_AT, 1, 1))
 MEASURED(scte35_chain_adjustments, adjustment = scte35_chain_adjustments(1, 1))
 MEASURED(scte35_undo_adjustment, adjustment = scte35_undo_adjustment(1))
+MEASURED(scte35_relabel, written = scte35_relabel(section, section_length, 0, 1, 8, section, 12, target, sizeof target))
 MEASURED(scte35_adjust_section, written = scte35_adjust_section(section, section_length, 0, 1, target, sizeof target))
 MEASURED(scte35_write_daterange, lined = scte35_write_daterange(section, section_length, 0, id_of_line, 1, id_of_line, 1, line, sizeof line))
 MEASURED(scte35_read_daterange, daterange = scte35_read_daterange(line, lined.length, 0, gathered, sizeof gathered))
@@ -184,7 +185,7 @@ MEASURED(scte35_packet_take, told = scte35_packet_take(packets, SCTE35_PACKET_WO
 
 #define EACH(X)                                                                                                                                              \
     X(abi) X(crc) X(read_header) X(read_section) X(read_command) X(read_insert_components) X(read_item) X(read_item_components) X(read_upid)                 \
-    X(is_canonical_section) X(is_canonical_loop) X(is_canonical_descriptor) X(adjust_section) X(write_command_words) X(write_descriptor_words)               \
+    X(is_canonical_section) X(is_canonical_loop) X(is_canonical_descriptor) X(adjust_section) X(relabel) X(write_command_words) X(write_descriptor_words)    \
     X(write_section_words) X(write_daterange) X(read_daterange) X(adjust_time) X(move_time) X(chain_adjustments) X(undo_adjustment)                          \
     X(classify_algorithm) X(classify_command_type) X(classify_upid_type) X(classify_segmentation_type) X(classify_network_indicator)                         \
     X(classify_return_mode) X(classify_device_restrictions) X(packet_start) X(packet_feed) X(packet_take) X(board_empty) X(board_open) X(board_close)

@@ -16,7 +16,7 @@ use table::store::put_bytes;
 use table::store::put_number;
 
 // The number of a section's refusal, 0 where it is accepted.
-fn refusal_number(r: SectionRead) -> u8
+pub fn refusal_number(r: SectionRead) -> u8
     ensures { λ n. ⌜ n ≡ numberOf r ⌝ }
 {
     match r {

@@ -54,6 +54,7 @@ pub mod canonical;
 pub mod numbers;
 pub mod packet;
 pub mod playlist;
+pub mod relabelling;
 pub mod writing;
 
 // The bytes from an offset on.

@@ -9,6 +9,7 @@ pub mod FixedBoard
 pub mod FixedDaterange
 pub mod BoardOverC
 pub mod FixedInterface
+pub mod FixedRelabel
 pub mod FixedTransport
 pub mod Framed
 pub mod Runs

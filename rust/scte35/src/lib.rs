@@ -61,6 +61,7 @@ mod names;
 pub mod packet;
 pub mod raw;
 mod refusal;
+mod relabel;
 mod upid;
 mod write;
 
@@ -75,6 +76,7 @@ pub use items::{
 };
 pub use names::{EncryptionAlgorithm, SegmentationTypeId, SegmentationUpidType, SpliceCommandType};
 pub use refusal::Refusal;
+pub use relabel::{relabel, relabel_to_vec};
 pub use upid::{read_upid, Mid, Part, Upid};
 pub use write::{
     is_canonical_descriptor, is_canonical_loop, is_canonical_section, write_command, write_command_to_vec, write_descriptor, write_descriptor_to_vec,

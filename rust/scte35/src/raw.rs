@@ -126,6 +126,17 @@ extern "C" {
     fn scte35_chain_adjustments(a: u64, b: u64) -> Adjustment;
     fn scte35_undo_adjustment(a: u64) -> Adjustment;
     fn scte35_adjust_section(s: *const u8, n: usize, at: usize, adjustment: u64, target: *mut u8, target_length: usize) -> Written;
+    fn scte35_relabel(
+        s: *const u8,
+        n: usize,
+        offset: usize,
+        part: usize,
+        upid_type: u8,
+        bytes: *const u8,
+        bytes_length: usize,
+        target: *mut u8,
+        target_length: usize,
+    ) -> Written;
     fn scte35_write_daterange(
         s: *const u8,
         n: usize,
@@ -275,6 +286,12 @@ pub fn undo_adjustment(a: u64) -> Adjustment {
 #[inline]
 pub fn adjust_section(s: &[u8], at: usize, adjustment: u64, target: &mut [u8]) -> Written {
     unsafe { scte35_adjust_section(s.as_ptr(), s.len(), at, adjustment, target.as_mut_ptr(), target.len()) }
+}
+
+/// `scte35_relabel`
+#[inline]
+pub fn relabel(s: &[u8], offset: usize, part: usize, upid_type: u8, bytes: &[u8], target: &mut [u8]) -> Written {
+    unsafe { scte35_relabel(s.as_ptr(), s.len(), offset, part, upid_type, bytes.as_ptr(), bytes.len(), target.as_mut_ptr(), target.len()) }
 }
 
 /// `scte35_write_daterange`

@@ -8,8 +8,8 @@ macro_rules! refusals {
         /// Why something is refused: the first reason that applies. `number` and `name` are the same in C, in Rattle and in docs/REFUSALS.md.
         ///
         /// 1 to 11 refuse a section, a header or a command; 12 a number that should be a flag's; 21 to 25 an item of a loop or a UPID, never the
-        /// section around it; 31 to 36 a value that is to be written; 51 to 53 a line of a playlist; 61 to 63 a call of a board; 71 to 75 a transport
-        /// packet. More may come.
+        /// section around it; 31 to 36 a value that is to be written; 41 an identifier that is to be replaced; 51 to 53 a line of a playlist; 61 to 63 a
+        /// call of a board; 71 to 75 a transport packet. More may come.
         #[derive(Debug, Clone, Copy, PartialEq, Eq, Hash)]
         #[non_exhaustive]
         pub enum Refusal {
@@ -93,6 +93,7 @@ refusals! {
     ResultTooLong = 34, "a descriptor's length over 254, or a section over 4,096 bytes";
     LoopNotCanonical = 35, "the descriptor loop that is handed in is not canonical";
     TargetTooShort = 36, "the target is shorter than the result";
+    NoSuchIdentifier = 41, "no identifier stands there that can be replaced";
     AttributeMissing = 51, "a line without ID, START-DATE or any of the three cue attributes";
     MalformedLine = 52, "no EXT-X-DATERANGE line, or a repeated name, or a value of another kind than its name asks for";
     Unquotable = 53, "an ID or date that holds a double quote, CR or LF";
@@ -144,6 +145,7 @@ impl Refusal {
             34 => Refusal::ResultTooLong,
             35 => Refusal::LoopNotCanonical,
             36 => Refusal::TargetTooShort,
+            41 => Refusal::NoSuchIdentifier,
             51 => Refusal::AttributeMissing,
             52 => Refusal::MalformedLine,
             53 => Refusal::Unquotable,

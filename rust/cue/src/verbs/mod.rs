@@ -19,7 +19,7 @@ macro_rules! verbs {
     };
 }
 
-verbs!(show, identifiers, map, check, make, adjust, sections, daterange, completions);
+verbs!(show, identifiers, map, check, make, adjust, relabel, sections, daterange, completions);
 
 #[cfg(test)]
 pub mod tests;

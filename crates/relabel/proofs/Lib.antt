@@ -1,0 +1,4 @@
+pub mod Stores
+pub mod Ats
+pub mod Cuts
+pub mod Mades

@@ -1,0 +1,239 @@
+// One identifier of a section replaced, and every length around it and the CRC mended. All tests come first, in the order of the refusals, and then the stores,
+// so that a refused write changes no byte.
+ghost use mathlib.Core.Path.{_≡_};
+ghost use Prim.Native.Nat.{_+_, _-_, _<_, _≤_};
+ghost use lib.ListN.{length, getD};
+ghost use Rattle.pen.specs.Written.{answerOf, laterOf};
+ghost use Rattle.relabel_joined.specs.Relabel.{kindThen};
+ghost use Rattle.table.specs.Lent.{stored};
+ghost use Rattle.relabel.specs.Relabel.{loopMade, relabelMade};
+ghost use Rattle.section.specs.Section.{commandLength, loopLength};
+ghost use Rattle.relabel.specs.Walk.{Spotted, placeIn, Lies, Takes, Limit, oldSize, headOf, itemOf, sealed, placedMade};
+use adjust_section::refusal_number;
+use crc::crc32;
+use pen::Written;
+use relabel_found::finds_insert;
+use relabel_found::upid_head;
+use relabel_upid::relabel_upid;
+use section::SectionRead;
+use section::read_section;
+use table::numbers::wide;
+use table::store::put_byte;
+use table::store::put_bytes;
+use table::store::put_number;
+
+// Where the identifier lies in the section: its loop with the loop's length, the item, the head of the item's UPID, and what stands after the UPID.
+struct Place {
+    list: usize,
+    len: usize,
+    item: usize,
+    head: usize,
+    end: usize,
+}
+
+fn size_of(b: u8) -> usize
+    ensures { λ r. ⌜ (r ≡ b) × (r < 256) ⌝ }
+{
+    b as usize
+}
+
+fn lesser(a: usize, b: usize) -> usize
+    ensures { λ r. ⌜ (r ≤ a) × (r ≤ b) × (a ≤ b → r ≡ a) × (b ≤ a → r ≡ b) ⌝ }
+{
+    if a < b {
+        return a;
+    }
+    b
+}
+
+// a less b, and nothing where b is more.
+fn beyond(a: usize, b: usize) -> usize
+    ensures { λ r. ⌜ r ≡ a - b ⌝ }
+{
+    if a < b {
+        return 0;
+    }
+    a - b
+}
+
+// The type of the UPID then: with part 0 the new one, with a part of a MID the MID's own.
+fn kind_then(part: usize, kind: u8, k: u8) -> u8
+    ensures { λ r. ⌜ r ≡ kindThen part kind k ⌝ }
+{
+    if part == 0 {
+        return k;
+    }
+    kind
+}
+
+// All up to the loop, with n bytes of UPID in it: section_length and the loop's length are mended.
+fn store_head(section: &[u8], p: Place, n: usize, target: &mut [u8])
+    requires { ⌜ Lies (now section) p × Takes (now section) p n × (p .head + 2 ≤ length (now target)) ⌝ }
+    ensures { λ _. ⌜ now (target .exit) ≡ stored (now (target .entry)) 0 (headOf (now (section .entry)) p n) ⌝ }
+{
+    let old = p.end - (p.head + 2);
+    let follows = section.len() - old + n - 3;
+    let first = wide(section[0]) * 65536 + (wide(section[1]) / 16 * 4096 + follows as u64);
+    let counts = p.list - 2;
+    put_number(target, 0, 3, first);
+    put_bytes(target, 3, &section[3..counts]);
+    put_number(target, counts, 2, (p.len - old + n) as u64);
+}
+
+// From the loop on all up to the UPID's bytes, of which there are n: the item's length is mended, and the UPID's head is new.
+fn store_item(section: &[u8], p: Place, kind: u8, n: usize, target: &mut [u8])
+    requires { ⌜ Lies (now section) p × Takes (now section) p n × (p .head + 2 ≤ length (now target)) ⌝ }
+    ensures { λ _. ⌜ now (target .exit) ≡ stored (now (target .entry)) (p .list) (itemOf (now (section .entry)) p kind n) ⌝ }
+{
+    let list = p.list;
+    let own = p.item + 1;
+    let named = p.item + 2;
+    let head = p.head;
+    let len = size_of(section[own]) - (p.end - (head + 2)) + n;
+    put_bytes(target, list, &section[list..own]);
+    put_byte(target, own, len as u8);
+    put_bytes(target, named, &section[named..head]);
+    put_number(target, head, 2, wide(kind) * 256 + n as u64);
+}
+
+// All behind the UPID's n bytes, and the CRC.
+fn store_back(section: &[u8], p: Place, n: usize, target: &mut [u8])
+    requires { ⌜ Lies (now section) p × Takes (now section) p n × (length (now section) - oldSize p + n ≤ length (now target)) ⌝ }
+    ensures { λ _. ⌜ now (target .exit) ≡ sealed (now (section .entry)) p n (now (target .entry)) ⌝ }
+{
+    let end = p.end;
+    let last = section.len() - 4;
+    let at = p.head + 2 + n;
+    put_bytes(target, at, &section[end..last]);
+    let body = at + (last - end);
+    let crc = crc32(&target[0..body]);
+    put_number(target, body, 4, crc as u64);
+}
+
+// All around the UPID's n bytes, in the order in which it stands.
+fn store_around(section: &[u8], p: Place, kind: u8, n: usize, target: &mut [u8])
+    requires { ⌜ Lies (now section) p × Takes (now section) p n × (length (now section) - oldSize p + n ≤ length (now target)) ⌝ }
+    ensures { λ _. ⌜ now (target .exit) ≡ sealed (now (section .entry)) p n (stored (stored (now (target .entry)) 0 (headOf (now (section .entry)) p n)) (p .list) (itemOf (now (section .entry)) p kind n)) ⌝ }
+{
+    store_head(section, p, n, target);
+    store_item(section, p, kind, n, target);
+    store_back(section, p, n, target);
+}
+
+// The identifier at a place: first its UPID, which is tested and stored where it goes, and then all around it.
+fn relabel_at(
+    section: &[u8],
+    p: Place,
+    limit: usize,
+    part: usize,
+    k: u8,
+    new: &[u8],
+    target: &mut [u8],
+) -> Written
+    requires { ⌜ Lies (now section) p × Limit (now section) p limit ⌝ }
+    ensures answer { λ r. ⌜ r ≡ answerOf (placedMade (now (section .entry)) p limit part k (now (new .entry))) (now (target .entry)) ⌝ }
+    ensures bytes { λ _. ⌜ now (target .exit) ≡ laterOf (placedMade (now (section .entry)) p limit part k (now (new .entry))) (now (target .entry)) ⌝ }
+{
+    let head = p.head;
+    let start = head + 2;
+    let end = p.end;
+    let others = section.len() - (end - start);
+    let room = beyond(target.len(), others);
+    let from = lesser(start, target.len() - room);
+    let to = from + room;
+    let kind = section[head];
+    let made = relabel_upid(
+        kind,
+        &section[start..end],
+        part,
+        k,
+        new,
+        limit,
+        &mut target[from..to],
+    );
+    let n = match made {
+        Written::Wrote(n) => n,
+        Written::Refused(r) => return Written::Refused(r),
+    };
+    store_around(section, p, kind_then(part, kind, k), n, target);
+    Written::Wrote(others + n)
+}
+
+// How many bytes the UPID at a place may have: the item's length is at most 254, and the section's 4,096.
+fn limit_of(section: &[u8], p: Place) -> usize
+    requires { ⌜ Lies (now section) p ⌝ }
+    ensures { λ r. ⌜ Limit (now (section .entry)) p r ⌝ }
+{
+    let own = p.item + 1;
+    let old = p.end - (p.head + 2);
+    let item = size_of(section[own]) - old;
+    let others = section.len() - old;
+    lesser(254 - item, 4096 - others)
+}
+
+// The place of the item at an offset of the loop, where one is found.
+fn place_of(section: &[u8], list: usize, len: usize, offset: usize) -> Place
+    requires { ⌜ Spotted (now section) offset × (list ≡ 16 + commandLength (now section)) × (len ≡ loopLength (now section)) ⌝ }
+    ensures { λ r. ⌜ r ≡ placeIn (now (section .entry)) offset ⌝ }
+{
+    let item = list + offset;
+    let own = item + 1;
+    let start = item + 6;
+    let stop = item + 2 + size_of(section[own]);
+    let head = start + upid_head(&section[start..stop]);
+    let counts = head + 1;
+    let end = head + 2 + size_of(section[counts]);
+    Place {
+        list,
+        len,
+        item,
+        head,
+        end,
+    }
+}
+
+// The identifier in a section that is accepted.
+fn relabel_in(
+    section: &[u8],
+    list: usize,
+    len: usize,
+    offset: usize,
+    part: usize,
+    k: u8,
+    new: &[u8],
+    target: &mut [u8],
+) -> Written
+    requires { ⌜ (list ≡ 16 + commandLength (now section)) × (len ≡ loopLength (now section)) × (20 + commandLength (now section) + loopLength (now section) ≤ length (now section)) × (length (now section) ≤ 4096) ⌝ }
+    ensures answer { λ r. ⌜ r ≡ answerOf (loopMade (now (section .entry)) offset part k (now (new .entry))) (now (target .entry)) ⌝ }
+    ensures bytes { λ _. ⌜ now (target .exit) ≡ laterOf (loopMade (now (section .entry)) offset part k (now (new .entry))) (now (target .entry)) ⌝ }
+{
+    let end = list + len;
+    if !finds_insert(&section[list..end], offset) {
+        return Written::Refused(41);
+    }
+    let p = place_of(section, list, len, offset);
+    let limit = limit_of(section, p);
+    relabel_at(section, p, limit, part, k, new, target)
+}
+
+// The section in which part number `part` of the item at `offset` of its loop becomes an identifier of type `k` with the bytes `new`, from the target's first
+// byte on; or a refusal: 1 to 11 for the section, 41, 32, 33, 34, 36. Part 0 is the UPID itself, part n the n-th of its MID's parts as `read_upid` lists them.
+pub fn relabel(
+    section: &[u8],
+    offset: usize,
+    part: usize,
+    k: u8,
+    new: &[u8],
+    target: &mut [u8],
+) -> Written
+    ensures answer { λ r. ⌜ r ≡ answerOf (relabelMade (now (section .entry)) offset part k (now (new .entry))) (now (target .entry)) ⌝ }
+    ensures bytes { λ _. ⌜ now (target .exit) ≡ laterOf (relabelMade (now (section .entry)) offset part k (now (new .entry))) (now (target .entry)) ⌝ }
+{
+    let read = read_section(section);
+    let x = match read {
+        SectionRead::Is(x) => x,
+        SectionRead::Refused(_) => return Written::Refused(refusal_number(read)),
+    };
+    let place = x.descriptors;
+    relabel_in(section, place.at, place.len, offset, part, k, new, target)
+}

@@ -1,0 +1,50 @@
+-- Where an identifier stands that is to be replaced: an item of a loop, and the UPID in its payload. These are definitions.
+use Prim.Native.Nat.{ℕ, _+_, _-_}
+use mathlib.Core.Bool.{Bool, true, false, not, _&&_, _||_}
+use mathlib.Core.List.{List, [], _∷_}
+use lib.Dec.{eqb}
+use lib.ListN.{take, drop, getD}
+use Rattle.descriptor.specs.Segmentation.{cancelled}
+use Rattle.descriptor.specs.Whole.{ofSegmentation}
+use Rattle.items.specs.Items.{stepOf, Listed, itemsOf}
+use Rattle.items.specs.declared.Item.{Item}
+use Rattle.items.specs.declared.Item.the-variants.{End, Refused, Is}
+use Rattle.relabel_payload.specs.Payload.{upidHead}
+
+-- ---- the item
+
+-- one of these items begins at an offset
+unfoldable pub begins : List Listed → ℕ → Bool
+begins [] offset = false
+begins (x ∷ xs) offset = eqb (x .offset) offset || begins xs offset
+
+-- a segmentation descriptor that is not cancelled
+abbrev pub inserts : Item → Bool
+inserts End = false
+inserts (Refused r) = false
+inserts (Is d) = ofSegmentation (λ x. not (cancelled (x .«descriptor_detail»))) false d
+
+-- one that begins at an offset of the loop
+unfoldable pub found : List ℕ → ℕ → Bool
+found loop offset = begins (itemsOf loop) offset && inserts (stepOf loop offset .item)
+
+-- its payload: L bytes stand behind its head, of which four are the identifier
+abbrev pub payloadAt : List ℕ → ℕ → List ℕ
+payloadAt loop offset = take (getD loop (offset + 1) 0 - 4) (drop (offset + 6) loop)
+
+-- ---- the UPID in the payload: what stands before its head, its type, its length, its bytes, and what stands after it
+
+abbrev pub foreIn : List ℕ → List ℕ
+foreIn pay = take (upidHead pay) pay
+
+abbrev pub kindIn : List ℕ → ℕ
+kindIn pay = getD pay (upidHead pay) 0
+
+abbrev pub sizeIn : List ℕ → ℕ
+sizeIn pay = getD pay (upidHead pay + 1) 0
+
+abbrev pub upidIn : List ℕ → List ℕ
+upidIn pay = take (sizeIn pay) (drop (upidHead pay + 2) pay)
+
+abbrev pub postIn : List ℕ → List ℕ
+postIn pay = drop (upidHead pay + 2 + sizeIn pay) pay

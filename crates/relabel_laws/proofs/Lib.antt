@@ -1,0 +1,4 @@
+pub mod Results
+pub mod Lists
+pub mod Replaced
+pub mod Theorems

@@ -1,0 +1,316 @@
+-- A segmentation payload is a hole that its UPID fills.
+use Prim.Native.Nat.{ℕ, zero, suc, _+_, _*_, _-_, _/_, _%_, _≤_, _<_}
+use mathlib.Core.Bool.{Bool, true, false}
+use mathlib.Core.List.{List, [], _∷_, _++_, append-assoc}
+use mathlib.Core.Path.{_≡_, refl, ap, ap₂, sym, subst, _∙_}
+use native.Mathlib.Omega.{arith}
+use lib.Dec.{eqb}
+use lib.ListN.{length, take, drop, getD, length-append}
+use lib.Seq.{length-take-le, take-at, drop-at, drop-append-add, take-append-seam}
+use borrow.Author.Tests.{le-leb}
+use Rattle.table.specs.Bits.{pick, bitsOf}
+use Rattle.table.specs.Lent.{viewed}
+use Rattle.table.specs.Table.{Table, number, remaining, Answer, got, short, parse}
+use Rattle.table.specs.declared.View.{View}
+use Rattle.table.proofs.Bits.{bits-append, length-bits}
+use Rattle.table.proofs.Lists.{zero-one}
+use Rattle.upid.specs.Upid.{checkOf}
+use Rattle.upid.specs.Walk.{Accepted}
+use Rattle.upid.specs.declared.UpidRead.{UpidRead}
+use Rattle.upid.proofs.Walks.{check-short}
+use Rattle.descriptor.specs.Descriptor.{_andThen_, reportedUpid, ifFine, inserted, insertOf, segmentationOf}
+use Rattle.descriptor.specs.Segmentation.{Fore, Head, head, front, back, subSegments, writtenUpid, insertFrom, withUpid}
+use Rattle.descriptor.specs.declared.Descriptor.the-variants.{Segmentation}
+use Rattle.descriptor.specs.declared.DescriptorRead.{DescriptorRead}
+use Rattle.descriptor.specs.declared.DescriptorRead.the-variants.{Is, Refused}
+use Rattle.descriptor.specs.declared.segmentation.SegmentationDescriptor.{SegmentationDescriptor}
+use Rattle.descriptor.specs.declared.segmentation.SegmentationDetail.{SegmentationDetail}
+use Rattle.descriptor.specs.declared.segmentation.SegmentationDetail.the-variants.{Cancel, Insert}
+use Rattle.descriptor.specs.declared.segmentation.SegmentationInsert.{SegmentationInsert}
+use Rattle.descriptor.specs.declared.segmentation.SegmentationUpid.{SegmentationUpid}
+use Rattle.relabel_payload.specs.Payload.{payload, upidHead, Holed}
+use Rattle.relabel_payload.proofs.Fronts.{blind-head, ends-head, Split, split-front, Written, written-is, written-puts}
+use Rattle.relabel_payload.proofs.Spots.{head-at}
+use Rattle.relabel_payload.proofs.Swaps.{swap, Sightless, sightless-inside, sightless-pick, later, shift, ends-at}
+
+-- what a table reads
+abbrev Of : {X : Type 0} → Table X → Type 0
+Of {X} t = X
+
+-- ---- an insert that was read, field by field
+
+record Parsed (s : List ℕ) (event : ℕ) (i : SegmentationInsert) : Type 0 where
+  h : Head
+  a : ℕ
+  head-is : parse head (bitsOf s) 0 ≡ got h a
+  stays : h .cancel ≡ false
+  event-is : h .event ≡ event
+  f : Fore
+  m : ℕ
+  front-is : parse front (bitsOf s) a ≡ got f m
+  q : ℕ
+  fine : checkOf (f .front .«segmentation_upid» .kind) (viewed s (f .front .«segmentation_upid» .bytes)) ≡ UpidRead.Fine q
+  b : Of back
+  n : ℕ
+  back-is : parse back (bitsOf s) m ≡ got b n
+  is : insertFrom (f .front) (reportedUpid q (f .front .«segmentation_upid» .bytes)) b ≡ i
+
+module _ (s : List ℕ) (x : SegmentationDescriptor) (i : SegmentationInsert) (detail : x .«descriptor_detail» ≡ Insert i) where
+  module _ (h : Head) (a : ℕ) (eh : parse head (bitsOf s) 0 ≡ got h a) (stays : h .cancel ≡ false) (f : Fore) (m : ℕ) (ef : parse front (bitsOf s) a ≡ got f m) where
+    abbrev upid₀ : SegmentationUpid
+    upid₀ = f .front .«segmentation_upid»
+
+    of-back : (q : ℕ) → checkOf (upid₀ .kind) (viewed s (upid₀ .bytes)) ≡ UpidRead.Fine q → (r : Answer (Of back)) → parse back (bitsOf s) m ≡ r
+        → (r andThen λ b n. inserted (h .event) (f .front) (reportedUpid q (upid₀ .bytes)) b) ≡ Is (Segmentation x) → Parsed s (x .«segmentation_event_id») i
+    unfolding inserted
+    of-back q fine (got b n) eb e =
+        let z : _≡_ {A = SegmentationDescriptor} (record { «segmentation_event_id» = h .event; «descriptor_detail» = Insert (insertFrom (f .front) (reportedUpid q (upid₀ .bytes)) b) }) x = cc in
+        let y : Insert (insertFrom (f .front) (reportedUpid q (upid₀ .bytes)) b) ≡ Insert i = ap (λ (d : SegmentationDescriptor). d .«descriptor_detail») z ∙ detail in
+        record {
+          h = h;
+          a = a;
+          head-is = eh;
+          stays = stays;
+          event-is = ap (λ (d : SegmentationDescriptor). d .«segmentation_event_id») z;
+          f = f;
+          m = m;
+          front-is = ef;
+          q = q;
+          fine = fine;
+          b = b;
+          n = n;
+          back-is = eb;
+          is = cc y;
+        }
+    of-back q fine (short expected actual) eb e = zero-one cc
+
+    of-check : (r : UpidRead) → checkOf (upid₀ .kind) (viewed s (upid₀ .bytes)) ≡ r
+        → (ifFine r (upid₀ .bytes) λ upid. parse back (bitsOf s) m andThen λ b n. inserted (h .event) (f .front) upid b) ≡ Is (Segmentation x) → Parsed s (x .«segmentation_event_id») i
+    of-check (UpidRead.Fine q) ec e = of-back q ec (parse back (bitsOf s) m) refl e
+    of-check (UpidRead.Refused r) ec e = zero-one cc
+
+  module _ (h : Head) (a : ℕ) (eh : parse head (bitsOf s) 0 ≡ got h a) where
+    of-front : h .cancel ≡ false → (r : Answer Fore) → parse front (bitsOf s) a ≡ r
+        → (r andThen λ f m. ifFine (checkOf (f .front .«segmentation_upid» .kind) (viewed s (f .front .«segmentation_upid» .bytes))) (f .front .«segmentation_upid» .bytes) λ upid.
+        parse back (bitsOf s) m andThen λ b n. inserted (h .event) (f .front) upid b) ≡ Is (Segmentation x) → Parsed s (x .«segmentation_event_id») i
+    of-front stays (got f m) ef e = of-check h a eh stays f m ef (checkOf (f .front .«segmentation_upid» .kind) (viewed s (f .front .«segmentation_upid» .bytes))) refl e
+    of-front stays (short expected actual) ef e = zero-one cc
+
+    of-cancel : (t : Bool) → h .cancel ≡ t
+        → pick t (Is (Segmentation (record { «segmentation_event_id» = h .event; «descriptor_detail» = Cancel }))) (insertOf s (h .event) a) ≡ Is (Segmentation x)
+        → Parsed s (x .«segmentation_event_id») i
+    unfolding insertOf
+    of-cancel true ec e =
+        let z : _≡_ {A = SegmentationDescriptor} (record { «segmentation_event_id» = h .event; «descriptor_detail» = Cancel }) x = cc in
+        let y : _≡_ {A = SegmentationDetail} Cancel (Insert i) = ap (λ (d : SegmentationDescriptor). d .«descriptor_detail») z ∙ detail in
+        zero-one cc
+    of-cancel false ec e = of-front ec (parse front (bitsOf s) a) refl e
+
+  of-head : (r : Answer Head) → parse head (bitsOf s) 0 ≡ r
+      → (r andThen λ h at. pick (h .cancel) (Is (Segmentation (record { «segmentation_event_id» = h .event; «descriptor_detail» = Cancel }))) (insertOf s (h .event) at)) ≡ Is (Segmentation x)
+      → Parsed s (x .«segmentation_event_id») i
+  of-head (got h a) eh e = of-cancel h a eh (h .cancel) refl e
+  of-head (short expected actual) eh e = zero-one cc
+
+  parsed : segmentationOf s ≡ Is (Segmentation x) → Parsed s (x .«segmentation_event_id») i
+  unfolding segmentationOf
+  parsed e = of-head (parse head (bitsOf s) 0) refl e
+
+-- and the other way round
+assemble : (s : List ℕ) (h : Head) (a : ℕ) (f : Fore) (m q : ℕ) (b : Of back) (n : ℕ) → parse head (bitsOf s) 0 ≡ got h a → h .cancel ≡ false → parse front (bitsOf s) a ≡ got f m
+    → checkOf (f .front .«segmentation_upid» .kind) (viewed s (f .front .«segmentation_upid» .bytes)) ≡ UpidRead.Fine q → parse back (bitsOf s) m ≡ got b n
+    → segmentationOf s ≡ Is (Segmentation (record { «segmentation_event_id» = h .event; «descriptor_detail» = Insert (insertFrom (f .front) (reportedUpid q (f .front .«segmentation_upid» .bytes)) b) }))
+unfolding segmentationOf insertOf inserted
+assemble s h a f m q b n eh stays ef ec eb = rw (eh, stays, ef, ec, eb)
+
+-- ---- the fields behind the UPID
+
+sightless-sub : Sightless subSegments
+unfolding subSegments remaining number
+sightless-sub = λ m. sightless-pick (eqb m 0) _ _ tt (λ n of. tt)
+
+sightless-back : Sightless back
+unfolding back number
+sightless-back = λ kind n of. sightless-inside subSegments _ _ sightless-sub λ y. tt
+
+later-got : {X : Type 0} (k : ℕ) (r : Answer X) (x : X) (n : ℕ) → later k r ≡ got x n → (m : ℕ) × (r ≡ got x m)
+later-got k (got y m) x n e = let z : y ≡ x = cc in (m, ap (λ (w : _). got w m) z)
+later-got k (short a c) x n e = zero-one cc
+
+back-there : (lead post : List ℕ) → parse back (bitsOf (lead ++ post)) (length lead * 8) ≡ later (length lead * 8) (parse back (bitsOf post) 0)
+back-there lead post =
+    let l : length (bitsOf lead) ≡ length lead * 8 = length-bits lead in
+    let z : length lead * 8 ≡ length (bitsOf lead) + 0 = omega arith in
+    ap₂ (λ (bs : List ℕ) (at : ℕ). parse back bs at) (bits-append lead post) z
+    ∙ shift (bitsOf lead) (bitsOf post) back sightless-back 0 ∙ ap (λ (k : ℕ). later k (parse back (bitsOf post) 0)) l
+
+back-same : (lead other post : List ℕ) (b : Of back) (n : ℕ) → parse back (bitsOf (lead ++ post)) (length lead * 8) ≡ got b n
+    → (m : ℕ) × (parse back (bitsOf (other ++ post)) (length other * 8) ≡ got b m)
+back-same lead other post b n e =
+    let r = later-got (length lead * 8) (parse back (bitsOf post) 0) b n (sym (back-there lead post) ∙ e) in
+    (length other * 8 + r .0, back-there other post ∙ ap (later (length other * 8)) (r .1))
+
+-- ---- the hole
+
+-- the bytes of the UPID are where its head says
+viewed-payload : (fore post : List ℕ) (k : ℕ) (u : List ℕ) → viewed (payload fore post k u) (record { at = length fore + 2; len = length u }) ≡ u
+unfolding viewed
+viewed-payload fore post k u =
+    let s : List ℕ = payload fore post k u in
+    let size : length s ≡ length fore + (2 + (length u + length post)) = omega (arith, length-append fore (k ∷ (length u ∷ (u ++ post))), length-append u post) in
+    let h : length fore + 2 + length u ≤ length s = omega arith in
+    rw (le-leb (length fore + 2 + length u) (length s) h)
+    (ap (take (length u)) (drop-append-add fore (k ∷ (length u ∷ (u ++ post))) 2) ∙ take-append-seam u post)
+
+-- a payload as what stands up to the UPID's end, and what stands after it
+abbrev lead : List ℕ → ℕ → List ℕ → List ℕ
+lead fore k u = fore ++ (k ∷ (length u ∷ u))
+
+payload-lead : (fore post : List ℕ) (k : ℕ) (u : List ℕ) → payload fore post k u ≡ lead fore k u ++ post
+payload-lead fore post k u = sym (append-assoc fore (k ∷ (length u ∷ u)) post)
+
+lead-size : (fore : List ℕ) (k : ℕ) (u : List ℕ) → length (lead fore k u) ≡ length fore + 2 + length u
+lead-size fore k u = omega (arith, length-append fore (k ∷ (length u ∷ u)))
+
+-- the fields behind the UPID, whatever UPID it is
+back-refilled : (fore post : List ℕ) (k : ℕ) (u : List ℕ) (c : ℕ) (v : List ℕ) (b : Of back) (n : ℕ) → parse back (bitsOf (payload fore post k u)) ((length fore + 2 + length u) * 8) ≡ got b n
+    → (m : ℕ) × (parse back (bitsOf (payload fore post c v)) ((length fore + 2 + length v) * 8) ≡ got b m)
+back-refilled fore post k u c v b n e =
+    let old : parse back (bitsOf (lead fore k u ++ post)) (length (lead fore k u) * 8) ≡ got b n =
+    ap₂ (λ (s : List ℕ) (l : ℕ). parse back (bitsOf s) (l * 8)) (sym (payload-lead fore post k u)) (lead-size fore k u) ∙ e in
+    let r = back-same (lead fore k u) (lead fore c v) post b n old in
+    (r .0, ap₂ (λ (s : List ℕ) (l : ℕ). parse back (bitsOf s) (l * 8)) (payload-lead fore post c v) (sym (lead-size fore c v)) ∙ r .1)
+
+module _ (s : List ℕ) (event : ℕ) (i : SegmentationInsert) (bytes : (k : ℕ) → getD s k 0 < 256) (p : Parsed s event i) where
+  split : Split (bitsOf s) (p .a) (p .f) (p .m)
+  split = split-front (bitsOf s) (p .a) (p .f) (p .m) (p .front-is)
+
+  q : ℕ
+  q = split .seam / 8
+
+  seam-is : split .seam ≡ q * 8
+  unfolding q
+  seam-is =
+      let z : split .seam % 8 ≡ 0 = split .whole (ends-at head 0 0 ends-head (bitsOf s) 0 (p .h) (p .a) refl (p .head-is)) in
+      omega arith
+
+  written : Written s q (split .upid) (p .m)
+  written = written-is s q (split .upid) (p .m) bytes (subst (λ (n : ℕ). parse writtenUpid (bitsOf s) n ≡ got (split .upid) (p .m)) seam-is (split .reads))
+
+  fore : List ℕ
+  fore = take q s
+
+  fore-size : length fore ≡ q
+  unfolding fore
+  fore-size = length-take-le q s (written .inside)
+
+  rest : List ℕ
+  rest = written .kind ∷ (length (written .bytes) ∷ (written .bytes ++ written .post))
+
+  is-holed : s ≡ payload fore (written .post) (written .kind) (written .bytes)
+  unfolding fore
+  is-holed = written .is
+
+  cut : bitsOf s ≡ bitsOf fore ++ bitsOf rest
+  unfolding rest
+  cut = ap bitsOf is-holed ∙ bits-append fore rest
+
+  upid-is : p .f .front .«segmentation_upid» ≡ record { kind = written .kind; bytes = record { at = length fore + 2; len = length (written .bytes) } }
+  upid-is =
+      ap (λ (x : Fore). x .front .«segmentation_upid») (sym (split .is)) ∙ split .has (split .upid) ∙ written .upid
+      ∙ ap (λ (n : ℕ). record { kind = written .kind; bytes = record { at = n + 2; len = length (written .bytes) } }) (sym fore-size)
+
+  place-is : length fore ≡ upidHead s
+  place-is = omega (arith, ap (λ (u : SegmentationUpid). u .bytes .at) upid-is, head-at s bytes (p .h) (p .a) (p .head-is) (p .f) (p .m) (p .front-is))
+
+  fine-is : checkOf (written .kind) (written .bytes) ≡ UpidRead.Fine (p .q)
+  fine-is =
+      sym (ap (λ (u : SegmentationUpid). checkOf (u .kind) (viewed s (u .bytes))) upid-is
+      ∙ ap (λ (l : List ℕ). checkOf (written .kind) (viewed l (record { at = length fore + 2; len = length (written .bytes) }))) is-holed
+      ∙ ap (checkOf (written .kind)) (viewed-payload fore (written .post) (written .kind) (written .bytes)))
+      ∙ p .fine
+
+  old-back : parse back (bitsOf (payload fore (written .post) (written .kind) (written .bytes))) ((length fore + 2 + length (written .bytes)) * 8) ≡ got (p .b) (p .n)
+  old-back =
+      ap₂ (λ (l : List ℕ) (n : ℕ). parse back (bitsOf l) ((n + 2 + length (written .bytes)) * 8)) (sym is-holed) fore-size
+      ∙ ap (parse back (bitsOf s)) (sym (written .end)) ∙ p .back-is
+
+  module _ (k : ℕ) (u : List ℕ) (r : ℕ) (hk : k < 256) (ec : checkOf k u ≡ UpidRead.Fine r) where
+    new : List ℕ
+    new = payload fore (written .post) k u
+
+    after : List ℕ
+    after = k ∷ (length u ∷ (u ++ written .post))
+
+    new-cut : bitsOf new ≡ bitsOf fore ++ bitsOf after
+    unfolding new after
+    new-cut = bits-append fore after
+
+    size : length (bitsOf fore) ≡ q * 8
+    size = length-bits fore ∙ ap (λ (n : ℕ). n * 8) fore-size
+
+    short-enough : length u < 256
+    short-enough = let a : Accepted (checkOf k u) = rw ec tt in omega (arith, check-short k u a)
+
+    place : SegmentationUpid
+    place = record { kind = k; bytes = record { at = length fore + 2; len = length u } }
+
+    new-head : parse head (bitsOf new) 0 ≡ got (p .h) (p .a)
+    new-head =
+        ap (λ (bs : List ℕ). parse head bs 0) new-cut
+        ∙ swap head blind-head (bitsOf fore) (bitsOf rest) (bitsOf after) 0 (p .h) (p .a) (ap (λ (bs : List ℕ). parse head bs 0) (sym cut) ∙ p .head-is)
+        (omega (arith, split .from, seam-is, size))
+
+    new-written : parse writtenUpid (bitsOf new) (length fore * 8) ≡ got place ((length fore + 2 + length u) * 8)
+    unfolding new place
+    new-written = written-puts fore (written .post) k u hk short-enough
+
+    new-front : parse front (bitsOf new) (p .a) ≡ got (split .make place) ((length fore + 2 + length u) * 8)
+    new-front =
+        let e : split .seam ≡ length fore * 8 = omega (arith, seam-is, fore-size) in
+        ap (λ (bs : List ℕ). parse front bs (p .a)) new-cut
+        ∙ split .again (bitsOf fore) (bitsOf rest) (bitsOf after) cut (omega (arith, seam-is, size)) place ((length fore + 2 + length u) * 8)
+        (ap₂ (λ (bs : List ℕ) (n : ℕ). parse writtenUpid bs n) (sym new-cut) e ∙ new-written)
+
+    new-fine : checkOf (split .make place .front .«segmentation_upid» .kind) (viewed new (split .make place .front .«segmentation_upid» .bytes)) ≡ UpidRead.Fine r
+    unfolding new place
+    new-fine =
+        ap (λ (x : SegmentationUpid). checkOf (x .kind) (viewed new (x .bytes))) (split .has place)
+        ∙ ap (checkOf k) (viewed-payload fore (written .post) k u) ∙ ec
+
+    new-back : (n : ℕ) × (parse back (bitsOf new) ((length fore + 2 + length u) * 8) ≡ got (p .b) n)
+    unfolding new
+    new-back = back-refilled fore (written .post) (written .kind) (written .bytes) k u (p .b) (p .n) old-back
+
+    same-insert : insertFrom (split .make place .front) (reportedUpid r (split .make place .front .«segmentation_upid» .bytes)) (p .b)
+        ≡ withUpid i (reportedUpid r (record { at = length fore + 2; len = length u }))
+    unfolding place
+    same-insert =
+        ap (λ (x : SegmentationUpid). insertFrom (split .make place .front) (reportedUpid r (x .bytes)) (p .b)) (split .has place)
+        ∙ split .keeps place (reportedUpid r (record { at = length fore + 2; len = length u })) (p .b)
+        ∙ ap (λ (j : SegmentationInsert). withUpid j (reportedUpid r (record { at = length fore + 2; len = length u }))) (p .is)
+
+    new-reads : segmentationOf new ≡ Is (Segmentation (record { «segmentation_event_id» = event; «descriptor_detail» = Insert (withUpid i (reportedUpid r (record { at = length fore + 2; len = length u }))) }))
+    new-reads =
+        assemble new (p .h) (p .a) (split .make place) ((length fore + 2 + length u) * 8) r (p .b) (new-back .0) new-head (p .stays) new-front new-fine (new-back .1)
+        ∙ ap₂ (λ (e : ℕ) (j : SegmentationInsert). Is (Segmentation (record { «segmentation_event_id» = e; «descriptor_detail» = Insert j }))) (p .event-is) same-insert
+
+  holed-parsed : Holed s event i
+  unfolding new
+  holed-parsed =
+      record {
+        fore = fore;
+        kind = written .kind;
+        bytes = written .bytes;
+        post = written .post;
+        is = is-holed;
+        place = place-is;
+        reported = p .q;
+        fine = fine-is;
+        upid = ap (λ (j : SegmentationInsert). j .«segmentation_upid») (sym (p .is)) ∙ ap (λ (w : SegmentationUpid). reportedUpid (p .q) (w .bytes)) upid-is;
+        refilled = new-reads;
+      }
+
+pub holed : (s : List ℕ) (x : SegmentationDescriptor) (i : SegmentationInsert) → ((k : ℕ) → getD s k 0 < 256) → segmentationOf s ≡ Is (Segmentation x) → x .«descriptor_detail» ≡ Insert i
+    → Holed s (x .«segmentation_event_id») i
+holed s x i bytes e d = holed-parsed s (x .«segmentation_event_id») i bytes (parsed s x i d e)
