@@ -10,7 +10,7 @@ use borrow.Author.Tests.{leb-true, leb-false, eq-eqb, ne-eqb}
 use Rattle.command.specs.Command.{private}
 use Rattle.command.specs.Insert.{insert}
 use Rattle.command.specs.declared.Private.{Private}
-use Rattle.header.specs.Time.{spliceTime}
+use Rattle.splice_time.specs.Time.{spliceTime}
 use Rattle.table.specs.Bits.{bitsOf, field}
 use Rattle.table.specs.Table.{number, part, remaining, got, canonical, canonicalBy}
 use Rattle.table.proofs.Steps.{takes-number, takes-remaining, takes-part}

@@ -12,8 +12,8 @@ use Rattle.command.specs.declared.components.ComponentSplice.{ComponentSplice}
 use Rattle.command.specs.declared.insert.Break.{Break}
 use Rattle.command.specs.declared.insert.Insert.{Insert}
 use Rattle.command.specs.declared.insert.SpliceMode.{SpliceMode}
-use Rattle.header.specs.Time.{spliceTime}
-use Rattle.header.specs.declared.time.SpliceTime.the-variants.{Immediate}
+use Rattle.splice_time.specs.Time.{spliceTime}
+use Rattle.splice_time.specs.declared.SpliceTime.the-variants.{Immediate}
 use Rattle.table.specs.Bits.{pick, bitsOf, field}
 use Rattle.table.specs.Table.{Table, inside, ones, list}
 use Rattle.table.proofs.Fields.{field-in, byte-field}

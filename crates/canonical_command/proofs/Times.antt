@@ -8,8 +8,8 @@ use native.Mathlib.Omega.{arith}
 use lib.Dec.{ltb, eqb}
 use lib.ListN.{length, getD}
 use borrow.Author.Tests.{ltb-true, ltb-false}
-use Rattle.header.specs.Time.{spliceTime, ticks}
-use Rattle.header.specs.declared.time.SpliceTime.the-variants.{Unspecified, At}
+use Rattle.splice_time.specs.Time.{spliceTime, ticks}
+use Rattle.splice_time.specs.declared.SpliceTime.the-variants.{Unspecified, At}
 use Rattle.table.specs.Bits.{bitsOf, field}
 use Rattle.table.specs.Table.{done, uimsbf, ones}
 use Rattle.table.proofs.Fields.{field-in}

@@ -6,7 +6,7 @@ use lib.Dec.{eqb}
 use lib.ListN.{length}
 use Rattle.command.specs.Command.{private, byType}
 use Rattle.command.specs.Insert.{insert}
-use Rattle.header.specs.Time.{spliceTime}
+use Rattle.splice_time.specs.Time.{spliceTime}
 use Rattle.table.specs.Table.{canonicalBy}
 
 -- Of a command, by its type: "every reserved bit 1; no spare byte in command". That "an insert by components with count 0 has immediate 0" is in its table.

@@ -4,7 +4,7 @@ ghost use lib.ListN.{length};
 ghost use Rattle.canonical_command.specs.Canonical.{canonicalCommand};
 ghost use Rattle.canonical_command.specs.Walk.{Told, whole};
 ghost use Rattle.command.specs.Insert.{timeUnless, component, blank, moded, breakDuration, active, insert};
-ghost use Rattle.header.specs.Time.{spliceTime};
+ghost use Rattle.splice_time.specs.Time.{spliceTime};
 ghost use Rattle.table.specs.Table.{list, canonicalBy};
 
 // What a walk along a table's fields answers: the byte after them, or that they are not all there in their canonical form.

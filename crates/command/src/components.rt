@@ -12,8 +12,8 @@ use crate::insert::SpliceInsert;
 use crate::insert::SpliceMode;
 use crate::insert::read_insert;
 use crate::insert::read_time_unless;
-use header::time::SpliceTime;
-use header::time::TimeRead;
+use splice_time::SpliceTime;
+use splice_time::TimeRead;
 use table::cursor::Short;
 use table::numbers::bits;
 

@@ -10,7 +10,7 @@ use Rattle.command.specs.Insert.{WithComponents, insert}
 use Rattle.command.specs.declared.SpliceCommand.{SpliceCommand}
 use Rattle.command.specs.declared.components.ComponentSplice.{ComponentSplice}
 use Rattle.command.specs.declared.insert.Insertion.{Insertion}
-use Rattle.header.specs.Time.{spliceTime, ticks, notImmediate}
+use Rattle.splice_time.specs.Time.{spliceTime, ticks, notImmediate}
 use Rattle.pen.specs.Written.{refusalIn, bytesIn}
 use Rattle.table.specs.Bits.{pick}
 use Rattle.table.specs.Writing.{Made, made, refused, make}

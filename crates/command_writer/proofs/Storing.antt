@@ -15,8 +15,8 @@ use Rattle.command.specs.declared.insert.Insertion.{Insertion}
 use Rattle.command.specs.declared.insert.SpliceDuration.{SpliceDuration}
 use Rattle.command.specs.declared.insert.SpliceInsert.{SpliceInsert}
 use Rattle.command.specs.declared.insert.SpliceMode.{SpliceMode}
-use Rattle.header.specs.declared.time.SpliceTime.{SpliceTime}
-use Rattle.header.specs.declared.time.SpliceTime.the-variants.{Immediate, Unspecified, At}
+use Rattle.splice_time.specs.declared.SpliceTime.{SpliceTime}
+use Rattle.splice_time.specs.declared.SpliceTime.the-variants.{Immediate, Unspecified, At}
 use Rattle.names.specs.Flags.{networkFlag, returnFlag}
 use Rattle.names.specs.declared.flags.NetworkIndicator.{NetworkIndicator}
 use Rattle.names.specs.declared.flags.ReturnMode.{ReturnMode}

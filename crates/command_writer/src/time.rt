@@ -2,8 +2,8 @@
 ghost use Rattle.command_measure.specs.Fields.{ink, timeFields};
 ghost use Rattle.pen.specs.Pen.{Pens};
 ghost use Rattle.pen.specs.Walk.{Fits};
-use header::time::SpliceTime;
 use pen::put_bits;
+use splice_time::SpliceTime;
 use table::cursor::Cursor;
 
 // The flag and its reserved bits are all 1 where a time is specified; else the flag is clear. (An immediate time is refused or left out before; a time fits its

@@ -5,9 +5,9 @@ use Rattle.header.specs.Header.{numberOf}
 use Rattle.header.specs.declared.header.HeaderRead.{HeaderRead}
 use Rattle.header.specs.declared.header.HeaderRead.the-variants.{Header, TooShort}
 use Rattle.header.specs.declared.header.SpliceInfoHeader.{SpliceInfoHeader}
-use Rattle.header.specs.declared.time.AdjustedTime.{AdjustedTime}
-use Rattle.header.specs.declared.time.SpliceTime.{SpliceTime}
-use Rattle.header.specs.declared.time.SpliceTime.the-variants.{Immediate, Unspecified, At}
+use Rattle.splice_time.specs.declared.AdjustedTime.{AdjustedTime}
+use Rattle.splice_time.specs.declared.SpliceTime.{SpliceTime}
+use Rattle.splice_time.specs.declared.SpliceTime.the-variants.{Immediate, Unspecified, At}
 use Rattle.names.specs.Algorithm.{algorithmNumber}
 use Rattle.names.specs.Command.{commandNumber}
 use Rattle.table.specs.Table.{flagNumber}

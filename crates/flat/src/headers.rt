@@ -5,7 +5,7 @@ ghost use Rattle.header.specs.Header.{headerOf};
 use crate::flat_flag;
 use header::header::HeaderRead;
 use header::header::SpliceInfoHeader;
-use header::time::AdjustedTime;
+use splice_time::AdjustedTime;
 use table::numbers::big_endian;
 use table::numbers::time33;
 use table::numbers::wide;

@@ -2,7 +2,7 @@
 ghost use mathlib.Core.Path.{_≡_};
 ghost use Rattle.table.specs.Table.{flagNumber};
 ghost use Rattle.flat.specs.Flat.{flatView, flatTime};
-use header::time::SpliceTime;
+use splice_time::SpliceTime;
 use table::View;
 
 pub mod commands;

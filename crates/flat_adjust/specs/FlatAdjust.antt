@@ -3,7 +3,7 @@ use Prim.Native.Nat.{ℕ}
 use Rattle.adjust.specs.declared.Adjustment.{Adjustment}
 use Rattle.adjust.specs.declared.Moved.{Moved}
 use Rattle.flat.specs.declared.headers.FlatAdjusted.{FlatAdjusted}
-use Rattle.header.specs.declared.time.SpliceTime.the-variants.{Immediate, Unspecified, At}
+use Rattle.splice_time.specs.declared.SpliceTime.the-variants.{Immediate, Unspecified, At}
 use Rattle.flat_adjust.specs.declared.FlatAdjustment.{FlatAdjustment}
 
 -- a time of the kind that was handed in: one that is not specified stays so; or refusal 32

@@ -4,7 +4,7 @@ ghost use Rattle.flat_adjust.specs.FlatAdjust.{flatMoved, flatAdjustment
 use adjust::Adjustment;
 use adjust::Moved;
 use flat::headers::FlatAdjusted;
-use header::time::SpliceTime;
+use splice_time::SpliceTime;
 
 #[repr(C)]
 pub struct FlatAdjustment {

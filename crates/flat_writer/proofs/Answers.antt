@@ -24,8 +24,8 @@ use Rattle.command_measure.specs.Made.{timesFit, commandMade, measuredOf}
 use Rattle.command_measure.specs.Survey.{surveyed, modeBytes, breakBytes, measured, activeMeasured, timeBytes}
 use Rattle.command.specs.Command.{Tags}
 use Rattle.flat.specs.FlatCommand.{flatCommand}
-use Rattle.header.specs.Time.{ticks}
-use Rattle.header.specs.declared.time.SpliceTime.{SpliceTime}
+use Rattle.splice_time.specs.Time.{ticks}
+use Rattle.splice_time.specs.declared.SpliceTime.{SpliceTime}
 use Rattle.pen.specs.Written.{bytesIn}
 use Rattle.table.proofs.Lists.{zero-one, and-true}
 use Rattle.table.specs.Writing.{Made, made, refused}

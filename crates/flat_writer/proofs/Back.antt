@@ -11,7 +11,7 @@ use Rattle.command.specs.declared.insert.SpliceMode.{SpliceMode}
 use Rattle.flat.specs.Flat.{flatTime}
 use Rattle.flat.specs.FlatCommand.{flatMode, flatBreak, wholeInsert, bareInsert, flatDetail, flatInsertion, noCommand, flatCommand}
 use Rattle.flat.specs.declared.commands.FlatCommand.{FlatCommand}
-use Rattle.header.specs.declared.time.SpliceTime.{SpliceTime}
+use Rattle.splice_time.specs.declared.SpliceTime.{SpliceTime}
 use Rattle.names.specs.Flags.{networkFlag, returnFlag}
 use Rattle.names.specs.declared.flags.NetworkIndicator.{NetworkIndicator}
 use Rattle.names.specs.declared.flags.ReturnMode.{ReturnMode}

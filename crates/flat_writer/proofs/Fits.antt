@@ -27,8 +27,8 @@ use Rattle.command_measure.specs.Survey.{measured, timeBytes}
 use Rattle.command.specs.Command.{Tags}
 use Rattle.flat.specs.Flat.{flatTime}
 use Rattle.flat.specs.FlatCommand.{flatMode, flatBreak, wholeInsert, bareInsert, flatInsertion, noCommand, flatCommand, flatComponent}
-use Rattle.header.specs.Time.{ticks}
-use Rattle.header.specs.declared.time.SpliceTime.{SpliceTime}
+use Rattle.splice_time.specs.Time.{ticks}
+use Rattle.splice_time.specs.declared.SpliceTime.{SpliceTime}
 use Rattle.names.specs.Flags.{networkFlag, returnFlag}
 use Rattle.names.specs.declared.flags.NetworkIndicator.{NetworkIndicator}
 use Rattle.names.specs.declared.flags.ReturnMode.{ReturnMode}

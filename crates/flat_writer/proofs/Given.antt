@@ -24,8 +24,8 @@ use Rattle.flat.specs.FlatCommand.{flatMode, wholeInsert, bareInsert, flatInser
 use Rattle.flat.specs.declared.FlatTime.{FlatTime}
 use Rattle.flat.specs.declared.commands.FlatCommand.{FlatCommand}
 use Rattle.flat.specs.declared.commands.FlatInsert.{FlatInsert}
-use Rattle.header.specs.Time.{ticks}
-use Rattle.header.specs.declared.time.SpliceTime.{SpliceTime}
+use Rattle.splice_time.specs.Time.{ticks}
+use Rattle.splice_time.specs.declared.SpliceTime.{SpliceTime}
 use Rattle.names.specs.declared.flags.ReturnMode.{ReturnMode}
 use Rattle.table.proofs.Lists.{zero-one, and-true, and-assoc}
 use Rattle.table.specs.Bits.{pick}

@@ -9,7 +9,7 @@ use crate::word_at;
 use crate::words_from;
 use command::components::ComponentSplice;
 use command::components::blanks;
-use header::time::SpliceTime;
+use splice_time::SpliceTime;
 
 pub(crate) fn time_from(kind: u64, ticks: u64) -> SpliceTime
     ensures { λ r. ⌜ r ≡ timeFrom (record { kind = kind; ticks = ticks }) ⌝ }

@@ -7,10 +7,10 @@ use command::insert::Insert;
 use command::insert::Insertion;
 use command::insert::SpliceInsert;
 use command::insert::SpliceMode;
-use header::time::SpliceTime;
 use section::Section;
 use section::SectionRead;
 use section::read_section;
+use splice_time::SpliceTime;
 
 // A label and its number.
 fn item(label: &[u8], number: u64) {

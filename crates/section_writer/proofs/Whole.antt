@@ -20,9 +20,9 @@ use Rattle.command.proofs.InsertTrips.{insert-write-read}
 use Rattle.command.proofs.PrivateTrips.{private-write-read}
 use Rattle.command_measure.specs.Made.{counted, timesFit, insertMade, commandMade}
 use Rattle.command_writer.proofs.Theorems.{insert-made}
-use Rattle.header.specs.Time.{spliceTime, notImmediate}
+use Rattle.splice_time.specs.Time.{spliceTime, notImmediate}
 use Rattle.header.specs.declared.header.SpliceInfoHeader.{SpliceInfoHeader}
-use Rattle.header.proofs.Times.{time-write-read}
+use Rattle.splice_time.proofs.Times.{time-write-read}
 use Rattle.pen.specs.Written.{refusalIn, bytesIn}
 use Rattle.section_writer.specs.Trips.{ownOf, ReadsBack}
 use Rattle.table.specs.Bits.{pick, bitsOf, bytesOf}

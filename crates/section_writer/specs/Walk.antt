@@ -10,7 +10,7 @@ use Rattle.command_measure.specs.declared.Measured.{Measured}
 use Rattle.crc.specs.Crc.{crcBytesOf}
 use Rattle.descriptor_form.specs.Canonical.{canonicalLoop}
 use Rattle.header.specs.Header.{headerOf}
-use Rattle.header.specs.Time.{spliceTime}
+use Rattle.splice_time.specs.Time.{spliceTime}
 use Rattle.header.specs.declared.header.HeaderRead.{HeaderRead}
 use Rattle.header.specs.declared.header.SpliceInfoHeader.{SpliceInfoHeader}
 use Rattle.names.specs.Algorithm.{algorithmNumber}

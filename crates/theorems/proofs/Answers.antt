@@ -14,7 +14,7 @@ use Rattle.command.specs.declared.SpliceCommand.{SpliceCommand}
 use Rattle.command.specs.declared.components.ComponentSplice.{ComponentSplice}
 use Rattle.command_measure.specs.Made.{insertMade, commandMade}
 use Rattle.header.specs.declared.header.SpliceInfoHeader.{SpliceInfoHeader}
-use Rattle.header.specs.Time.{spliceTime, notImmediate}
+use Rattle.splice_time.specs.Time.{spliceTime, notImmediate}
 use Rattle.items.specs.Items.{Listed, listed}
 use Rattle.loop_laws.proofs.Loops.{back-at}
 use Rattle.loop_laws.proofs.Pieces.{At}

@@ -11,7 +11,7 @@ use Rattle.command.specs.Command.{private, read, empty, byType, commandOf, numb
 use Rattle.command.specs.Insert.{insert}
 use Rattle.command.specs.declared.CommandRead.{CommandRead}
 use Rattle.command.specs.declared.SpliceCommand.{SpliceCommand}
-use Rattle.header.specs.Time.{spliceTime}
+use Rattle.splice_time.specs.Time.{spliceTime}
 use Rattle.table.proofs.Lists.{zero-one}
 use Rattle.table.specs.Bits.{pick, bitsOf}
 use Rattle.table.specs.Table.{Answer, got, short, parse}

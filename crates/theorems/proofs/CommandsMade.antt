@@ -27,8 +27,8 @@ use Rattle.command_measure.specs.Made.{counted, timesFit, insertMade, commandMa
 use Rattle.command_writer.proofs.Theorems.{private-trip}
 use Rattle.descriptor_laws.specs.Making.{fit}
 use Rattle.flat_writer.proofs.Arrays.{array-take}
-use Rattle.header.specs.Time.{spliceTime, notImmediate}
-use Rattle.header.specs.declared.time.SpliceTime.{SpliceTime}
+use Rattle.splice_time.specs.Time.{spliceTime, notImmediate}
+use Rattle.splice_time.specs.declared.SpliceTime.{SpliceTime}
 use Rattle.section.specs.Section.{privateView}
 use Rattle.section_writer.proofs.Whole.{Held, command-reads}
 use Rattle.section_writer.specs.Trips.{ownOf}

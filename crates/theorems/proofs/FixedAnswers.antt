@@ -14,7 +14,7 @@ use Rattle.crc_table.specs.Turns.{reversed, turns}
 use Rattle.descriptor.specs.Descriptor.{availOf, descriptorOf, dtmfOf, isCuei, reservedOf, segmentationOf as descriptorSegmentationOf, timeOf}
 use Rattle.descriptor.specs.Whole.{besideOf, besideRead, blankBeside, identifierRead, wholeOf}
 use Rattle.header.specs.Header.{headerOf}
-use Rattle.header.specs.Time.{adjustedOf, spliceTime, timeRead}
+use Rattle.splice_time.specs.Time.{adjustedOf, spliceTime, timeRead}
 use Rattle.items.specs.Items.{countOf, readingOf, stepOf}
 use Rattle.items.specs.Place.{viewOf}
 use Rattle.names.specs.Algorithm.{algorithmNumber, algorithmOf, fairAlgorithm}
@@ -77,9 +77,9 @@ use Rattle.names.proofs.flags.ReturnMode.flag.Reads as return-mode-flag
 use Rattle.names.proofs.flags.DeviceRestrictions.from_bits.Reads as restrictions-from-bits
 use Rattle.names.proofs.flags.DeviceRestrictions.bits.Reads as restrictions-bits
 use Rattle.header.proofs.header.read_header.Reads as read-header
-use Rattle.header.proofs.time.read_splice_time.Reads as read-splice-time
-use Rattle.header.proofs.time.read_whole_time.Reads as read-whole-time
-use Rattle.header.proofs.time.adjusted_time.Reads as adjusted-time
+use Rattle.splice_time.proofs.read_splice_time.Reads as read-splice-time
+use Rattle.splice_time.proofs.read_whole_time.Reads as read-whole-time
+use Rattle.splice_time.proofs.adjusted_time.Reads as adjusted-time
 use Rattle.upid.proofs.text.is_text.Reads as is-text
 use Rattle.upid.proofs.check_upid.Reads as check-upid
 use Rattle.upid.proofs.read_upid.Reads as read-upid

@@ -17,7 +17,7 @@ use Rattle.flat_writer.specs.CommandGiven.{commandGiven, commandRefusal, comman
 use Rattle.flat_writer.specs.Walk.{lower}
 use Rattle.flat_writer.specs.Words.{flatWritten, same, within, word}
 use Rattle.header.specs.Header.{headerOf}
-use Rattle.header.specs.Time.{adjustedOf}
+use Rattle.splice_time.specs.Time.{adjustedOf}
 use Rattle.items.specs.Items.{readingOf, stepOf}
 use Rattle.names.specs.Algorithm.{algorithmEntry, algorithmOf}
 use Rattle.names.specs.Command.{commandEntry, commandTypeOf}

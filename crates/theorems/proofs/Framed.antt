@@ -14,7 +14,7 @@ use Rattle.command.specs.declared.CommandRead.{CommandRead}
 use Rattle.command.specs.declared.Private.{Private}
 use Rattle.command.specs.declared.SpliceCommand.{SpliceCommand}
 use Rattle.header.specs.Header.{headerOf}
-use Rattle.header.specs.Time.{spliceTime}
+use Rattle.splice_time.specs.Time.{spliceTime}
 use Rattle.header.specs.declared.header.HeaderRead.{HeaderRead}
 use Rattle.section_writer.proofs.Parts.{parts-of}
 use Rattle.section.specs.Section.{commandLength, commandType, commandBytes, loopLength, loopPlace, moved, movedRead, sectionOf}

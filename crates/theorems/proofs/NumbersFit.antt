@@ -24,9 +24,9 @@ use Rattle.command_measure.specs.Fields.{timeFields, unlessFields, listFields, 
 use Rattle.command_measure.specs.Made.{counted, timesFit}
 use Rattle.descriptor_laws.specs.Making.{fit}
 use Rattle.header.specs.Header.{spliceHeader}
-use Rattle.header.specs.Time.{spliceTime, ticks}
+use Rattle.splice_time.specs.Time.{spliceTime, ticks}
 use Rattle.header.specs.declared.header.SpliceInfoHeader.{SpliceInfoHeader}
-use Rattle.header.specs.declared.time.SpliceTime.{SpliceTime}
+use Rattle.splice_time.specs.declared.SpliceTime.{SpliceTime}
 use Rattle.names.specs.Command.{commandTypeOf}
 use Rattle.section_writer.proofs.Whole.{Held}
 use Rattle.section_writer.specs.Frame.{headed, numbersFit}

@@ -6,7 +6,7 @@ use Rattle.command.specs.Insert.{timeUnless, component, moded, breakDuration, e
 use Rattle.descriptor.specs.Descriptor.{descriptorOf, isCuei, availOf, dtmfOf, reservedOf, segmentationOf, insertOf, inserted}
 use Rattle.descriptor.specs.Plain.{avail, dtmf, privateBytes}
 use Rattle.descriptor.specs.Segmentation.{deliveryRestrictions, mode, duration, writtenUpid, parts, front, subSegments, back, head}
-use Rattle.header.specs.Time.{spliceTime}
+use Rattle.splice_time.specs.Time.{spliceTime}
 use Rattle.items.specs.Items.{numberOf, valuesOf, readAt, wholeAt, stepOf, itemsFrom, itemsOf}
 use Rattle.names.specs.Segmentation as names
 use Rattle.table.specs.Lent.{viewed}

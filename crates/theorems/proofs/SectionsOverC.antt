@@ -30,7 +30,7 @@ use Rattle.flat_writer.specs.CommandWords.{commandWords, commandWidths, placesG
 use Rattle.flat_writer.proofs.Fits.{own-count}
 use Rattle.flat_writer.proofs.Given.{given-count}
 use Rattle.flat_writer.specs.Words.{within, placesOf, eachPlace}
-use Rattle.header.specs.Time.{spliceTime}
+use Rattle.splice_time.specs.Time.{spliceTime}
 use Rattle.header.specs.declared.header.SpliceInfoHeader.{SpliceInfoHeader}
 use Rattle.section.specs.Section.{commandLength, commandType, commandBytes, moved, sectionOf}
 use Rattle.section.specs.declared.Section.{Section}

@@ -45,11 +45,11 @@ use Rattle.flat_writer.proofs.Answers as command-answers
 use Rattle.flat_writer.specs.CommandGiven.{commandWordsMade}
 use Rattle.flat_writer.specs.CommandWords.{commandWords, placesGiven, CommandAnswer}
 use Rattle.header.specs.Header.{headerOf}
-use Rattle.header.specs.Time.{adjustedOf}
+use Rattle.splice_time.specs.Time.{adjustedOf}
 use Rattle.header.specs.declared.header.HeaderRead.{HeaderRead}
 use Rattle.header.specs.declared.header.SpliceInfoHeader.{SpliceInfoHeader}
-use Rattle.header.specs.declared.time.AdjustedTime.{AdjustedTime}
-use Rattle.header.specs.declared.time.SpliceTime.{SpliceTime}
+use Rattle.splice_time.specs.declared.AdjustedTime.{AdjustedTime}
+use Rattle.splice_time.specs.declared.SpliceTime.{SpliceTime}
 use Rattle.items.specs.Cover.{Ends, joined, runOf, TakesRest, Covered, times}
 use Rattle.items.specs.Items.{stepOf, readingOf, itemsOf}
 use Rattle.items.specs.declared.Item.{Item}
@@ -104,7 +104,7 @@ use Rattle.theorems.proofs.Sections as sections
 use Rattle.theorems.proofs.SectionsMade as sections-made
 use Rattle.theorems.proofs.Targets as targets
 use Rattle.theorems.proofs.SectionsOverC as sections-over-c
-use Rattle.header.proofs.Times as adjustments
+use Rattle.splice_time.proofs.Times as adjustments
 use Rattle.theorems.proofs.Tolerated as tolerated
 use Rattle.theorems.proofs.Whole as whole-runs
 use Rattle.theorems.proofs.Worked as worked

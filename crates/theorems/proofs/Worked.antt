@@ -17,8 +17,8 @@ use Rattle.descriptor.specs.Descriptor.{descriptorOf, isCuei, segmentationOf, i
 use Rattle.descriptor.specs.Segmentation.{deliveryRestrictions, mode, duration, writtenUpid, parts, front, subSegments, back, head, segmentation}
 use Rattle.descriptor_form.specs.Canonical.{canonicalUpid, canonicalSegmentation, canonicalPayload, canonicalDescriptor, canonicalFrom, canonicalLoop}
 use Rattle.header.specs.Header.{headerOf, headerRead, spliceHeader}
-use Rattle.header.specs.Time.{spliceTime}
-use Rattle.header.specs.declared.time.SpliceTime.{SpliceTime}
+use Rattle.splice_time.specs.Time.{spliceTime}
+use Rattle.splice_time.specs.declared.SpliceTime.{SpliceTime}
 use Rattle.items.specs.Items.{readAt, wholeAt, stepOf, itemsFrom, itemsOf}
 use Rattle.names.specs.Algorithm.{algorithmOf}
 use Rattle.names.specs.Command as names

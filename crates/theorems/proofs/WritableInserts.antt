@@ -25,9 +25,9 @@ use Rattle.command.specs.declared.insert.SpliceMode.{SpliceMode}
 use Rattle.command_measure.specs.Made.{counted, commandMade}
 use Rattle.descriptor_laws.specs.Making.{fit}
 use Rattle.flat_writer.proofs.Arrays.{array-take}
-use Rattle.header.specs.Time.{spliceTime, ticks, immediate}
-use Rattle.header.specs.declared.time.SpliceTime.{SpliceTime}
-use Rattle.header.specs.declared.time.SpliceTime.the-variants.{Immediate}
+use Rattle.splice_time.specs.Time.{spliceTime, ticks, immediate}
+use Rattle.splice_time.specs.declared.SpliceTime.{SpliceTime}
+use Rattle.splice_time.specs.declared.SpliceTime.the-variants.{Immediate}
 use Rattle.section.specs.Section.{commandType, commandBytes, moved, sectionOf}
 use Rattle.section.specs.declared.Section.{Section}
 use Rattle.section.specs.declared.SectionRead.{SectionRead}

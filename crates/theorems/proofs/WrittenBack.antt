@@ -18,7 +18,7 @@ use Rattle.command.specs.declared.components.ComponentSplice.{ComponentSplice}
 use Rattle.command.specs.declared.insert.Insertion.{Insertion}
 use Rattle.command_measure.specs.Made.{counted, insertMade, commandMade}
 use Rattle.command_writer.proofs.Theorems.{insert-trip, time-back, private-back, insert-back}
-use Rattle.header.specs.Time.{spliceTime}
+use Rattle.splice_time.specs.Time.{spliceTime}
 use Rattle.header.specs.declared.header.SpliceInfoHeader.{SpliceInfoHeader}
 use Rattle.loop_laws.proofs.Places.{run-of-run}
 use Rattle.section.specs.Section.{commandLength, commandType, commandBytes, moved, sectionOf}

@@ -14,7 +14,7 @@ use Rattle.command.specs.declared.components.ComponentSplice.{ComponentSplice}
 use Rattle.command.specs.declared.insert.SpliceInsert.{SpliceInsert}
 use Rattle.descriptor_form.specs.Canonical.{canonicalLoop}
 use Rattle.descriptor_laws.specs.Making.{fit}
-use Rattle.header.specs.Time.{ticks}
+use Rattle.splice_time.specs.Time.{ticks}
 use Rattle.header.specs.declared.header.SpliceInfoHeader.{SpliceInfoHeader}
 use Rattle.names.specs.Algorithm.{algorithmNumber}
 use Rattle.section.specs.Section.{privateView, commandType, commandBytes, loopBytes, sectionOf}

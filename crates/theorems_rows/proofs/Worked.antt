@@ -22,7 +22,7 @@ use Rattle.descriptor.specs.Plain.{avail, dtmf, time, privateBytes}
 use Rattle.descriptor.specs.Segmentation.{deliveryRestrictions, mode, duration, writtenUpid, parts, front, subSegments, back, head, segmentation}
 use Rattle.descriptor.specs.Whole.{besideOf, besideIn, filled}
 use Rattle.header.specs.Header.{headerOf, headerRead, spliceHeader}
-use Rattle.header.specs.Time.{spliceTime}
+use Rattle.splice_time.specs.Time.{spliceTime}
 use Rattle.items.specs.Items.{readAt, wholeAt, stepOf, itemsFrom, itemsOf}
 use Rattle.loop_laws.specs.Loops.Pairs.{over}
 use Rattle.names.specs.Algorithm.{algorithmOf}

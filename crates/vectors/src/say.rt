@@ -1,5 +1,5 @@
 // Numbers, bytes and times.
-use header::time::SpliceTime;
+use splice_time::SpliceTime;
 use table::numbers::wide;
 
 // A space and a number.

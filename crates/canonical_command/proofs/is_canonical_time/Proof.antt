@@ -1,6 +1,6 @@
 -- `canonical_command::is_canonical_time`: a splice_time() that takes all of the payload.
 use mathlib.Core.Path.{_∙_}
-use Rattle.header.specs.Time.{spliceTime}
+use Rattle.splice_time.specs.Time.{spliceTime}
 use Rattle.canonical_command.proofs.Walks.{whole-is}
 use borrow.Author.Needs.{needs}
 use Rattle.canonical_command.proofs.is_canonical_time.Statement.{statement}

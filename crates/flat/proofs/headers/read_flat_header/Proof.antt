@@ -1,6 +1,7 @@
 -- `flat::headers::read_flat_header`: each field the number in the bits of its place.
 use native.Mathlib.Omega.{arith}
-use Rattle.header.proofs.Headers.{flag-of, algorithm-of, high-part, low-part}
+use Rattle.table.proofs.Reading.{first-bit}
+use Rattle.header.proofs.Headers.{algorithm-of, high-part, low-part}
 use Rattle.flat.proofs.Numbers.{byte-is, flat-too-short, flat-header-is}
 use borrow.Author.Needs.{needs}
 use Rattle.flat.proofs.headers.read_flat_header.Statement.{statement}
@@ -58,7 +59,7 @@ returns-2 c =
     let long = i .if1 .left in
     flat-header-is s _ _ _ _ _ _ _ _ long
     (byte-is s 0 _ (omega (arith, long)) (w₂ .wide2 .ensures .0) (w₂ .wide2 .ensures .1))
-    (flag-of s 1 (w₁ .wide .result) (omega (arith, long)) (w₁ .wide .ensures .0) (w₁ .wide .ensures .1))
+    (first-bit s 1 (w₁ .wide .result) (omega (arith, long)) (w₁ .wide .ensures .0) (w₁ .wide .ensures .1))
     (algorithm-of s 1 (w₁ .wide .result) (omega (arith, long)) (w₁ .wide .ensures .0) (w₁ .wide .ensures .1))
     (t .time33 .ensures)
     (byte-is s 6 _ (omega (arith, long)) (w₃ .wide3 .ensures .0) (w₃ .wide3 .ensures .1))

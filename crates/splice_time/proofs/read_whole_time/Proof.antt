@@ -1,12 +1,12 @@
--- `header::time::read_whole_time`: by how many bytes are left, and by the first of them.
+-- `splice_time::read_whole_time`: by how many bytes are left, and by the first of them.
 use Prim.Native.Nat.{_+_, _≤_}
 use mathlib.Core.Path.{refl}
 use native.Mathlib.Omega.{arith}
 use lib.ListN.{length}
-use Rattle.header.proofs.Times.{none-left, whole-unspecified, whole-short, whole-at}
+use Rattle.splice_time.proofs.Times.{none-left, whole-unspecified, whole-short, whole-at}
 use borrow.Author.Needs.{needs}
-use Rattle.header.proofs.time.read_whole_time.Statement.{statement}
-use Rattle.header.proofs.time.read_whole_time.Tie as tie
+use Rattle.splice_time.proofs.read_whole_time.Statement.{statement}
+use Rattle.splice_time.proofs.read_whole_time.Tie as tie
 
 returns : tie.Need-returns
 returns c = let a = c .before .before .args in none-left (a .s .now) (a .at) (c .if1 .taken)

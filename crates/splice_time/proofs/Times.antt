@@ -28,12 +28,12 @@ use Rattle.table.proofs.Steppings.{Settled, place-of, settled-at, taken-got, sk
 use Rattle.table.proofs.Steps.{takes-number, lacks-number, takes-flag, lacks-flag, takes-ones}
 use Rattle.table.proofs.Structure as laws
 use Rattle.table.proofs.Telling.{tells-number, tells-either, tells-ones}
-use Rattle.header.specs.Time.{spliceTime, specified, ticks, notImmediate, timeRead, adjustedOf}
-use Rattle.header.specs.declared.time.AdjustedTime.{AdjustedTime}
-use Rattle.header.specs.declared.time.SpliceTime.{SpliceTime}
-use Rattle.header.specs.declared.time.SpliceTime.the-variants.{Immediate, Unspecified, At}
-use Rattle.header.specs.declared.time.TimeRead.{TimeRead}
-use Rattle.header.specs.declared.time.Timed.{Timed}
+use Rattle.splice_time.specs.Time.{spliceTime, specified, ticks, notImmediate, timeRead, adjustedOf}
+use Rattle.splice_time.specs.declared.AdjustedTime.{AdjustedTime}
+use Rattle.splice_time.specs.declared.SpliceTime.{SpliceTime}
+use Rattle.splice_time.specs.declared.SpliceTime.the-variants.{Immediate, Unspecified, At}
+use Rattle.splice_time.specs.declared.TimeRead.{TimeRead}
+use Rattle.splice_time.specs.declared.Timed.{Timed}
 
 -- ---- a reader's answer, made and undone
 pub time-got : (r : Answer SpliceTime) (t : SpliceTime) (c : Cursor) → Settled c → r ≡ got t (place c) → TimeRead.Got (record { time = t; next = c }) ≡ timeRead r

@@ -6,10 +6,10 @@ use lib.Dec.{ltb}
 use Rattle.table.specs.Bits.{pick}
 use Rattle.table.specs.Cursor.{cursorAt}
 use Rattle.table.specs.Table.{Table, done, uimsbf, flag, ones, Answer, got, short}
-use Rattle.header.specs.declared.time.SpliceTime.{SpliceTime}
-use Rattle.header.specs.declared.time.SpliceTime.the-variants.{Immediate, Unspecified, At}
-use Rattle.header.specs.declared.time.TimeRead.{TimeRead}
-use Rattle.header.specs.declared.time.AdjustedTime.{AdjustedTime}
+use Rattle.splice_time.specs.declared.SpliceTime.{SpliceTime}
+use Rattle.splice_time.specs.declared.SpliceTime.the-variants.{Immediate, Unspecified, At}
+use Rattle.splice_time.specs.declared.TimeRead.{TimeRead}
+use Rattle.splice_time.specs.declared.AdjustedTime.{AdjustedTime}
 
 abbrev pub specified : SpliceTime → Bool
 specified Immediate = false

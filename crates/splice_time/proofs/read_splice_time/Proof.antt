@@ -1,13 +1,13 @@
--- `header::time::read_splice_time` walks as its table does, where it does not start with a byte: each step of the cursor is one of the table.
+-- `splice_time::read_splice_time` walks as its table does, where it does not start with a byte: each step of the cursor is one of the table.
 use mathlib.Core.Path.{_≡_, sym, _∙_}
 use Rattle.table.specs.Bits.{bitsOf}
 use Rattle.table.specs.Cursor.{place, flaggedOf}
 use Rattle.table.specs.Table.{bit, parse}
 use Rattle.table.specs.declared.cursor.Flagged.{Flagged}
-use Rattle.header.proofs.Times.{at-byte, no-flag, no-reserved, no-time, at-time, no-rest, unspecified}
+use Rattle.splice_time.proofs.Times.{at-byte, no-flag, no-reserved, no-time, at-time, no-rest, unspecified}
 use borrow.Author.Needs.{needs}
-use Rattle.header.proofs.time.read_splice_time.Statement.{statement}
-use Rattle.header.proofs.time.read_splice_time.Tie as tie
+use Rattle.splice_time.proofs.read_splice_time.Statement.{statement}
+use Rattle.splice_time.proofs.read_splice_time.Tie as tie
 
 -- the arguments, and what the step on the flag said
 abbrev start : tie.After-next → tie.Start

@@ -1,7 +1,7 @@
 // splice_time() and the adjusted time.
 ghost use mathlib.Core.Path.{_≡_};
 ghost use Prim.Native.Nat.{_*_};
-ghost use Rattle.header.specs.Time.{spliceTime, timeRead, adjustedOf};
+ghost use Rattle.splice_time.specs.Time.{spliceTime, timeRead, adjustedOf};
 ghost use Rattle.table.specs.Bits.{bitsOf};
 ghost use Rattle.table.specs.Cursor.{place};
 ghost use Rattle.table.specs.Table.{parse};

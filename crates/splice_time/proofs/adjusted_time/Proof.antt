@@ -1,9 +1,9 @@
--- `header::time::adjusted_time`, by the kind of the time.
+-- `splice_time::adjusted_time`, by the kind of the time.
 use native.Mathlib.Omega.{arith}
-use Rattle.header.proofs.Times.{adjust-wide, adjust-none, adjust-late, adjust-at}
+use Rattle.splice_time.proofs.Times.{adjust-wide, adjust-none, adjust-late, adjust-at}
 use borrow.Author.Needs.{needs}
-use Rattle.header.proofs.time.adjusted_time.Statement.{statement}
-use Rattle.header.proofs.time.adjusted_time.Tie as tie
+use Rattle.splice_time.proofs.adjusted_time.Statement.{statement}
+use Rattle.splice_time.proofs.adjusted_time.Tie as tie
 
 returns : tie.Need-returns
 returns c = let a = c .before .args in adjust-wide (a .pts-adjustment) (a .time) (omega arith)
