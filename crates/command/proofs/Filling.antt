@@ -18,7 +18,7 @@ use Rattle.table.proofs.Reading.{bits-are}
 use Rattle.table.proofs.Steps.{onward, list-turn, list-short, list-none, reads-in, reads-number, reads-flag, reads-ones}
 use Rattle.command.specs.Command.{array, componentsIn, componentsOf}
 use Rattle.command.specs.Insert.{WithComponents, timeUnless, component, blank, moded, modeOf, breakDuration, ending, active, activeOf, insert}
-use Rattle.command.specs.Walk.{componentRead, listIn, filled, insertRead}
+use Rattle.command.specs.Private.{componentRead, listIn, filled, insertRead}
 use Rattle.command.specs.declared.components.Component.{Component}
 use Rattle.command.specs.declared.components.ComponentRead.{ComponentRead}
 use Rattle.command.specs.declared.components.ComponentSplice.{ComponentSplice}

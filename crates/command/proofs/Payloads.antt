@@ -20,7 +20,7 @@ use Rattle.table.proofs.Reading.{bits-are}
 use Rattle.table.proofs.Steps.{takes-number, lacks-number, takes-remaining, takes-part, reads-number, reads-part}
 use Rattle.command.specs.Command.{private, read, empty, commandOf}
 use Rattle.command.specs.Insert.{WithComponents, insert}
-use Rattle.command.specs.Walk.{insertRead}
+use Rattle.command.specs.Private.{insertRead}
 use Rattle.command.specs.declared.CommandRead.{CommandRead}
 use Rattle.command.specs.declared.Private.{Private}
 use Rattle.command.specs.declared.SpliceCommand.{SpliceCommand}

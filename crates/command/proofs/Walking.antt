@@ -24,7 +24,7 @@ use Rattle.table.proofs.Bits.{length-bits}
 use Rattle.table.proofs.Fields.{byte-field, field-in}
 use Rattle.table.proofs.Steps.{takes-in, lacks-in, takes-number, lacks-number, takes-flag, lacks-flag, takes-ones, parse-bound, onward, list-turn, list-short, list-none}
 use Rattle.command.specs.Insert.{WithComponents, timeUnless, component, blank, moded, breakDuration, ending, active, activeOf, insert, modeOf}
-use Rattle.command.specs.Walk.{componentRead, skimmedOf, breakRead, modedRead, activeRead, insertRead}
+use Rattle.command.specs.Private.{componentRead, skimmedOf, breakRead, modedRead, activeRead, insertRead}
 use Rattle.command.specs.declared.components.ComponentRead.{ComponentRead}
 use Rattle.command.specs.declared.components.ComponentSplice.{ComponentSplice}
 use Rattle.command.specs.declared.components.Component.{Component}

@@ -4,7 +4,7 @@ ghost use Rattle.command.specs.Insert.{blank, component};
 ghost use mathlib.Core.List.{[]};
 ghost use Prim.Native.Nat.{_*_, _≤_};
 ghost use Rattle.command.specs.Command.{array, componentsOf};
-ghost use Rattle.command.specs.Walk.{componentRead, skimmedOf, listIn};
+ghost use Rattle.command.specs.Private.{componentRead, skimmedOf, listIn};
 ghost use Rattle.table.specs.Bits.{bitsOf};
 ghost use Rattle.table.specs.Table.{list, parse};
 use crate::insert::InsertRead;

@@ -5,7 +5,7 @@ ghost use mathlib.Core.Bool.{true};
 ghost use Prim.Native.Nat.{_*_, _≤_};
 ghost use lib.ListN.{length};
 ghost use Rattle.command.specs.Insert.{timeUnless, breakDuration, moded, ending, active, insert};
-ghost use Rattle.command.specs.Walk.{breakRead, modedRead, activeRead, insertRead};
+ghost use Rattle.command.specs.Private.{breakRead, modedRead, activeRead, insertRead};
 ghost use Rattle.splice_time.specs.Time.{timeRead};
 ghost use Rattle.command.specs.declared.components.ComponentSplice.{ComponentSplice};
 ghost use Rattle.names.specs.declared.flags.NetworkIndicator.{NetworkIndicator};

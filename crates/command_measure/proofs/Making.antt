@@ -29,7 +29,7 @@ use Rattle.command.proofs.SpliceCommand.{the-type}
 use Rattle.splice_time.specs.Time.{spliceTime, ticks, notImmediate}
 use Rattle.splice_time.specs.declared.SpliceTime.{SpliceTime}
 use Rattle.splice_time.specs.declared.SpliceTime.the-variants.{Immediate, Unspecified, At}
-use Rattle.pen.specs.Written.{refusalIn, bytesIn}
+use Rattle.bit_stores.specs.Written.{refusalIn, bytesIn}
 use Rattle.table.specs.Bits.{pick, bytesOf}
 use Rattle.table.specs.Table.{flagNumber, number, part, remaining}
 use Rattle.table.specs.Writing as writing

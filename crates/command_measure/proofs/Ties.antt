@@ -14,7 +14,7 @@ use Rattle.command.specs.declared.insert.SpliceMode.{SpliceMode}
 use Rattle.splice_time.specs.Time.{spliceTime}
 use Rattle.splice_time.specs.declared.SpliceTime.{SpliceTime}
 use Rattle.splice_time.specs.declared.SpliceTime.the-variants.{Immediate, Unspecified, At}
-use Rattle.pen.proofs.Tables.{fields-number, fields-flag, fields-ones, fields-in}
+use Rattle.bit_stores.proofs.Tables.{fields-number, fields-flag, fields-ones, fields-in}
 use Rattle.table.specs.Table.{Table, done, inside, number, bit, flagNumber, reserved, list}
 use Rattle.table.specs.Writing.{Field, bits, walk}
 use Rattle.table.proofs.Lists.{append-nil}

@@ -1,8 +1,8 @@
 // Writing a splice_time().
 ghost use Rattle.command_measure.specs.Fields.{ink, timeFields};
-ghost use Rattle.pen.specs.Pen.{Pens};
-ghost use Rattle.pen.specs.Walk.{Fits};
-use pen::put_bits;
+ghost use Rattle.bit_stores.specs.Pen.{Pens};
+ghost use Rattle.bit_stores.specs.Private.{Fits};
+use bit_stores::put_bits;
 use splice_time::SpliceTime;
 use table::cursor::Cursor;
 

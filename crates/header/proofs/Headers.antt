@@ -27,7 +27,7 @@ use Rattle.table.proofs.Structure as laws
 use Rattle.table.proofs.Telling.{tells-number, tells-flag}
 use Rattle.header.specs.Header.{spliceHeader, headerRead, headerOf}
 use Rattle.header.specs.declared.header.HeaderRead.{HeaderRead}
-use Rattle.header.specs.declared.header.HeaderRead.the-variants.{Header, TooShort}
+use Rattle.header.specs.declared.header.HeaderRead.the-variants.{Header, NoHeader}
 use Rattle.header.specs.declared.header.SpliceInfoHeader.{SpliceInfoHeader}
 
 -- ---- eleven bytes are a header
@@ -126,13 +126,13 @@ too-short s y m h e =
     let e₇ = reads-number s 68 12 _ _ y m e₆ .1 in
     omega (arith, reads-number s 80 8 _ _ y m e₇ .0)
 
-refused : (r : Answer SpliceInfoHeader) → ((y : SpliceInfoHeader) (m : ℕ) → r ≡ got y m → ⊥) → headerRead r ≡ TooShort
+refused : (r : Answer SpliceInfoHeader) → ((y : SpliceInfoHeader) (m : ℕ) → r ≡ got y m → ⊥) → headerRead r ≡ NoHeader
 unfolding headerRead
 refused (got y m) f = absurd (f y m refl)
 refused (short e a) f = refl
 
 -- 01: "5 | .. a header alone under 11, its only refusal"
-pub header-refused : (s : List ℕ) → length s < 11 → headerOf s ≡ TooShort
+pub header-refused : (s : List ℕ) → length s < 11 → headerOf s ≡ NoHeader
 unfolding headerOf
 header-refused s h = refused (parse spliceHeader (bitsOf s) 0) (λ y m e. too-short s y m h e)
 

@@ -6,7 +6,7 @@ use Rattle.names.specs.Algorithm.{algorithmOf}
 use Rattle.names.specs.Command.{commandTypeOf}
 use Rattle.table.specs.Table.{number, bit}
 use Rattle.header.specs.Header.{spliceHeader, headerRead, headerOf, numberOf}
-use Rattle.header.specs.declared.header.HeaderRead.the-variants.{Header, TooShort}
+use Rattle.header.specs.declared.header.HeaderRead.the-variants.{Header, NoHeader}
 
 -- 00 00 00 00 00 00 FF FF F0 05 06: the header of the standard's first sample
 pub sample : headerOf (0 ∷ 0 ∷ 0 ∷ 0 ∷ 0 ∷ 0 ∷ 0xff ∷ 0xff ∷ 0xf0 ∷ 5 ∷ 6 ∷ []) ≡ Header (record {

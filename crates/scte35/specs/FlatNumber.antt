@@ -1,4 +1,4 @@
--- The flat forms of named numbers, and the time that is handed in. These are definitions.
+-- The flat forms of named numbers, and the time that is handed in.
 use Prim.Native.Nat.{ℕ, _^_}
 use lib.Dec.{eqb, ltb}
 use Rattle.splice_time.specs.declared.SpliceTime.{SpliceTime}

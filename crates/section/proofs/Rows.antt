@@ -19,7 +19,7 @@ use Rattle.header.proofs.Headers.{header-there}
 use Rattle.table.specs.Bits.{bitsOf, field}
 use Rattle.table.specs.Table.{number, bit, reserved, list}
 use Rattle.section.specs.Section.{commandLength, commandType, commandBytes, roomAfter, loopLength, loopPlace, frameIn, moved, movedRead, accepted, frameOf, sectionOf, numberOf}
-use Rattle.section.specs.Walk.{layoutOf}
+use Rattle.section.specs.Private.{layoutOf}
 use Rattle.section.specs.Whole.{wholeSectionOf}
 use Rattle.section.specs.declared.FrameRead.{FrameRead}
 use Rattle.section.specs.declared.SectionRead.{SectionRead}

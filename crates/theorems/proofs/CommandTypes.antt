@@ -1,4 +1,4 @@
--- Which types of a command are known. Assumes nothing.
+-- Which types of a command are known.
 --     unknown-is              a command is of an unknown type by its type alone
 --     unknown-if, unknown-only-if
 use Prim.Native.Nat.{ℕ}

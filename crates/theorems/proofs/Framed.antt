@@ -1,4 +1,4 @@
--- What an accepted section is made of. Assumes nothing.
+-- What an accepted section is made of.
 --     laid          its parts: where its loop lies, its command, and its length
 --     private-in    the bytes of a private command lie in its payload
 use Prim.Native.Nat.{ℕ, _+_, _*_, _-_, _/_, _≤_}
