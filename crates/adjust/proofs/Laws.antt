@@ -3,8 +3,8 @@ use Prim.Native.Nat.{ℕ, _+_, _-_, _%_, _^_, _<_, _≤_}
 use mathlib.Core.Path.{_≡_, refl, ap, sym, _∙_}
 use native.Mathlib.Omega.{arith}
 use borrow.Author.Tests.{lt-ltb, le-ltb}
-use Rattle.header.specs.Time.{ticks}
-use Rattle.header.specs.declared.time.SpliceTime.{SpliceTime}
+use Rattle.splice_time.specs.Time.{ticks}
+use Rattle.splice_time.specs.declared.SpliceTime.{SpliceTime}
 use Rattle.adjust.specs.Adjust.{movedBy, adjustOf, chainOf, undoOf}
 use Rattle.adjust.specs.declared.Moved.{Moved}
 use Rattle.adjust.specs.declared.Adjustment.{Adjustment}

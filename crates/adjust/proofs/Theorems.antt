@@ -5,11 +5,11 @@ use mathlib.Core.Path.{_≡_, refl, ap, sym, _∙_}
 use native.Mathlib.Nat.{add-comm, add-assoc, add-zero, zero-add, mod-eq-of-lt, mod-lt}
 use native.Mathlib.Omega.{arith}
 use Rattle.table.proofs.Lists.{zero-one}
-use Rattle.header.specs.Time.{ticks, adjustedOf}
-use Rattle.header.proofs.Times.{adjust-at}
-use Rattle.header.specs.declared.time.SpliceTime.{SpliceTime}
-use Rattle.header.specs.declared.time.SpliceTime.the-variants.{Immediate, Unspecified, At}
-use Rattle.header.specs.declared.time.AdjustedTime.{AdjustedTime}
+use Rattle.splice_time.specs.Time.{ticks, adjustedOf}
+use Rattle.splice_time.proofs.Times.{adjust-at}
+use Rattle.splice_time.specs.declared.SpliceTime.{SpliceTime}
+use Rattle.splice_time.specs.declared.SpliceTime.the-variants.{Immediate, Unspecified, At}
+use Rattle.splice_time.specs.declared.AdjustedTime.{AdjustedTime}
 use Rattle.adjust.specs.Adjust.{movedBy, adjustOf, chainOf, undoOf, numberOf, numberIn}
 use Rattle.adjust.specs.Chains.{andThen, through, sum, Each33, Reordered}
 use Rattle.adjust.specs.declared.Moved.{Moved}

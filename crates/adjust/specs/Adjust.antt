@@ -3,9 +3,9 @@ use Prim.Native.Nat.{ℕ, _+_, _-_, _%_, _^_}
 use mathlib.Core.Bool.{_&&_}
 use lib.Dec.{ltb}
 use Rattle.table.specs.Bits.{pick}
-use Rattle.header.specs.Time.{ticks}
-use Rattle.header.specs.declared.time.SpliceTime.{SpliceTime}
-use Rattle.header.specs.declared.time.SpliceTime.the-variants.{Immediate, Unspecified, At}
+use Rattle.splice_time.specs.Time.{ticks}
+use Rattle.splice_time.specs.declared.SpliceTime.{SpliceTime}
+use Rattle.splice_time.specs.declared.SpliceTime.the-variants.{Immediate, Unspecified, At}
 use Rattle.adjust.specs.declared.Moved.{Moved}
 use Rattle.adjust.specs.declared.Adjustment.{Adjustment}
 

@@ -1,7 +1,7 @@
 -- What the theorems on chains speak of: an adjustment after another, a chain of any length, and the orders of one.
 use Prim.Native.Nat.{ℕ, _+_, _^_, _<_}
 use mathlib.Core.List.{List, [], _∷_}
-use Rattle.header.specs.declared.time.SpliceTime.{SpliceTime}
+use Rattle.splice_time.specs.declared.SpliceTime.{SpliceTime}
 use Rattle.adjust.specs.Adjust.{adjustOf}
 use Rattle.adjust.specs.declared.Moved.{Moved}
 

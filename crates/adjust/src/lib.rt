@@ -1,7 +1,7 @@
 // Adjustments in a chain: a time moved by an adjustment, two adjustments as one, and the one that takes another back. Each is a number of 33 bits.
 ghost use mathlib.Core.Path.{_≡_};
 ghost use Rattle.adjust.specs.Adjust.{adjustOf, chainOf, undoOf};
-use header::time::SpliceTime;
+use splice_time::SpliceTime;
 
 // A time that was moved, or refusal 32.
 pub enum Moved {

@@ -1,4 +1,4 @@
--- A board and the list that it reads as answer the same, and read as one another after every call. Assumes nothing.
+-- A board and the list that it reads as answer the same, and read as one another after every call.
 use Prim.Native.Nat.{ℕ, zero, suc, _+_, _≤_, _<_}
 use mathlib.Core.Bool.{Bool, true, false}
 use mathlib.Core.List.{List, [], _∷_, _++_}

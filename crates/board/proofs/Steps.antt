@@ -1,4 +1,4 @@
--- Each answer of the two calls by the place that was found. Assumes nothing.
+-- Each answer of the two calls by the place that was found.
 use Prim.Native.Nat.{ℕ, _≤_, _<_}
 use mathlib.Core.Path.{_≡_, refl, sym, _∙_}
 use native.Mathlib.Omega.{arith}

@@ -1,4 +1,4 @@
--- What Q-7 asks for, of the functions' contracts as the checker makes them. Assumes nothing.
+-- What Q-7 asks for, of the functions' contracts as the checker makes them.
 use Prim.Native.Nat.{ℕ, suc, _+_, _%_, _≤_, _<_}
 use mathlib.Core.Bool.{Bool, true, false, not, _&&_}
 use mathlib.Core.List.{List, [], _∷_, _++_, append-nil}

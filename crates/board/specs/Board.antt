@@ -1,4 +1,4 @@
--- What each function of the board answers, for any board, also one that no calls make. These are definitions.
+-- What each function of the board answers, for any board, also one that no calls make.
 use Prim.Native.Nat.{ℕ, suc}
 use mathlib.Core.Bool.{Bool, true, false, cond, not, _&&_}
 use mathlib.Core.List.{List, [], _∷_}

@@ -1,4 +1,4 @@
--- The plain list of Q-7: "a plain list of open breaks with a next id". These are definitions.
+-- The plain list of Q-7: "a plain list of open breaks with a next id".
 -- `limit` is how many may be open: 32 for Q-7's one list, 16 for each of Q-8's two.
 use Prim.Native.Nat.{ℕ, zero, suc, _+_, _%_}
 use mathlib.Core.Bool.{Bool, cond}

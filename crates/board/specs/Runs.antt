@@ -1,4 +1,4 @@
--- Calls, and what the plain list answers to them one after the other. These are definitions.
+-- Calls, and what the plain list answers to them one after the other.
 use Prim.Native.Nat.{ℕ}
 use mathlib.Core.List.{List, [], _∷_}
 use Rattle.board.specs.Breaks.{Breaks, Told, opened, closed}

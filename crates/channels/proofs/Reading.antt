@@ -1,4 +1,4 @@
--- A shared board and the two lists that it reads as answer the same, and read as one another after every call. Assumes nothing.
+-- A shared board and the two lists that it reads as answer the same, and read as one another after every call.
 use Prim.Native.Nat.{ℕ, zero, suc, _+_, _≤_, _<_}
 use mathlib.Core.Bool.{Bool, true, false, cond}
 use mathlib.Core.List.{List, [], _∷_, _++_}

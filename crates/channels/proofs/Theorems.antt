@@ -1,4 +1,4 @@
--- What Q-8 asks for, of the functions' contracts as the checker makes them. Assumes nothing.
+-- What Q-8 asks for, of the functions' contracts as the checker makes them.
 use Prim.Native.Nat.{ℕ, _≤_, _<_}
 use mathlib.Core.Bool.{Bool, true, false, cond}
 use mathlib.Core.List.{List, [], _∷_, map}

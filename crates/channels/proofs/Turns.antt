@@ -1,4 +1,4 @@
--- Each reply of the two calls by what was found. Assumes nothing.
+-- Each reply of the two calls by what was found.
 use Prim.Native.Nat.{ℕ, _≤_, _<_}
 use mathlib.Core.List.{List}
 use mathlib.Core.Path.{_≡_, refl, sym, _∙_}

@@ -1,4 +1,4 @@
--- What each function of the shared board answers, for any board, also one that no calls make. These are definitions.
+-- What each function of the shared board answers, for any board, also one that no calls make.
 use Prim.Native.Nat.{ℕ}
 use mathlib.Core.Bool.{Bool, cond, _||_}
 use mathlib.Core.List.{List, [], _∷_}

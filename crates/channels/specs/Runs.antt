@@ -1,4 +1,4 @@
--- Calls on any channel one after the other, as the contracts of the functions allow them, and on a list for each channel. These are definitions.
+-- Calls on any channel one after the other, as the contracts of the functions allow them, and on a list for each channel.
 use Prim.Native.Nat.{ℕ}
 use mathlib.Core.Bool.{cond}
 use mathlib.Core.List.{List, [], _∷_, map}

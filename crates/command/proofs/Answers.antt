@@ -7,7 +7,7 @@ use Rattle.table.specs.Table.{Answer, got, short}
 use Rattle.table.specs.declared.cursor.Short.{Short}
 use Rattle.table.proofs.Lists.{zero-one}
 use Rattle.command.specs.Insert.{WithComponents}
-use Rattle.command.specs.Walk.{componentRead, skimmedOf, breakRead, modedRead, activeRead, insertRead}
+use Rattle.command.specs.Private.{componentRead, skimmedOf, breakRead, modedRead, activeRead, insertRead}
 use Rattle.command.specs.declared.components.Component.{Component}
 use Rattle.command.specs.declared.components.ComponentRead.{ComponentRead}
 use Rattle.command.specs.declared.components.ComponentSplice.{ComponentSplice}

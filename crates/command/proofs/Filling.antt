@@ -9,7 +9,7 @@ use native.Mathlib.Omega.{arith}
 use lib.Dec.{eqb}
 use lib.ListN.{length, drop, set, replicate, length-replicate}
 use lib.Seq.{sets, sets-eq}
-use Rattle.header.specs.declared.time.SpliceTime.{SpliceTime}
+use Rattle.splice_time.specs.declared.SpliceTime.{SpliceTime}
 use Rattle.table.specs.Bits.{pick, bitsOf, field}
 use Rattle.table.specs.Table.{Table, done, inside, list, Answer, got, short, parse}
 use Rattle.table.specs.declared.cursor.Short.{Short}
@@ -18,7 +18,7 @@ use Rattle.table.proofs.Reading.{bits-are}
 use Rattle.table.proofs.Steps.{onward, list-turn, list-short, list-none, reads-in, reads-number, reads-flag, reads-ones}
 use Rattle.command.specs.Command.{array, componentsIn, componentsOf}
 use Rattle.command.specs.Insert.{WithComponents, timeUnless, component, blank, moded, modeOf, breakDuration, ending, active, activeOf, insert}
-use Rattle.command.specs.Walk.{componentRead, listIn, filled, insertRead}
+use Rattle.command.specs.Private.{componentRead, listIn, filled, insertRead}
 use Rattle.command.specs.declared.components.Component.{Component}
 use Rattle.command.specs.declared.components.ComponentRead.{ComponentRead}
 use Rattle.command.specs.declared.components.ComponentSplice.{ComponentSplice}

@@ -7,10 +7,10 @@ use native.Mathlib.Omega.{arith}
 use lib.Dec.{ltb, eqb}
 use lib.ListN.{length, getD}
 use borrow.Author.Tests.{lt-ltb}
-use Rattle.header.specs.Time.{spliceTime, notImmediate}
-use Rattle.header.specs.declared.time.SpliceTime.{SpliceTime}
-use Rattle.header.specs.declared.time.SpliceTime.the-variants.{Immediate, Unspecified, At}
-use Rattle.header.proofs.Times.{time-tells}
+use Rattle.splice_time.specs.Time.{spliceTime, notImmediate}
+use Rattle.splice_time.specs.declared.SpliceTime.{SpliceTime}
+use Rattle.splice_time.specs.declared.SpliceTime.the-variants.{Immediate, Unspecified, At}
+use Rattle.splice_time.proofs.Times.{time-tells}
 use Rattle.names.specs.declared.flags.NetworkIndicator.{NetworkIndicator}
 use Rattle.table.specs.Bits.{pick}
 use Rattle.table.specs.Table.{list}

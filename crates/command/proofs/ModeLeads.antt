@@ -7,9 +7,9 @@ use native.Mathlib.Omega.{arith}
 use lib.Dec.{ltb}
 use lib.ListN.{length}
 use borrow.Author.Tests.{lt-ltb}
-use Rattle.header.specs.declared.time.SpliceTime.{SpliceTime}
-use Rattle.header.specs.declared.time.SpliceTime.the-variants.{Immediate, Unspecified, At}
-use Rattle.header.proofs.Times.{timeSize, time-leads}
+use Rattle.splice_time.specs.declared.SpliceTime.{SpliceTime}
+use Rattle.splice_time.specs.declared.SpliceTime.the-variants.{Immediate, Unspecified, At}
+use Rattle.splice_time.proofs.Times.{timeSize, time-leads}
 use Rattle.table.specs.Bits.{pick}
 use Rattle.table.specs.Table.{Table, done, must, inside, list}
 use Rattle.table.proofs.Leading.{Leads, leads-in, leads-done, leads-number, leads-list, total}

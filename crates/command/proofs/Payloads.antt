@@ -7,11 +7,11 @@ use native.Mathlib.Omega.{arith}
 use lib.Dec.{eqb}
 use lib.ListN.{length}
 use borrow.Author.Tests.{eq-eqb, ne-eqb}
-use Rattle.header.specs.Time.{spliceTime, timeRead}
-use Rattle.header.specs.declared.time.SpliceTime.{SpliceTime}
-use Rattle.header.specs.declared.time.TimeRead.{TimeRead}
-use Rattle.header.specs.declared.time.Timed.{Timed}
-use Rattle.header.proofs.Times.{timed-got, timed-lacks}
+use Rattle.splice_time.specs.Time.{spliceTime, timeRead}
+use Rattle.splice_time.specs.declared.SpliceTime.{SpliceTime}
+use Rattle.splice_time.specs.declared.TimeRead.{TimeRead}
+use Rattle.splice_time.specs.declared.Timed.{Timed}
+use Rattle.splice_time.proofs.Times.{timed-got, timed-lacks}
 use Rattle.table.specs.Bits.{pick, bitsOf, field}
 use Rattle.table.specs.Table.{done, number, Answer, got, short, parse}
 use Rattle.table.specs.declared.cursor.Short.{Short}
@@ -20,7 +20,7 @@ use Rattle.table.proofs.Reading.{bits-are}
 use Rattle.table.proofs.Steps.{takes-number, lacks-number, takes-remaining, takes-part, reads-number, reads-part}
 use Rattle.command.specs.Command.{private, read, empty, commandOf}
 use Rattle.command.specs.Insert.{WithComponents, insert}
-use Rattle.command.specs.Walk.{insertRead}
+use Rattle.command.specs.Private.{insertRead}
 use Rattle.command.specs.declared.CommandRead.{CommandRead}
 use Rattle.command.specs.declared.Private.{Private}
 use Rattle.command.specs.declared.SpliceCommand.{SpliceCommand}

@@ -7,12 +7,12 @@ use native.Mathlib.Nat.{add-zero}
 use native.Mathlib.Omega.{arith}
 use lib.Dec.{eqb}
 use lib.ListN.{length, getD}
-use Rattle.header.specs.Time.{spliceTime, timeRead}
-use Rattle.header.specs.declared.time.SpliceTime.the-variants.{Immediate}
-use Rattle.header.specs.declared.time.TimeRead.{TimeRead}
-use Rattle.header.specs.declared.time.Timed.{Timed}
-use Rattle.header.proofs.Headers.{flag-of}
-use Rattle.header.proofs.Times.{timed-got, timed-lacks}
+use Rattle.table.proofs.Reading.{first-bit}
+use Rattle.splice_time.specs.Time.{spliceTime, timeRead}
+use Rattle.splice_time.specs.declared.SpliceTime.the-variants.{Immediate}
+use Rattle.splice_time.specs.declared.TimeRead.{TimeRead}
+use Rattle.splice_time.specs.declared.Timed.{Timed}
+use Rattle.splice_time.proofs.Times.{timed-got, timed-lacks}
 use Rattle.names.specs.declared.flags.NetworkIndicator.{NetworkIndicator}
 use Rattle.names.specs.declared.flags.ReturnMode.{ReturnMode}
 use Rattle.table.specs.Bits.{pick, bitsOf, field}
@@ -24,7 +24,7 @@ use Rattle.table.proofs.Bits.{length-bits}
 use Rattle.table.proofs.Fields.{byte-field, field-in}
 use Rattle.table.proofs.Steps.{takes-in, lacks-in, takes-number, lacks-number, takes-flag, lacks-flag, takes-ones, parse-bound, onward, list-turn, list-short, list-none}
 use Rattle.command.specs.Insert.{WithComponents, timeUnless, component, blank, moded, breakDuration, ending, active, activeOf, insert, modeOf}
-use Rattle.command.specs.Walk.{componentRead, skimmedOf, breakRead, modedRead, activeRead, insertRead}
+use Rattle.command.specs.Private.{componentRead, skimmedOf, breakRead, modedRead, activeRead, insertRead}
 use Rattle.command.specs.declared.components.ComponentRead.{ComponentRead}
 use Rattle.command.specs.declared.components.ComponentSplice.{ComponentSplice}
 use Rattle.command.specs.declared.components.Component.{Component}
@@ -179,7 +179,7 @@ module _ (s : List ℕ) (i : ℕ) where
   a-break f v m there ef byte em ev =
       let p : i * 8 + 1 + 6 ≡ i * 8 + 7 = omega arith in
       let q : i * 8 + 1 + 6 + 33 ≡ (i + 5) * 8 = omega arith in
-      break-got _ _ (i + 5) (rw em (takes-flag s (i * 8) (eqb (f / 128) 1) _ _ (omega arith) (ap (λ (x : ℕ). eqb x 1) (sym (flag-of s i f (omega arith) ef byte))) ∙ takes-ones s (i * 8 + 1) 6 _ (omega arith)
+      break-got _ _ (i + 5) (rw em (takes-flag s (i * 8) (eqb (f / 128) 1) _ _ (omega arith) (ap (λ (x : ℕ). eqb x 1) (sym (first-bit s i f (omega arith) ef byte))) ∙ takes-ones s (i * 8 + 1) 6 _ (omega arith)
       ∙ takes-number s (i * 8 + 1 + 6) 33 v _ _ (omega arith) (ev ∙ ap (λ (x : ℕ). field (bitsOf s) x 33) (sym p)) ∙ ap (got (Break.Lasts (record { «return_mode» = pick (eqb (f / 128) 1) ReturnMode.Automatic ReturnMode.Manual; duration = v }))) q))
 
 -- one that was read, and the byte after it
@@ -267,7 +267,7 @@ module _ (s : List ℕ) (i : ℕ) where
     unfolding active
     flags =
         let p : i * 8 + 1 + 1 + 1 + 1 + 4 ≡ (i + 1) * 8 = omega arith in
-        takes-flag s (i * 8) _ _ _ (omega arith) (ap (λ (x : ℕ). eqb x 1) (sym (flag-of s i f there is byte)))
+        takes-flag s (i * 8) _ _ _ (omega arith) (ap (λ (x : ℕ). eqb x 1) (sym (first-bit s i f there is byte)))
         ∙ takes-flag s (i * 8 + 1) _ _ _ (omega arith) (ap (λ (x : ℕ). eqb x 1) (one-bit s i f there is byte 1 6 (i * 8 + 1) refl refl))
         ∙ takes-flag s (i * 8 + 1 + 1) _ _ _ (omega arith) (ap (λ (x : ℕ). eqb x 1) (one-bit s i f there is byte 2 5 (i * 8 + 1 + 1) (omega arith) refl))
         ∙ takes-flag s (i * 8 + 1 + 1 + 1) _ _ _ (omega arith) (ap (λ (x : ℕ). eqb x 1) (one-bit s i f there is byte 3 4 (i * 8 + 1 + 1 + 1) (omega arith) refl))
@@ -314,7 +314,7 @@ module _ (s : List ℕ) where
         sym (field-in s 4 (omega arith) byte 1 7 0 refl ∙ z)
 
     cancel : (c : Bool) → eqb (getD s 4 0 / 128) 1 ≡ c → eqb (field (bitsOf s) 32 1) 1 ≡ c
-    cancel c e = ap (λ (x : ℕ). eqb x 1) (sym (flag-of s 4 (getD s 4 0) (omega arith) refl byte)) ∙ e
+    cancel c e = ap (λ (x : ℕ). eqb x 1) (sym (first-bit s 4 (getD s 4 0) (omega arith) refl byte)) ∙ e
 
     pub a-cancel : 128 ≤ getD s 4 0
         → InsertRead.Got (record { «splice_event_id» = v; reserved = getD s 4 0 % 128; «splice_detail» = SpliceInsert.Cancel }) ≡ insertRead (parse insert (bitsOf s) 0)

@@ -5,8 +5,8 @@ use mathlib.Core.List.{List}
 use mathlib.Core.Path.{_≡_}
 use native.Mathlib.Omega.{arith}
 use lib.Dec.{eqb}
-use Rattle.header.specs.Time.{spliceTime, ticks}
-use Rattle.header.specs.declared.time.SpliceTime.the-variants.{Unspecified, At}
+use Rattle.splice_time.specs.Time.{spliceTime, ticks}
+use Rattle.splice_time.specs.declared.SpliceTime.the-variants.{Unspecified, At}
 use Rattle.table.specs.Bits.{pick, bitsOf, field}
 use Rattle.table.specs.Table.{done, list, uimsbf, ones, Answer, got, parse}
 use Rattle.table.proofs.Steps.{reads-in, reads-number, reads-flag, reads-ones}

@@ -3,8 +3,8 @@ use Prim.Native.Nat.{ℕ}
 use mathlib.Core.List.{List, [], map}
 use lib.Dec.{eqb}
 use lib.ListN.{length}
-use Rattle.header.specs.Time.{spliceTime}
-use Rattle.header.specs.declared.time.SpliceTime.{SpliceTime}
+use Rattle.splice_time.specs.Time.{spliceTime}
+use Rattle.splice_time.specs.declared.SpliceTime.{SpliceTime}
 use Rattle.table.specs.Bits.{pick, bitsOf, AllBytes}
 use Rattle.table.specs.Lent.{filledTo}
 use Rattle.table.specs.Table.{Table, done, inside, uimsbf, remaining, part, Answer, got, short, parse}

@@ -26,10 +26,10 @@ use Rattle.command.specs.declared.insert.SpliceInsert.{SpliceInsert}
 use Rattle.command.specs.declared.insert.SpliceMode.{SpliceMode}
 use Rattle.command.proofs.Filling.{blank-length}
 use Rattle.command.proofs.SpliceCommand.{the-type}
-use Rattle.header.specs.Time.{spliceTime, ticks, notImmediate}
-use Rattle.header.specs.declared.time.SpliceTime.{SpliceTime}
-use Rattle.header.specs.declared.time.SpliceTime.the-variants.{Immediate, Unspecified, At}
-use Rattle.pen.specs.Written.{refusalIn, bytesIn}
+use Rattle.splice_time.specs.Time.{spliceTime, ticks, notImmediate}
+use Rattle.splice_time.specs.declared.SpliceTime.{SpliceTime}
+use Rattle.splice_time.specs.declared.SpliceTime.the-variants.{Immediate, Unspecified, At}
+use Rattle.bit_stores.specs.Written.{refusalIn, bytesIn}
 use Rattle.table.specs.Bits.{pick, bytesOf}
 use Rattle.table.specs.Table.{flagNumber, number, part, remaining}
 use Rattle.table.specs.Writing as writing

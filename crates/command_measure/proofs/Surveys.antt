@@ -11,9 +11,9 @@ use Rattle.command.specs.Command.{Tags}
 use Rattle.command.specs.Fair.{alike}
 use Rattle.command.specs.Insert.{immediate, blank}
 use Rattle.command.specs.declared.components.ComponentSplice.{ComponentSplice}
-use Rattle.header.specs.Time.{ticks}
-use Rattle.header.specs.declared.time.SpliceTime.{SpliceTime}
-use Rattle.header.specs.declared.time.SpliceTime.the-variants.{Immediate, Unspecified, At}
+use Rattle.splice_time.specs.Time.{ticks}
+use Rattle.splice_time.specs.declared.SpliceTime.{SpliceTime}
+use Rattle.splice_time.specs.declared.SpliceTime.the-variants.{Immediate, Unspecified, At}
 use Rattle.table.specs.Bits.{pick}
 use Rattle.command_measure.specs.Made.{timesFit}
 use Rattle.command_measure.specs.Survey.{timeBytes, adding, surveyed}

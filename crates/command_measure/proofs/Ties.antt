@@ -11,10 +11,10 @@ use Rattle.command.specs.declared.insert.Insert.{Insert}
 use Rattle.command.specs.declared.insert.Insertion.{Insertion}
 use Rattle.command.specs.declared.insert.SpliceInsert.{SpliceInsert}
 use Rattle.command.specs.declared.insert.SpliceMode.{SpliceMode}
-use Rattle.header.specs.Time.{spliceTime}
-use Rattle.header.specs.declared.time.SpliceTime.{SpliceTime}
-use Rattle.header.specs.declared.time.SpliceTime.the-variants.{Immediate, Unspecified, At}
-use Rattle.pen.proofs.Tables.{fields-number, fields-flag, fields-ones, fields-in}
+use Rattle.splice_time.specs.Time.{spliceTime}
+use Rattle.splice_time.specs.declared.SpliceTime.{SpliceTime}
+use Rattle.splice_time.specs.declared.SpliceTime.the-variants.{Immediate, Unspecified, At}
+use Rattle.bit_stores.proofs.Tables.{fields-number, fields-flag, fields-ones, fields-in}
 use Rattle.table.specs.Table.{Table, done, inside, number, bit, flagNumber, reserved, list}
 use Rattle.table.specs.Writing.{Field, bits, walk}
 use Rattle.table.proofs.Lists.{append-nil}

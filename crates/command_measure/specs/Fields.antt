@@ -12,8 +12,8 @@ use Rattle.command.specs.declared.insert.Insertion.{Insertion}
 use Rattle.command.specs.declared.insert.SpliceInsert.{SpliceInsert}
 use Rattle.command.specs.declared.insert.SpliceMode.{SpliceMode}
 use Rattle.names.specs.declared.flags.ReturnMode.{ReturnMode}
-use Rattle.header.specs.Time.{specified, ticks}
-use Rattle.header.specs.declared.time.SpliceTime.{SpliceTime}
+use Rattle.splice_time.specs.Time.{specified, ticks}
+use Rattle.splice_time.specs.declared.SpliceTime.{SpliceTime}
 use Rattle.table.specs.Bits.{pick, bitsOfNum, bitsOf}
 use Rattle.table.specs.Lent.{viewed}
 use Rattle.table.specs.Table.{flagNumber}

@@ -8,8 +8,8 @@ use Rattle.command.specs.Insert.{immediate, programTime}
 use Rattle.command.specs.declared.components.ComponentSplice.{ComponentSplice}
 use Rattle.command.specs.declared.insert.Break.{Break}
 use Rattle.command.specs.declared.insert.SpliceMode.{SpliceMode}
-use Rattle.header.specs.Time.{specified, ticks}
-use Rattle.header.specs.declared.time.SpliceTime.{SpliceTime}
+use Rattle.splice_time.specs.Time.{specified, ticks}
+use Rattle.splice_time.specs.declared.SpliceTime.{SpliceTime}
 use Rattle.table.specs.Bits.{pick}
 use Rattle.command_measure.specs.declared.measure.Survey.{Survey}
 use Rattle.command_measure.specs.declared.Measured.{Measured}

@@ -10,7 +10,7 @@ ghost use Rattle.command.specs.Insert as insert;
 ghost use Rattle.command.specs.Insert.{immediate, programTime, blank};
 ghost use Rattle.command_measure.specs.Made.{counted, insertMade, measuredOf};
 ghost use Rattle.command_measure.specs.Survey.{timeBytes, adding, surveyed, blanksOf, modeBytes, breakBytes, measured, cancelMeasured, activeMeasured};
-ghost use Rattle.header.specs.Time.{spliceTime, ticks, notImmediate};
+ghost use Rattle.splice_time.specs.Time.{spliceTime, ticks, notImmediate};
 ghost use Rattle.table.specs.Bits.{pick};
 ghost use Rattle.table.specs.Writing.{make};
 use crate::Measured;
@@ -20,7 +20,7 @@ use command::insert::Insert;
 use command::insert::Insertion;
 use command::insert::SpliceInsert;
 use command::insert::SpliceMode;
-use header::time::SpliceTime;
+use splice_time::SpliceTime;
 
 fn both(a: bool, b: bool) -> bool
     ensures { λ r. ⌜ r ≡ a && b ⌝ }

@@ -17,15 +17,15 @@ use Rattle.command.specs.declared.SpliceCommand.{SpliceCommand}
 use Rattle.command.specs.declared.components.ComponentSplice.{ComponentSplice}
 use Rattle.command.specs.declared.insert.Insertion.{Insertion}
 use Rattle.command.specs.declared.insert.SpliceInsert.{SpliceInsert}
-use Rattle.header.specs.Time.{spliceTime, notImmediate}
-use Rattle.header.specs.declared.time.SpliceTime.{SpliceTime}
-use Rattle.pen.specs.Pen.{Pens, penned}
-use Rattle.pen.specs.Walk.{Fits}
-use Rattle.pen.specs.Written.{answerOf, laterOf, refusalIn, bytesIn}
-use Rattle.pen.specs.declared.Written.{Written}
-use Rattle.pen.proofs.Penned.{penned-stored}
-use Rattle.pen.proofs.Turns.{place-is}
-use Rattle.pen.proofs.Writes.{refusal-made, refused-answer, short-answer, wrote-answer}
+use Rattle.splice_time.specs.Time.{spliceTime, notImmediate}
+use Rattle.splice_time.specs.declared.SpliceTime.{SpliceTime}
+use Rattle.bit_stores.specs.Pen.{Pens, penned}
+use Rattle.bit_stores.specs.Private.{Fits}
+use Rattle.bit_stores.specs.Written.{answerOf, laterOf, refusalIn, bytesIn}
+use Rattle.bit_stores.specs.declared.Written.{Written}
+use Rattle.bit_stores.proofs.Penned.{penned-stored}
+use Rattle.bit_stores.proofs.Turns.{place-is}
+use Rattle.bit_stores.proofs.Writes.{refusal-made, refused-answer, short-answer, wrote-answer}
 use Rattle.table.specs.Bits.{pick, bitsOfNum, bitsOf, bytesOf, AllBytes}
 use Rattle.table.specs.Cursor.{place}
 use Rattle.table.specs.Lent.{stored, viewed}
@@ -41,7 +41,7 @@ use Rattle.table.proofs.Walks.{print-bits, print-length}
 use Rattle.command_measure.specs.Fields.{ink, timeFields, insertFields, privateInk}
 use Rattle.command_measure.specs.Made.{counted, timesFit, insertMade, commandMade, measuredOf}
 use Rattle.command_measure.specs.declared.Measured.{Measured}
-use Rattle.command_writer.specs.Walk.{hasRoom, answerTo}
+use Rattle.command_writer.specs.Private.{hasRoom, answerTo}
 use Rattle.command_measure.proofs.Making.{measured-parts, time-whole, insert-whole, private-fields}
 use Rattle.command_measure.proofs.Ties.{time-fields, insert-fields}
 

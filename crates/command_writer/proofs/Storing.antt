@@ -15,15 +15,15 @@ use Rattle.command.specs.declared.insert.Insertion.{Insertion}
 use Rattle.command.specs.declared.insert.SpliceDuration.{SpliceDuration}
 use Rattle.command.specs.declared.insert.SpliceInsert.{SpliceInsert}
 use Rattle.command.specs.declared.insert.SpliceMode.{SpliceMode}
-use Rattle.header.specs.declared.time.SpliceTime.{SpliceTime}
-use Rattle.header.specs.declared.time.SpliceTime.the-variants.{Immediate, Unspecified, At}
+use Rattle.splice_time.specs.declared.SpliceTime.{SpliceTime}
+use Rattle.splice_time.specs.declared.SpliceTime.the-variants.{Immediate, Unspecified, At}
 use Rattle.names.specs.Flags.{networkFlag, returnFlag}
 use Rattle.names.specs.declared.flags.NetworkIndicator.{NetworkIndicator}
 use Rattle.names.specs.declared.flags.ReturnMode.{ReturnMode}
-use Rattle.pen.specs.Pen.{Pens}
-use Rattle.pen.specs.Walk.{Fits}
-use Rattle.pen.proofs.Penned.{length-penned}
-use Rattle.pen.proofs.Tables.{Goes, pens-place, pens-append, pens-last, pens-same, print-beside, ink-append}
+use Rattle.bit_stores.specs.Pen.{Pens}
+use Rattle.bit_stores.specs.Private.{Fits}
+use Rattle.bit_stores.proofs.Penned.{length-penned}
+use Rattle.bit_stores.proofs.Tables.{Goes, pens-place, pens-append, pens-last, pens-same, print-beside, ink-append}
 use Rattle.table.specs.Bits.{bitsOfNum}
 use Rattle.table.specs.Cursor.{place}
 use Rattle.table.specs.Table.{flagNumber}

@@ -16,9 +16,9 @@ use Rattle.command.specs.declared.insert.Insertion.{Insertion}
 use Rattle.command.proofs.InsertLeads.{Counted}
 use Rattle.command.proofs.InsertTrips.{insert-write-read, insert-read-write}
 use Rattle.command.proofs.PrivateTrips.{moved, private-write-read, private-write-same, private-read-write}
-use Rattle.header.specs.Time.{spliceTime, notImmediate}
-use Rattle.header.specs.declared.time.SpliceTime.{SpliceTime}
-use Rattle.header.proofs.Times.{time-write-read, time-read-write}
+use Rattle.splice_time.specs.Time.{spliceTime, notImmediate}
+use Rattle.splice_time.specs.declared.SpliceTime.{SpliceTime}
+use Rattle.splice_time.proofs.Times.{time-write-read, time-read-write}
 use Rattle.table.specs.Bits.{pick, bitsOf, AllBytes}
 use Rattle.table.specs.Table.{Answer, got, short, parse, canonical}
 use Rattle.table.specs.Writing.{Made, made, refused, Same, make}

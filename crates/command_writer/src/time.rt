@@ -1,9 +1,9 @@
 // Writing a splice_time().
 ghost use Rattle.command_measure.specs.Fields.{ink, timeFields};
-ghost use Rattle.pen.specs.Pen.{Pens};
-ghost use Rattle.pen.specs.Walk.{Fits};
-use header::time::SpliceTime;
-use pen::put_bits;
+ghost use Rattle.bit_stores.specs.Pen.{Pens};
+ghost use Rattle.bit_stores.specs.Private.{Fits};
+use bit_stores::put_bits;
+use splice_time::SpliceTime;
 use table::cursor::Cursor;
 
 // The flag and its reserved bits are all 1 where a time is specified; else the flag is clear. (An immediate time is refused or left out before; a time fits its

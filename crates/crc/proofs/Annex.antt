@@ -1,7 +1,7 @@
 -- The register of ISO/IEC 13818-1, Annex A, as the annex words it, and that `crcOf` is what it holds after the message.
 -- The register has 32 delay elements z(0) .. z(31), each 1 at the start. The bit that comes in is added to the output of z(31); the result
 -- goes to the input of z(0) and to each of the other adders, which stand between some z(i) and z(i + 1). Sums are modulo 2.
--- Nothing cites this: it is for a reader who holds Annex A beside `specs/Crc`. Assumes nothing.
+-- Nothing cites this: it is for a reader who holds Annex A beside `specs/Crc`.
 use mathlib.Core.Path.{_≡_, sym, ap, ap₂, _∙_}
 use mathlib.Core.Bool.{Bool, true, false}
 use mathlib.Core.List.{List, [], _∷_, _++_}

@@ -2,7 +2,6 @@
 --     bits-next       a bit, of the n that are left
 --     byte-step, byte-in      a byte: its bits; eight steps, and the byte comes in
 --     pass            n bytes of a list, four at most, from a place on: 8 n steps, and the number that they make comes in
--- Assumes nothing.
 use mathlib.Core.Path.{_≡_, refl, sym, ap, ap₂, _∙_, subst}
 use mathlib.Core.List.{List, [], _∷_, _++_}
 use Prim.Native.Nat.{ℕ, zero, suc, _+_, _*_, _/_, _%_, _^_, _-_, _<_, _≤_}
@@ -18,7 +17,7 @@ use lib.Bits.{bitXor, xor-shr, xor-mod, xor-zero-r, xor-lt}
 use Rattle.crc.specs.Crc.{polynomial, fed, crcBit, crcBits, crcOf, allOnes}
 use Rattle.table.specs.Bits.{bitsOf, bitsOfNum}
 use Rattle.crc_table.specs.Turns.{turn, turns}
-use Rattle.crc.specs.Walk.{crcBytes, numberAt}
+use Rattle.crc.specs.Private.{crcBytes, numberAt}
 use Rattle.crc.proofs.Xor.{xor-assoc, xor-shl}
 use Rattle.crc.proofs.Turns.{turn-lin, turns-lin, turns-add, turn-lt, turns-lt, turned-lt, behind}
 

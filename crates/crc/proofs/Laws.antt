@@ -4,7 +4,6 @@
 --     crc-unique      no other four bytes behind it have
 --     crc-last        so a list of bytes with the CRC 0 ends with the four bytes of the CRC of what stands before them
 --     crc-bytes       the four are bytes
--- Assumes nothing.
 use mathlib.Core.Path.{_≡_, refl, sym, ap, _∙_}
 use mathlib.Core.List.{List, [], _∷_, _++_}
 use Prim.Native.Nat.{ℕ, zero, suc, _+_, _*_, _/_, _%_, _^_, _<_}
@@ -18,7 +17,7 @@ use lib.Bits.{bitXor, xor-self, xor-lt}
 use Rattle.crc.specs.Crc.{polynomial, allOnes, fed, crcBit, crcBits, crcOf, crcBytesOf}
 use Rattle.table.specs.Bits.{bitsOf}
 use Rattle.crc_table.specs.Turns.{turn, turns}
-use Rattle.crc.specs.Walk.{crcBytes, numberAt}
+use Rattle.crc.specs.Private.{crcBytes, numberAt}
 use Rattle.crc.proofs.Bytes.{past-none, bytes-append, pass}
 use Rattle.crc.proofs.Turns.{turn-lt, turns-lin}
 use Rattle.crc.proofs.Xor.{xor-zero→eq}

@@ -1,7 +1,6 @@
 -- Two linear maps on bits that agree on each power of 2 agree: the test over the powers is computed.
 --     Linear f        f of a xor is the xor of f's
 --     agree           two linear maps that agree on 2 ^ i for each i below k agree below 2 ^ k
--- Assumes nothing.
 use mathlib.Core.Path.{_≡_, refl, sym, ap, ap₂, _∙_, subst}
 use mathlib.Core.Bool.{Bool, true, false}
 use mathlib.Core.Logic.{⊎-elim}

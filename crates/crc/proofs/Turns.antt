@@ -4,7 +4,6 @@
 --     turn-lt, turns-lt, turned-lt        they stay below 2 ^ 32
 --     turns-low, behind                   zeros, and other bits, behind the bits that come in
 --     reversed-twice                      the other order of the other order
--- Assumes nothing.
 use mathlib.Core.Path.{_≡_, refl, sym, ap, ap₂, _∙_}
 use Prim.Native.Nat.{ℕ, zero, suc, _+_, _*_, _/_, _%_, _^_, _<_, _≤_}
 use native.Mathlib.Nat.{zero-add, add-comm, mul-comm, mul-assoc, mul-one, pow-suc, suc-add, mod-lt, div-eq-of-lt, mod-eq-of-lt, le-mul-of-pos-right}

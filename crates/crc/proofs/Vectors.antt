@@ -1,5 +1,4 @@
 -- The check value, worked out from the definition.
--- Assumes nothing.
 use mathlib.Core.Path.{_≡_, refl}
 use mathlib.Core.List.{[], _∷_}
 use Rattle.crc.specs.Crc.{crcOf, crcBits, crcBit}

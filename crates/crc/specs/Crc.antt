@@ -1,6 +1,6 @@
 -- The CRC of a section: ISO/IEC 13818-1, Annex A (document 01, "Section": polynomial 0x04C11DB7, start 0xFFFFFFFF, high bit first, no
 -- final change). The annex's 32 delay elements z(31) .. z(0) are one number z below 2 ^ 32, whose binary digit i is z(i).
--- `proofs/Annex` has the same, delay element by delay element. Assumes nothing.
+-- `proofs/Annex` has the same, delay element by delay element.
 use mathlib.Core.List.{List, [], _∷_}
 use Prim.Native.Nat.{ℕ, zero, suc, _*_, _/_, _%_, _^_}
 use lib.Bits.{bitXor}

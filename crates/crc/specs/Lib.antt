@@ -1,2 +1,2 @@
 pub mod Crc
-pub mod Walk
+pub mod Private

@@ -5,7 +5,7 @@ ghost use lib.ListN.{length};
 ghost use Rattle.crc_table.specs.Turns.{turns, reversed};
 ghost use Rattle.crc.specs.Crc.{allOnes, crcBit, crcBits, crcOf};
 ghost use Rattle.table.specs.Bits.{bitsOfNum};
-ghost use Rattle.crc.specs.Walk.{numberAt};
+ghost use Rattle.crc.specs.Private.{numberAt};
 use crc_table::first_byte::turned_56;
 use crc_table::last_byte::turned_32;
 use crc_table::reverse;

@@ -1,4 +1,4 @@
--- A row of a table: what is computed for its number holds of the number that was asked for. Assumes nothing.
+-- A row of a table: what is computed for its number holds of the number that was asked for.
 use mathlib.Core.Path.{_≡_, sym, ap, _∙_}
 use Prim.Native.Nat.{ℕ, _%_}
 use Rattle.crc_table.specs.Turns.{turns, reversed}

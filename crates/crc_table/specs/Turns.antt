@@ -1,5 +1,4 @@
 -- The register of the CRC while no bit of the message comes in, and the order of its bytes.
--- Assumes nothing.
 use Prim.Native.Nat.{ℕ, zero, suc, _*_, _/_, _%_, _^_}
 use lib.Bits.{bitXor}
 

@@ -4,9 +4,9 @@ use mathlib.Core.List.{List}
 use mathlib.Core.Path.{_≡_, refl, sym, _∙_}
 use Rattle.daterange_line.specs.declared.Cue.{Cue}
 use Rattle.daterange_writer.specs.Writing.{lineMade}
-use Rattle.pen.specs.Written.{answerOf, laterOf}
-use Rattle.pen.specs.declared.Written.{Written}
-use Rattle.pen.proofs.Writes.{refused-answer}
+use Rattle.bit_stores.specs.Written.{answerOf, laterOf}
+use Rattle.bit_stores.specs.declared.Written.{Written}
+use Rattle.bit_stores.proofs.Writes.{refused-answer}
 use Rattle.section.specs.Section.{sectionOf, numberOf}
 use Rattle.section.specs.declared.Refusal.{Refusal}
 use Rattle.section.specs.declared.Section.{Section}

@@ -1,4 +1,4 @@
--- Which of the three names a section is written under, and the line (document 02, Q-1). These are definitions.
+-- Which of the three names a section is written under, and the line (document 02, Q-1).
 use Prim.Native.Nat.{ℕ}
 use mathlib.Core.List.{List}
 use Rattle.command.specs.declared.SpliceCommand.{SpliceCommand}

@@ -1,13 +1,13 @@
 // A cue as an EXT-X-DATERANGE line (Q-1): the section is read, and its command chooses the name.
 ghost use mathlib.Core.Path.{_≡_};
 ghost use Rattle.daterange.specs.Choice.{leaving, inserted, cueFor, daterangeMade};
-ghost use Rattle.pen.specs.Written.{answerOf, laterOf};
+ghost use Rattle.bit_stores.specs.Written.{answerOf, laterOf};
+use bit_stores::Written;
 use command::SpliceCommand;
 use command::insert::SpliceInsert;
 use daterange_line::Cue;
 use daterange_writer::write_line;
 use names::flags::NetworkIndicator;
-use pen::Written;
 use section::SectionRead;
 use section::read_section;
 

@@ -15,8 +15,8 @@ use Rattle.daterange_line.specs.Reading.{isId, isDate, viewOf, readOf, readLate
 use Rattle.daterange_line.specs.declared.Cue.{Cue}
 use Rattle.daterange_line.specs.declared.Read.the-variants.{Is}
 use Rattle.daterange_writer.specs.Writing.{attributesFor, lineOf, lineMade}
-use Rattle.pen.specs.Written.{answerOf, laterOf}
-use Rattle.pen.specs.declared.Written.{Written}
+use Rattle.bit_stores.specs.Written.{answerOf, laterOf}
+use Rattle.bit_stores.specs.declared.Written.{Written}
 use Rattle.section.specs.Section.{sectionOf}
 use Rattle.section.specs.declared.Section.{Section}
 use Rattle.section.specs.declared.SectionRead.{SectionRead}

@@ -18,7 +18,7 @@ use lib.ListN.{length, drop}
 use borrow.Author.Tests.{lt-ltb, le-leb, eq-eqb, eqb-true}
 use Rattle.table.specs.Bits.{pick, AllBytes}
 use Rattle.table.specs.Lent.{viewed}
-use Rattle.pen.specs.Written.{answerOf, laterOf}
+use Rattle.bit_stores.specs.Written.{answerOf, laterOf}
 use Rattle.table.proofs.Lists.{zero-one, below-all}
 use Rattle.attribute_list.specs.Grammar.{all, nameByte, quotedByte, plainByte, hexByte, Attribute, plain, valid, Line}
 use Rattle.attribute_list.specs.Cutting.{same, attributesOf}

@@ -9,13 +9,13 @@ use lib.ListN.{length, take, drop, length-drop}
 use Rattle.table.specs.Lent.{stored}
 use Rattle.table.specs.Writing.{made}
 use Rattle.table.proofs.Lists.{zero-one}
-use Rattle.pen.specs.Written.{answerOf, laterOf}
-use Rattle.pen.specs.declared.Written.{Written}
-use Rattle.pen.proofs.Writes.{short-answer, wrote-answer}
+use Rattle.bit_stores.specs.Written.{answerOf, laterOf}
+use Rattle.bit_stores.specs.declared.Written.{Written}
+use Rattle.bit_stores.proofs.Writes.{short-answer, wrote-answer}
 use Rattle.attribute_list.specs.Grammar.{all, hexByte, Attribute, listText, Line}
 use Rattle.attribute_list.specs.Cutting.{attributesOf}
 use Rattle.daterange_line.specs.Reading.{isSignal, valueOf, octets, sectionOf, Judged, fault, fine, judge, sectionMade, told, readBy, readOf, readLater}
-use Rattle.daterange_line.specs.Walk.{foundIn, lookBy, lookOf}
+use Rattle.daterange_line.specs.Private.{foundIn, lookBy, lookOf}
 use Rattle.daterange_line.specs.declared.Read.the-variants.{Is, Refused}
 use Rattle.daterange_line.specs.declared.looking.Found.{Found}
 use Rattle.daterange_line.specs.declared.looking.Look.{Look}

@@ -13,7 +13,7 @@ use Rattle.table.specs.Bits.{pick}
 use Rattle.attribute_list.specs.Grammar.{all, Attribute, tag}
 use Rattle.attribute_list.specs.Cutting.{same, attributesFrom, attributesOf}
 use Rattle.daterange_line.specs.Reading.{fitting, repeats, any, isId, isDate, isSignal, viewOf, fault, fine, judge, viewAt}
-use Rattle.daterange_line.specs.Walk.{nothing, turnOf, ended, walkBy, walk, foundIn, lookBy, lookOf}
+use Rattle.daterange_line.specs.Private.{nothing, turnOf, ended, walkBy, walk, foundIn, lookBy, lookOf}
 use Rattle.daterange_line.specs.declared.looking.Found.{Found}
 use Rattle.daterange_line.specs.declared.looking.Turn.{Turn}
 use Rattle.daterange_line.specs.declared.looking.Look.the-variants as look

@@ -14,7 +14,7 @@ use Rattle.table.proofs.Lists.{and-true}
 use Rattle.attribute_list.specs.Grammar.{all, Attribute, valid, textOf}
 use Rattle.attribute_list.specs.Cutting.{same, cutOf, endOf}
 use Rattle.daterange_line.specs.Reading.{named, repeats}
-use Rattle.daterange_line.specs.Walk.{earlier}
+use Rattle.daterange_line.specs.Private.{earlier}
 use Rattle.attribute_list.specs.declared.cutting.Cut.the-variants.{Is}
 use Rattle.attribute_list.proofs.Wholes.{Exact, cut-exact, isQuoted, sized}
 use Rattle.daterange_line.proofs.Searches.{earlier-end}

@@ -8,7 +8,7 @@ use native.Mathlib.Nat.{add-sub-cancel-left}
 use lib.ListN.{take, drop}
 use borrow.Author.Tests.{lt-ltb, le-ltb}
 use Rattle.attribute_list.specs.Cutting.{same, cutOf, endOf}
-use Rattle.daterange_line.specs.Walk.{earlier, earlierBy}
+use Rattle.daterange_line.specs.Private.{earlier, earlierBy}
 use Rattle.attribute_list.specs.declared.cutting.Cut.{Cut}
 use Rattle.attribute_list.specs.declared.cutting.Cut.the-variants.{Nothing, Is}
 

@@ -12,7 +12,7 @@ use borrow.Author.Tests.{eq-eqb, ne-eqb}
 use Rattle.table.specs.declared.View.{View}
 use Rattle.attribute_list.specs.Cutting.{cutOf, valueFrom, endOf, valueIn}
 use Rattle.daterange_line.specs.Reading.{knownOf, fitsFor}
-use Rattle.daterange_line.specs.Walk.{earlier, noted, turnBy, turnOf}
+use Rattle.daterange_line.specs.Private.{earlier, noted, turnBy, turnOf}
 use Rattle.attribute_list.specs.declared.cutting.Cut.{Cut}
 use Rattle.attribute_list.specs.declared.cutting.Cut.the-variants.{Nothing, Is}
 use Rattle.daterange_line.specs.declared.Known.{Known}

@@ -16,7 +16,7 @@ use Rattle.table.proofs.Lists.{and-true}
 use Rattle.attribute_list.specs.Grammar.{all, Attribute, valid, textOf}
 use Rattle.attribute_list.specs.Cutting.{cutOf, valueFrom, endOf, attributeIn, consed, attributesBy, attributesFrom}
 use Rattle.daterange_line.specs.Reading.{knownOf, fitting, named, isId, isDate, isSignal, viewAt, viewOf, cueIn, cueOf}
-use Rattle.daterange_line.specs.Walk.{earlier, orElse, noted, nothing, turnBy, turnOf, ended, walkBy, walk, foundIn}
+use Rattle.daterange_line.specs.Private.{earlier, orElse, noted, nothing, turnBy, turnOf, ended, walkBy, walk, foundIn}
 use Rattle.daterange_line.specs.declared.Cue.{Cue}
 use Rattle.attribute_list.specs.declared.cutting.Cut.{Cut}
 use Rattle.attribute_list.specs.declared.cutting.Cut.the-variants.{Nothing, Is}

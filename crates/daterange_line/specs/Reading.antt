@@ -1,4 +1,4 @@
--- What an EXT-X-DATERANGE line says of a cue (document 02, Q-1). These are definitions.
+-- What an EXT-X-DATERANGE line says of a cue (document 02, Q-1).
 use Prim.Native.Nat.{ℕ, _+_, _-_, _*_, _%_}
 use mathlib.Core.Bool.{Bool, true, false, not, _&&_, _||_}
 use mathlib.Core.List.{List, [], _∷_}
@@ -9,9 +9,9 @@ use Rattle.table.specs.Bits.{pick}
 use Rattle.table.specs.Lent.{noView}
 use Rattle.table.specs.Writing.{Made, made, refused}
 use Rattle.table.specs.declared.View.{View}
-use Rattle.pen.specs.Written.{answerOf, laterOf}
-use Rattle.pen.specs.declared.Written.{Written}
-use Rattle.pen.specs.declared.Written.the-variants as written
+use Rattle.bit_stores.specs.Written.{answerOf, laterOf}
+use Rattle.bit_stores.specs.declared.Written.{Written}
+use Rattle.bit_stores.specs.declared.Written.the-variants as written
 use Rattle.attribute_list.specs.Grammar.{Value, quoted, plain, Attribute, textOf, hexByte, all}
 use Rattle.attribute_list.specs.Cutting.{same, attributesOf}
 use Rattle.daterange_line.specs.declared.Cue.{Cue}

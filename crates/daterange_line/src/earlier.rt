@@ -3,7 +3,7 @@ ghost use mathlib.Core.Path.{_≡_};
 ghost use Prim.Native.Nat.{_^_, _<_};
 ghost use lib.ListN.{length};
 ghost use Rattle.attribute_list.specs.Cutting.{valueFrom, endOf};
-ghost use Rattle.daterange_line.specs.Walk.{earlier};
+ghost use Rattle.daterange_line.specs.Private.{earlier};
 use attribute_list::bytes::same_bytes;
 use attribute_list::cutting::Cut;
 use attribute_list::cutting::cut_at;

@@ -2,7 +2,7 @@
 ghost use mathlib.Core.Path.{_≡_};
 ghost use Rattle.attribute_list.specs.Cutting.{valueIn};
 ghost use Rattle.daterange_line.specs.Reading.{knownOf, fitsFor};
-ghost use Rattle.daterange_line.specs.Walk.{orElse, noted, nothing, turnOf, ended, lookOf};
+ghost use Rattle.daterange_line.specs.Private.{orElse, noted, nothing, turnOf, ended, lookOf};
 use crate::Cue;
 use crate::Known;
 use crate::digits::is_hexadecimal;

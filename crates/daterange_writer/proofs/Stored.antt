@@ -9,9 +9,9 @@ use lib.ListN.{length, length-append}
 use borrow.Author.Tests.{le-leb, lt-leb, leb-true, leb-false}
 use Rattle.table.specs.Lent.{stored}
 use Rattle.table.specs.Writing.{made, refused}
-use Rattle.pen.specs.Written.{answerOf, laterOf}
-use Rattle.pen.specs.declared.Written.{Written}
-use Rattle.pen.proofs.Writes.{short-answer, wrote-answer}
+use Rattle.bit_stores.specs.Written.{answerOf, laterOf}
+use Rattle.bit_stores.specs.declared.Written.{Written}
+use Rattle.bit_stores.proofs.Writes.{short-answer, wrote-answer}
 use Rattle.table.proofs.Lists.{append-nil}
 use Rattle.table.proofs.Stores.{stored-append}
 use Rattle.attribute_list.specs.Grammar.{all, quotedByte, textOf, laterText, listText}

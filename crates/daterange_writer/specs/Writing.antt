@@ -1,4 +1,4 @@
--- The line that is written for a section (document 02, Q-1). These are definitions.
+-- The line that is written for a section (document 02, Q-1).
 use Prim.Native.Nat.{ℕ, _+_, _/_, _%_}
 use mathlib.Core.Bool.{_&&_}
 use mathlib.Core.List.{List, [], _∷_, _++_}

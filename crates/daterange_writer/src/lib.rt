@@ -1,12 +1,12 @@
 // EXT-X-DATERANGE lines of RFC 8216, written (Q-1). The section is any bytes here; `daterange` reads it first, and chooses the name.
 ghost use mathlib.Core.Path.{_≡_};
-ghost use Rattle.pen.specs.Written.{answerOf, laterOf};
+ghost use Rattle.bit_stores.specs.Written.{answerOf, laterOf};
 ghost use Rattle.daterange_writer.specs.Writing.{lineMade};
 use crate::storing::store_line;
 use attribute_list::bytes::Class;
 use attribute_list::bytes::past;
+use bit_stores::Written;
 use daterange_line::Cue;
-use pen::Written;
 
 mod encoding;
 mod storing;

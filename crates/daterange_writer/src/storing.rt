@@ -5,11 +5,11 @@ ghost use lib.Dec.{leb};
 ghost use lib.ListN.{length};
 ghost use Rattle.table.specs.Lent.{stored};
 ghost use Rattle.table.specs.Writing.{made};
-ghost use Rattle.pen.specs.Written.{answerOf, laterOf};
+ghost use Rattle.bit_stores.specs.Written.{answerOf, laterOf};
 ghost use Rattle.daterange_writer.specs.Writing.{hexOf};
 ghost use Rattle.daterange_writer.specs.Pieces.{pieces};
 use crate::encoding::encode;
-use pen::Written;
+use bit_stores::Written;
 use table::store::put_bytes;
 
 // Whether a line of parts of these lengths fits. No sum is made that could wrap.

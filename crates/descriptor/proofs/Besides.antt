@@ -36,7 +36,7 @@ use Rattle.descriptor.specs.Segmentation.{
   Segmentation,
   segmentation,
 }
-use Rattle.descriptor.specs.Walk.{filling}
+use Rattle.descriptor.specs.Private.{filling}
 use Rattle.descriptor.specs.Descriptor.{descriptorOf}
 use Rattle.descriptor.specs.Whole.{filled, blankBeside, besideIn, besideOf, besideRead, identifierRead, wholeOf}
 use Rattle.descriptor.specs.declared.DescriptorRead.{DescriptorRead}

@@ -18,7 +18,7 @@ use Rattle.table.proofs.Steps.{reads-in, reads-number, reads-flag}
 use Rattle.upid.specs.Cover.{All, none, more}
 use Rattle.upid.specs.Upid.{checkOf}
 use Rattle.upid.specs.declared.Refusal.{Refusal}
-use Rattle.upid.specs.declared.Refusal.the-variants.{TooLong, Short, Mismatch, NotText, WrongLength}
+use Rattle.upid.specs.declared.Refusal.the-variants.{InputTooLong, NotEnoughData, UpidLengthTypeMismatch, InvalidUpidContent, InvalidUpidLength}
 use Rattle.upid.specs.declared.UpidRead.{UpidRead}
 use Rattle.upid.proofs.Theorems.{view-of-24-lies-inside}
 use Rattle.descriptor.specs.Descriptor.{
@@ -39,7 +39,7 @@ use Rattle.descriptor.specs.Descriptor.{
 use Rattle.descriptor.specs.Plain.{avail, dtmf, time}
 use Rattle.descriptor.specs.Segmentation.{Fore, blankUpid, deliveryRestrictions, mode, duration, writtenUpid, parts, front, back, head}
 use Rattle.descriptor.specs.Views.{withoutView, upidViews, refusalViews}
-use Rattle.descriptor.specs.Walk.{readViews}
+use Rattle.descriptor.specs.Private.{readViews}
 use Rattle.descriptor.specs.declared.Descriptor.the-variants.{Avail, Dtmf, Time}
 use Rattle.descriptor.specs.declared.DescriptorRead.{DescriptorRead}
 use Rattle.descriptor.specs.declared.DescriptorRead.the-variants.{Is, Refused}
@@ -123,11 +123,11 @@ reported-inside s v true h = none
 reported-inside s v false h = more h none
 
 refusal-inside : (s : List ℕ) (v : View) (k : ℕ) (r : Refusal) → Inside s v → checkOf k (viewed s v) ≡ UpidRead.Refused r → All (Inside s) (refusalViews (movedRefusal (v .at) r))
-refusal-inside s v k TooLong h e = none
-refusal-inside s v k (Short x a) h e = none
-refusal-inside s v k Mismatch h e = none
-refusal-inside s v k (NotText q t) h e = more {x = record { at = v .at + t .at; len = t .len }} (omega (arith, view-of-24-lies-inside k (viewed s v) q t e, viewed-length s v h)) none
-refusal-inside s v k (WrongLength q x a) h e = none
+refusal-inside s v k InputTooLong h e = none
+refusal-inside s v k (NotEnoughData x a) h e = none
+refusal-inside s v k UpidLengthTypeMismatch h e = none
+refusal-inside s v k (InvalidUpidContent q t) h e = more {x = record { at = v .at + t .at; len = t .len }} (omega (arith, view-of-24-lies-inside k (viewed s v) q t e, viewed-length s v h)) none
+refusal-inside s v k (InvalidUpidLength q x a) h e = none
 
 fine-inside : (s : List ℕ) (v : View) (k : ℕ) (a : UpidRead) (f : SegmentationUpid → DescriptorRead) → Inside s v → checkOf k (viewed s v) ≡ a
     → ((u : SegmentationUpid) → All (Inside s) (upidViews u) → AllInside s (f u)) → AllInside s (ifFine a v f)
@@ -153,13 +153,13 @@ reserved-inside tag s =
 avail-inside : (s : List ℕ) → AllInside s (availOf s)
 unfolding availOf
 avail-inside s =
-    pick-inside s (ltb (length s) 4) (Refused (Short 4 (length s))) (parse avail (bitsOf s) 0 andThen λ x at. Is (Avail x)) none
+    pick-inside s (ltb (length s) 4) (Refused (NotEnoughData 4 (length s))) (parse avail (bitsOf s) 0 andThen λ x at. Is (Avail x)) none
     (then-inside s (parse avail (bitsOf s) 0) (λ x at. Is (Avail x)) λ x m e. none)
 
 time-inside : (s : List ℕ) → AllInside s (timeOf s)
 unfolding timeOf
 time-inside s =
-    pick-inside s (ltb (length s) 12) (Refused (Short 12 (length s))) (parse time (bitsOf s) 0 andThen λ x at. Is (Time x)) none
+    pick-inside s (ltb (length s) 12) (Refused (NotEnoughData 12 (length s))) (parse time (bitsOf s) 0 andThen λ x at. Is (Time x)) none
     (then-inside s (parse time (bitsOf s) 0) (λ x at. Is (Time x)) λ x m e. none)
 
 characters-inside : (s : List ℕ) → AllInside s (dtmfOf s)

@@ -15,7 +15,7 @@ use Rattle.table.proofs.Lists.{zero-one}
 use Rattle.table.proofs.Longer.{Blind, on-number, goes-on, tolerates, blind-inside, blind-pick, blind-list, viewed-on}
 use Rattle.table.proofs.Steps.{takes-in, reads-in}
 use Rattle.upid.specs.Upid.{checkOf}
-use Rattle.upid.specs.declared.Refusal.the-variants.{Short}
+use Rattle.upid.specs.declared.Refusal.the-variants.{NotEnoughData}
 use Rattle.upid.specs.declared.UpidRead.{UpidRead}
 use Rattle.descriptor.specs.Descriptor.{_andThen_, atLeast, availOf, dtmfOf, timeOf, reportedUpid, ifFine, inserted, insertOf, segmentationOf, cuei, isCuei, descriptorOf}
 use Rattle.descriptor.specs.Plain.{avail, dtmf, time}
@@ -47,7 +47,7 @@ then-on {X} f t h s more d e = go (parse t (bitsOf s) 0) refl e
 long-on : (n : ℕ) (s more : List ℕ) (r q : DescriptorRead) (d : Descriptor) → (r ≡ Is d → q ≡ Is d) → atLeast n s r ≡ Is d → atLeast n (s ++ more) q ≡ Is d
 long-on n s more r q d f e = go (ltb (length s) n) refl e
   where
-    go : (less : Bool) → ltb (length s) n ≡ less → pick less (Refused (Short n (length s))) r ≡ Is d → atLeast n (s ++ more) q ≡ Is d
+    go : (less : Bool) → ltb (length s) n ≡ less → pick less (Refused (NotEnoughData n (length s))) r ≡ Is d → atLeast n (s ++ more) q ≡ Is d
     go true i e = zero-one cc
     go false i e = rw (le-ltb (length (s ++ more)) n (omega (arith, ltb-false (length s) n i, length-append s more))) (f e)
 

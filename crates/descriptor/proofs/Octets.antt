@@ -18,7 +18,7 @@ use Rattle.table.proofs.Lists.{zero-one}
 use Rattle.table.proofs.Reading.{field-lt}
 use Rattle.table.proofs.Steppings.{place-of, settled-at, Settled, taken-got, taken-lacks}
 use Rattle.table.proofs.Steps.{takes-in, lacks-in}
-use Rattle.descriptor.specs.Walk.{octetOf}
+use Rattle.descriptor.specs.Private.{octetOf}
 use Rattle.descriptor.specs.declared.octet.Octet.{Octet}
 use Rattle.descriptor.specs.declared.octet.Small.{Small}
 

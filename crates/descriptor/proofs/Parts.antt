@@ -15,7 +15,7 @@ use Rattle.table.proofs.Bits.{length-bits}
 use Rattle.table.proofs.Fields.{byte-field, field-in}
 use Rattle.table.proofs.Steps.{onward, takes-in, lacks-in, takes-number, lacks-number, takes-flag, takes-ones, lacks-ones, takes-part, lacks-part, list-turn, list-short, list-none, parse-bound}
 use Rattle.descriptor.specs.Segmentation.{deviceOf, deliveryRestrictions, component, blankComponent, mode, duration, writtenUpid}
-use Rattle.descriptor.specs.Walk.{restrictionsIn, lackedOf}
+use Rattle.descriptor.specs.Private.{restrictionsIn, lackedOf}
 use Rattle.descriptor.specs.declared.segmentation.DeliveryRestrictionFlags.{DeliveryRestrictionFlags}
 use Rattle.descriptor.specs.declared.segmentation.ModeComponent.{ModeComponent}
 use Rattle.descriptor.specs.declared.segmentation.SegmentationDuration.{SegmentationDuration}

@@ -20,7 +20,7 @@ use Rattle.table.proofs.Steps.{takes-number, takes-remaining, takes-part}
 use Rattle.upid.specs.declared.Refusal as why
 use Rattle.descriptor.specs.Descriptor.{availOf, dtmfOf, timeOf, reservedOf}
 use Rattle.descriptor.specs.Plain.{avail, dtmf, time, privateBytes}
-use Rattle.descriptor.specs.Walk.{octetOf, lacking}
+use Rattle.descriptor.specs.Private.{octetOf, lacking}
 use Rattle.descriptor.specs.declared.Descriptor.the-variants.{Avail, Dtmf, Time, Reserved}
 use Rattle.descriptor.specs.declared.DescriptorRead.the-variants.{Is, Refused}
 use Rattle.descriptor.specs.declared.octet.Octet.{Octet}
@@ -30,7 +30,7 @@ use Rattle.descriptor.proofs.Octets.{place-start, goes-octet, stops-oct
 
 -- ---- those that are tested whole
 module _ (s : List ℕ) where
-  pub avail-short : length s < 4 → Refused (why.Refusal.Short 4 (length s)) ≡ availOf s
+  pub avail-short : length s < 4 → Refused (why.Refusal.NotEnoughData 4 (length s)) ≡ availOf s
   unfolding availOf
   avail-short h = rw (lt-ltb (length s) 4 h)
 
@@ -40,7 +40,7 @@ module _ (s : List ℕ) where
       let g : parse avail (bitsOf s) 0 ≡ got (record { «provider_avail_id» = id }) 32 = takes-number s 0 32 id _ _ (omega arith) e in
       rw (le-ltb (length s) 4 h, g)
 
-  pub time-short : length s < 12 → Refused (why.Refusal.Short 12 (length s)) ≡ timeOf s
+  pub time-short : length s < 12 → Refused (why.Refusal.NotEnoughData 12 (length s)) ≡ timeOf s
   unfolding timeOf
   time-short h = rw (lt-ltb (length s) 12 h)
 

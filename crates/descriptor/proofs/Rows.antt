@@ -25,7 +25,7 @@ use Rattle.descriptor.specs.declared.segmentation.SubSegments.{SubSegmen
 abbrev cuei : List ℕ
 cuei = 0x43 ∷ 0x55 ∷ 0x45 ∷ 0x49 ∷ []
 
-pub row-b : descriptorOf 0 cuei [] ≡ Refused (Refusal.Short 4 0)
+pub row-b : descriptorOf 0 cuei [] ≡ Refused (Refusal.NotEnoughData 4 0)
 unfolding descriptorOf isCuei availOf
 row-b = refl
 
@@ -56,7 +56,7 @@ pub row-n : descriptorOf 2 cuei (0 ∷ 0 ∷ 0 ∷ 0x2a ∷ 0x7f ∷ 0xbf ∷ 0 
 unfolding descriptorOf isCuei d.segmentationOf insertOf inserted head front parts deliveryRestrictions mode duration writtenUpid back subSegments number bit reserved part remaining viewed checkOf
 row-n = refl
 
-pub row-n-1 : descriptorOf 2 cuei (0 ∷ 0 ∷ 0 ∷ 0x2a ∷ 0x7f ∷ 0xbf ∷ 0 ∷ 0 ∷ 0x10 ∷ 1 ∷ 1 ∷ 1 ∷ []) ≡ Refused (Refusal.Short 1 0)
+pub row-n-1 : descriptorOf 2 cuei (0 ∷ 0 ∷ 0 ∷ 0x2a ∷ 0x7f ∷ 0xbf ∷ 0 ∷ 0 ∷ 0x10 ∷ 1 ∷ 1 ∷ 1 ∷ []) ≡ Refused (Refusal.NotEnoughData 1 0)
 unfolding descriptorOf isCuei d.segmentationOf insertOf inserted head front parts deliveryRestrictions mode duration writtenUpid back subSegments number bit reserved part remaining viewed checkOf
 row-n-1 = refl
 

@@ -21,7 +21,7 @@ use Rattle.upid.specs.declared.UpidRead.{UpidRead}
 use Rattle.upid.proofs.Theorems.{view-of-24-lies-inside}
 use Rattle.descriptor.specs.Descriptor.{movedRefusal, reportedUpid, ifFine, inserted, insertOf, segmentationOf, _andThen_}
 use Rattle.descriptor.specs.Segmentation.{Moded, Fore, Head, deliveryRestrictions, mode, duration, writtenUpid, parts, front, back, head}
-use Rattle.descriptor.specs.Walk.{lacking, restrictionsIn, upidAnswer, upidChecked}
+use Rattle.descriptor.specs.Private.{lacking, restrictionsIn, upidAnswer, upidChecked}
 use Rattle.descriptor.specs.declared.Descriptor.the-variants.{Segmentation}
 use Rattle.descriptor.specs.declared.DescriptorRead.{DescriptorRead}
 use Rattle.descriptor.specs.declared.DescriptorRead.the-variants.{Is, Refused}
@@ -126,7 +126,7 @@ module _ (s : List ℕ) (u : SegmentationUpid) (b : List ℕ) (a : UpidRead) (eb
   upid-refused r q e eq = rw eq (sym (answered ∙ ap (λ x. upidAnswer x (u .bytes)) e))
 
   -- its text lies in the payload
-  pub text-fits : (k : ℕ) (t : View) → a ≡ UpidRead.Refused (Refusal.NotText k t) → u .bytes .at + t .at ≤ length s
+  pub text-fits : (k : ℕ) (t : View) → a ≡ UpidRead.Refused (Refusal.InvalidUpidContent k t) → u .bytes .at + t .at ≤ length s
   unfolding viewed checkOf
   text-fits k t e =
       text (leb (u .bytes .at + u .bytes .len) (length s)) refl (eb ∙ viewing)
@@ -138,7 +138,7 @@ module _ (s : List ℕ) (u : SegmentationUpid) (b : List ℕ) (a : UpidRead) (eb
       inside = view-of-24-lies-inside (u .kind) b k t (sym ea ∙ e)
 
       none : b ≡ [] → ⊥
-      none z = let w : UpidRead.Refused (Refusal.NotText k t) ≡ UpidRead.Fine 0 = sym e ∙ ea ∙ ap (checkOf (u .kind)) z in zero-one cc
+      none z = let w : UpidRead.Refused (Refusal.InvalidUpidContent k t) ≡ UpidRead.Fine 0 = sym e ∙ ea ∙ ap (checkOf (u .kind)) z in zero-one cc
 
       text : (x : Bool) → leb (u .bytes .at + u .bytes .len) (length s) ≡ x → b ≡ pick x (take (u .bytes .len) (drop (u .bytes .at) s)) [] → u .bytes .at + t .at ≤ length s
       text true h z = omega (arith, inside, ap length z, length-take (u .bytes .len) (drop (u .bytes .at) s), leb-true (u .bytes .at + u .bytes .len) (length s) h)

@@ -1,4 +1,4 @@
--- What a descriptor's payload is read as. 01, "Loop items". These are definitions.
+-- What a descriptor's payload is read as. 01, "Loop items".
 use Prim.Native.Nat.{ℕ}
 use mathlib.Core.Bool.{Bool, _&&_}
 use mathlib.Core.List.{List, [], _∷_}
@@ -10,7 +10,7 @@ use Rattle.table.specs.Table.{Answer, got, short, parse}
 use Rattle.table.specs.declared.View.{View}
 use Rattle.upid.specs.Upid.{checkOf}
 use Rattle.upid.specs.declared.Refusal.{Refusal}
-use Rattle.upid.specs.declared.Refusal.the-variants.{TooLong, Short, Mismatch, NotText, WrongLength}
+use Rattle.upid.specs.declared.Refusal.the-variants.{InputTooLong, NotEnoughData, UpidLengthTypeMismatch, InvalidUpidContent, InvalidUpidLength}
 use Rattle.upid.specs.declared.UpidRead.{UpidRead}
 use Rattle.descriptor.specs.Plain.{avail, dtmf, time, privateBytes}
 use Rattle.descriptor.specs.Segmentation.{Fore, Head, head, front, back, insertFrom}
@@ -28,11 +28,11 @@ use Rattle.descriptor.specs.declared.segmentation.SegmentationUpid.{Segm
 infixr 40 _andThen_
 abbrev pub _andThen_ : {X : Type 0} → Answer X → (X → ℕ → DescriptorRead) → DescriptorRead
 got x at andThen k = k x at
-short expected actual andThen k = Refused (Short expected actual)
+short expected actual andThen k = Refused (NotEnoughData expected actual)
 
 -- "Shorter: 21 (n, actual)"
 abbrev pub atLeast : ℕ → List ℕ → DescriptorRead → DescriptorRead
-atLeast n s r = pick (ltb (length s) n) (Refused (Short n (length s))) r
+atLeast n s r = pick (ltb (length s) n) (Refused (NotEnoughData n (length s))) r
 
 unfoldable pub availOf : List ℕ → DescriptorRead
 availOf s = atLeast 4 s (parse avail (bitsOf s) 0 andThen λ x at. Is (Avail x))
@@ -50,11 +50,11 @@ reservedOf tag s = parse privateBytes (bitsOf s) 0 andThen λ v at. Is (Reserved
 
 -- a refusal found in bytes that begin at `at` (a UPID in a payload, a payload in a loop), its view counted from the start of what they lie in
 abbrev pub movedRefusal : ℕ → Refusal → Refusal
-movedRefusal at TooLong = TooLong
-movedRefusal at (Short expected actual) = Short expected actual
-movedRefusal at Mismatch = Mismatch
-movedRefusal at (NotText kind text) = NotText kind (shifted at text)
-movedRefusal at (WrongLength kind expected actual) = WrongLength kind expected actual
+movedRefusal at InputTooLong = InputTooLong
+movedRefusal at (NotEnoughData expected actual) = NotEnoughData expected actual
+movedRefusal at UpidLengthTypeMismatch = UpidLengthTypeMismatch
+movedRefusal at (InvalidUpidContent kind text) = InvalidUpidContent kind (shifted at text)
+movedRefusal at (InvalidUpidLength kind expected actual) = InvalidUpidLength kind expected actual
 
 -- "Length 0 at top level is None"; "The EIDR identifier of 12 bytes is held by value. Else an item's UPID is its reported type and one view of its bytes"
 abbrev pub reportedUpid : ℕ → View → SegmentationUpid

@@ -3,4 +3,4 @@ pub mod Segmentation
 pub mod Descriptor
 pub mod Whole
 pub mod Views
-pub mod Walk
+pub mod Private

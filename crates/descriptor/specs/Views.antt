@@ -1,4 +1,4 @@
--- The views in a descriptor, and in a refusal of one. These are definitions.
+-- The views in a descriptor, and in a refusal of one.
 use Prim.Native.Nat.{ℕ}
 use mathlib.Core.Bool.{Bool, _||_}
 use mathlib.Core.List.{List, [], _∷_}
@@ -6,7 +6,7 @@ use lib.Dec.{eqb}
 use Rattle.table.specs.Bits.{pick}
 use Rattle.table.specs.declared.View.{View}
 use Rattle.upid.specs.declared.Refusal.{Refusal}
-use Rattle.upid.specs.declared.Refusal.the-variants.{TooLong, Short, Mismatch, NotText, WrongLength}
+use Rattle.upid.specs.declared.Refusal.the-variants.{InputTooLong, NotEnoughData, UpidLengthTypeMismatch, InvalidUpidContent, InvalidUpidLength}
 use Rattle.descriptor.specs.Segmentation.{withUpid}
 use Rattle.descriptor.specs.declared.Descriptor.{Descriptor}
 use Rattle.descriptor.specs.declared.Descriptor.the-variants.{Avail, Dtmf, Segmentation, Time, Reserved}
@@ -43,11 +43,11 @@ descriptorViews d = byDescriptor (λ x. []) (λ x. x .«dtmf_chars» ∷ []) (λ
 
 -- the text of refusal 24
 abbrev pub refusalViews : Refusal → List View
-refusalViews TooLong = []
-refusalViews (Short expected actual) = []
-refusalViews Mismatch = []
-refusalViews (NotText kind bytes) = bytes ∷ []
-refusalViews (WrongLength kind expected actual) = []
+refusalViews InputTooLong = []
+refusalViews (NotEnoughData expected actual) = []
+refusalViews UpidLengthTypeMismatch = []
+refusalViews (InvalidUpidContent kind bytes) = bytes ∷ []
+refusalViews (InvalidUpidLength kind expected actual) = []
 
 -- ---- the same descriptor with another UPID, or, of a DTMF or reserved one, with another view
 abbrev pub withUpids : (SegmentationUpid → SegmentationUpid) → SegmentationDetail → SegmentationDetail

@@ -1,4 +1,4 @@
--- What stands beside a descriptor. 01, "What must change shape": "arrays stand beside enums, not in them". These are definitions.
+-- What stands beside a descriptor. 01, "What must change shape": "arrays stand beside enums, not in them".
 use Prim.Native.Nat.{ℕ}
 use mathlib.Core.List.{List, []}
 use lib.ListN.{replicate}

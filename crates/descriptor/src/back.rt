@@ -3,7 +3,7 @@ ghost use mathlib.Core.Path.{_≡_};
 ghost use Prim.Native.Nat.{_+_, _*_, _≤_};
 ghost use lib.ListN.{length};
 ghost use Rattle.descriptor.specs.Segmentation.{subSegments, back};
-ghost use Rattle.descriptor.specs.Walk.{subSegmentsRead, backRead};
+ghost use Rattle.descriptor.specs.Private.{subSegmentsRead, backRead};
 ghost use Rattle.table.specs.Bits.{bitsOf};
 ghost use Rattle.table.specs.Table.{parse};
 use crate::segmentation::SubSegment;

@@ -3,7 +3,7 @@ ghost use mathlib.Core.Path.{_≡_};
 ghost use Prim.Native.Nat.{_+_, _*_, _≤_, _<_};
 ghost use lib.ListN.{length};
 ghost use Rattle.descriptor.specs.Segmentation.{deviceOf, blankComponent, component, mode, duration, writtenUpid, front};
-ghost use Rattle.descriptor.specs.Walk.{restrictionsIn, lackedOf, componentRead, componentsPassed, modeRead, durationRead, upidRead, mainRead, frontRead};
+ghost use Rattle.descriptor.specs.Private.{restrictionsIn, lackedOf, componentRead, componentsPassed, modeRead, durationRead, upidRead, mainRead, frontRead};
 ghost use Rattle.table.specs.Bits.{bitsOf};
 ghost use Rattle.table.specs.Table.{list, parse};
 use crate::octet::number40;

@@ -2,7 +2,7 @@
 ghost use mathlib.Core.Path.{_≡_};
 ghost use Prim.Native.Nat.{_+_, _*_, _^_, _≤_, _<_};
 ghost use lib.ListN.{length};
-ghost use Rattle.descriptor.specs.Walk.{octetOf, lacking};
+ghost use Rattle.descriptor.specs.Private.{octetOf, lacking};
 ghost use Rattle.table.specs.Bits.{bitsOf, field};
 ghost use Rattle.table.specs.Cursor.{place};
 ghost use Rattle.table.specs.Table.{number, parse};
@@ -67,7 +67,7 @@ pub(crate) fn size(b: u8) -> usize
 pub(crate) fn lacks(e: Short) -> DescriptorRead
     ensures { λ r. ⌜ r ≡ lacking e ⌝ }
 {
-    DescriptorRead::Refused(Refusal::Short {
+    DescriptorRead::Refused(Refusal::NotEnoughData {
         expected: e.expected,
         actual: e.actual,
     })

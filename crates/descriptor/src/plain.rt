@@ -34,7 +34,7 @@ pub fn read_avail(payload: &[u8]) -> DescriptorRead
     ensures { λ r. ⌜ r ≡ availOf (now (payload .entry)) ⌝ }
 {
     if payload.len() < 4 {
-        return DescriptorRead::Refused(Refusal::Short {
+        return DescriptorRead::Refused(Refusal::NotEnoughData {
             expected: 4,
             actual: payload.len(),
         });
@@ -79,7 +79,7 @@ pub fn read_time(payload: &[u8]) -> DescriptorRead
     ensures { λ r. ⌜ r ≡ timeOf (now (payload .entry)) ⌝ }
 {
     if payload.len() < 12 {
-        return DescriptorRead::Refused(Refusal::Short {
+        return DescriptorRead::Refused(Refusal::NotEnoughData {
             expected: 12,
             actual: payload.len(),
         });

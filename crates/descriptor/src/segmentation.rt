@@ -3,7 +3,7 @@ ghost use mathlib.Core.Path.{_≡_};
 ghost use Prim.Native.Nat.{_*_};
 ghost use Rattle.descriptor.specs.Descriptor.{reportedUpid, inserted, insertOf, segmentationOf};
 ghost use Rattle.descriptor.specs.Segmentation.{head};
-ghost use Rattle.descriptor.specs.Walk.{upidChecked, headRead};
+ghost use Rattle.descriptor.specs.Private.{upidChecked, headRead};
 ghost use Rattle.table.specs.Bits.{bitsOf};
 ghost use Rattle.table.specs.Table.{parse};
 use crate::Descriptor;
@@ -122,20 +122,21 @@ fn checked_upid(payload: &[u8], written: SegmentationUpid) -> UpidChecked
     match check_upid(written.kind, part) {
         UpidRead::Fine(kind) => UpidChecked::Is(reported(kind, bytes)),
         UpidRead::Refused(refusal) => match refusal {
-            Refusal::TooLong => UpidChecked::Refused(refusal),
-            Refusal::Short {
+            Refusal::InputTooLong => UpidChecked::Refused(refusal),
+            Refusal::NotEnoughData {
                 expected: _,
                 actual: _,
             } => UpidChecked::Refused(refusal),
-            Refusal::Mismatch => UpidChecked::Refused(refusal),
-            Refusal::NotText { kind, bytes: text } => UpidChecked::Refused(Refusal::NotText {
-                kind,
-                bytes: View {
-                    at: bytes.at + text.at,
-                    len: text.len,
-                },
-            }),
-            Refusal::WrongLength {
+            Refusal::UpidLengthTypeMismatch => UpidChecked::Refused(refusal),
+            Refusal::InvalidUpidContent { kind, bytes: text } =>
+                UpidChecked::Refused(Refusal::InvalidUpidContent {
+                    kind,
+                    bytes: View {
+                        at: bytes.at + text.at,
+                        len: text.len,
+                    },
+                }),
+            Refusal::InvalidUpidLength {
                 kind: _,
                 expected: _,
                 actual: _,

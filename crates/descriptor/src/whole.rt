@@ -4,7 +4,7 @@ ghost use mathlib.Core.List.{[]};
 ghost use Prim.Native.Nat.{_*_, _≤_};
 ghost use lib.ListN.{length};
 ghost use Rattle.descriptor.specs.Segmentation.{blankComponent, component};
-ghost use Rattle.descriptor.specs.Walk.{filling};
+ghost use Rattle.descriptor.specs.Private.{filling};
 ghost use Rattle.descriptor.specs.Whole.{blankBeside, filled, besideOf, besideRead, identifierRead, wholeOf};
 ghost use Rattle.table.specs.Bits.{bitsOf};
 ghost use Rattle.table.specs.Table.{list, parse};

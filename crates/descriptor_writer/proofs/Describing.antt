@@ -14,8 +14,8 @@ use Rattle.descriptor.specs.declared.plain.DTMFDescriptor.{DTMFDescriptor}
 use Rattle.descriptor.specs.declared.plain.TimeDescriptor.{TimeDescriptor}
 use Rattle.descriptor.specs.declared.segmentation.SegmentationDescriptor.{SegmentationDescriptor}
 use Rattle.descriptor.specs.declared.whole.Beside.{Beside}
-use Rattle.descriptor_form.specs.Writing.{cuei, framedMade, alone, fairReserved, segmentationMade, payloadMade, descriptorMade}
-use Rattle.pen.specs.declared.Written.{Written}
+use Rattle.descriptor_measure.specs.Writing.{cuei, framedMade, alone, fairReserved, segmentationMade, payloadMade, descriptorMade}
+use Rattle.bit_stores.specs.declared.Written.{Written}
 use Rattle.descriptor_writer.specs.Stores.{Writes}
 
 module _ (d : Descriptor) (id : List ℕ) (beside : Beside) (lent t v : List ℕ) (r : Written) where

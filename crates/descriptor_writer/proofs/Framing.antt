@@ -13,13 +13,13 @@ use Rattle.table.specs.Writing.{Content, print, Made, made, refused}
 use Rattle.table.specs.declared.cursor.Cursor.{Cursor}
 use Rattle.table.proofs.Bits.{all-append, all-bits, length-bits, length-bytesN, bytes-append, bytes-bits}
 use Rattle.table.proofs.Walks.{print-bits}
-use Rattle.descriptor_form.specs.Writing.{framed, framedMade}
-use Rattle.pen.specs.Pen.{penned}
-use Rattle.pen.specs.Written.{answerOf, laterOf}
-use Rattle.pen.specs.declared.Written.{Written}
-use Rattle.pen.proofs.Penned.{penned-whole}
+use Rattle.descriptor_measure.specs.Writing.{framed, framedMade}
+use Rattle.bit_stores.specs.Pen.{penned}
+use Rattle.bit_stores.specs.Written.{answerOf, laterOf}
+use Rattle.bit_stores.specs.declared.Written.{Written}
+use Rattle.bit_stores.proofs.Penned.{penned-whole}
 use Rattle.descriptor_writer.specs.Stores.{Writes}
-use Rattle.descriptor_writer.specs.Walk.{Stores, start, frameContents}
+use Rattle.descriptor_writer.specs.Private.{Stores, start, frameContents}
 
 pub place-start : place start ≡ 0
 unfolding place

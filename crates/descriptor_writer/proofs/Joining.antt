@@ -12,8 +12,8 @@ use Rattle.names.specs.declared.flags.DeviceRestrictions.{DeviceRestrictions}
 use Rattle.descriptor.specs.declared.segmentation.DeliveryRestrictionFlags.{DeliveryRestrictionFlags}
 use Rattle.descriptor.specs.declared.segmentation.DeliveryRestrictions.{DeliveryRestrictions}
 use Rattle.descriptor.specs.declared.segmentation.ModeComponent.{ModeComponent}
-use Rattle.descriptor_form.specs.Walk.{headFields, flagFields, deliveryFields, componentsFields}
-use Rattle.pen.proofs.Tables.{print-beside}
+use Rattle.descriptor_measure.specs.Private.{headFields, flagFields, deliveryFields, componentsFields}
+use Rattle.bit_stores.proofs.Tables.{print-beside}
 
 -- ---- the head
 pub head-bits : (from : List ℕ) (event : ℕ) (cancel : Bool) (f y : ℕ) → (f ≡ flagNumber cancel) × (f ≤ 1) → y ≡ event * 256 + f * 128 + 127

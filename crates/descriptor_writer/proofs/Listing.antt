@@ -18,10 +18,10 @@ use Rattle.table.proofs.Walks.{print-bits}
 use Rattle.descriptor.specs.Segmentation.{componentCount}
 use Rattle.descriptor.specs.declared.segmentation.ModeComponent.{ModeComponent}
 use Rattle.descriptor.specs.declared.segmentation.SegmentationDescriptor.{SegmentationDescriptor}
-use Rattle.descriptor_form.specs.Walk.{componentsFields}
-use Rattle.pen.specs.Pen.{penned}
-use Rattle.pen.proofs.Penned.{penned-whole}
-use Rattle.descriptor_writer.specs.Walk.{Stores, start, componentBytes}
+use Rattle.descriptor_measure.specs.Private.{componentsFields}
+use Rattle.bit_stores.specs.Pen.{penned}
+use Rattle.bit_stores.proofs.Penned.{penned-whole}
+use Rattle.descriptor_writer.specs.Private.{Stores, start, componentBytes}
 use Rattle.descriptor_writer.proofs.Storing.{same-print}
 use Rattle.descriptor_writer.proofs.Framing.{place-start}
 

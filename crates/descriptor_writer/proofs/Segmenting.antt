@@ -23,14 +23,14 @@ use Rattle.descriptor.specs.declared.segmentation.SegmentationInsert.{Segmentat
 use Rattle.descriptor.specs.declared.segmentation.SegmentationMode.{SegmentationMode}
 use Rattle.descriptor.specs.declared.segmentation.SegmentationUpid.{SegmentationUpid}
 use Rattle.descriptor.specs.declared.whole.Beside.{Beside}
-use Rattle.descriptor_form.specs.Walk.{headFields, flagFields, deliveryFields, modeFields, durationFields, upidFields, backFields, insertFields, segmentFields, payloadSize}
-use Rattle.descriptor_form.specs.Writing.{cuei, framedMade, segmentationMade, upidIn, upidSource, writtenKind, writtenUpid}
-use Rattle.descriptor_form.proofs.Making.{zero-view, made-zero, made-size, made-bits}
-use Rattle.pen.specs.Pen.{Pens}
-use Rattle.pen.specs.declared.Written.{Written}
-use Rattle.pen.proofs.Tables.{print-beside}
+use Rattle.descriptor_measure.specs.Private.{headFields, flagFields, deliveryFields, modeFields, durationFields, upidFields, backFields, insertFields, segmentFields, payloadSize}
+use Rattle.descriptor_measure.specs.Writing.{cuei, framedMade, segmentationMade, upidIn, upidSource, writtenKind, writtenUpid}
+use Rattle.descriptor_measure.proofs.Making.{zero-view, made-zero, made-size, made-bits}
+use Rattle.bit_stores.specs.Pen.{Pens}
+use Rattle.bit_stores.specs.declared.Written.{Written}
+use Rattle.bit_stores.proofs.Tables.{print-beside}
 use Rattle.descriptor_writer.specs.Stores.{Writes}
-use Rattle.descriptor_writer.specs.Walk.{Stores, start, frameContents}
+use Rattle.descriptor_writer.specs.Private.{Stores, start, frameContents}
 use Rattle.descriptor_writer.proofs.Storing.{then, then-fields, same-print, put-bytes, number-then}
 use Rattle.descriptor_writer.proofs.Framing.{writes-refused, writes-long, writes-short, writes-stored}
 use Rattle.descriptor_writer.proofs.Plainly.{Framed, refuses}

@@ -16,11 +16,11 @@ use Rattle.table.proofs.Lists.{append-nil}
 use Rattle.table.proofs.Walks.{print-bits}
 use Rattle.descriptor.specs.Segmentation.{blankComponent}
 use Rattle.descriptor.specs.declared.segmentation.ModeComponent.{ModeComponent}
-use Rattle.descriptor_form.specs.Walk.{componentFields, componentsFields}
-use Rattle.pen.specs.Pen.{Pens}
-use Rattle.pen.specs.Walk.{Fits}
-use Rattle.pen.proofs.Tables.{pens-append, pens-last}
-use Rattle.descriptor_writer.specs.Walk.{Stores}
+use Rattle.descriptor_measure.specs.Private.{componentFields, componentsFields}
+use Rattle.bit_stores.specs.Pen.{Pens}
+use Rattle.bit_stores.specs.Private.{Fits}
+use Rattle.bit_stores.proofs.Tables.{pens-append, pens-last}
+use Rattle.descriptor_writer.specs.Private.{Stores}
 
 print-append : (cs ds : List Content) → print (cs ++ ds) ≡ print cs ++ print ds
 print-append [] ds = refl

@@ -2,11 +2,11 @@
 ghost use mathlib.Core.Path.{_≡_};
 ghost use mathlib.Core.List.{_∷_};
 ghost use Prim.Native.Nat.{_<_, _≤_};
-ghost use Rattle.descriptor_form.specs.Writing.{cuei};
+ghost use Rattle.descriptor_measure.specs.Writing.{cuei};
 ghost use Rattle.table.specs.Bits.{AllBytes};
-ghost use Rattle.descriptor_writer.specs.Walk.{Stores, start, frameContents};
-use pen::put_bits;
-use pen::put_run;
+ghost use Rattle.descriptor_writer.specs.Private.{Stores, start, frameContents};
+use bit_stores::put_bits;
+use bit_stores::put_run;
 use table::cursor::Cursor;
 use table::numbers::wide;
 

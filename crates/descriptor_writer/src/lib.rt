@@ -2,7 +2,7 @@
 // refused write changes no byte.
 ghost use mathlib.Core.List.{[]};
 ghost use Rattle.descriptor.specs.Whole.{filled};
-ghost use Rattle.descriptor_form.specs.Writing.{descriptorMade};
+ghost use Rattle.descriptor_measure.specs.Writing.{descriptorMade};
 ghost use Rattle.descriptor_writer.specs.Stores.{Writes};
 use crate::plain::write_avail;
 use crate::plain::write_dtmf;
@@ -10,9 +10,9 @@ use crate::plain::write_reserved;
 use crate::plain::write_time;
 use crate::segmentation::write_bare_segmentation;
 use crate::segmentation::write_segmentation;
+use bit_stores::Written;
 use descriptor::Descriptor;
 use descriptor::whole::Beside;
-use pen::Written;
 
 mod frame;
 mod parts;

@@ -3,7 +3,6 @@ use Prim.Native.Nat.{ℕ, _+_, _*_, _/_, _%_, _^_, _<_, _≤_}
 use mathlib.Core.Bool.{Bool, true, false, _&&_}
 use mathlib.Core.List.{List, [], _∷_, _++_}
 use mathlib.Core.Path.{_≡_, refl, ap, ap₂, sym, _∙_}
-use native.Mathlib.Nat.{add-zero}
 use native.Mathlib.Omega.{arith}
 use lib.Dec.{eqb}
 use lib.ListN.{length, getD}
@@ -28,7 +27,7 @@ use Rattle.table.proofs.Structure as laws
 use Rattle.table.proofs.Telling.{tells-number, tells-flag}
 use Rattle.header.specs.Header.{spliceHeader, headerRead, headerOf}
 use Rattle.header.specs.declared.header.HeaderRead.{HeaderRead}
-use Rattle.header.specs.declared.header.HeaderRead.the-variants.{Header, TooShort}
+use Rattle.header.specs.declared.header.HeaderRead.the-variants.{Header, NoHeader}
 use Rattle.header.specs.declared.header.SpliceInfoHeader.{SpliceInfoHeader}
 
 -- ---- eleven bytes are a header
@@ -127,13 +126,13 @@ too-short s y m h e =
     let e₇ = reads-number s 68 12 _ _ y m e₆ .1 in
     omega (arith, reads-number s 80 8 _ _ y m e₇ .0)
 
-refused : (r : Answer SpliceInfoHeader) → ((y : SpliceInfoHeader) (m : ℕ) → r ≡ got y m → ⊥) → headerRead r ≡ TooShort
+refused : (r : Answer SpliceInfoHeader) → ((y : SpliceInfoHeader) (m : ℕ) → r ≡ got y m → ⊥) → headerRead r ≡ NoHeader
 unfolding headerRead
 refused (got y m) f = absurd (f y m refl)
 refused (short e a) f = refl
 
 -- 01: "5 | .. a header alone under 11, its only refusal"
-pub header-refused : (s : List ℕ) → length s < 11 → headerOf s ≡ TooShort
+pub header-refused : (s : List ℕ) → length s < 11 → headerOf s ≡ NoHeader
 unfolding headerOf
 header-refused s h = refused (parse spliceHeader (bitsOf s) 0) (λ y m e. too-short s y m h e)
 
@@ -141,13 +140,8 @@ pub header-there : (s : List ℕ) → 11 ≤ length s → (x : SpliceInfoHeader)
 unfolding headerOf headerRead
 header-there s h = (_, ap headerRead (header-got s h))
 
--- the first bit of a byte, and the six after it
+-- the six bits after the first of a byte
 module _ (s : List ℕ) (i x : ℕ) (there : i < length s) (is : x ≡ getD s i 0) (byte : x < 256) where
-  pub flag-of : x / 128 ≡ field (bitsOf s) (i * 8) 1
-  flag-of =
-      let e : getD s i 0 / 2 ^ 7 % 2 ^ 1 ≡ x / 128 = omega arith in
-      sym (ap (λ (p : ℕ). field (bitsOf s) p 1) (sym (add-zero (i * 8))) ∙ field-in s i there (rw (← is) byte) 0 1 7 refl ∙ e)
-
   pub algorithm-of : x / 2 % 64 ≡ field (bitsOf s) (i * 8 + 1) 6
   algorithm-of = ap (λ (y : ℕ). y / 2 % 64) is ∙ sym (field-in s i there (rw (← is) byte) 1 6 1 refl)
 

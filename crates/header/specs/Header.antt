@@ -6,7 +6,7 @@ use Rattle.names.specs.Command.{commandNumber, commandTypeOf}
 use Rattle.table.specs.Bits.{bitsOf}
 use Rattle.table.specs.Table.{Table, done, uimsbf, flag, Answer, got, short, parse}
 use Rattle.header.specs.declared.header.HeaderRead.{HeaderRead}
-use Rattle.header.specs.declared.header.HeaderRead.the-variants.{Header, TooShort}
+use Rattle.header.specs.declared.header.HeaderRead.the-variants.{Header, NoHeader}
 use Rattle.header.specs.declared.header.SpliceInfoHeader.{SpliceInfoHeader}
 
 -- "protocol_version 8, encrypted 1, algorithm 6, pts_adjustment 33, cw_index 8, tier 12, command length 12, command type 8"
@@ -34,7 +34,7 @@ spliceHeader =
 -- what a reader answers: the header, or refusal 5
 unfoldable pub headerRead : Answer SpliceInfoHeader → HeaderRead
 headerRead (got h at) = Header h
-headerRead (short expected actual) = TooShort
+headerRead (short expected actual) = NoHeader
 
 unfoldable pub headerOf : List ℕ → HeaderRead
 headerOf s = headerRead (parse spliceHeader (bitsOf s) 0)
@@ -42,4 +42,4 @@ headerOf s = headerRead (parse spliceHeader (bitsOf s) 0)
 -- 01's number of the refusal; it has no values
 abbrev pub numberOf : HeaderRead → ℕ
 numberOf (Header h) = 0
-numberOf TooShort = 5
+numberOf NoHeader = 5

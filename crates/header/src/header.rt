@@ -21,7 +21,7 @@ pub struct SpliceInfoHeader {
 // A header, or refusal 5.
 pub enum HeaderRead {
     Header(SpliceInfoHeader),
-    TooShort,
+    NoHeader,
 }
 
 // The header in the first eleven bytes.
@@ -29,7 +29,7 @@ pub fn read_header(s: &[u8]) -> HeaderRead
     ensures { λ r. ⌜ r ≡ headerOf (now (s .entry)) ⌝ }
 {
     if s.len() < 11 {
-        return HeaderRead::TooShort;
+        return HeaderRead::NoHeader;
     }
     let flags = wide(s[1]);
     HeaderRead::Header(SpliceInfoHeader {

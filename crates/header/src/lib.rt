@@ -1,3 +1,2 @@
-// The splice header, splice times and the adjusted time.
+// The splice header.
 pub mod header;
-pub mod time;

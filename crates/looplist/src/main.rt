@@ -1,4 +1,4 @@
 // Lists the loop on standard input: document 01's example.
 fn main() {
-    listing::list_input();
+    loop_listing::list_input();
 }

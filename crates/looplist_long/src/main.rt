@@ -1,4 +1,4 @@
 // The same program over a loop of one byte too many.
 fn main() {
-    listing::list_input();
+    loop_listing::list_input();
 }

@@ -1,4 +1,4 @@
 // The same program over a loop whose items have every word.
 fn main() {
-    listing::list_input();
+    loop_listing::list_input();
 }

@@ -11,9 +11,9 @@ use borrow.Rule.Slice.PartMut.{midOf, postOf, putMid, put-same}
 use lib.Dec.{leb, ltb}
 use lib.ListN.{length, take, drop, getD, length-append, length-take, length-drop, take-append-drop}
 use lib.Seq.{drop-drop, drop-append-le, length-take-le}
-use Rattle.pen.proofs.Writes.{refused-answer, short-answer, wrote-answer}
-use Rattle.pen.specs.Written.{answerOf, laterOf}
-use Rattle.pen.specs.declared.Written.{Written}
+use Rattle.bit_stores.proofs.Writes.{refused-answer, short-answer, wrote-answer}
+use Rattle.bit_stores.specs.Written.{answerOf, laterOf}
+use Rattle.bit_stores.specs.declared.Written.{Written}
 use Rattle.relabel_joined.specs.Relabel.{kindThen}
 use Rattle.relabel_upid.proofs.Theorems.{the-upid-itself}
 use Rattle.relabel_upid.specs.Relabel.{instead, mended, spliced, partAt, replacedIn, taken, partMade, upidMade, upTo}
@@ -24,7 +24,7 @@ use Rattle.table.specs.Lent.{stored}
 use Rattle.table.specs.Writing.{Made, made, refused}
 use Rattle.upid.specs.Upid.{readOf, upidOf, partsIn}
 use Rattle.upid.specs.declared.Part.{Part}
-use Rattle.relabel.specs.Walk.{run, oldSize, Lies, Takes, Limit, headOf, itemOf, cutOf, sealed, wrapped, placedMade}
+use Rattle.relabel.specs.Private.{run, oldSize, Lies, Takes, Limit, headOf, itemOf, cutOf, sealed, wrapped, placedMade}
 use Rattle.relabel.specs.declared.Place.{Place}
 use Rattle.relabel.proofs.Stores.{size-cut, all-stored}
 

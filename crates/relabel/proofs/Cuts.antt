@@ -13,8 +13,8 @@ use lib.ListN.{length, take, drop, getD, length-append, length-take, length-drop
 use lib.Seq.{length-take-le, take-nil, take-take, drop-drop, take-add, take-suc, getD-take, getD-drop, drop-append-le, take-append-le}
 use Rattle.crc.specs.Crc.{crcBytesOf}
 use Rattle.descriptor.specs.Descriptor.{cuei}
-use Rattle.items.proofs.Steps.{Stands}
-use Rattle.items.specs.Items.{stepOf, listed}
+use Rattle.descriptor_loop.proofs.Steps.{Stands}
+use Rattle.descriptor_loop.specs.Items.{stepOf, listed}
 use Rattle.relabel_found.proofs.Inserts.{Inserted, inserted, hole-at, size-all, byte-in}
 use Rattle.relabel_found.specs.Found.{found, payloadAt, foreIn, kindIn, sizeIn, upidIn, postIn}
 use Rattle.relabel_joined.specs.Relabel.{kindThen, itemThen, relabelled}
@@ -27,7 +27,7 @@ use Rattle.table.proofs.Bits.{length-bigEndian}
 use Rattle.table.specs.Bits.{bigEndian}
 use Rattle.table.specs.Lent.{viewed}
 use Rattle.relabel.specs.Relabel.{payloadIn, payloadThen, sectionThen}
-use Rattle.relabel.specs.Walk.{run, oldSize, Lies, Takes, headOf, itemOf, frontOf, backOf, bodyOf, cutOf, Spotted, headIn, placeIn}
+use Rattle.relabel.specs.Private.{run, oldSize, Lies, Takes, headOf, itemOf, frontOf, backOf, bodyOf, cutOf, Spotted, headIn, placeIn}
 use Rattle.relabel.specs.declared.Place.{Place}
 
 -- ---- runs of a run

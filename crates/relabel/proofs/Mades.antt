@@ -31,7 +31,7 @@ use Rattle.table.specs.Bits.{pick}
 use Rattle.table.specs.Writing.{Made, made, refused}
 use Rattle.upid.proofs.Laws.{by-cases}
 use Rattle.relabel.specs.Relabel.{payloadIn, payloadThen, sectionThen, fitting, loopMade, relabelMade}
-use Rattle.relabel.specs.Walk.{run, oldSize, Lies, Takes, Limit, Spotted, placeIn, cutOf, wrapped, placedMade}
+use Rattle.relabel.specs.Private.{run, oldSize, Lies, Takes, Limit, Spotted, placeIn, cutOf, wrapped, placedMade}
 use Rattle.relabel.specs.declared.Place.{Place}
 use Rattle.relabel.proofs.Cuts.{own-is, size-is, pay-is, old-is, kind-is, upid-is, pay-size, section-size, cut-is, loop-there}
 
@@ -183,8 +183,8 @@ module _ (s : List ℕ) (offset part k : ℕ) (new : List ℕ) where
 
 number-some : (r : Refusal) → numberOf (SectionRead.Refused r) ≡ 0 → ⊥
 unfolding numberOf
-number-some Refusal.TooShort e = omega arith
-number-some Refusal.TooLong e = omega arith
+number-some Refusal.SectionTooShort e = omega arith
+number-some Refusal.InputTooLong e = omega arith
 number-some Refusal.OtherTable e = omega arith
 number-some Refusal.WrongCrc e = omega arith
 number-some Refusal.NoHeader e = omega arith
@@ -217,7 +217,7 @@ descriptors-of (HeaderRead.Header h) (CommandRead.Is c) f x e =
     sym (ap (λ (y : Section). y .descriptors) z)
 descriptors-of (HeaderRead.Header h) CommandRead.UnknownType f x e = zero-one cc
 descriptors-of (HeaderRead.Header h) CommandRead.Malformed f x e = zero-one cc
-descriptors-of HeaderRead.TooShort r f x e = zero-one cc
+descriptors-of HeaderRead.NoHeader r f x e = zero-one cc
 
 pub framing : (s : List ℕ) (x : Section) → sectionOf s ≡ SectionRead.Is x → Framing s x
 unfolding sectionOf frameIn loopPlace

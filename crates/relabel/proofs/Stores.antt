@@ -14,7 +14,7 @@ use Rattle.table.proofs.Bits.{length-bigEndian}
 use Rattle.table.proofs.Stores.{stored-fits, stored-append, length-stored}
 use Rattle.table.specs.Bits.{bigEndian}
 use Rattle.table.specs.Lent.{stored}
-use Rattle.relabel.specs.Walk.{run, oldSize, Lies, Takes, headOf, itemOf, frontOf, backOf, bodyOf, cutOf, sealed}
+use Rattle.relabel.specs.Private.{run, oldSize, Lies, Takes, headOf, itemOf, frontOf, backOf, bodyOf, cutOf, sealed}
 use Rattle.relabel.specs.declared.Place.{Place}
 
 -- ---- runs of bytes

@@ -1,2 +1,2 @@
 pub mod Relabel
-pub mod Walk
+pub mod Private

@@ -1,10 +1,10 @@
--- One identifier of a section replaced: the UPID of a segmentation descriptor, or one part of its MID, at any level. These are definitions.
+-- One identifier of a section replaced: the UPID of a segmentation descriptor, or one part of its MID, at any level.
 use Prim.Native.Nat.{ℕ}
 use mathlib.Core.Bool.{_&&_}
 use mathlib.Core.List.{List}
 use lib.Dec.{leb, eqb}
 use lib.ListN.{length}
-use Rattle.items.specs.Items.{listed}
+use Rattle.descriptor_loop.specs.Items.{listed}
 use Rattle.relabel_found.specs.Found.{found, payloadAt, foreIn, kindIn, upidIn, postIn}
 use Rattle.relabel_joined.specs.Relabel.{kindThen, relabelled}
 use Rattle.relabel_payload.specs.Payload.{payload}

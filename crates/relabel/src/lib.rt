@@ -3,15 +3,15 @@
 ghost use mathlib.Core.Path.{_≡_};
 ghost use Prim.Native.Nat.{_+_, _-_, _<_, _≤_};
 ghost use lib.ListN.{length, getD};
-ghost use Rattle.pen.specs.Written.{answerOf, laterOf};
+ghost use Rattle.bit_stores.specs.Written.{answerOf, laterOf};
 ghost use Rattle.relabel_joined.specs.Relabel.{kindThen};
 ghost use Rattle.table.specs.Lent.{stored};
 ghost use Rattle.relabel.specs.Relabel.{loopMade, relabelMade};
 ghost use Rattle.section.specs.Section.{commandLength, loopLength};
-ghost use Rattle.relabel.specs.Walk.{Spotted, placeIn, Lies, Takes, Limit, oldSize, headOf, itemOf, sealed, placedMade};
+ghost use Rattle.relabel.specs.Private.{Spotted, placeIn, Lies, Takes, Limit, oldSize, headOf, itemOf, sealed, placedMade};
 use adjust_section::refusal_number;
+use bit_stores::Written;
 use crc::crc32;
-use pen::Written;
 use relabel_found::finds_insert;
 use relabel_found::upid_head;
 use relabel_upid::relabel_upid;

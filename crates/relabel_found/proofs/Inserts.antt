@@ -17,7 +17,7 @@ use Rattle.table.specs.Table.{Answer, got, short, parse}
 use Rattle.descriptor.specs.Descriptor.{_andThen_, availOf, dtmfOf, segmentationOf, timeOf, reservedOf, isCuei, cuei, descriptorOf}
 use Rattle.descriptor.specs.Plain.{avail, dtmf, time, privateBytes}
 use Rattle.descriptor.specs.Segmentation.{cancelled}
-use Rattle.upid.specs.declared.Refusal.the-variants.{Short}
+use Rattle.upid.specs.declared.Refusal.the-variants.{NotEnoughData}
 use Rattle.descriptor.specs.Views.{withUpids}
 use Rattle.descriptor.specs.declared.Descriptor.{Descriptor}
 use Rattle.descriptor.specs.declared.Descriptor.the-variants.{Avail, Dtmf, Segmentation, Time, Reserved}
@@ -27,12 +27,12 @@ use Rattle.descriptor.specs.declared.segmentation.SegmentationDescriptor.{Segme
 use Rattle.descriptor.specs.declared.segmentation.SegmentationDetail.{SegmentationDetail}
 use Rattle.descriptor.specs.declared.segmentation.SegmentationDetail.the-variants.{Cancel, Insert}
 use Rattle.descriptor.specs.declared.segmentation.SegmentationInsert.{SegmentationInsert}
-use Rattle.items.proofs.Steps.{Clause, long, ended, last, small, entire, clause, Stands}
-use Rattle.items.specs.Items.{itemAt, readAt, wholeAt, stepOf, itemsOf}
-use Rattle.items.specs.Place.{movedDescriptor, movedUpid}
-use Rattle.items.specs.declared.Item.{Item}
-use Rattle.items.specs.declared.Item.the-variants.{Is}
-use Rattle.items.specs.declared.Step.{Step}
+use Rattle.descriptor_loop.proofs.Steps.{Clause, long, ended, last, small, entire, clause, Stands}
+use Rattle.descriptor_loop.specs.Items.{itemAt, readAt, wholeAt, stepOf, itemsOf}
+use Rattle.descriptor_loop.specs.Place.{movedDescriptor, movedUpid}
+use Rattle.descriptor_loop.specs.declared.Item.{Item}
+use Rattle.descriptor_loop.specs.declared.Item.the-variants.{Is}
+use Rattle.descriptor_loop.specs.declared.Step.{Step}
 use Rattle.relabel_payload.proofs.Theorems.{of-the-payload-only-the-upid-differs}
 use Rattle.relabel_payload.specs.Payload.{payload, upidHead, Holed}
 use Rattle.relabel_found.specs.Found.{begins, inserts, found, payloadAt, foreIn, kindIn, sizeIn, upidIn, postIn}
@@ -55,7 +55,7 @@ module _ (base : ℕ) (s : List ℕ) where
   avail-not : isInsert base (availOf s) ≡ false
   unfolding availOf
   avail-not =
-      pick-not base (ltb (length s) 4) (read.Refused (Short 4 (length s))) (parse avail (bitsOf s) 0 andThen λ x at. read.Is (Avail x)) refl
+      pick-not base (ltb (length s) 4) (read.Refused (NotEnoughData 4 (length s))) (parse avail (bitsOf s) 0 andThen λ x at. read.Is (Avail x)) refl
       (then-not base (parse avail (bitsOf s) 0) (λ x at. read.Is (Avail x)) λ x m. refl)
 
   dtmf-not : isInsert base (dtmfOf s) ≡ false
@@ -65,7 +65,7 @@ module _ (base : ℕ) (s : List ℕ) where
   time-not : isInsert base (timeOf s) ≡ false
   unfolding timeOf
   time-not =
-      pick-not base (ltb (length s) 12) (read.Refused (Short 12 (length s))) (parse time (bitsOf s) 0 andThen λ x at. read.Is (Time x)) refl
+      pick-not base (ltb (length s) 12) (read.Refused (NotEnoughData 12 (length s))) (parse time (bitsOf s) 0 andThen λ x at. read.Is (Time x)) refl
       (then-not base (parse time (bitsOf s) 0) (λ x at. read.Is (Time x)) λ x m. refl)
 
   reserved-not : (tag : ℕ) → isInsert base (reservedOf tag s) ≡ false

@@ -13,10 +13,10 @@ use lib.Dec.{eqb}
 use lib.ListN.{length, getD}
 use borrow.Author.Tests.{eq-eqb, ne-eqb, eqb-true}
 use Rattle.table.proofs.Lists.{zero-one}
-use Rattle.items.proofs.Lists.{rest, rest-end, rest-more, items-rest, items-none}
-use Rattle.items.proofs.Steps.{step-small, step-whole, turn, forward, within}
-use Rattle.items.specs.Items.{wholeAt, stepOf, Listed, listed, itemsOf}
-use Rattle.items.specs.declared.Step.{Step}
+use Rattle.descriptor_loop.proofs.Lists.{rest, rest-end, rest-more, items-rest, items-none}
+use Rattle.descriptor_loop.proofs.Steps.{step-small, step-whole, turn, forward, within}
+use Rattle.descriptor_loop.specs.Items.{wholeAt, stepOf, Listed, listed, itemsOf}
+use Rattle.descriptor_loop.specs.declared.Step.{Step}
 use Rattle.upid.proofs.Laws.{by-cases}
 use Rattle.relabel_found.specs.Found.{begins, inserts, found}
 use Rattle.relabel_payload.specs.Payload.{upidHead}

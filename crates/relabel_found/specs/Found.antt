@@ -1,4 +1,4 @@
--- Where an identifier stands that is to be replaced: an item of a loop, and the UPID in its payload. These are definitions.
+-- Where an identifier stands that is to be replaced: an item of a loop, and the UPID in its payload.
 use Prim.Native.Nat.{ℕ, _+_, _-_}
 use mathlib.Core.Bool.{Bool, true, false, not, _&&_, _||_}
 use mathlib.Core.List.{List, [], _∷_}
@@ -6,9 +6,9 @@ use lib.Dec.{eqb}
 use lib.ListN.{take, drop, getD}
 use Rattle.descriptor.specs.Segmentation.{cancelled}
 use Rattle.descriptor.specs.Whole.{ofSegmentation}
-use Rattle.items.specs.Items.{stepOf, Listed, itemsOf}
-use Rattle.items.specs.declared.Item.{Item}
-use Rattle.items.specs.declared.Item.the-variants.{End, Refused, Is}
+use Rattle.descriptor_loop.specs.Items.{stepOf, Listed, itemsOf}
+use Rattle.descriptor_loop.specs.declared.Item.{Item}
+use Rattle.descriptor_loop.specs.declared.Item.the-variants.{End, Refused, Is}
 use Rattle.relabel_payload.specs.Payload.{upidHead}
 
 -- ---- the item

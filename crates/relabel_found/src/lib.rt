@@ -4,13 +4,13 @@ ghost use Prim.Native.Nat.{_+_, _*_, _/_, _%_, _<_, _≤_};
 ghost use lib.Dec.{eqb};
 ghost use Rattle.table.specs.Bits.{pick};
 ghost use lib.ListN.{length};
-ghost use Rattle.items.specs.Items.{stepOf, itemsOf};
+ghost use Rattle.descriptor_loop.specs.Items.{stepOf, itemsOf};
 ghost use Rattle.relabel_found.specs.Found.{begins, inserts, found};
 ghost use Rattle.relabel_payload.specs.Payload.{upidHead};
 use descriptor::Descriptor;
 use descriptor::segmentation::SegmentationDetail;
-use items::Item;
-use items::iteration::step;
+use descriptor_loop::Item;
+use descriptor_loop::iteration::step;
 use table::numbers::byte;
 
 fn wide(b: u8) -> usize

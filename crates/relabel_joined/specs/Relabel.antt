@@ -1,4 +1,4 @@
--- One identifier of a section replaced: the UPID of a segmentation descriptor, or one part of its MID. These are definitions.
+-- One identifier of a section replaced: the UPID of a segmentation descriptor, or one part of its MID.
 use Prim.Native.Nat.{ℕ, zero, suc, _+_}
 use mathlib.Core.List.{List}
 use mathlib.Core.Path.{_≡_}
@@ -8,9 +8,9 @@ use Rattle.descriptor.specs.Segmentation.{withUpid}
 use Rattle.descriptor.specs.declared.Descriptor.the-variants.{Segmentation}
 use Rattle.descriptor.specs.declared.segmentation.SegmentationDetail.the-variants.{Insert}
 use Rattle.descriptor.specs.declared.segmentation.SegmentationInsert.{SegmentationInsert}
-use Rattle.items.specs.Items.{stepOf, Listed}
-use Rattle.items.specs.Place.{movedDescriptor}
-use Rattle.items.specs.declared.Item.the-variants.{Is}
+use Rattle.descriptor_loop.specs.Items.{stepOf, Listed}
+use Rattle.descriptor_loop.specs.Place.{movedDescriptor}
+use Rattle.descriptor_loop.specs.declared.Item.the-variants.{Is}
 use Rattle.relabel_loop.specs.Item.{segmentationItem}
 use Rattle.relabel_loop.specs.Loop.{withItem, OthersStay}
 use Rattle.relabel_payload.specs.Payload.{payload}

@@ -16,14 +16,14 @@ use Rattle.descriptor.specs.declared.Descriptor.the-variants.{Avail, Dtmf, Segm
 use Rattle.descriptor.specs.declared.segmentation.SegmentationDescriptor.{SegmentationDescriptor}
 use Rattle.descriptor.specs.declared.segmentation.SegmentationDetail.{SegmentationDetail}
 use Rattle.descriptor.specs.declared.segmentation.SegmentationDetail.the-variants.{Cancel, Insert}
-use Rattle.items.proofs.Lists.{Walked, stop, step, walked}
-use Rattle.items.proofs.Steps.{forward}
-use Rattle.items.specs.Items.{stepOf, Listed, listed, itemsOf}
-use Rattle.items.specs.Place.{movedDescriptor, movedUpid}
-use Rattle.items.specs.declared.Item.{Item}
-use Rattle.items.specs.declared.Item.the-variants.{End, Refused, Is}
-use Rattle.items.specs.declared.ItemRefusal.the-variants.{InvalidDescriptorLength, Other}
-use Rattle.items.specs.declared.Step.{Step}
+use Rattle.descriptor_loop.proofs.Lists.{Walked, stop, step, walked}
+use Rattle.descriptor_loop.proofs.Steps.{forward}
+use Rattle.descriptor_loop.specs.Items.{stepOf, Listed, listed, itemsOf}
+use Rattle.descriptor_loop.specs.Place.{movedDescriptor, movedUpid}
+use Rattle.descriptor_loop.specs.declared.Item.{Item}
+use Rattle.descriptor_loop.specs.declared.Item.the-variants.{End, Refused, Is}
+use Rattle.descriptor_loop.specs.declared.ItemRefusal.the-variants.{InvalidDescriptorLength, Other}
+use Rattle.descriptor_loop.specs.declared.Step.{Step}
 use Rattle.relabel_found.specs.Found.{inserts, foreIn, kindIn, sizeIn, upidIn, postIn}
 use Rattle.relabel_joined.specs.Relabel.{kindThen}
 use Rattle.relabel_loop.proofs.Pieces.{piece, step-of-whole}

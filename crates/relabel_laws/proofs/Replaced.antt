@@ -8,8 +8,8 @@ use borrow.Author.Tests.{ne-eqb, eq-eqb}
 use lib.Dec.{eqb}
 use lib.ListN.{length, take, drop, getD, length-append, length-drop, take-append-drop}
 use lib.Seq.{length-take-le}
-use Rattle.items.proofs.Lists.{walked}
-use Rattle.items.specs.Items.{stepOf, Listed, listed, itemsOf}
+use Rattle.descriptor_loop.proofs.Lists.{walked}
+use Rattle.descriptor_loop.specs.Items.{stepOf, Listed, listed, itemsOf}
 use Rattle.relabel.proofs.Ats.{some-made}
 use Rattle.relabel.specs.Relabel.{payloadIn, payloadThen, sectionThen}
 use Rattle.relabel_found.proofs.Inserts.{Inserted, inserted}

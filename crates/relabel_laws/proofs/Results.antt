@@ -7,7 +7,7 @@ use native.Mathlib.Omega.{arith}
 use borrow.Author.Tests.{leb-true, eqb-true}
 use lib.Dec.{leb, eqb}
 use lib.ListN.{length, getD, drop}
-use Rattle.items.specs.Items.{Listed, listed, itemsOf}
+use Rattle.descriptor_loop.specs.Items.{Listed, listed, itemsOf}
 use Rattle.relabel.proofs.Cuts.{loop-there}
 use Rattle.relabel.proofs.Mades.{Framing, framing}
 use Rattle.relabel.specs.Relabel.{payloadIn, payloadThen, sectionThen, fitting, loopMade, relabelMade}
@@ -36,8 +36,8 @@ picked false m n r e = zero-one cc
 pub accepted-of : (a : SectionRead) → eqb (numberOf a) 0 ≡ true → (x : Section) × (a ≡ SectionRead.Is x)
 unfolding numberOf
 accepted-of (SectionRead.Is x) e = (x, refl)
-accepted-of (SectionRead.Refused Refusal.TooShort) e = zero-one cc
-accepted-of (SectionRead.Refused Refusal.TooLong) e = zero-one cc
+accepted-of (SectionRead.Refused Refusal.SectionTooShort) e = zero-one cc
+accepted-of (SectionRead.Refused Refusal.InputTooLong) e = zero-one cc
 accepted-of (SectionRead.Refused Refusal.OtherTable) e = zero-one cc
 accepted-of (SectionRead.Refused Refusal.WrongCrc) e = zero-one cc
 accepted-of (SectionRead.Refused Refusal.NoHeader) e = zero-one cc

@@ -1,9 +1,9 @@
--- The identifiers of a section's UPIDs, wherever they lie: of each its level, its type as it is written, and its bytes. These are definitions.
+-- The identifiers of a section's UPIDs, wherever they lie: of each its level, its type as it is written, and its bytes.
 use Prim.Native.Nat.{ℕ, zero, suc, _+_, _-_}
 use mathlib.Core.List.{List, [], _∷_, _++_}
 use lib.Dec.{eqb}
 use lib.ListN.{length, take, drop}
-use Rattle.items.specs.Items.{Listed, itemsOf}
+use Rattle.descriptor_loop.specs.Items.{Listed, itemsOf}
 use Rattle.relabel_found.specs.Found.{inserts, kindIn, upidIn}
 use Rattle.relabel_upid.specs.Kept.{Identifier, identifiersOf, identifiersThen}
 use Rattle.section.specs.Section.{loopBytes}

@@ -1,11 +1,11 @@
--- What is claimed of a section in which one identifier was replaced. These are definitions.
+-- What is claimed of a section in which one identifier was replaced.
 use Prim.Native.Nat.{ℕ, _+_, _≤_}
 use mathlib.Core.Bool.{true}
 use mathlib.Core.List.{List, _∷_, _++_}
 use mathlib.Core.Path.{_≡_}
 use lib.ListN.{length}
 use Rattle.descriptor.specs.declared.segmentation.SegmentationInsert.{SegmentationInsert}
-use Rattle.items.specs.Items.{Listed, listed, itemsOf}
+use Rattle.descriptor_loop.specs.Items.{Listed, listed, itemsOf}
 use Rattle.relabel.specs.Relabel.{payloadIn, payloadThen, sectionThen}
 use Rattle.relabel_found.specs.Found.{found, foreIn, kindIn, sizeIn, upidIn, postIn}
 use Rattle.relabel_joined.specs.Relabel.{kindThen, Kept}

@@ -13,7 +13,7 @@ use borrow.Author.Tests.{le-ltb}
 use Rattle.table.specs.Lent.{shifted}
 use Rattle.table.specs.declared.View.{View}
 use Rattle.upid.specs.declared.Refusal.{Refusal}
-use Rattle.upid.specs.declared.Refusal.the-variants.{TooLong, Short, Mismatch, NotText, WrongLength}
+use Rattle.upid.specs.declared.Refusal.the-variants.{InputTooLong, NotEnoughData, UpidLengthTypeMismatch, InvalidUpidContent, InvalidUpidLength}
 use Rattle.upid.proofs.Laws.{by-cases}
 use Rattle.descriptor.specs.Descriptor.{movedRefusal, descriptorOf}
 use Rattle.descriptor.specs.Segmentation.{withUpid}
@@ -26,15 +26,15 @@ use Rattle.descriptor.specs.declared.DescriptorRead.the-variants as read
 use Rattle.descriptor.specs.declared.segmentation.SegmentationDetail.{SegmentationDetail}
 use Rattle.descriptor.specs.declared.segmentation.SegmentationDetail.the-variants.{Cancel, Insert}
 use Rattle.descriptor.specs.declared.segmentation.SegmentationUpid.{SegmentationUpid}
-use Rattle.items.specs.Items.{short, bare, itemAt, readAt, wholeAt, stepOf, unlessEnd, Listed, listed, itemsFrom, itemsOf}
-use Rattle.items.specs.Place.{movedUpid, movedDescriptor}
-use Rattle.items.specs.Walk.{movedDetail}
-use Rattle.items.specs.declared.Item.{Item}
-use Rattle.items.specs.declared.Item.the-variants.{End, Refused, Is}
-use Rattle.items.specs.declared.ItemRefusal.the-variants.{InvalidDescriptorLength, Other}
-use Rattle.items.specs.declared.Step.{Step}
-use Rattle.items.proofs.Lists.{rest, items-rest}
-use Rattle.items.proofs.Steps.{step-end, step-few, step-over, step-full, step-small, step-whole}
+use Rattle.descriptor_loop.specs.Items.{short, bare, itemAt, readAt, wholeAt, stepOf, unlessEnd, Listed, listed, itemsFrom, itemsOf}
+use Rattle.descriptor_loop.specs.Place.{movedUpid, movedDescriptor}
+use Rattle.descriptor_loop.specs.Private.{movedDetail}
+use Rattle.descriptor_loop.specs.declared.Item.{Item}
+use Rattle.descriptor_loop.specs.declared.Item.the-variants.{End, Refused, Is}
+use Rattle.descriptor_loop.specs.declared.ItemRefusal.the-variants.{InvalidDescriptorLength, Other}
+use Rattle.descriptor_loop.specs.declared.Step.{Step}
+use Rattle.descriptor_loop.proofs.Lists.{rest, items-rest}
+use Rattle.descriptor_loop.proofs.Steps.{step-end, step-few, step-over, step-full, step-small, step-whole}
 use Rattle.relabel_loop.specs.Loop.{movedItem, movedStep, movedListed}
 
 -- ---- moved twice
@@ -63,11 +63,11 @@ module _ (n b : ℕ) where
   descriptor-twice (Reserved tag v) = ap (Reserved tag) (view-twice v)
 
   refusal-twice : (r : Refusal) → movedRefusal n (movedRefusal b r) ≡ movedRefusal (n + b) r
-  refusal-twice TooLong = refl
-  refusal-twice (Short expected actual) = refl
-  refusal-twice Mismatch = refl
-  refusal-twice (NotText kind v) = ap (NotText kind) (view-twice v)
-  refusal-twice (WrongLength kind expected actual) = refl
+  refusal-twice InputTooLong = refl
+  refusal-twice (NotEnoughData expected actual) = refl
+  refusal-twice UpidLengthTypeMismatch = refl
+  refusal-twice (InvalidUpidContent kind v) = ap (InvalidUpidContent kind) (view-twice v)
+  refusal-twice (InvalidUpidLength kind expected actual) = refl
 
   -- what a payload was read as, at a place n bytes later
   item-moved : (r : DescriptorRead) → movedItem n (itemAt b r) ≡ itemAt (n + b) r

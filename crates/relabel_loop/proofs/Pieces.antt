@@ -12,10 +12,10 @@ use Rattle.upid.proofs.Laws.{by-cases}
 use Rattle.descriptor.specs.Descriptor.{descriptorOf}
 use Rattle.descriptor.specs.Whole.{identifierRead}
 use Rattle.descriptor.specs.declared.DescriptorRead.{DescriptorRead}
-use Rattle.items.specs.Items.{short, bare, itemAt, readAt, wholeAt, stepOf, Listed, listed, itemsOf}
-use Rattle.items.specs.declared.Step.{Step}
-use Rattle.items.proofs.Lists.{rest, rest-end, rest-more, items-rest, from-any}
-use Rattle.items.proofs.Steps.{step-small, step-whole, Turn, ends, goes, Stands, turn, forward, within}
+use Rattle.descriptor_loop.specs.Items.{short, bare, itemAt, readAt, wholeAt, stepOf, Listed, listed, itemsOf}
+use Rattle.descriptor_loop.specs.declared.Step.{Step}
+use Rattle.descriptor_loop.proofs.Lists.{rest, rest-end, rest-more, items-rest, from-any}
+use Rattle.descriptor_loop.proofs.Steps.{step-small, step-whole, Turn, ends, goes, Stands, turn, forward, within}
 use Rattle.relabel_loop.specs.Loop.{movedStep, movedListed, behindItem, withItem, Piece, OthersStay}
 use Rattle.relabel_loop.proofs.Moves.{listed-twice, map-twice, step-moved, items-moved}
 

@@ -7,9 +7,9 @@ use native.Mathlib.Omega.{arith}
 use lib.ListN.{length, take, drop, getD, length-append, length-drop, take-append-drop, length-map}
 use lib.Seq.{take-append-add, drop-append-add, drop-append-seam, length-take-le, drop-length}
 use Rattle.upid.proofs.Laws.{by-cases}
-use Rattle.items.specs.Items.{stepOf, Listed, listed, itemsOf}
-use Rattle.items.specs.declared.Step.{Step}
-use Rattle.items.proofs.Steps.{Turn, ends, goes, Stands, turn}
+use Rattle.descriptor_loop.specs.Items.{stepOf, Listed, listed, itemsOf}
+use Rattle.descriptor_loop.specs.declared.Step.{Step}
+use Rattle.descriptor_loop.proofs.Steps.{Turn, ends, goes, Stands, turn}
 use Rattle.relabel_loop.specs.Loop.{movedStep, movedListed, behindItem, withItem, Piece, OthersStay}
 use Rattle.relabel_loop.proofs.Moves.{listed-twice, map-twice}
 use Rattle.relabel_loop.proofs.Pieces.{piece, step-of-small, step-of-whole, step-piece, items-first, items-empty, items-piece, still}

@@ -16,9 +16,9 @@ use Rattle.descriptor.specs.Segmentation.{withUpid}
 use Rattle.descriptor.specs.declared.Descriptor.the-variants.{Segmentation}
 use Rattle.descriptor.specs.declared.segmentation.SegmentationDetail.the-variants.{Insert}
 use Rattle.descriptor.specs.declared.segmentation.SegmentationInsert.{SegmentationInsert}
-use Rattle.items.specs.Items.{stepOf, Listed, listed, itemsOf}
-use Rattle.items.specs.Place.{movedDescriptor}
-use Rattle.items.specs.declared.Item.the-variants.{Is}
+use Rattle.descriptor_loop.specs.Items.{stepOf, Listed, listed, itemsOf}
+use Rattle.descriptor_loop.specs.Place.{movedDescriptor}
+use Rattle.descriptor_loop.specs.declared.Item.the-variants.{Is}
 use Rattle.relabel_payload.specs.Payload.{payload, Holed}
 use Rattle.relabel_loop.specs.Item.{segmentationItem}
 use Rattle.relabel_loop.specs.Loop.{movedStep, movedListed, withItem, Piece, OthersStay}

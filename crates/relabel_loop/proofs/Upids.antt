@@ -13,10 +13,10 @@ use Rattle.descriptor.specs.declared.DescriptorRead.{DescriptorRead}
 use Rattle.descriptor.specs.declared.DescriptorRead.the-variants as read
 use Rattle.descriptor.specs.declared.segmentation.SegmentationDetail.the-variants.{Insert}
 use Rattle.descriptor.specs.declared.segmentation.SegmentationInsert.{SegmentationInsert}
-use Rattle.items.specs.Items.{itemAt, stepOf}
-use Rattle.items.specs.Place.{movedDescriptor}
-use Rattle.items.specs.declared.Item.the-variants.{Is}
-use Rattle.items.specs.declared.Step.{Step}
+use Rattle.descriptor_loop.specs.Items.{itemAt, stepOf}
+use Rattle.descriptor_loop.specs.Place.{movedDescriptor}
+use Rattle.descriptor_loop.specs.declared.Item.the-variants.{Is}
+use Rattle.descriptor_loop.specs.declared.Step.{Step}
 use Rattle.relabel_payload.specs.Payload.{payload, Holed}
 use Rattle.relabel_loop.specs.Item.{segmentationItem}
 use Rattle.relabel_loop.specs.Loop.{Piece}

@@ -15,7 +15,7 @@ use Rattle.table.specs.declared.View.{View}
 use Rattle.table.proofs.Bits.{bits-append, length-bits}
 use Rattle.table.proofs.Lists.{zero-one}
 use Rattle.upid.specs.Upid.{checkOf}
-use Rattle.upid.specs.Walk.{Accepted}
+use Rattle.upid.specs.Private.{Accepted}
 use Rattle.upid.specs.declared.UpidRead.{UpidRead}
 use Rattle.upid.proofs.Walks.{check-short}
 use Rattle.descriptor.specs.Descriptor.{_andThen_, reportedUpid, ifFine, inserted, insertOf, segmentationOf}

@@ -90,7 +90,7 @@ accepted-with (HeaderRead.Header h) (CommandRead.Is c) v w x e =
     ap (λ (y : Section). SectionRead.Is (record { header = y .header; command = y .command; descriptors = w .descriptors; payload = w .command })) z
 accepted-with (HeaderRead.Header h) CommandRead.UnknownType v w x e = zero-one cc
 accepted-with (HeaderRead.Header h) CommandRead.Malformed v w x e = zero-one cc
-accepted-with HeaderRead.TooShort r v w x e = zero-one cc
+accepted-with HeaderRead.NoHeader r v w x e = zero-one cc
 
 section-inj : (x y : Section) → SectionRead.Is x ≡ SectionRead.Is y → x ≡ y
 section-inj x y e = cc

@@ -12,7 +12,7 @@ use Rattle.table.specs.Bits.{pick}
 use Rattle.table.specs.Writing.{Made, made, refused}
 use Rattle.upid.specs.Cover.{Cut, bytesOf}
 use Rattle.upid.specs.Upid.{readOf, checkOf, listOf, reportedOf, upidOf, partsIn, unlessRefused}
-use Rattle.upid.specs.Walk.{Accepted}
+use Rattle.upid.specs.Private.{Accepted}
 use Rattle.upid.specs.declared.Part.{Part}
 use Rattle.upid.specs.declared.UpidRead.{UpidRead}
 use Rattle.upid.specs.declared.UpidRead.the-variants.{Fine, Refused}

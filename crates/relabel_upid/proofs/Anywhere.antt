@@ -10,7 +10,7 @@ use borrow.Author.Tests.{le-ltb}
 use Rattle.upid.specs.Cover.{Cut}
 use Rattle.upid.specs.Text.{textOf}
 use Rattle.upid.specs.Upid.{readOf, walkOf, plainOf, _then_, lengthOf, isText}
-use Rattle.upid.specs.Walk.{Accepted}
+use Rattle.upid.specs.Private.{Accepted}
 use Rattle.upid.specs.declared.UpidRead.{UpidRead}
 use Rattle.upid.specs.declared.UpidRead.the-variants.{Fine, Refused}
 use Rattle.upid.proofs.Laws.{read-more, then-both}

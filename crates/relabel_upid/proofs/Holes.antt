@@ -10,7 +10,7 @@ use lib.Dec.{eqb}
 use borrow.Author.Tests.{lt-ltb, le-ltb, eqb-true, eqb-false}
 use Rattle.upid.specs.Cover.{Cut}
 use Rattle.upid.specs.Upid.{readOf, listOf, reportedOf}
-use Rattle.upid.specs.Walk.{Accepted}
+use Rattle.upid.specs.Private.{Accepted}
 use Rattle.upid.specs.declared.Part.{Part}
 use Rattle.upid.proofs.Laws.{read-one, read-more, list-nil, list-more, list-plain, accepted-mid, then-both, by-cases}
 use Rattle.relabel_upid.proofs.Anywhere.{anywhere, accepted-headed}

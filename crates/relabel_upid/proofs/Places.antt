@@ -10,7 +10,7 @@ use lib.Seq.{set-at}
 use borrow.Author.Tests.{lt-ltb, le-ltb, le-leb, lt-leb, eqb-true, eqb-false}
 use Rattle.upid.specs.Cover.{All, none, more, Cut}
 use Rattle.upid.specs.Upid.{readOf, listOf, partsOf, reportedOf}
-use Rattle.upid.specs.Walk.{Accepted}
+use Rattle.upid.specs.Private.{Accepted}
 use Rattle.upid.specs.declared.Part.{Part}
 use Rattle.upid.proofs.Laws.{read-one, read-more, list-nil, list-more, list-plain, list-mid, accepted-mid, then-both, by-cases}
 use Rattle.upid.proofs.Tree.{all-map}

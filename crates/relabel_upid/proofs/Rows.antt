@@ -12,7 +12,7 @@ use Rattle.table.specs.Writing.{Made, made, refused}
 use Rattle.upid.specs.Cover.{bytesOf}
 use Rattle.upid.specs.Text.{textOf, done, step, within}
 use Rattle.upid.specs.Upid.{upidOf, checkOf, readOf, walkOf, _then_, plainOf, lengthOf, isText, reportedOf, listOf, partsOf, listed, unlessRefused, partsIn}
-use Rattle.upid.specs.Walk.{Accepted}
+use Rattle.upid.specs.Private.{Accepted}
 use Rattle.upid.specs.declared.Part.{Part}
 use Rattle.upid.proofs.Laws.{list-plain}
 use Rattle.upid.proofs.Theorems.{eight-and-twelve}

@@ -12,7 +12,7 @@ use Rattle.table.specs.Writing.{made, refused}
 use Rattle.table.proofs.Stores.{stored-fits, stored-append}
 use Rattle.upid.specs.Cover.{All, none, more, Cut}
 use Rattle.upid.specs.Upid.{readOf, checkOf, listOf, upidOf, partsIn, blankPart, listed}
-use Rattle.upid.specs.Walk.{Accepted}
+use Rattle.upid.specs.Private.{Accepted}
 use Rattle.upid.specs.declared.Part.{Part}
 use Rattle.upid.specs.declared.PartList.{PartList}
 use Rattle.upid.specs.declared.Upid.{Upid}
@@ -21,7 +21,7 @@ use Rattle.upid.proofs.Tree.{all-map}
 use Rattle.upid.proofs.Walks.{check-mid}
 use Rattle.relabel_upid.specs.Hole.{Hole, here, inside, past, filled}
 use Rattle.relabel_upid.specs.Relabel.{instead, around, mended, spliced, partAt, taken, wholeMade, partMade, upidMade}
-use Rattle.relabel_upid.specs.Walk.{Mends, Mendable, Ahead, Storable}
+use Rattle.relabel_upid.specs.Private.{Mends, Mendable, Ahead, Storable}
 use Rattle.relabel_upid.proofs.Answers.{part-is, take-is, parts-of-mid, has-parts}
 use Rattle.relabel_upid.proofs.Holes.{startAt, recorded, inner, before, Fair, Found, find, length-front, length-filled}
 use Rattle.relabel_upid.proofs.Places.{all-append, lies-in, spot}

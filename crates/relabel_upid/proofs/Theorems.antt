@@ -9,7 +9,7 @@ use lib.ListN.{length, getD}
 use Rattle.table.specs.Writing.{made}
 use Rattle.upid.specs.Cover.{All, Cut, bytesOf}
 use Rattle.upid.specs.Upid.{readOf, upidOf, partsIn}
-use Rattle.upid.specs.Walk.{Accepted}
+use Rattle.upid.specs.Private.{Accepted}
 use Rattle.upid.specs.declared.Part.{Part}
 use Rattle.relabel_upid.specs.Hole.{Hole, filled}
 use Rattle.relabel_upid.specs.Kept.{identifiersOf, identifiersThen, writtenKind, Relabelled}

@@ -10,7 +10,7 @@ use lib.Seq.{take-append-seam, drop-append-seam, getD-drop}
 use borrow.Author.Tests.{lt-ltb, le-ltb, eqb-true, eqb-false, eq-eqb, ne-eqb}
 use Rattle.upid.specs.Cover.{Cut}
 use Rattle.upid.specs.Upid.{readOf, listOf, reportedOf}
-use Rattle.upid.specs.Walk.{Accepted}
+use Rattle.upid.specs.Private.{Accepted}
 use Rattle.upid.specs.declared.Part.{Part}
 use Rattle.upid.proofs.Cutting.{after-head, after-part}
 use Rattle.upid.proofs.Laws.{read-one, read-more, list-nil, list-more, list-plain, list-mid, accepted-mid, by-cases}

@@ -16,14 +16,14 @@ use Rattle.table.specs.Bits.{pick}
 use Rattle.table.specs.Writing.{Made, made, refused}
 use Rattle.upid.specs.Cover.{All, none, more}
 use Rattle.upid.specs.Upid.{readOf, checkOf, upidOf, partsIn, blankPart, _then_}
-use Rattle.upid.specs.Walk.{Accepted}
+use Rattle.upid.specs.Private.{Accepted}
 use Rattle.upid.specs.declared.Part.{Part}
 use Rattle.upid.specs.declared.PartList.{PartList}
 use Rattle.upid.specs.declared.UpidRead.{UpidRead}
 use Rattle.upid.specs.declared.UpidRead.the-variants.{Fine, Refused}
 use Rattle.upid.proofs.Laws.{read-nil, read-more}
 use Rattle.relabel_upid.specs.Relabel.{instead, around, mended, partAt, replacedIn, taken, wholeMade, partMade, upTo}
-use Rattle.relabel_upid.specs.Walk.{Mends, Mendable}
+use Rattle.relabel_upid.specs.Private.{Mends, Mendable}
 use Rattle.relabel_upid.proofs.Anywhere.{anywhere}
 
 -- ---- whether an identifier is taken

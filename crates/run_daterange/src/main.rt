@@ -3,12 +3,12 @@
 // as its date. The file `stdout` is what the host's own reader and writer say (host/daterange gate).
 ghost use Prim.Native.Nat.{_≤_};
 ghost use lib.ListN.{length};
+use bit_stores::Written;
 use daterange::write_daterange;
 use daterange_line::Cue;
 use daterange_line::Read;
 use daterange_line::Reading;
 use daterange_line::read_line;
-use pen::Written;
 use table::lent::view;
 use table::numbers::wide;
 

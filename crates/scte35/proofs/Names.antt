@@ -1,4 +1,4 @@
--- The flat form of a named number, by the case that a `match` finds. Assumes nothing.
+-- The flat form of a named number, by the case that a `match` finds.
 use Prim.Native.Nat.{ℕ}
 use mathlib.Core.List.{[]}
 use mathlib.Core.Path.{_≡_, ap, sym, _∙_}

@@ -1,8 +1,8 @@
--- The flat forms of named numbers, and the time that is handed in. These are definitions.
+-- The flat forms of named numbers, and the time that is handed in.
 use Prim.Native.Nat.{ℕ, _^_}
 use lib.Dec.{eqb, ltb}
-use Rattle.header.specs.declared.time.SpliceTime.{SpliceTime}
-use Rattle.header.specs.declared.time.SpliceTime.the-variants.{Unspecified, At}
+use Rattle.splice_time.specs.declared.SpliceTime.{SpliceTime}
+use Rattle.splice_time.specs.declared.SpliceTime.the-variants.{Unspecified, At}
 use Rattle.names.specs.Flags.{Answer, gives, refuses}
 use Rattle.names.specs.Numbering.{Entry, named}
 use Rattle.table.specs.Bits.{pick}

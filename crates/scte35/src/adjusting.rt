@@ -3,9 +3,9 @@ ghost use mathlib.Core.Path.{_≡_};
 ghost use lib.ListN.{drop};
 ghost use Rattle.adjust.specs.Adjust.{adjustOf, chainOf, undoOf};
 ghost use Rattle.adjust_section.specs.Adjusted.{adjustedSection};
-ghost use Rattle.flat_adjust.specs.FlatAdjust.{flatMoved, flatAdjustment};
-ghost use Rattle.flat_writer.specs.Words.{flatWritten};
-ghost use Rattle.pen.specs.Written.{answerOf, laterOf};
+ghost use Rattle.c_adjust.specs.FlatAdjust.{flatMoved, flatAdjustment};
+ghost use Rattle.c_command_writer.specs.Words.{flatWritten};
+ghost use Rattle.bit_stores.specs.Written.{answerOf, laterOf};
 ghost use Rattle.scte35.specs.FlatNumber.{timeHanded};
 use crate::rest;
 use crate::time_from;
@@ -13,12 +13,12 @@ use adjust::adjust;
 use adjust::chain;
 use adjust::undo;
 use adjust_section::adjust_section;
-use flat::headers::FlatAdjusted;
-use flat_adjust::FlatAdjustment;
-use flat_adjust::flat_adjustment;
-use flat_adjust::flat_moved;
-use flat_writer::FlatWritten;
-use flat_writer::flat_written;
+use c_adjust::FlatAdjustment;
+use c_adjust::flat_adjustment;
+use c_adjust::flat_moved;
+use c_command_writer::FlatWritten;
+use c_command_writer::flat_written;
+use c_section::headers::FlatAdjusted;
 
 // A time of kind 3 moved; any other kind stays as it is.
 #[no_mangle]

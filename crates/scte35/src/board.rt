@@ -1,10 +1,10 @@
 // The open-break board of two channels (Q-7, Q-8) in 66 words that the caller lends. Only an accepted call changes them; a shorter run is refused (36).
 ghost use mathlib.Core.Path.{_≡_};
-ghost use Rattle.flat_board.specs.Lent.{emptied, opened, closed};
-use flat_board::FlatBoardAnswer;
-use flat_board::close_words;
-use flat_board::empty_words;
-use flat_board::open_words;
+ghost use Rattle.c_board.specs.Lent.{emptied, opened, closed};
+use c_board::FlatBoardAnswer;
+use c_board::close_words;
+use c_board::empty_words;
+use c_board::open_words;
 
 // No break open, next id 1 for either channel.
 #[no_mangle]

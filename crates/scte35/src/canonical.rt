@@ -1,11 +1,11 @@
 // The tests of the canonical form: of all bytes from the offset on.
 ghost use mathlib.Core.Path.{_≡_};
 ghost use lib.ListN.{drop};
-ghost use Rattle.descriptor_form.specs.Canonical.{canonicalDescriptor, canonicalLoop};
+ghost use Rattle.descriptor_measure.specs.Canonical.{canonicalDescriptor, canonicalLoop};
 ghost use Rattle.section_writer.specs.Canonical.{canonicalSection};
 use crate::rest;
-use canonical_loop::is_canonical_descriptor;
-use canonical_loop::is_canonical_loop;
+use descriptor_canonical::is_canonical_descriptor;
+use descriptor_canonical::is_canonical_loop;
 use section_writer::is_canonical_section;
 
 #[no_mangle]

@@ -3,16 +3,16 @@ ghost use mathlib.Core.Path.{_≡_};
 ghost use lib.ListN.{drop};
 ghost use Rattle.daterange.specs.Choice.{daterangeMade};
 ghost use Rattle.daterange_line.specs.Reading.{readOf, readLater};
-ghost use Rattle.flat_daterange.specs.FlatDaterange.{flatDaterange};
-ghost use Rattle.flat_writer.specs.Words.{flatWritten};
-ghost use Rattle.pen.specs.Written.{answerOf, laterOf};
+ghost use Rattle.c_daterange.specs.FlatDaterange.{flatDaterange};
+ghost use Rattle.c_command_writer.specs.Words.{flatWritten};
+ghost use Rattle.bit_stores.specs.Written.{answerOf, laterOf};
 use crate::rest;
+use c_command_writer::FlatWritten;
+use c_command_writer::flat_written;
+use c_daterange::FlatDaterange;
+use c_daterange::flat_daterange;
 use daterange::write_daterange;
 use daterange_line::read_line;
-use flat_daterange::FlatDaterange;
-use flat_daterange::flat_daterange;
-use flat_writer::FlatWritten;
-use flat_writer::flat_written;
 
 // The line of the section in all bytes from the offset on.
 #[no_mangle]

@@ -1,10 +1,10 @@
 // One identifier of a section replaced, and every other one kept.
 ghost use mathlib.Core.Path.{_≡_};
-ghost use Rattle.flat_writer.specs.Words.{flatWritten};
-ghost use Rattle.pen.specs.Written.{answerOf, laterOf};
+ghost use Rattle.c_command_writer.specs.Words.{flatWritten};
+ghost use Rattle.bit_stores.specs.Written.{answerOf, laterOf};
 ghost use Rattle.relabel.specs.Relabel.{relabelMade};
-use flat_writer::FlatWritten;
-use flat_writer::flat_written;
+use c_command_writer::FlatWritten;
+use c_command_writer::flat_written;
 use relabel::relabel;
 
 // The section in which part number `part` of the item at `offset` of its loop becomes an identifier of type `kind` with these bytes. Part 0 is the UPID itself,

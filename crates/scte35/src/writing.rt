@@ -1,14 +1,14 @@
 // The writers. They take words, those of the C structs in their order: a word past the end counts as 0, and words past the struct's end are not looked at.
 ghost use mathlib.Core.Path.{_≡_};
-ghost use Rattle.flat_item_writer.specs.ItemGiven.{descriptorWordsMade};
-ghost use Rattle.flat_section_writer.specs.SectionGiven.{sectionWordsMade};
-ghost use Rattle.flat_writer.specs.CommandGiven.{commandWordsMade};
-ghost use Rattle.flat_writer.specs.Words.{flatWritten};
-ghost use Rattle.pen.specs.Written.{answerOf, laterOf};
-use flat_item_writer::write_descriptor_words;
-use flat_section_writer::write_section_words;
-use flat_writer::FlatWritten;
-use flat_writer::commands::write_command_words;
+ghost use Rattle.c_descriptor_writer.specs.ItemGiven.{descriptorWordsMade};
+ghost use Rattle.c_section_writer.specs.SectionGiven.{sectionWordsMade};
+ghost use Rattle.c_command_writer.specs.CommandGiven.{commandWordsMade};
+ghost use Rattle.c_command_writer.specs.Words.{flatWritten};
+ghost use Rattle.bit_stores.specs.Written.{answerOf, laterOf};
+use c_command_writer::FlatWritten;
+use c_command_writer::commands::write_command_words;
+use c_descriptor_writer::write_descriptor_words;
+use c_section_writer::write_section_words;
 
 // A command's payload: the words of a command and of its components, and the bytes that its view names.
 #[no_mangle]

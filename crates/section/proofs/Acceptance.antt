@@ -34,8 +34,8 @@ last CommandRead.Malformed h v = refl
 chain : (b₁ b₂ b₃ b₄ b₅ b₆ b₇ b₈ b₉ : Bool) (h : HeaderRead) (r : CommandRead) (v : Frame) (bs : List Bool) → (b₅ ≡ false → numberOf (accepted h r v) ≡ first 10 bs)
     → numberOf
     (through
-    (pick b₁ (FrameRead.Refused Refusal.TooShort)
-    (pick b₂ (FrameRead.Refused Refusal.TooLong)
+    (pick b₁ (FrameRead.Refused Refusal.SectionTooShort)
+    (pick b₂ (FrameRead.Refused Refusal.InputTooLong)
     (pick b₃ (FrameRead.Refused Refusal.OtherTable)
     (pick b₄ (FrameRead.Refused Refusal.WrongCrc)
     (pick b₅ (FrameRead.Refused Refusal.NoHeader)
@@ -80,8 +80,8 @@ first-none n (false ∷ bs) e = (refl, first-none (suc n) bs e)
 is : (r : SectionRead) → numberOf r ≡ 0 → (x : Section) × (r ≡ SectionRead.Is x)
 unfolding numberOf
 is (SectionRead.Is x) e = (x, refl)
-is (SectionRead.Refused Refusal.TooShort) e = absurd (omega arith)
-is (SectionRead.Refused Refusal.TooLong) e = absurd (omega arith)
+is (SectionRead.Refused Refusal.SectionTooShort) e = absurd (omega arith)
+is (SectionRead.Refused Refusal.InputTooLong) e = absurd (omega arith)
 is (SectionRead.Refused Refusal.OtherTable) e = absurd (omega arith)
 is (SectionRead.Refused Refusal.WrongCrc) e = absurd (omega arith)
 is (SectionRead.Refused Refusal.NoHeader) e = absurd (omega arith)

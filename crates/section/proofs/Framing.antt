@@ -22,7 +22,7 @@ use Rattle.table.specs.Lent.{viewed}
 use Rattle.table.proofs.Fields.{byte-field, field-in, field-byte}
 use Rattle.table.proofs.Reading.{bits-are}
 use Rattle.section.specs.Section.{commandLength, commandType, commandBytes, roomAfter, loopLength, loopPlace, frameIn, loopBytes, moved, movedRead, frameOf, accepted, through, sectionOf}
-use Rattle.section.specs.Walk.{viewStart, layoutOf}
+use Rattle.section.specs.Private.{viewStart, layoutOf}
 use Rattle.section.specs.declared.Frame.{Frame}
 use Rattle.section.specs.declared.FrameRead.{FrameRead}
 use Rattle.section.specs.declared.Refusal.{Refusal}
@@ -30,12 +30,12 @@ use Rattle.section.specs.declared.SectionRead.{SectionRead}
 
 -- ---- 1 to 5
 module _ (s : List ℕ) where
-  pub is-short : length s < 3 → FrameRead.Refused Refusal.TooShort ≡ frameOf s
+  pub is-short : length s < 3 → FrameRead.Refused Refusal.SectionTooShort ≡ frameOf s
   unfolding frameOf
   is-short h = rw (lt-ltb (length s) 3 h)
 
   module _ (long : 3 ≤ length s) where
-    pub is-long : 4096 < length s → FrameRead.Refused Refusal.TooLong ≡ frameOf s
+    pub is-long : 4096 < length s → FrameRead.Refused Refusal.InputTooLong ≡ frameOf s
     unfolding frameOf
     is-long h = rw (le-ltb (length s) 3 long, lt-ltb 4096 (length s) h)
 
@@ -151,8 +151,8 @@ placeIn (FrameRead.Whole v) w = v
 placeIn (FrameRead.Refused x) w = w
 
 tests : (b₁ b₂ b₃ b₄ b₅ b₆ b₇ b₈ b₉ : Bool) (v w : Frame)
-    → FrameRead.Whole w ≡ pick b₁ (FrameRead.Refused Refusal.TooShort)
-    (pick b₂ (FrameRead.Refused Refusal.TooLong)
+    → FrameRead.Whole w ≡ pick b₁ (FrameRead.Refused Refusal.SectionTooShort)
+    (pick b₂ (FrameRead.Refused Refusal.InputTooLong)
     (pick b₃ (FrameRead.Refused Refusal.OtherTable)
     (pick b₄ (FrameRead.Refused Refusal.WrongCrc)
     (pick b₅ (FrameRead.Refused Refusal.NoHeader)
@@ -210,7 +210,7 @@ unfolding frameIn
 loop-viewed s v e = rw (framed s v e .place)
 
 -- ---- 10, 11 and the reading
-pub no-header : (h : HeaderRead) (r : CommandRead) (v : Frame) → h ≡ HeaderRead.TooShort → SectionRead.Refused Refusal.NoHeader ≡ accepted h r v
+pub no-header : (h : HeaderRead) (r : CommandRead) (v : Frame) → h ≡ HeaderRead.NoHeader → SectionRead.Refused Refusal.NoHeader ≡ accepted h r v
 unfolding accepted
 no-header h r v e = rw e
 

@@ -34,7 +34,7 @@ unfolding accepted
 of-frame (FrameRead.Whole g) (HeaderRead.Header h) (CommandRead.Is c) x e = (g, refl, sym (ap placeOf e))
 of-frame (FrameRead.Whole g) (HeaderRead.Header h) CommandRead.UnknownType x e = zero-one cc
 of-frame (FrameRead.Whole g) (HeaderRead.Header h) CommandRead.Malformed x e = zero-one cc
-of-frame (FrameRead.Whole g) HeaderRead.TooShort r x e = zero-one cc
+of-frame (FrameRead.Whole g) HeaderRead.NoHeader r x e = zero-one cc
 of-frame (FrameRead.Refused q) h r x e = zero-one cc
 
 -- the command's bytes, by the view that an accepted section has of them

@@ -76,9 +76,9 @@ layoutTests s =
 abbrev pub frameTests : List ℕ → List (Bool × Refusal)
 frameTests s =
     -- 1: "section under 3 bytes"
-    (ltb (length s) 3, Refusal.TooShort)
+    (ltb (length s) 3, Refusal.SectionTooShort)
     -- 2: "section over 4,096 .. bytes"
-    ∷ (ltb 4096 (length s), Refusal.TooLong)
+    ∷ (ltb 4096 (length s), Refusal.InputTooLong)
     -- 3: "first byte is not 0xFC"
     ∷ (not (eqb (getD s 0 0) 0xfc), Refusal.OtherTable)
     -- 4: "CRC over all bytes is not 0"
@@ -126,7 +126,7 @@ unfoldable pub accepted : HeaderRead → CommandRead → Frame → SectionRead
 accepted (HeaderRead.Header h) (CommandRead.Is c) f = SectionRead.Is (record { header = h; command = c; descriptors = f .descriptors; payload = f .command })
 accepted (HeaderRead.Header h) CommandRead.UnknownType f = SectionRead.Refused Refusal.UnknownCommand
 accepted (HeaderRead.Header h) CommandRead.Malformed f = SectionRead.Refused Refusal.MalformedCommand
-accepted HeaderRead.TooShort r f = SectionRead.Refused Refusal.NoHeader
+accepted HeaderRead.NoHeader r f = SectionRead.Refused Refusal.NoHeader
 
 -- a frame that is refused refuses the section
 abbrev pub through : FrameRead → HeaderRead → CommandRead → SectionRead
@@ -140,8 +140,8 @@ sectionOf s = through (frameOf s) (headerOf (drop 3 s)) (movedRead (commandOf (c
 -- 01's number of each refusal; none has values
 unfoldable pub numberOf : SectionRead → ℕ
 numberOf (SectionRead.Is s) = 0
-numberOf (SectionRead.Refused Refusal.TooShort) = 1
-numberOf (SectionRead.Refused Refusal.TooLong) = 2
+numberOf (SectionRead.Refused Refusal.SectionTooShort) = 1
+numberOf (SectionRead.Refused Refusal.InputTooLong) = 2
 numberOf (SectionRead.Refused Refusal.OtherTable) = 3
 numberOf (SectionRead.Refused Refusal.WrongCrc) = 4
 numberOf (SectionRead.Refused Refusal.NoHeader) = 5

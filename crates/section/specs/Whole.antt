@@ -1,4 +1,4 @@
--- The full reading of a section. 01, "What must change shape": "arrays stand beside enums, not in them". These are definitions.
+-- The full reading of a section. 01, "What must change shape": "arrays stand beside enums, not in them".
 use Prim.Native.Nat.{ℕ}
 use mathlib.Core.List.{List, []}
 use Rattle.command.specs.Command.{array, componentsOf, ofInsert}

@@ -5,7 +5,7 @@ ghost use lib.ListN.{length};
 ghost use Rattle.section.specs.Section.{commandLength, commandType, commandBytes, frameIn, moved, movedRead, accepted, frameOf, sectionOf, numberOf, privateView};
 ghost use Rattle.section.specs.declared.SectionRead.{SectionRead};
 ghost use Rattle.table.specs.Lent.{viewed};
-ghost use Rattle.section.specs.Walk.{viewStart, layoutOf};
+ghost use Rattle.section.specs.Private.{viewStart, layoutOf};
 ghost use Rattle.table.specs.Bits.{bitsOf, field};
 ghost use Rattle.command.specs.Command.{commandOf};
 ghost use Rattle.header.specs.Header.{headerOf};
@@ -34,8 +34,8 @@ pub struct Section {
 
 // Refusals 1 to 11, in their order.
 pub enum Refusal {
-    TooShort,
-    TooLong,
+    SectionTooShort,
+    InputTooLong,
     OtherTable,
     WrongCrc,
     NoHeader,
@@ -53,8 +53,8 @@ impl Refusal {
         ensures { λ x. ⌜ x ≡ numberOf (SectionRead.Refused self) ⌝ }
     {
         match self {
-            Refusal::TooShort => 1,
-            Refusal::TooLong => 2,
+            Refusal::SectionTooShort => 1,
+            Refusal::InputTooLong => 2,
             Refusal::OtherTable => 3,
             Refusal::WrongCrc => 4,
             Refusal::NoHeader => 5,
@@ -161,10 +161,10 @@ fn test_frame(s: &[u8]) -> FrameRead
     ensures { λ r. ⌜ r ≡ frameOf (now (s .entry)) ⌝ }
 {
     if s.len() < 3 {
-        return FrameRead::Refused(Refusal::TooShort);
+        return FrameRead::Refused(Refusal::SectionTooShort);
     }
     if 4096 < s.len() {
-        return FrameRead::Refused(Refusal::TooLong);
+        return FrameRead::Refused(Refusal::InputTooLong);
     }
     if s[0] != 0xFC {
         return FrameRead::Refused(Refusal::OtherTable);
@@ -206,7 +206,7 @@ fn read_parts(s: &[u8], frame: Frame) -> SectionRead
 {
     let header = match read_header(&s[3..]) {
         HeaderRead::Header(h) => h,
-        HeaderRead::TooShort => return SectionRead::Refused(Refusal::NoHeader),
+        HeaderRead::NoHeader => return SectionRead::Refused(Refusal::NoHeader),
     };
     let payload = frame.command;
     let descriptors = frame.descriptors;

@@ -14,11 +14,11 @@ use Rattle.command.specs.declared.SpliceCommand.{SpliceCommand}
 use Rattle.command.specs.declared.components.ComponentSplice.{ComponentSplice}
 use Rattle.command_measure.specs.Made.{commandMade, measuredOf}
 use Rattle.command_measure.specs.declared.Measured.{Measured}
-use Rattle.descriptor_form.specs.Canonical.{canonicalLoop}
+use Rattle.descriptor_measure.specs.Canonical.{canonicalLoop}
 use Rattle.header.specs.declared.header.SpliceInfoHeader.{SpliceInfoHeader}
-use Rattle.pen.specs.Written.{answerOf, laterOf, refusalIn, bytesIn}
-use Rattle.pen.specs.declared.Written.{Written}
-use Rattle.pen.proofs.Writes.{refused-answer, short-answer, wrote-answer}
+use Rattle.bit_stores.specs.Written.{answerOf, laterOf, refusalIn, bytesIn}
+use Rattle.bit_stores.specs.declared.Written.{Written}
+use Rattle.bit_stores.proofs.Writes.{refused-answer, short-answer, wrote-answer}
 use Rattle.section.specs.Section.{first}
 use Rattle.table.specs.Bits.{pick}
 use Rattle.table.specs.Lent.{stored}
@@ -26,7 +26,7 @@ use Rattle.table.specs.Writing.{Made, made, refused}
 use Rattle.table.proofs.Lists.{zero-one}
 use Rattle.table.proofs.Stores.{length-stored}
 use Rattle.section_writer.specs.Frame.{sectionLength, head, frame, numbersFit, fairHead}
-use Rattle.section_writer.specs.Walk.{tail, answerFor}
+use Rattle.section_writer.specs.Private.{tail, answerFor}
 use Rattle.section_writer.specs.Writing.{writerConditions, unless, sectionMade, kindOf}
 use Rattle.section_writer.proofs.Frames.{length-frame}
 use Rattle.section_writer.proofs.Stored.{section-stored}

@@ -9,7 +9,7 @@ use native.Mathlib.Omega.{arith}
 use lib.Dec.{eqb}
 use lib.ListN.{length}
 use borrow.Author.Tests.{eqb-true, eq-eqb}
-use Rattle.canonical_command.specs.Canonical.{canonicalCommand}
+use Rattle.command_canonical.specs.Canonical.{canonicalCommand}
 use Rattle.command.specs.Command.{private}
 use Rattle.command.specs.Fair.{fairInsert}
 use Rattle.command.specs.Insert.{WithComponents, insert}
@@ -18,10 +18,10 @@ use Rattle.command.specs.declared.insert.Insertion.{Insertion}
 use Rattle.command.proofs.InsertLeads.{Counted}
 use Rattle.command.proofs.InsertTrips.{insert-write-read, insert-one}
 use Rattle.command.proofs.PrivateTrips.{moved, private-write-read, private-one}
-use Rattle.header.specs.Time.{spliceTime, notImmediate}
-use Rattle.header.specs.declared.time.SpliceTime.{SpliceTime}
-use Rattle.header.proofs.Times.{time-write-read, time-one}
-use Rattle.section_writer.specs.Walk.{sameAnswers, SameBy, SameCommand}
+use Rattle.splice_time.specs.Time.{spliceTime, notImmediate}
+use Rattle.splice_time.specs.declared.SpliceTime.{SpliceTime}
+use Rattle.splice_time.proofs.Times.{time-write-read, time-one}
+use Rattle.section_writer.specs.Private.{sameAnswers, SameBy, SameCommand}
 use Rattle.table.specs.Bits.{pick, bitsOf, AllBytes}
 use Rattle.table.specs.Table.{Table, Answer, got, short, parse, canonical, takesAll, canonicalBy}
 use Rattle.table.specs.Writing.{Same, made, make}

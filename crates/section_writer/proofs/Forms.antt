@@ -31,8 +31,8 @@ use Rattle.section_writer.proofs.Parts.{Parts, parts-of}
 
 refusal-counts : (r : Refusal) → eqb (numberOf (SectionRead.Refused r)) 0 ≡ false
 unfolding numberOf
-refusal-counts Refusal.TooShort = refl
-refusal-counts Refusal.TooLong = refl
+refusal-counts Refusal.SectionTooShort = refl
+refusal-counts Refusal.InputTooLong = refl
 refusal-counts Refusal.OtherTable = refl
 refusal-counts Refusal.WrongCrc = refl
 refusal-counts Refusal.NoHeader = refl

@@ -9,7 +9,7 @@ use mathlib.Core.Path.{_≡_, refl, ap, sym, _∙_}
 use native.Mathlib.Omega.{arith}
 use lib.ListN.{length, getD, take, drop, length-append, length-drop, take-append-drop}
 use lib.Seq.{drop-drop, take-at, drop-append-le, take-append-le, length-take-le}
-use Rattle.pen.proofs.Penned.{bits-number}
+use Rattle.bit_stores.proofs.Penned.{bits-number}
 use Rattle.table.specs.Bits.{num, bitsOfNum, bitsOf, field, bytesN, bytesOf, bigEndian, AllBytes}
 use Rattle.table.proofs.Bits.{all-bits, length-num, length-bits, length-bigEndian, bits-append, bits-from, bytes-num, bytes-bits}
 use Rattle.table.proofs.Fields.{field-num, field-bits}

@@ -60,7 +60,7 @@ made (HeaderRead.Header h) (CommandRead.Is c) v x e =
     }
 made (HeaderRead.Header h) CommandRead.UnknownType v x e = zero-one cc
 made (HeaderRead.Header h) CommandRead.Malformed v x e = zero-one cc
-made HeaderRead.TooShort r v x e = zero-one cc
+made HeaderRead.NoHeader r v x e = zero-one cc
 
 pub parts-of : (s : List ℕ) (x : Section) → sectionOf s ≡ SectionRead.Is x → Parts s x
 unfolding roomAfter frameIn

@@ -4,14 +4,14 @@ use mathlib.Core.Bool.{Bool, true, false}
 use mathlib.Core.List.{List, [], _∷_}
 use mathlib.Core.Path.{_≡_, refl}
 use Rattle.crc.specs.Crc.{crcBit, crcBits, crcOf}
-use Rattle.descriptor_form.specs.Canonical.{canonicalFrom, canonicalLoop}
+use Rattle.descriptor_measure.specs.Canonical.{canonicalFrom, canonicalLoop}
 use Rattle.header.specs.Header.{spliceHeader}
 use Rattle.header.specs.declared.header.SpliceInfoHeader.{SpliceInfoHeader}
 use Rattle.names.specs.Algorithm.{fairAlgorithm}
 use Rattle.names.specs.Command.{commandTypeOf}
 use Rattle.names.specs.declared.algorithm.EncryptionAlgorithm.{EncryptionAlgorithm}
 use Rattle.names.specs.declared.command.SpliceCommandType.{SpliceCommandType}
-use Rattle.pen.specs.Written.{refusalIn, bytesIn}
+use Rattle.bit_stores.specs.Written.{refusalIn, bytesIn}
 use Rattle.table.specs.Table.{number, bit}
 use Rattle.table.specs.Writing.{Made, made, refused}
 use Rattle.section_writer.specs.Frame.{headed, headerBytes, opening, head, withLength, body, frame, numbersFit, fairHead}

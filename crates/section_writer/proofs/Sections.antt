@@ -5,8 +5,8 @@ use mathlib.Core.List.{List}
 use mathlib.Core.Path.{_≡_, ap, sym, _∙_}
 use lib.ListN.{getD}
 use borrow.Author.Tests.{not-true, not-false}
-use Rattle.canonical_command.specs.Canonical.{canonicalCommand}
-use Rattle.descriptor_form.specs.Canonical.{canonicalLoop}
+use Rattle.command_canonical.specs.Canonical.{canonicalCommand}
+use Rattle.descriptor_measure.specs.Canonical.{canonicalLoop}
 use Rattle.section.specs.Section.{commandType, commandBytes, frameOf}
 use Rattle.section.specs.declared.Frame.{Frame}
 use Rattle.section.specs.declared.FrameRead.{FrameRead}

@@ -23,7 +23,7 @@ use Rattle.table.proofs.Bits.{bits-join, bytes-num, bytes-append, length-num, l
 use Rattle.table.proofs.Lists.{append-nil, zero-one}
 use Rattle.table.proofs.Stores.{stored-fits, stored-append}
 use Rattle.section_writer.specs.Frame.{headed, headerBytes, opening, sectionLength, head, withLength, body, frame, numbersFit, fairHead}
-use Rattle.section_writer.specs.Walk.{frontNumber, backNumber, tail}
+use Rattle.section_writer.specs.Private.{frontNumber, backNumber, tail}
 use Rattle.section_writer.proofs.Backs.{opening-is}
 use Rattle.section_writer.proofs.Frames.{length-with-length}
 use Rattle.section_writer.proofs.Heads.{Fitting, fitting, fits-within, clear, length-head}

@@ -9,19 +9,19 @@ use mathlib.Core.List.{List}
 use mathlib.Core.Path.{_≡_, refl, ap, sym, _∙_}
 use native.Mathlib.Omega.{arith}
 use lib.ListN.{length, drop}
-use Rattle.canonical_command.specs.Canonical.{canonicalCommand}
+use Rattle.command_canonical.specs.Canonical.{canonicalCommand}
 use Rattle.command.specs.Command as command
 use Rattle.command.specs.declared.CommandRead.{CommandRead}
 use Rattle.command.specs.declared.SpliceCommand.{SpliceCommand}
-use Rattle.descriptor_form.specs.Canonical.{canonicalLoop}
+use Rattle.descriptor_measure.specs.Canonical.{canonicalLoop}
 use Rattle.header.specs.Header.{headerOf}
 use Rattle.header.specs.declared.header.HeaderRead.{HeaderRead}
 use Rattle.header.specs.declared.header.SpliceInfoHeader.{SpliceInfoHeader}
-use Rattle.pen.specs.Written.{bytesIn}
+use Rattle.bit_stores.specs.Written.{bytesIn}
 use Rattle.section.specs.Section.{commandLength, commandType, commandBytes, loopBytes, moved, sectionOf}
 use Rattle.section.specs.declared.Section.{Section}
 use Rattle.section.specs.declared.SectionRead.{SectionRead}
-use Rattle.section_writer.specs.Walk.{sameHeaders, SameAround}
+use Rattle.section_writer.specs.Private.{sameHeaders, SameAround}
 use Rattle.table.specs.Bits.{AllBytes}
 use Rattle.table.specs.Writing.{Made, made}
 use Rattle.table.proofs.Lists.{and-true}

@@ -16,12 +16,12 @@ use borrow.Author.Tests.{ltb-false, le-ltb, eqb-false, eq-eqb, ne-eqb, not-false
 use Rattle.command.specs.Command as command
 use Rattle.command.specs.declared.CommandRead.{CommandRead}
 use Rattle.command.specs.declared.SpliceCommand.{SpliceCommand}
-use Rattle.descriptor_form.specs.Canonical.{canonicalLoop}
+use Rattle.descriptor_measure.specs.Canonical.{canonicalLoop}
 use Rattle.header.specs.declared.header.HeaderRead.{HeaderRead}
 use Rattle.header.specs.declared.header.SpliceInfoHeader.{SpliceInfoHeader}
 use Rattle.names.specs.Algorithm.{algorithmNumber, algorithmOf}
 use Rattle.names.proofs.Algorithms.{algorithm-laws}
-use Rattle.pen.specs.Written.{refusalIn, bytesIn}
+use Rattle.bit_stores.specs.Written.{refusalIn, bytesIn}
 use Rattle.section.specs.Section.{first, commandLength, commandType, commandBytes, loopLength, loopPlace, loopBytes, moved, sectionOf, numberOf}
 use Rattle.section.specs.declared.Section.{Section}
 use Rattle.section.specs.declared.SectionRead.{SectionRead}

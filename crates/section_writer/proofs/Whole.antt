@@ -6,7 +6,7 @@ use mathlib.Core.Bool.{Bool, true, false}
 use mathlib.Core.List.{List, [], _∷_, _++_}
 use mathlib.Core.Path.{_≡_, refl, ap, sym, _∙_}
 use native.Mathlib.Omega.{arith}
-use Rattle.canonical_command.specs.Canonical.{canonicalCommand}
+use Rattle.command_canonical.specs.Canonical.{canonicalCommand}
 use Rattle.command.specs.Command.{private, read, empty, commandOf}
 use Rattle.command.specs.Fair.{fairInsert}
 use Rattle.command.specs.Insert.{WithComponents, insert}
@@ -20,10 +20,10 @@ use Rattle.command.proofs.InsertTrips.{insert-write-read}
 use Rattle.command.proofs.PrivateTrips.{private-write-read}
 use Rattle.command_measure.specs.Made.{counted, timesFit, insertMade, commandMade}
 use Rattle.command_writer.proofs.Theorems.{insert-made}
-use Rattle.header.specs.Time.{spliceTime, notImmediate}
+use Rattle.splice_time.specs.Time.{spliceTime, notImmediate}
 use Rattle.header.specs.declared.header.SpliceInfoHeader.{SpliceInfoHeader}
-use Rattle.header.proofs.Times.{time-write-read}
-use Rattle.pen.specs.Written.{refusalIn, bytesIn}
+use Rattle.splice_time.proofs.Times.{time-write-read}
+use Rattle.bit_stores.specs.Written.{refusalIn, bytesIn}
 use Rattle.section_writer.specs.Trips.{ownOf, ReadsBack}
 use Rattle.table.specs.Bits.{pick, bitsOf, bytesOf}
 use Rattle.table.specs.Table.{got, parse}

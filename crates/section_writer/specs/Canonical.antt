@@ -4,8 +4,8 @@ use mathlib.Core.Bool.{Bool, _&&_}
 use mathlib.Core.List.{List}
 use lib.Dec.{eqb}
 use lib.ListN.{length}
-use Rattle.canonical_command.specs.Canonical.{canonicalCommand}
-use Rattle.descriptor_form.specs.Canonical.{canonicalLoop}
+use Rattle.command_canonical.specs.Canonical.{canonicalCommand}
+use Rattle.descriptor_measure.specs.Canonical.{canonicalLoop}
 use Rattle.section.specs.Section.{commandLength, commandType, commandBytes, loopLength, loopBytes, sectionOf, numberOf}
 use Rattle.table.specs.Bits.{bitsOf, field}
 use Rattle.section_writer.specs.Frame.{sectionLength}

@@ -1,4 +1,4 @@
--- What is read of a section that is written. These are definitions.
+-- What is read of a section that is written.
 use Prim.Native.Nat.{ℕ, _+_}
 use mathlib.Core.Bool.{true}
 use mathlib.Core.List.{List}

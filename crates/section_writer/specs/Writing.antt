@@ -6,9 +6,9 @@ use lib.Dec.{ltb, eqb}
 use lib.ListN.{length}
 -- "works out .. command type"
 pub use Rattle.command.specs.Command.{kindOf}
-use Rattle.descriptor_form.specs.Canonical.{canonicalLoop}
+use Rattle.descriptor_measure.specs.Canonical.{canonicalLoop}
 use Rattle.header.specs.declared.header.SpliceInfoHeader.{SpliceInfoHeader}
-use Rattle.pen.specs.Written.{refusalIn, bytesIn}
+use Rattle.bit_stores.specs.Written.{refusalIn, bytesIn}
 use Rattle.section.specs.Section.{first}
 use Rattle.table.specs.Writing.{Made, made, refused}
 use Rattle.section_writer.specs.Frame.{sectionLength, frame, numbersFit, fairHead}

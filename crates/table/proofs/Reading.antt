@@ -49,6 +49,12 @@ shift-in f w d h l =
 pub field-none : (s : List ℕ) (at w : ℕ) → length s * 8 ≤ at → 0 ≡ field (bitsOf s) at w
 field-none s at w h = sym (ap (field (bitsOf s) at) (sym (zero-add w)) ∙ field-end (bitsOf s) at 0 w (omega (arith, length-bits s)))
 
+-- the first bit of a byte
+pub first-bit : (s : List ℕ) (i x : ℕ) → i < length s → x ≡ getD s i 0 → x < 256 → x / 128 ≡ field (bitsOf s) (i * 8) 1
+first-bit s i x there is byte =
+    let e : getD s i 0 / 2 ^ 7 % 2 ^ 1 ≡ x / 128 = omega arith in
+    sym (ap (λ (p : ℕ). field (bitsOf s) p 1) (sym (add-zero (i * 8))) ∙ field-in s i there (rw (← is) byte) 0 1 7 refl ∙ e)
+
 -- the last bit of a byte
 pub last-bit : (s : List ℕ) (i : ℕ) → i < length s → getD s i 0 < 256 → getD s i 0 % 2 ≡ field (bitsOf s) (i * 8 + 7) 1
 last-bit s i h b = sym (field-in s i h b 7 1 0 refl ∙ ap (λ (x : ℕ). x % 2) (div-one (getD s i 0)))

@@ -1,4 +1,4 @@
--- 02, Q-12: the single box and the canonical form. Assumes nothing.
+-- 02, Q-12: the single box and the canonical form.
 use Prim.Native.Nat.{ℕ, _+_, _-_, _%_, _^_, _<_}
 use mathlib.Core.List.{List}
 use mathlib.Core.Path.{_≡_, sym, _∙_}

@@ -1,4 +1,4 @@
--- Two canonical sections of which the readers answer the same are equal. Assumes nothing.
+-- Two canonical sections of which the readers answer the same are equal.
 --     payload-of     a command's payload is a function of what is compared of the command
 --     one-answer     so the sections have equal parts
 --     own-answer     a canonical section has the same reading as itself
@@ -14,12 +14,12 @@ use Rattle.command.specs.declared.SpliceCommand.{SpliceCommand}
 use Rattle.command.specs.declared.components.ComponentSplice.{ComponentSplice}
 use Rattle.command_measure.specs.Made.{insertMade, commandMade}
 use Rattle.header.specs.declared.header.SpliceInfoHeader.{SpliceInfoHeader}
-use Rattle.header.specs.Time.{spliceTime, notImmediate}
-use Rattle.items.specs.Items.{Listed, listed}
-use Rattle.loop_laws.proofs.Loops.{back-at}
-use Rattle.loop_laws.proofs.Pieces.{At}
-use Rattle.loop_laws.specs.Loops.{SameItem, over, pair, Pairs}
-use Rattle.pen.specs.Written.{bytesIn}
+use Rattle.splice_time.specs.Time.{spliceTime, notImmediate}
+use Rattle.descriptor_loop.specs.Items.{Listed, listed}
+use Rattle.loop_round_trips.proofs.Loops.{back-at}
+use Rattle.loop_round_trips.proofs.Pieces.{At}
+use Rattle.loop_round_trips.specs.Loops.{SameItem, over, pair, Pairs}
+use Rattle.bit_stores.specs.Written.{bytesIn}
 use Rattle.section.specs.Section.{commandType, commandBytes, privateView, sectionOf}
 use Rattle.section.specs.declared.Section.{Section}
 use Rattle.section.specs.declared.SectionRead.{SectionRead}

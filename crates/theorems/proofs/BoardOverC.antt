@@ -1,5 +1,5 @@
 -- Over any calls of the board over C, from words that were emptied, the answers are those of two plain lists; of the exported functions' contracts as the
--- checker makes them. Assumes nothing.
+-- checker makes them.
 use Prim.Native.Nat.{ℕ, _≤_}
 use mathlib.Core.List.{List, [], _∷_, map}
 use mathlib.Core.Path.{_≡_, refl, sym, _∙_, ap, ap₂}
@@ -8,10 +8,10 @@ use denote.Ref.{now}
 use Rattle.board.specs.Runs.{Call}
 use Rattle.board.specs.Runs.Call.{opening, closing}
 use Rattle.channels.specs.Runs.{On, noLists, listReplies}
-use Rattle.flat_board.specs.Lent.{Lent, flatReply, emptied, opened, closed}
-use Rattle.flat_board.specs.Calls.{lentBy, lentOf, lentAnswers, Typed}
-use Rattle.flat_board.specs.declared.FlatBoardAnswer.{FlatBoardAnswer}
-use Rattle.flat_board.proofs.Theorems.{lent-board-is-two-lists}
+use Rattle.c_board.specs.Lent.{Lent, flatReply, emptied, opened, closed}
+use Rattle.c_board.specs.Calls.{lentBy, lentOf, lentAnswers, Typed}
+use Rattle.c_board.specs.declared.FlatBoardAnswer.{FlatBoardAnswer}
+use Rattle.c_board.proofs.Theorems.{lent-board-is-two-lists}
 use Rattle.scte35.proofs.board.scte35_board_empty.Reads as board-empty
 use Rattle.scte35.proofs.board.scte35_board_open.Reads as board-open
 use Rattle.scte35.proofs.board.scte35_board_close.Reads as board-close

@@ -1,4 +1,4 @@
--- Which types of a command are known. Assumes nothing.
+-- Which types of a command are known.
 --     unknown-is              a command is of an unknown type by its type alone
 --     unknown-if, unknown-only-if
 use Prim.Native.Nat.{ℕ}
@@ -11,7 +11,7 @@ use Rattle.command.specs.Command.{private, read, empty, byType, commandOf, numb
 use Rattle.command.specs.Insert.{insert}
 use Rattle.command.specs.declared.CommandRead.{CommandRead}
 use Rattle.command.specs.declared.SpliceCommand.{SpliceCommand}
-use Rattle.header.specs.Time.{spliceTime}
+use Rattle.splice_time.specs.Time.{spliceTime}
 use Rattle.table.proofs.Lists.{zero-one}
 use Rattle.table.specs.Bits.{pick, bitsOf}
 use Rattle.table.specs.Table.{Answer, got, short, parse}

@@ -1,4 +1,4 @@
--- What is made of a command is fixed by the command reader and the fields' widths. Assumes nothing.
+-- What is made of a command is fixed by the command reader and the fields' widths.
 --     tested             the tests of the command writer, in order
 --     payload-made       what is made of a command is a canonical payload that reads as it
 --     made-if-read       a canonical payload that reads as a command is what is made of it
@@ -25,10 +25,10 @@ use Rattle.command_measure.proofs.Ties.{time-fields, insert-fields}
 use Rattle.command_measure.specs.Fields.{timeFields, insertFields}
 use Rattle.command_measure.specs.Made.{counted, timesFit, insertMade, commandMade}
 use Rattle.command_writer.proofs.Theorems.{private-trip}
-use Rattle.descriptor_laws.specs.Making.{fit}
-use Rattle.flat_writer.proofs.Arrays.{array-take}
-use Rattle.header.specs.Time.{spliceTime, notImmediate}
-use Rattle.header.specs.declared.time.SpliceTime.{SpliceTime}
+use Rattle.descriptor_round_trips.specs.Making.{fit}
+use Rattle.c_command_writer.proofs.Arrays.{array-take}
+use Rattle.splice_time.specs.Time.{spliceTime, notImmediate}
+use Rattle.splice_time.specs.declared.SpliceTime.{SpliceTime}
 use Rattle.section.specs.Section.{privateView}
 use Rattle.section_writer.proofs.Whole.{Held, command-reads}
 use Rattle.section_writer.specs.Trips.{ownOf}

@@ -1,19 +1,19 @@
--- The adjustments of Q-12 fix their answers and their target's later bytes, and ask nothing of the caller, as FixedAnswers.antt has it of the readers. Assumes nothing.
+-- The adjustments of Q-12 fix their answers and their target's later bytes, and ask nothing of the caller, as FixedAnswers.antt has it of the readers.
 use mathlib.Core.Path.{_≡_}
 use denote.Ref.{now}
 use lib.ListN.{drop}
 use Rattle.adjust.specs.Adjust.{adjustOf, chainOf, undoOf}
 use Rattle.adjust_section.specs.Adjusted.{adjustedSection}
-use Rattle.flat_adjust.specs.FlatAdjust.{flatAdjustment, flatMoved}
-use Rattle.flat_writer.specs.Words.{flatWritten}
-use Rattle.pen.specs.Written.{answerOf, laterOf}
+use Rattle.c_adjust.specs.FlatAdjust.{flatAdjustment, flatMoved}
+use Rattle.c_command_writer.specs.Words.{flatWritten}
+use Rattle.bit_stores.specs.Written.{answerOf, laterOf}
 use Rattle.scte35.specs.FlatNumber.{timeHanded}
 use Rattle.adjust.proofs.adjust.Reads as adjust
 use Rattle.adjust.proofs.chain.Reads as chain
 use Rattle.adjust.proofs.undo.Reads as undo
 use Rattle.adjust_section.proofs.adjust_section.Reads as adjust-section
-use Rattle.flat_adjust.proofs.flat_moved.Reads as flat-moved
-use Rattle.flat_adjust.proofs.flat_adjustment.Reads as flat-adjustment
+use Rattle.c_adjust.proofs.flat_moved.Reads as flat-moved
+use Rattle.c_adjust.proofs.flat_adjustment.Reads as flat-adjustment
 use Rattle.scte35.proofs.adjusting.scte35_move_time.Reads as scte35-move-time
 use Rattle.scte35.proofs.adjusting.scte35_chain_adjustments.Reads as scte35-chain-adjustments
 use Rattle.scte35.proofs.adjusting.scte35_undo_adjustment.Reads as scte35-undo-adjustment

@@ -1,4 +1,4 @@
--- Every public function's contract fixes its answer, and asks nothing of the caller (specs/FixedAnswers.antt): a line for each. Assumes nothing.
+-- Every public function's contract fixes its answer, and asks nothing of the caller (specs/FixedAnswers.antt): a line for each.
 -- A slice that is handed back is fixed in its bytes, and not in its address: `view`, `bytes-of`, `part-bytes`, `loop-of`, `private-bytes-of`. A store has no answer: its
 -- target's later bytes are fixed, `put-byte`, `put-number`, `put-bytes`. The programs' `list_input` has no answer and no target, and no line: it prints.
 use mathlib.Core.Path.{_≡_, refl, sym, _∙_}
@@ -8,15 +8,15 @@ use lib.ListN.{getD, length}
 use mathlib.Core.List.{[], _∷_}
 use Rattle.command.specs.Command.{array, commandOf, componentsOf}
 use Rattle.command.specs.Insert.{insert}
-use Rattle.command.specs.Walk.{insertRead}
+use Rattle.command.specs.Private.{insertRead}
 use Rattle.crc.specs.Crc.{crcOf}
 use Rattle.crc_table.specs.Turns.{reversed, turns}
 use Rattle.descriptor.specs.Descriptor.{availOf, descriptorOf, dtmfOf, isCuei, reservedOf, segmentationOf as descriptorSegmentationOf, timeOf}
 use Rattle.descriptor.specs.Whole.{besideOf, besideRead, blankBeside, identifierRead, wholeOf}
 use Rattle.header.specs.Header.{headerOf}
-use Rattle.header.specs.Time.{adjustedOf, spliceTime, timeRead}
-use Rattle.items.specs.Items.{countOf, readingOf, stepOf}
-use Rattle.items.specs.Place.{viewOf}
+use Rattle.splice_time.specs.Time.{adjustedOf, spliceTime, timeRead}
+use Rattle.descriptor_loop.specs.Items.{countOf, readingOf, stepOf}
+use Rattle.descriptor_loop.specs.Place.{viewOf}
 use Rattle.names.specs.Algorithm.{algorithmNumber, algorithmOf, fairAlgorithm}
 use Rattle.names.specs.Command.{commandNumber, commandTypeOf, fairCommand}
 use Rattle.names.specs.Flags.{networkAnswer, networkFlag, networkOf, restrictionsAnswer, restrictionsBits, restrictionsOf, returnAnswer, returnFlag, returnOf}
@@ -77,9 +77,9 @@ use Rattle.names.proofs.flags.ReturnMode.flag.Reads as return-mode-flag
 use Rattle.names.proofs.flags.DeviceRestrictions.from_bits.Reads as restrictions-from-bits
 use Rattle.names.proofs.flags.DeviceRestrictions.bits.Reads as restrictions-bits
 use Rattle.header.proofs.header.read_header.Reads as read-header
-use Rattle.header.proofs.time.read_splice_time.Reads as read-splice-time
-use Rattle.header.proofs.time.read_whole_time.Reads as read-whole-time
-use Rattle.header.proofs.time.adjusted_time.Reads as adjusted-time
+use Rattle.splice_time.proofs.read_splice_time.Reads as read-splice-time
+use Rattle.splice_time.proofs.read_whole_time.Reads as read-whole-time
+use Rattle.splice_time.proofs.adjusted_time.Reads as adjusted-time
 use Rattle.upid.proofs.text.is_text.Reads as is-text
 use Rattle.upid.proofs.check_upid.Reads as check-upid
 use Rattle.upid.proofs.read_upid.Reads as read-upid
@@ -97,11 +97,11 @@ use Rattle.descriptor.proofs.whole.read_whole.Reads as read-whole
 use Rattle.descriptor.proofs.whole.blank_beside.Reads as blank-beside
 use Rattle.descriptor.proofs.whole.beside_of.Reads as beside-of
 use Rattle.descriptor.proofs.whole.identifier_of.Reads as identifier-of
-use Rattle.items.proofs.iteration.step.Reads as step
-use Rattle.items.proofs.iteration.count_items.Reads as count-items
-use Rattle.items.proofs.place.view_of.Reads as view-of
-use Rattle.items.proofs.place.bytes_of.Reads as bytes-of
-use Rattle.items.proofs.reading.read_item.Reads as read-item
+use Rattle.descriptor_loop.proofs.iteration.step.Reads as step
+use Rattle.descriptor_loop.proofs.iteration.count_items.Reads as count-items
+use Rattle.descriptor_loop.proofs.place.view_of.Reads as view-of
+use Rattle.descriptor_loop.proofs.place.bytes_of.Reads as bytes-of
+use Rattle.descriptor_loop.proofs.reading.read_item.Reads as read-item
 use Rattle.command.proofs.read_command.Reads as read-command
 use Rattle.command.proofs.insert.read_insert.Reads as read-insert
 use Rattle.command.proofs.components.read_components.Reads as read-components

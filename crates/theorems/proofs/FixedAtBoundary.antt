@@ -1,64 +1,64 @@
--- Every public function of the C boundary fixes its answer and its target's later bytes, and asks nothing of the caller, as FixedAnswers.antt has it of the readers. Assumes nothing.
+-- Every public function of the C boundary fixes its answer and its target's later bytes, and asks nothing of the caller, as FixedAnswers.antt has it of the readers.
 use mathlib.Core.Path.{_≡_}
 use denote.Ref.{now}
 use lib.ListN.{drop}
 use mathlib.Core.List.{[], _∷_}
 use Rattle.command.specs.Command.{commandOf, componentsOf, countIn}
 use Rattle.crc.specs.Crc.{crcOf}
-use Rattle.descriptor_form.specs.Canonical.{canonicalDescriptor, canonicalLoop}
-use Rattle.flat.specs.Flat.{flatAdjusted, flatHeaderRead, flatView}
-use Rattle.flat.specs.FlatCommand.{flatCommandRead, flatSplices}
-use Rattle.flat.specs.FlatSection.{flatParts, flatSectionRead}
-use Rattle.flat_item_writer.specs.ItemGiven.{descriptorRefusal, descriptorWordsMade}
-use Rattle.flat_items.specs.FlatItem.{flatBeside, flatStep}
-use Rattle.flat_items.specs.FlatUpid.{flatUpid}
-use Rattle.flat_section_writer.specs.SectionGiven.{sectionWordsMade}
-use Rattle.flat_writer.specs.CommandGiven.{commandGiven, commandRefusal, commandWordsMade, componentsFrom}
-use Rattle.flat_writer.specs.Walk.{lower}
-use Rattle.flat_writer.specs.Words.{flatWritten, same, within, word}
+use Rattle.descriptor_measure.specs.Canonical.{canonicalDescriptor, canonicalLoop}
+use Rattle.c_section.specs.Flat.{flatAdjusted, flatHeaderRead, flatView}
+use Rattle.c_section.specs.FlatCommand.{flatCommandRead, flatSplices}
+use Rattle.c_section.specs.FlatSection.{flatParts, flatSectionRead}
+use Rattle.c_descriptor_writer.specs.ItemGiven.{descriptorRefusal, descriptorWordsMade}
+use Rattle.c_items.specs.FlatItem.{flatBeside, flatStep}
+use Rattle.c_items.specs.FlatUpid.{flatUpid}
+use Rattle.c_section_writer.specs.SectionGiven.{sectionWordsMade}
+use Rattle.c_command_writer.specs.CommandGiven.{commandGiven, commandRefusal, commandWordsMade, componentsFrom}
+use Rattle.c_command_writer.specs.Private.{lower}
+use Rattle.c_command_writer.specs.Words.{flatWritten, same, within, word}
 use Rattle.header.specs.Header.{headerOf}
-use Rattle.header.specs.Time.{adjustedOf}
-use Rattle.items.specs.Items.{readingOf, stepOf}
+use Rattle.splice_time.specs.Time.{adjustedOf}
+use Rattle.descriptor_loop.specs.Items.{readingOf, stepOf}
 use Rattle.names.specs.Algorithm.{algorithmEntry, algorithmOf}
 use Rattle.names.specs.Command.{commandEntry, commandTypeOf}
 use Rattle.names.specs.Flags.{networkFlag, networkOf, restrictionsBits, restrictionsOf, returnFlag, returnOf}
 use Rattle.names.specs.Segmentation.{segmentationEntry, segmentationOf}
 use Rattle.names.specs.Upid.{upidTypeEntry, upidTypeOf}
-use Rattle.pen.specs.Written.{answerOf, laterOf}
+use Rattle.bit_stores.specs.Written.{answerOf, laterOf}
 use Rattle.scte35.specs.FlatNumber.{flatAnswer, flatName, timeHanded}
 use Rattle.section.specs.Section.{sectionOf}
 use Rattle.section.specs.declared.SectionRead.{SectionRead}
 use Rattle.section_writer.specs.Canonical.{canonicalSection}
 use Rattle.table.specs.Table.{flagNumber}
 use Rattle.upid.specs.Upid.{upidOf}
-use Rattle.flat.proofs.flat_flag.Reads as flat-flag
-use Rattle.flat.proofs.flat_view.Reads as flat-view
-use Rattle.flat.proofs.commands.flat_command_read.Reads as flat-command-read
-use Rattle.flat.proofs.headers.flat_header_read.Reads as flat-header-read
-use Rattle.flat.proofs.headers.read_flat_header.Reads as read-flat-header
-use Rattle.flat.proofs.headers.flat_adjusted.Reads as flat-adjusted
-use Rattle.flat.proofs.components.flat_splices.Reads as flat-splices
-use Rattle.flat.proofs.sections.no_section.Reads as no-section
-use Rattle.flat.proofs.sections.flat_parts.Reads as flat-parts
-use Rattle.flat_items.proofs.beside.flat_beside.Reads as flat-beside
-use Rattle.flat_items.proofs.upids.flat_upid.Reads as flat-upid
-use Rattle.flat_items.proofs.steps.flat_step.Reads as flat-step
-use Rattle.flat_writer.proofs.flat_written.Reads as flat-written
-use Rattle.flat_writer.proofs.lower_refusal.Reads as lower-refusal
-use Rattle.flat_writer.proofs.word_at.Reads as word-at
-use Rattle.flat_writer.proofs.words_from.Reads as words-from
-use Rattle.flat_writer.proofs.are_within.Reads as are-within
-use Rattle.flat_writer.proofs.are_four_within.Reads as are-four-within
-use Rattle.flat_writer.proofs.are_same.Reads as are-same
-use Rattle.flat_writer.proofs.are_four_same.Reads as are-four-same
-use Rattle.flat_writer.proofs.commands.command_given.Reads as command-given
-use Rattle.flat_writer.proofs.commands.count_in.Reads as count-in
-use Rattle.flat_writer.proofs.commands.components_given.Reads as components-given
-use Rattle.flat_writer.proofs.commands.command_refusal.Reads as command-refusal
-use Rattle.flat_writer.proofs.commands.write_command_words.Reads as write-command-words
-use Rattle.flat_item_writer.proofs.descriptor_refusal.Reads as descriptor-refusal
-use Rattle.flat_item_writer.proofs.write_descriptor_words.Reads as write-descriptor-words
-use Rattle.flat_section_writer.proofs.write_section_words.Reads as write-section-words
+use Rattle.c_section.proofs.flat_flag.Reads as flat-flag
+use Rattle.c_section.proofs.flat_view.Reads as flat-view
+use Rattle.c_section.proofs.commands.flat_command_read.Reads as flat-command-read
+use Rattle.c_section.proofs.headers.flat_header_read.Reads as flat-header-read
+use Rattle.c_section.proofs.headers.read_flat_header.Reads as read-flat-header
+use Rattle.c_section.proofs.headers.flat_adjusted.Reads as flat-adjusted
+use Rattle.c_section.proofs.components.flat_splices.Reads as flat-splices
+use Rattle.c_section.proofs.sections.no_section.Reads as no-section
+use Rattle.c_section.proofs.sections.flat_parts.Reads as flat-parts
+use Rattle.c_items.proofs.beside.flat_beside.Reads as flat-beside
+use Rattle.c_items.proofs.upids.flat_upid.Reads as flat-upid
+use Rattle.c_items.proofs.steps.flat_step.Reads as flat-step
+use Rattle.c_command_writer.proofs.flat_written.Reads as flat-written
+use Rattle.c_command_writer.proofs.lower_refusal.Reads as lower-refusal
+use Rattle.c_command_writer.proofs.word_at.Reads as word-at
+use Rattle.c_command_writer.proofs.words_from.Reads as words-from
+use Rattle.c_command_writer.proofs.are_within.Reads as are-within
+use Rattle.c_command_writer.proofs.are_four_within.Reads as are-four-within
+use Rattle.c_command_writer.proofs.are_same.Reads as are-same
+use Rattle.c_command_writer.proofs.are_four_same.Reads as are-four-same
+use Rattle.c_command_writer.proofs.commands.command_given.Reads as command-given
+use Rattle.c_command_writer.proofs.commands.count_in.Reads as count-in
+use Rattle.c_command_writer.proofs.commands.components_given.Reads as components-given
+use Rattle.c_command_writer.proofs.commands.command_refusal.Reads as command-refusal
+use Rattle.c_command_writer.proofs.commands.write_command_words.Reads as write-command-words
+use Rattle.c_descriptor_writer.proofs.descriptor_refusal.Reads as descriptor-refusal
+use Rattle.c_descriptor_writer.proofs.write_descriptor_words.Reads as write-descriptor-words
+use Rattle.c_section_writer.proofs.write_section_words.Reads as write-section-words
 use Rattle.scte35.proofs.scte35_read_header.Reads as scte35-read-header
 use Rattle.scte35.proofs.scte35_read_section.Reads as scte35-read-section
 use Rattle.scte35.proofs.scte35_read_command.Reads as scte35-read-command

@@ -1,44 +1,44 @@
--- Every public function of the writer fixes its answer and its target's later bytes, and asks nothing of the caller, as FixedAnswers.antt has it of the readers. Assumes nothing.
+-- Every public function of the writer fixes its answer and its target's later bytes, and asks nothing of the caller, as FixedAnswers.antt has it of the readers.
 use mathlib.Core.Path.{_≡_}
 use mathlib.Core.List.{[]}
 use denote.Ref.{now}
 use lib.Dec.{ltb}
 use lib.ListN.{getD, length}
 use mathlib.Core.Bool.{_&&_}
-use Rattle.canonical_command.specs.Canonical.{canonicalCommand}
+use Rattle.command_canonical.specs.Canonical.{canonicalCommand}
 use Rattle.command.specs.Command.{array}
 use Rattle.command.specs.Insert.{blank, immediate}
 use Rattle.command_measure.specs.Made.{commandMade, counted, insertMade, measuredOf}
 use Rattle.descriptor.specs.Segmentation.{byProgram, componentCount, durationSize, lasting, modeSize, subBytes, unrestricted}
 use Rattle.descriptor.specs.Whole.{filled}
-use Rattle.descriptor_form.specs.Canonical.{canonicalDescriptor, canonicalLoop}
-use Rattle.descriptor_form.specs.Writing.{allZero, alone, descriptorMade, fairReserved, segmentationMade, writtenKind, writtenUpid}
-use Rattle.pen.specs.Pen.{penAfter, penned}
+use Rattle.descriptor_measure.specs.Canonical.{canonicalDescriptor, canonicalLoop}
+use Rattle.descriptor_measure.specs.Writing.{allZero, alone, descriptorMade, fairReserved, segmentationMade, writtenKind, writtenUpid}
+use Rattle.bit_stores.specs.Pen.{penAfter, penned}
 use Rattle.table.specs.Cursor.{place}
-use Rattle.pen.specs.Written.{answerOf, bytesIn, laterOf}
+use Rattle.bit_stores.specs.Written.{answerOf, bytesIn, laterOf}
 use Rattle.section_writer.specs.Canonical.{canonicalFrame, canonicalSection}
 use Rattle.section_writer.specs.Writing.{kindOf, sectionMade}
 use Rattle.table.specs.Bits.{bitsOf, bitsOfNum}
 use Rattle.table.specs.Lent.{stored}
 use Rattle.table.specs.Writing.{refusalIn}
-use Rattle.pen.proofs.put_bits.Reads as put-bits
-use Rattle.pen.proofs.put_run.Reads as put-run
-use Rattle.descriptor_form.proofs.is_zero.Reads as is-zero
-use Rattle.descriptor_form.proofs.is_alone.Reads as is-alone
-use Rattle.descriptor_form.proofs.is_fair_reserved.Reads as is-fair-reserved
-use Rattle.descriptor_form.proofs.upids.written_kind.Reads as written-kind
-use Rattle.descriptor_form.proofs.upids.upid_size.Reads as upid-size
-use Rattle.descriptor_form.proofs.segment.by_program.Reads as by-program
-use Rattle.descriptor_form.proofs.segment.lasts.Reads as lasts
-use Rattle.descriptor_form.proofs.segment.is_free.Reads as is-free
-use Rattle.descriptor_form.proofs.segment.refusal_of_bare.Reads as refusal-of-bare
-use Rattle.descriptor_form.proofs.segment.refusal_of_segmentation.Reads as refusal-of-segmentation
-use Rattle.descriptor_form.proofs.segment.count_of.Reads as count-of
-use Rattle.descriptor_form.proofs.segment.mode_size.Reads as mode-size
-use Rattle.descriptor_form.proofs.segment.duration_size.Reads as duration-size
-use Rattle.descriptor_form.proofs.segment.sub_size.Reads as sub-size
-use Rattle.canonical_loop.proofs.is_canonical_descriptor.Reads as is-canonical-descriptor
-use Rattle.canonical_loop.proofs.is_canonical_loop.Reads as is-canonical-loop
+use Rattle.bit_stores.proofs.put_bits.Reads as put-bits
+use Rattle.bit_stores.proofs.put_run.Reads as put-run
+use Rattle.descriptor_measure.proofs.is_zero.Reads as is-zero
+use Rattle.descriptor_measure.proofs.is_alone.Reads as is-alone
+use Rattle.descriptor_measure.proofs.is_fair_reserved.Reads as is-fair-reserved
+use Rattle.descriptor_measure.proofs.upids.written_kind.Reads as written-kind
+use Rattle.descriptor_measure.proofs.upids.upid_size.Reads as upid-size
+use Rattle.descriptor_measure.proofs.segment.by_program.Reads as by-program
+use Rattle.descriptor_measure.proofs.segment.lasts.Reads as lasts
+use Rattle.descriptor_measure.proofs.segment.is_free.Reads as is-free
+use Rattle.descriptor_measure.proofs.segment.refusal_of_bare.Reads as refusal-of-bare
+use Rattle.descriptor_measure.proofs.segment.refusal_of_segmentation.Reads as refusal-of-segmentation
+use Rattle.descriptor_measure.proofs.segment.count_of.Reads as count-of
+use Rattle.descriptor_measure.proofs.segment.mode_size.Reads as mode-size
+use Rattle.descriptor_measure.proofs.segment.duration_size.Reads as duration-size
+use Rattle.descriptor_measure.proofs.segment.sub_size.Reads as sub-size
+use Rattle.descriptor_canonical.proofs.is_canonical_descriptor.Reads as is-canonical-descriptor
+use Rattle.descriptor_canonical.proofs.is_canonical_loop.Reads as is-canonical-loop
 use Rattle.descriptor_writer.proofs.write_bare_descriptor.Reads as write-bare-descriptor
 use Rattle.descriptor_writer.proofs.write_descriptor.Reads as write-descriptor
 use Rattle.command_measure.proofs.measure.is_immediate.Reads as is-immediate
@@ -50,7 +50,7 @@ use Rattle.command_writer.proofs.put_bare.Reads as put-bare
 use Rattle.command_writer.proofs.write_bare_command.Reads as write-bare-command
 use Rattle.command_writer.proofs.put_command.Reads as put-command
 use Rattle.command_writer.proofs.write_command.Reads as write-command
-use Rattle.canonical_command.proofs.is_canonical_command.Reads as is-canonical-command
+use Rattle.command_canonical.proofs.is_canonical_command.Reads as is-canonical-command
 use Rattle.section_writer.proofs.write_section.Reads as write-section
 use Rattle.section_writer.proofs.write_bare_section.Reads as write-bare-section
 use Rattle.section_writer.proofs.is_canonical_frame.Reads as is-canonical-frame

@@ -1,11 +1,11 @@
 -- The public functions of board, channels and flat_board, and those over C: each fixes its answer and the words that it is lent, and asks nothing of the
--- caller, as FixedAnswers.antt has it of the readers. Assumes nothing.
+-- caller, as FixedAnswers.antt has it of the readers.
 use mathlib.Core.Path.{_≡_}
 use denote.Ref.{now}
 use Rattle.board.specs.Board.{before, blankPlace, breaksOf, closeOf, emptyBoard, holds, isFree, openOf}
 use Rattle.board.specs.Breaks.{freeFrom}
 use Rattle.channels.specs.Channels.{closeOf as channelsCloseOf, emptyShared, openOf as channelsOpenOf}
-use Rattle.flat_board.specs.Lent.{closed, emptied, opened}
+use Rattle.c_board.specs.Lent.{closed, emptied, opened}
 use Rattle.board.proofs.blank_place.Reads as blank-place
 use Rattle.board.proofs.empty.Reads as empty-board
 use Rattle.board.proofs.free_place.Reads as free-place
@@ -16,9 +16,9 @@ use Rattle.board.proofs.close_break.Reads as close-break
 use Rattle.channels.proofs.empty.Reads as empty-shared
 use Rattle.channels.proofs.open_break.Reads as open-on-channel
 use Rattle.channels.proofs.close_break.Reads as close-on-channel
-use Rattle.flat_board.proofs.empty_words.Reads as empty-words
-use Rattle.flat_board.proofs.open_words.Reads as open-words
-use Rattle.flat_board.proofs.close_words.Reads as close-words
+use Rattle.c_board.proofs.empty_words.Reads as empty-words
+use Rattle.c_board.proofs.open_words.Reads as open-words
+use Rattle.c_board.proofs.close_words.Reads as close-words
 use Rattle.scte35.proofs.board.scte35_board_empty.Reads as scte35-board-empty
 use Rattle.scte35.proofs.board.scte35_board_open.Reads as scte35-board-open
 use Rattle.scte35.proofs.board.scte35_board_close.Reads as scte35-board-close

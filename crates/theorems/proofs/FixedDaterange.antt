@@ -8,7 +8,7 @@ use Rattle.attribute_list.proofs.cutting.cut_at.Reads as cut-at
 use Rattle.daterange_line.proofs.read_line.Reads as read-line
 use Rattle.daterange_writer.proofs.write_line.Reads as write-line
 use Rattle.daterange.proofs.write_daterange.Reads as write-daterange
-use Rattle.flat_daterange.proofs.flat_daterange.Reads as flat-daterange
+use Rattle.c_daterange.proofs.flat_daterange.Reads as flat-daterange
 use Rattle.scte35.proofs.playlist.scte35_write_daterange.Reads as scte35-write-daterange
 use Rattle.scte35.proofs.playlist.scte35_read_daterange.Reads as scte35-read-daterange
 use Rattle.theorems.specs.FixedAnswers.{Fixed, FixedIn}

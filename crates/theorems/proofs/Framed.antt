@@ -1,4 +1,4 @@
--- What an accepted section is made of. Assumes nothing.
+-- What an accepted section is made of.
 --     laid          its parts: where its loop lies, its command, and its length
 --     private-in    the bytes of a private command lie in its payload
 use Prim.Native.Nat.{ℕ, _+_, _*_, _-_, _/_, _≤_}
@@ -14,7 +14,7 @@ use Rattle.command.specs.declared.CommandRead.{CommandRead}
 use Rattle.command.specs.declared.Private.{Private}
 use Rattle.command.specs.declared.SpliceCommand.{SpliceCommand}
 use Rattle.header.specs.Header.{headerOf}
-use Rattle.header.specs.Time.{spliceTime}
+use Rattle.splice_time.specs.Time.{spliceTime}
 use Rattle.header.specs.declared.header.HeaderRead.{HeaderRead}
 use Rattle.section_writer.proofs.Parts.{parts-of}
 use Rattle.section.specs.Section.{commandLength, commandType, commandBytes, loopLength, loopPlace, moved, movedRead, sectionOf}

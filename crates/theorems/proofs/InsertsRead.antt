@@ -15,9 +15,9 @@ use Rattle.command.specs.declared.insert.Insertion.{Insertion}
 use Rattle.command.specs.declared.insert.SpliceInsert.{SpliceInsert}
 use Rattle.command.specs.declared.insert.SpliceMode.{SpliceMode}
 use Rattle.command_measure.specs.Made.{timesFit}
-use Rattle.header.specs.Time.{spliceTime, ticks}
-use Rattle.header.specs.declared.time.SpliceTime.{SpliceTime}
-use Rattle.header.specs.declared.time.SpliceTime.the-variants.{Immediate, Unspecified, At}
+use Rattle.splice_time.specs.Time.{spliceTime, ticks}
+use Rattle.splice_time.specs.declared.SpliceTime.{SpliceTime}
+use Rattle.splice_time.specs.declared.SpliceTime.the-variants.{Immediate, Unspecified, At}
 use Rattle.table.proofs.Reading.{field-lt}
 use Rattle.table.proofs.Steps.{Reads, reads-in, reads-number, reads-flag, reads-ones}
 use Rattle.table.specs.Bits.{pick, bitsOf, field}

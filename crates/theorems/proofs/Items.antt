@@ -1,4 +1,4 @@
--- The UPIDs of an item, in the section that holds its loop. Assumes nothing.
+-- The UPIDs of an item, in the section that holds its loop.
 --     found          each UPID of an item is one of its payload's, moved
 --     unsplit        a run of the section that is accepted as a MID
 --     mid-of         a MID of an item
@@ -26,17 +26,17 @@ use Rattle.descriptor.specs.declared.Descriptor.{Descriptor}
 use Rattle.descriptor.specs.declared.DescriptorRead.{DescriptorRead}
 use Rattle.descriptor.specs.declared.segmentation.SegmentationDetail.{SegmentationDetail}
 use Rattle.descriptor.specs.declared.segmentation.SegmentationUpid.{SegmentationUpid}
-use Rattle.descriptor_laws.proofs.Reported.{mid-is-written, eidr-is-written}
-use Rattle.items.proofs.Places.{all-into, all-map}
-use Rattle.items.proofs.Steps.{Clause, long, ended, last, small, entire}
-use Rattle.items.specs.Items.{itemAt, readAt, wholeAt}
-use Rattle.items.specs.Place.{movedUpid, movedDescriptor}
-use Rattle.items.specs.Walk.{movedDetail}
-use Rattle.items.specs.declared.Step.{Step}
-use Rattle.loop_laws.proofs.Places.{run-of-run, kind-stays}
-use Rattle.upid.specs.Walk as upid-laws
-use Rattle.upid.specs.Walk.{Accepted}
-use Rattle.items.specs.declared.Item.{Item}
+use Rattle.descriptor_round_trips.proofs.Reported.{mid-is-written, eidr-is-written}
+use Rattle.descriptor_loop.proofs.Places.{all-into, all-map}
+use Rattle.descriptor_loop.proofs.Steps.{Clause, long, ended, last, small, entire}
+use Rattle.descriptor_loop.specs.Items.{itemAt, readAt, wholeAt}
+use Rattle.descriptor_loop.specs.Place.{movedUpid, movedDescriptor}
+use Rattle.descriptor_loop.specs.Private.{movedDetail}
+use Rattle.descriptor_loop.specs.declared.Step.{Step}
+use Rattle.loop_round_trips.proofs.Places.{run-of-run, kind-stays}
+use Rattle.upid.specs.Private as upid-laws
+use Rattle.upid.specs.Private.{Accepted}
+use Rattle.descriptor_loop.specs.declared.Item.{Item}
 use Rattle.theorems.specs.Identifiers.{Identifier, OneRun, inLent, detailUpids, upidsOf, upidStart, besidesOf, Announced, Unsplit}
 use Rattle.theorems.proofs.Runs.{viewed-is, viewed-inside, length-viewed, length-run, lent-run, getD-run}
 use Rattle.theorems.proofs.Upids.{upidsRead, Source, sources}

@@ -1,4 +1,4 @@
--- What is written of the words of a step over a descriptor is what is written of the descriptor. Assumes nothing.
+-- What is written of the words of a step over a descriptor is what is written of the descriptor.
 use Prim.Native.Nat.{ℕ, zero, suc, _+_, _-_, _*_, _^_, _<_, _≤_}
 use mathlib.Core.Bool.{Bool, true, false, _&&_}
 use mathlib.Core.List.{List, [], _∷_, _++_, map}
@@ -26,20 +26,20 @@ use Rattle.descriptor.specs.declared.segmentation.SegmentationInsert.{Segmentat
 use Rattle.descriptor.specs.declared.segmentation.SegmentationMode.{SegmentationMode}
 use Rattle.descriptor.specs.declared.segmentation.SubSegments.{SubSegments}
 use Rattle.descriptor.specs.declared.whole.Beside.{Beside}
-use Rattle.descriptor_form.proofs.Refusals.{view-out, upid-long, numbers-over}
-use Rattle.descriptor_form.specs.Walk.{componentsFields, modeFields, durationFields, numbersFit}
-use Rattle.descriptor_form.specs.Writing.{framedMade, segmentationMade, payloadMade, descriptorMade, tagOf, identifierOf, upidIn, upidSource, fairSegment, writtenDetail}
-use Rattle.descriptor_form.specs.Same.{countBeside}
-use Rattle.flat_item_writer.proofs.Back.{descriptor-back}
-use Rattle.flat_item_writer.proofs.Told.{mode-count}
-use Rattle.flat_item_writer.specs.ItemGiven.{descriptorGiven, identifierFrom, placeFrom, byteFrom, placesFrom, eidrFrom, besideFrom, ownItem, descriptorRefusal, descriptorWordsMade}
-use Rattle.flat_item_writer.specs.ItemWords.{itemWords, itemWidths, placesIn, eidrIn, placeWidths, placesWithin, besideWithin}
-use Rattle.flat_item_writer.proofs.Typed.{TypedSubs, TypedInsert, TypedDetail, Typed}
-use Rattle.flat_items.specs.FlatItem.{flatRestrictions, flatSubSegments, wholeSegmentation, bareSegmentation, segmentationItem, flatDescriptor, flatItem, refusalIn, valuesIn, flatStep, flatComponent, flatBeside}
-use Rattle.flat_writer.proofs.Words.{and-unit, places-length}
-use Rattle.flat_writer.specs.Words.{within, same, placesOf, eachPlace, refusalOf, noLess}
-use Rattle.items.specs.declared.Item.{Item}
-use Rattle.items.specs.declared.Step.{Step}
+use Rattle.descriptor_measure.proofs.Refusals.{view-out, upid-long, numbers-over}
+use Rattle.descriptor_measure.specs.Private.{componentsFields, modeFields, durationFields, numbersFit}
+use Rattle.descriptor_measure.specs.Writing.{framedMade, segmentationMade, payloadMade, descriptorMade, tagOf, identifierOf, upidIn, upidSource, fairSegment, writtenDetail}
+use Rattle.descriptor_measure.specs.Same.{countBeside}
+use Rattle.c_descriptor_writer.proofs.Back.{descriptor-back}
+use Rattle.c_descriptor_writer.proofs.Told.{mode-count}
+use Rattle.c_descriptor_writer.specs.ItemGiven.{descriptorGiven, identifierFrom, placeFrom, byteFrom, placesFrom, eidrFrom, besideFrom, ownItem, descriptorRefusal, descriptorWordsMade}
+use Rattle.c_descriptor_writer.specs.ItemWords.{itemWords, itemWidths, placesIn, eidrIn, placeWidths, placesWithin, besideWithin}
+use Rattle.c_descriptor_writer.proofs.Typed.{TypedSubs, TypedInsert, TypedDetail, Typed}
+use Rattle.c_items.specs.FlatItem.{flatRestrictions, flatSubSegments, wholeSegmentation, bareSegmentation, segmentationItem, flatDescriptor, flatItem, refusalIn, valuesIn, flatStep, flatComponent, flatBeside}
+use Rattle.c_command_writer.proofs.Words.{and-unit, places-length}
+use Rattle.c_command_writer.specs.Words.{within, same, placesOf, eachPlace, refusalOf, noLess}
+use Rattle.descriptor_loop.specs.declared.Item.{Item}
+use Rattle.descriptor_loop.specs.declared.Step.{Step}
 use Rattle.names.specs.Flags.{restrictionsBits}
 use Rattle.names.specs.Segmentation.{segmentationNumber}
 use Rattle.names.specs.declared.flags.DeviceRestrictions.{DeviceRestrictions}

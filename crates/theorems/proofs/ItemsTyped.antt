@@ -1,4 +1,4 @@
--- A descriptor that is written is of its types: each number was within its field, and each flag and number was fair. Assumes nothing.
+-- A descriptor that is written is of its types: each number was within its field, and each flag and number was fair.
 use Prim.Native.Nat.{ℕ, _+_, _^_, _<_, _≤_}
 use mathlib.Core.Bool.{Bool, true, false, _&&_}
 use mathlib.Core.List.{List, _++_}
@@ -18,14 +18,14 @@ use Rattle.descriptor.specs.declared.segmentation.SegmentationMode.{Segmentatio
 use Rattle.descriptor.specs.declared.segmentation.SegmentationUpid.{SegmentationUpid}
 use Rattle.descriptor.specs.declared.segmentation.SubSegments.{SubSegments}
 use Rattle.descriptor.specs.declared.whole.Beside.{Beside}
-use Rattle.descriptor_form.proofs.Fields.{fields-are}
-use Rattle.descriptor_form.proofs.Making.{counted, all-fair, by-table}
-use Rattle.descriptor_form.proofs.Refusals.{within-append}
-use Rattle.descriptor_form.specs.Walk.{deliveryFields, modeFields, durationFields, upidFields, subFields, backFields, segmentFields}
-use Rattle.descriptor_form.specs.Writing.{framed, framedMade, alone, writtenKind, writtenUpid, writtenDetail, written, upidIn, upidSource, segmentationMade, payloadMade, tagOf, identifierOf, descriptorMade}
-use Rattle.descriptor_form.specs.Same.{countBeside}
-use Rattle.flat_item_writer.proofs.Own.{agree}
-use Rattle.flat_item_writer.proofs.Typed.{TypedMode, TypedSubs, TypedInsert, TypedDetail, Typed}
+use Rattle.descriptor_measure.proofs.Fields.{fields-are}
+use Rattle.descriptor_measure.proofs.Making.{counted, all-fair, by-table}
+use Rattle.descriptor_measure.proofs.Refusals.{within-append}
+use Rattle.descriptor_measure.specs.Private.{deliveryFields, modeFields, durationFields, upidFields, subFields, backFields, segmentFields}
+use Rattle.descriptor_measure.specs.Writing.{framed, framedMade, alone, writtenKind, writtenUpid, writtenDetail, written, upidIn, upidSource, segmentationMade, payloadMade, tagOf, identifierOf, descriptorMade}
+use Rattle.descriptor_measure.specs.Same.{countBeside}
+use Rattle.c_descriptor_writer.proofs.Own.{agree}
+use Rattle.c_descriptor_writer.proofs.Typed.{TypedMode, TypedSubs, TypedInsert, TypedDetail, Typed}
 use Rattle.names.specs.Segmentation.{segmentationNumber}
 use Rattle.table.proofs.Lists.{zero-one, and-true}
 use Rattle.table.proofs.Structure.{wrote}

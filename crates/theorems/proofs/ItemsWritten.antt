@@ -1,4 +1,4 @@
--- A section's loop, written of its items. Assumes nothing.
+-- A section's loop, written of its items.
 --     loop-written      each item of a canonical section's loop is written as its own bytes, which joined are the loop
 --     keeps-upids       each of its items keeps its UPID
 --     one-loop          two canonical sections with the same items have equal loops
@@ -13,27 +13,27 @@ use lib.ListN.{length, take, drop}
 use Rattle.descriptor.specs.declared.Descriptor.{Descriptor}
 use Rattle.descriptor.specs.declared.segmentation.SegmentationDetail.{SegmentationDetail}
 use Rattle.descriptor.specs.declared.whole.Beside.{Beside}
-use Rattle.descriptor_form.specs.Canonical.{canonicalLoop}
-use Rattle.descriptor_laws.proofs.Alike.{SameView, detailView}
-use Rattle.descriptor_laws.specs.Making.{viewIn}
-use Rattle.descriptor_laws.specs.Trips.{wholeIn, Handed}
-use Rattle.items.specs.Cover.{joined, runOf}
-use Rattle.items.specs.Items.{Listed, listed, itemsOf}
-use Rattle.items.specs.Place.{movedDescriptor}
-use Rattle.items.specs.Walk.{movedDetail}
-use Rattle.items.specs.declared.Item.{Item}
-use Rattle.loop_laws.proofs.Loops.{all-pieces, back-at, beside-is, written-at, every-item}
-use Rattle.loop_laws.proofs.Pieces.{At, run-is, items-cut}
-use Rattle.loop_laws.proofs.Places.{kind-stays}
-use Rattle.loop_laws.proofs.Theorems.{cut, a-canonical-loop-is-what-is-written-of-its-items, canonical-loops-of-the-same-items-are-one, descriptors-written-in-order-are-the-items-of-a-canonical-loop}
-use Rattle.loop_laws.specs.Loops.{WrittenAgain, Given, givenMade, Pairs, ItemBack, SameItem}
+use Rattle.descriptor_measure.specs.Canonical.{canonicalLoop}
+use Rattle.descriptor_round_trips.proofs.Alike.{SameView, detailView}
+use Rattle.descriptor_round_trips.specs.Making.{viewIn}
+use Rattle.descriptor_round_trips.specs.Trips.{wholeIn, Handed}
+use Rattle.descriptor_loop.specs.Cover.{joined, runOf}
+use Rattle.descriptor_loop.specs.Items.{Listed, listed, itemsOf}
+use Rattle.descriptor_loop.specs.Place.{movedDescriptor}
+use Rattle.descriptor_loop.specs.Private.{movedDetail}
+use Rattle.descriptor_loop.specs.declared.Item.{Item}
+use Rattle.loop_round_trips.proofs.Loops.{all-pieces, back-at, beside-is, written-at, every-item}
+use Rattle.loop_round_trips.proofs.Pieces.{At, run-is, items-cut}
+use Rattle.loop_round_trips.proofs.Places.{kind-stays}
+use Rattle.loop_round_trips.proofs.Theorems.{cut, a-canonical-loop-is-what-is-written-of-its-items, canonical-loops-of-the-same-items-are-one, descriptors-written-in-order-are-the-items-of-a-canonical-loop}
+use Rattle.loop_round_trips.specs.Loops.{WrittenAgain, Given, givenMade, Pairs, ItemBack, SameItem}
 use Rattle.section.specs.Section.{loopBytes, sectionOf}
 use Rattle.section.specs.declared.Section.{Section}
 use Rattle.section.specs.declared.SectionRead.{SectionRead}
 use Rattle.section_writer.proofs.Numbers.{bytes-take, bytes-drop}
 use Rattle.section_writer.proofs.Theorems.{canonical-parts, no-other-section}
 use Rattle.section_writer.specs.Canonical.{canonicalSection}
-use Rattle.section_writer.specs.Walk.{SameAround}
+use Rattle.section_writer.specs.Private.{SameAround}
 use Rattle.table.specs.Bits.{pick, AllBytes}
 use Rattle.table.specs.Lent.{viewed}
 use Rattle.table.specs.Writing.{made}

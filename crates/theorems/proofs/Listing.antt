@@ -1,4 +1,4 @@
--- The list of a section's identifiers is complete. Assumes nothing.
+-- The list of a section's identifiers is complete.
 use Prim.Native.Nat.{ℕ, _+_}
 use mathlib.Core.Bool.{Bool, true, false, cond}
 use mathlib.Core.List.{List, [], _∷_, _++_, map, List·Memᴰ, List·Memᴰ·head, List·Memᴰ·tail, Memᴰ·append-left, Memᴰ·append-right}
@@ -12,10 +12,10 @@ use Rattle.descriptor.specs.declared.Descriptor.{Descriptor}
 use Rattle.descriptor.specs.declared.segmentation.SegmentationDescriptor.{SegmentationDescriptor}
 use Rattle.descriptor.specs.declared.segmentation.SegmentationDetail.{SegmentationDetail}
 use Rattle.descriptor.specs.declared.segmentation.SegmentationUpid.{SegmentationUpid}
-use Rattle.items.specs.Items.{Listed, itemsOf}
-use Rattle.items.specs.Place.{viewsOf}
-use Rattle.items.specs.declared.Item.{Item}
-use Rattle.items.specs.declared.ItemRefusal.{ItemRefusal}
+use Rattle.descriptor_loop.specs.Items.{Listed, itemsOf}
+use Rattle.descriptor_loop.specs.Place.{viewsOf}
+use Rattle.descriptor_loop.specs.declared.Item.{Item}
+use Rattle.descriptor_loop.specs.declared.ItemRefusal.{ItemRefusal}
 use Rattle.section.specs.declared.Section.{Section}
 use Rattle.table.specs.Lent.{viewed}
 use Rattle.table.specs.declared.View.{View}
@@ -74,11 +74,11 @@ module _ (ids : List Identifier) where
     item-lists : (it : Item) → Into (ofItem it) → ListsItem ids base loop y it
     item-lists Item.End f = tt
     item-lists (Item.Refused ItemRefusal.InvalidDescriptorLength) f = tt
-    item-lists (Item.Refused (ItemRefusal.Other Refusal.TooLong)) f = tt
-    item-lists (Item.Refused (ItemRefusal.Other (Refusal.Short expected actual))) f = tt
-    item-lists (Item.Refused (ItemRefusal.Other Refusal.Mismatch)) f = tt
-    item-lists (Item.Refused (ItemRefusal.Other (Refusal.NotText kind v))) f = into-first (inLent base loop v) _ f
-    item-lists (Item.Refused (ItemRefusal.Other (Refusal.WrongLength kind expected actual))) f = tt
+    item-lists (Item.Refused (ItemRefusal.Other Refusal.InputTooLong)) f = tt
+    item-lists (Item.Refused (ItemRefusal.Other (Refusal.NotEnoughData expected actual))) f = tt
+    item-lists (Item.Refused (ItemRefusal.Other Refusal.UpidLengthTypeMismatch)) f = tt
+    item-lists (Item.Refused (ItemRefusal.Other (Refusal.InvalidUpidContent kind v))) f = into-first (inLent base loop v) _ f
+    item-lists (Item.Refused (ItemRefusal.Other (Refusal.InvalidUpidLength kind expected actual))) f = tt
     item-lists (Item.Is (Descriptor.Avail x)) f = tt
     item-lists (Item.Is (Descriptor.Dtmf x)) f = into-first (inLent base loop (x .«dtmf_chars»)) _ f
     item-lists (Item.Is (Descriptor.Segmentation x)) f = detail-lists x (x .«descriptor_detail») refl f

@@ -1,4 +1,4 @@
--- The loop of a canonical section is what is written over C of the words that are read of its items over C. Assumes nothing.
+-- The loop of a canonical section is what is written over C of the words that are read of its items over C.
 use Prim.Native.Nat.{ℕ, zero, suc, _+_, _-_, _<_, _≤_}
 use mathlib.Core.Bool.{Bool, true, false, cond, _&&_}
 use mathlib.Core.List.{List, [], _∷_, _++_}
@@ -17,17 +17,17 @@ use Rattle.descriptor.specs.declared.DescriptorRead.{DescriptorRead}
 use Rattle.descriptor.specs.declared.segmentation.ModeComponent.{ModeComponent}
 use Rattle.descriptor.specs.declared.segmentation.SegmentationDetail.{SegmentationDetail}
 use Rattle.descriptor.specs.declared.whole.Beside.{Beside}
-use Rattle.descriptor_laws.specs.Trips.{wholeIn}
-use Rattle.flat_item_writer.proofs.Own.{filled-length}
-use Rattle.flat_item_writer.specs.ItemGiven.{descriptorWordsMade}
-use Rattle.flat_items.specs.FlatItem.{flatStep, flatBeside}
-use Rattle.items.specs.Cover.{runOf}
-use Rattle.items.specs.Items.{stepOf, readingOf, listed, itemsOf}
-use Rattle.items.specs.declared.Item.{Item}
-use Rattle.items.specs.declared.Step.{Step}
-use Rattle.items.specs.declared.reading.Reading.{Reading}
-use Rattle.loop_laws.proofs.Loops.{back-at, identifier-is, beside-is}
-use Rattle.loop_laws.proofs.Pieces.{At, said, run-is}
+use Rattle.descriptor_round_trips.specs.Trips.{wholeIn}
+use Rattle.c_descriptor_writer.proofs.Own.{filled-length}
+use Rattle.c_descriptor_writer.specs.ItemGiven.{descriptorWordsMade}
+use Rattle.c_items.specs.FlatItem.{flatStep, flatBeside}
+use Rattle.descriptor_loop.specs.Cover.{runOf}
+use Rattle.descriptor_loop.specs.Items.{stepOf, readingOf, listed, itemsOf}
+use Rattle.descriptor_loop.specs.declared.Item.{Item}
+use Rattle.descriptor_loop.specs.declared.Step.{Step}
+use Rattle.descriptor_loop.specs.declared.reading.Reading.{Reading}
+use Rattle.loop_round_trips.proofs.Loops.{back-at, identifier-is, beside-is}
+use Rattle.loop_round_trips.proofs.Pieces.{At, said, run-is}
 use Rattle.section.specs.Section.{sectionOf}
 use Rattle.section.specs.declared.Section.{Section}
 use Rattle.section.specs.declared.SectionRead.{SectionRead}

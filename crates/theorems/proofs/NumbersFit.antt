@@ -22,11 +22,11 @@ use Rattle.command_measure.proofs.Making.{flag-within, private-fields, within-a
 use Rattle.command_measure.proofs.Ties.{time-fields, insert-fields}
 use Rattle.command_measure.specs.Fields.{timeFields, unlessFields, listFields, modeFields, breakFields, tailFields, endFields, immediateIn, activeFields, insertFields}
 use Rattle.command_measure.specs.Made.{counted, timesFit}
-use Rattle.descriptor_laws.specs.Making.{fit}
+use Rattle.descriptor_round_trips.specs.Making.{fit}
 use Rattle.header.specs.Header.{spliceHeader}
-use Rattle.header.specs.Time.{spliceTime, ticks}
+use Rattle.splice_time.specs.Time.{spliceTime, ticks}
 use Rattle.header.specs.declared.header.SpliceInfoHeader.{SpliceInfoHeader}
-use Rattle.header.specs.declared.time.SpliceTime.{SpliceTime}
+use Rattle.splice_time.specs.declared.SpliceTime.{SpliceTime}
 use Rattle.names.specs.Command.{commandTypeOf}
 use Rattle.section_writer.proofs.Whole.{Held}
 use Rattle.section_writer.specs.Frame.{headed, numbersFit}

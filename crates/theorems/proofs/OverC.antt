@@ -1,4 +1,4 @@
--- What is written of the words of a value's flat form is what is written of the value. Assumes nothing.
+-- What is written of the words of a value's flat form is what is written of the value.
 use Prim.Native.Nat.{ℕ, zero, suc, _^_, _<_, _≤_}
 use mathlib.Core.Bool.{Bool, true, false}
 use mathlib.Core.List.{List, [], _∷_, _++_, map}
@@ -13,19 +13,19 @@ use Rattle.command.specs.declared.CommandRead.{CommandRead}
 use Rattle.command.specs.declared.SpliceCommand.{SpliceCommand}
 use Rattle.command.specs.declared.components.ComponentSplice.{ComponentSplice}
 use Rattle.command_measure.specs.Made.{insertMade, commandMade}
-use Rattle.flat.specs.Flat.{flatHeader}
-use Rattle.flat.specs.FlatCommand.{flatCommand, flatComponent, flatSplices}
-use Rattle.flat_section_writer.proofs.Answers as section
-use Rattle.flat_section_writer.specs.SectionGiven.{sectionWordsMade}
-use Rattle.flat_section_writer.specs.SectionWords as section-words
-use Rattle.flat_section_writer.specs.SectionWords.{headerWords}
-use Rattle.flat_writer.proofs.Answers as command
-use Rattle.flat_writer.proofs.Arrays.{array-take}
-use Rattle.flat_writer.proofs.Given.{same-append}
-use Rattle.flat_writer.specs.CommandGiven.{commandWordsMade}
-use Rattle.flat_writer.specs.CommandWords as command-words
-use Rattle.flat_writer.specs.CommandWords.{commandWords, componentWords, placesWords, CommandIs}
-use Rattle.flat_writer.specs.Words.{same, refusalOf, noLess}
+use Rattle.c_section.specs.Flat.{flatHeader}
+use Rattle.c_section.specs.FlatCommand.{flatCommand, flatComponent, flatSplices}
+use Rattle.c_section_writer.proofs.Answers as section
+use Rattle.c_section_writer.specs.SectionGiven.{sectionWordsMade}
+use Rattle.c_section_writer.specs.SectionWords as section-words
+use Rattle.c_section_writer.specs.SectionWords.{headerWords}
+use Rattle.c_command_writer.proofs.Answers as command
+use Rattle.c_command_writer.proofs.Arrays.{array-take}
+use Rattle.c_command_writer.proofs.Given.{same-append}
+use Rattle.c_command_writer.specs.CommandGiven.{commandWordsMade}
+use Rattle.c_command_writer.specs.CommandWords as command-words
+use Rattle.c_command_writer.specs.CommandWords.{commandWords, componentWords, placesWords, CommandIs}
+use Rattle.c_command_writer.specs.Words.{same, refusalOf, noLess}
 use Rattle.header.specs.declared.header.SpliceInfoHeader.{SpliceInfoHeader}
 use Rattle.names.specs.Algorithm.{fairAlgorithm}
 use Rattle.section_writer.specs.Writing.{sectionMade, kindOf}

@@ -1,13 +1,13 @@
--- Rows a to n hold, each by computation. Assumes nothing.
+-- Rows a to n hold, each by computation.
 use mathlib.Core.Path.{refl}
-use Rattle.canonical_command.specs.Canonical.{canonicalCommand}
+use Rattle.command_canonical.specs.Canonical.{canonicalCommand}
 use Rattle.command.specs.Command.{commandOf, componentsOf, array}
 use Rattle.command.specs.Insert.{timeUnless, component, moded, breakDuration, ending, active, insert}
 use Rattle.descriptor.specs.Descriptor.{descriptorOf, isCuei, availOf, dtmfOf, reservedOf, segmentationOf, insertOf, inserted}
 use Rattle.descriptor.specs.Plain.{avail, dtmf, privateBytes}
 use Rattle.descriptor.specs.Segmentation.{deliveryRestrictions, mode, duration, writtenUpid, parts, front, subSegments, back, head}
-use Rattle.header.specs.Time.{spliceTime}
-use Rattle.items.specs.Items.{numberOf, valuesOf, readAt, wholeAt, stepOf, itemsFrom, itemsOf}
+use Rattle.splice_time.specs.Time.{spliceTime}
+use Rattle.descriptor_loop.specs.Items.{numberOf, valuesOf, readAt, wholeAt, stepOf, itemsFrom, itemsOf}
 use Rattle.names.specs.Segmentation as names
 use Rattle.table.specs.Lent.{viewed}
 use Rattle.table.specs.Table.{number, bit, reserved, part, remaining, list, canonicalBy}

@@ -1,4 +1,4 @@
--- Runs of runs. Assumes nothing.
+-- Runs of runs.
 --     viewed-is         a view that lies in the lent bytes
 --     length-run        a run has as many bytes as it says
 --     section-run       a view of the section
@@ -13,7 +13,7 @@ use lib.Dec.{leb}
 use lib.ListN.{length, take, drop, getD, length-take, length-drop}
 use lib.Seq.{getD-take, getD-drop}
 use borrow.Author.Tests.{le-leb, leb-true}
-use Rattle.loop_laws.proofs.Places.{run-of-run}
+use Rattle.loop_round_trips.proofs.Places.{run-of-run}
 use Rattle.table.specs.Bits.{pick}
 use Rattle.table.specs.Lent.{viewed}
 use Rattle.table.specs.declared.View.{View}

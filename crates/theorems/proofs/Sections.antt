@@ -1,4 +1,4 @@
--- The identifiers of an accepted section. Assumes nothing.
+-- The identifiers of an accepted section.
 use Prim.Native.Nat.{ℕ, _+_, _≤_, _<_}
 use mathlib.Core.Bool.{Bool, true, false, cond}
 use mathlib.Core.List.{List, [], _∷_, _++_}
@@ -11,12 +11,12 @@ use Rattle.command.specs.Command.{commandOf, ofPrivate}
 use Rattle.command.specs.declared.CommandRead.{CommandRead}
 use Rattle.command.specs.declared.SpliceCommand.{SpliceCommand}
 use Rattle.descriptor.specs.declared.segmentation.SegmentationUpid.{SegmentationUpid}
-use Rattle.items.proofs.Lists.{Walked, stop, step, walked}
-use Rattle.items.proofs.Places.{all-into, all-map}
-use Rattle.items.proofs.Steps.{clause, turn, within, views-between}
-use Rattle.items.proofs.Theorems.{items-cover-the-loop, every-byte-lies-in-one-item, an-ending-refusal-takes-the-rest}
-use Rattle.items.specs.Cover.{Ends, TakesRest, Covered, times}
-use Rattle.items.specs.Items.{stepOf, Listed, listed, itemsOf}
+use Rattle.descriptor_loop.proofs.Lists.{Walked, stop, step, walked}
+use Rattle.descriptor_loop.proofs.Places.{all-into, all-map}
+use Rattle.descriptor_loop.proofs.Steps.{clause, turn, within, views-between}
+use Rattle.descriptor_loop.proofs.Theorems.{items-cover-the-loop, every-byte-lies-in-one-item, an-ending-refusal-takes-the-rest}
+use Rattle.descriptor_loop.specs.Cover.{Ends, TakesRest, Covered, times}
+use Rattle.descriptor_loop.specs.Items.{stepOf, Listed, listed, itemsOf}
 use Rattle.section.specs.Section.{commandLength, commandBytes, loopLength, loopPlace, moved, sectionOf}
 use Rattle.section.specs.declared.Section.{Section}
 use Rattle.section.specs.declared.SectionRead.{SectionRead}

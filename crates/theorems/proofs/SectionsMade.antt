@@ -1,4 +1,4 @@
--- What is made of a section is fixed by the readers and the fields' widths. Assumes nothing.
+-- What is made of a section is fixed by the readers and the fields' widths.
 --     written-back       a canonical section is what is made of its payload, its type and its loop, with any header that is its own but for the command's length and type
 --     of-header          such a header passes the writer's tests of it
 --     header-of          and one that passes them is that of a null with an empty loop
@@ -19,12 +19,12 @@ use Rattle.command.specs.declared.components.ComponentSplice.{ComponentSplice}
 use Rattle.command_measure.specs.Made.{commandMade}
 use Rattle.command_writer.proofs.Theorems.{null-trip}
 use Rattle.crc.specs.Crc.{crcBytesOf}
-use Rattle.descriptor_form.specs.Canonical.{canonicalFrom, canonicalLoop}
-use Rattle.descriptor_laws.specs.Making.{fit}
+use Rattle.descriptor_measure.specs.Canonical.{canonicalFrom, canonicalLoop}
+use Rattle.descriptor_round_trips.specs.Making.{fit}
 use Rattle.header.specs.Header.{spliceHeader}
 use Rattle.header.specs.declared.header.SpliceInfoHeader.{SpliceInfoHeader}
-use Rattle.pen.proofs.Penned.{all-number}
-use Rattle.pen.specs.Written.{bytesIn}
+use Rattle.bit_stores.proofs.Penned.{all-number}
+use Rattle.bit_stores.specs.Written.{bytesIn}
 use Rattle.section.specs.Section.{privateView, commandType, commandBytes, first, loopBytes}
 use Rattle.section_writer.proofs.Commands.{null-canonical}
 use Rattle.section_writer.proofs.Frames.{frame-command-type, frame-command-bytes}

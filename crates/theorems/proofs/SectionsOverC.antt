@@ -1,4 +1,4 @@
--- A canonical section is what is written over C of what is read over C. Assumes nothing.
+-- A canonical section is what is written over C of what is read over C.
 use Prim.Native.Nat.{ℕ, _+_, _-_, _≤_}
 use mathlib.Core.Logic.{_⊎_, inl, inr, ⊎-elim}
 use mathlib.Core.Bool.{Bool, true, false, _&&_}
@@ -17,20 +17,20 @@ use Rattle.command.specs.declared.components.ComponentSplice.{ComponentSplice}
 use Rattle.command.specs.declared.insert.Insertion.{Insertion}
 use Rattle.command.specs.declared.insert.SpliceInsert.{SpliceInsert}
 use Rattle.command_measure.specs.Made.{commandMade}
-use Rattle.descriptor_form.specs.Canonical.{canonicalLoop}
-use Rattle.flat.specs.Flat.{flatHeader}
-use Rattle.flat.specs.FlatCommand.{flatCommand, flatSplices}
-use Rattle.flat.specs.FlatSection.{flatSectionRead}
-use Rattle.flat_section_writer.proofs.Answers as section
-use Rattle.flat_section_writer.specs.SectionGiven.{sectionWordsMade}
-use Rattle.flat_section_writer.specs.SectionWords.{headerWords, headerWidths, sectionFits}
-use Rattle.flat.specs.declared.commands.FlatCommand.{FlatCommand}
-use Rattle.flat_writer.specs.CommandGiven.{componentsFrom, splicesWithin, ownSplices, commandRefusal, commandGiven}
-use Rattle.flat_writer.specs.CommandWords.{commandWords, commandWidths, placesGiven, commandSeen, commandFits}
-use Rattle.flat_writer.proofs.Fits.{own-count}
-use Rattle.flat_writer.proofs.Given.{given-count}
-use Rattle.flat_writer.specs.Words.{within, placesOf, eachPlace}
-use Rattle.header.specs.Time.{spliceTime}
+use Rattle.descriptor_measure.specs.Canonical.{canonicalLoop}
+use Rattle.c_section.specs.Flat.{flatHeader}
+use Rattle.c_section.specs.FlatCommand.{flatCommand, flatSplices}
+use Rattle.c_section.specs.FlatSection.{flatSectionRead}
+use Rattle.c_section_writer.proofs.Answers as section
+use Rattle.c_section_writer.specs.SectionGiven.{sectionWordsMade}
+use Rattle.c_section_writer.specs.SectionWords.{headerWords, headerWidths, sectionFits}
+use Rattle.c_section.specs.declared.commands.FlatCommand.{FlatCommand}
+use Rattle.c_command_writer.specs.CommandGiven.{componentsFrom, splicesWithin, ownSplices, commandRefusal, commandGiven}
+use Rattle.c_command_writer.specs.CommandWords.{commandWords, commandWidths, placesGiven, commandSeen, commandFits}
+use Rattle.c_command_writer.proofs.Fits.{own-count}
+use Rattle.c_command_writer.proofs.Given.{given-count}
+use Rattle.c_command_writer.specs.Words.{within, placesOf, eachPlace}
+use Rattle.splice_time.specs.Time.{spliceTime}
 use Rattle.header.specs.declared.header.SpliceInfoHeader.{SpliceInfoHeader}
 use Rattle.section.specs.Section.{commandLength, commandType, commandBytes, moved, sectionOf}
 use Rattle.section.specs.declared.Section.{Section}

@@ -1,7 +1,7 @@
 -- The product's demands, over the definitions. A reader needs the specs of this crate beside this file; for the part on writing specs/Canonical.antt of `section_writer`,
--- `canonical_command` and `descriptor_form`, and the specs of `pen` (Written.antt), `loop_laws` (the loop by its items) and `descriptor_laws` (a descriptor); for the part on the C boundary
--- specs/OverC.antt and the definitions of `flat_writer`, `flat_section_writer` and `flat_item_writer`. The proofs stand in the other files of this folder. That each
--- public contract fixes its answer is stated for each function in FixedAnswers.antt, FixedAtBoundary.antt and FixedAtWriter.antt. Assumes nothing.
+-- `command_canonical` and `descriptor_measure`, and the specs of `bit_stores` (Written.antt), `loop_round_trips` (the loop by its items) and `descriptor_round_trips` (a descriptor); for the part on the C boundary
+-- specs/OverC.antt and the definitions of `c_command_writer`, `c_section_writer` and `c_descriptor_writer`. The proofs stand in the other files of this folder. That each
+-- public contract fixes its answer is stated for each function in FixedAnswers.antt, FixedAtBoundary.antt and FixedAtWriter.antt.
 use Prim.Native.Nat.{ℕ, _+_, _≤_, _^_, _<_}
 use mathlib.Core.Bool.{true, false}
 use mathlib.Core.List.{List, [], _∷_, _++_, map}
@@ -29,33 +29,33 @@ use Rattle.descriptor.specs.declared.segmentation.SegmentationUpid.{Segmentatio
 use Rattle.descriptor.specs.declared.segmentation.SubSegment.{SubSegment}
 use Rattle.descriptor.specs.declared.segmentation.SubSegments.{SubSegments}
 use Rattle.descriptor.specs.declared.whole.Beside.{Beside}
-use Rattle.descriptor_form.specs.Canonical.{canonicalDescriptor, canonicalLoop}
-use Rattle.descriptor_form.specs.Writing.{descriptorMade}
-use Rattle.descriptor_laws.proofs.Theorems as descriptors
-use Rattle.descriptor_laws.specs.Making.{DescriptorMakes}
-use Rattle.descriptor_laws.specs.Trips.{Handed}
-use Rattle.flat.specs.FlatSection.{flatSectionRead}
-use Rattle.flat_item_writer.proofs.Answered as answered
-use Rattle.flat_item_writer.specs.ItemGiven.{descriptorWordsMade}
-use Rattle.flat_item_writer.specs.ItemWords.{DescriptorAnswer}
-use Rattle.flat_section_writer.proofs.Answers as section-answers
-use Rattle.flat_section_writer.specs.SectionGiven.{sectionWordsMade}
-use Rattle.flat_section_writer.specs.SectionWords.{headerWords, SectionAnswer}
-use Rattle.flat_writer.proofs.Answers as command-answers
-use Rattle.flat_writer.specs.CommandGiven.{commandWordsMade}
-use Rattle.flat_writer.specs.CommandWords.{commandWords, placesGiven, CommandAnswer}
+use Rattle.descriptor_measure.specs.Canonical.{canonicalDescriptor, canonicalLoop}
+use Rattle.descriptor_measure.specs.Writing.{descriptorMade}
+use Rattle.descriptor_round_trips.proofs.Theorems as descriptors
+use Rattle.descriptor_round_trips.specs.Making.{DescriptorMakes}
+use Rattle.descriptor_round_trips.specs.Trips.{Handed}
+use Rattle.c_section.specs.FlatSection.{flatSectionRead}
+use Rattle.c_descriptor_writer.proofs.Answered as answered
+use Rattle.c_descriptor_writer.specs.ItemGiven.{descriptorWordsMade}
+use Rattle.c_descriptor_writer.specs.ItemWords.{DescriptorAnswer}
+use Rattle.c_section_writer.proofs.Answers as section-answers
+use Rattle.c_section_writer.specs.SectionGiven.{sectionWordsMade}
+use Rattle.c_section_writer.specs.SectionWords.{headerWords, SectionAnswer}
+use Rattle.c_command_writer.proofs.Answers as command-answers
+use Rattle.c_command_writer.specs.CommandGiven.{commandWordsMade}
+use Rattle.c_command_writer.specs.CommandWords.{commandWords, placesGiven, CommandAnswer}
 use Rattle.header.specs.Header.{headerOf}
-use Rattle.header.specs.Time.{adjustedOf}
+use Rattle.splice_time.specs.Time.{adjustedOf}
 use Rattle.header.specs.declared.header.HeaderRead.{HeaderRead}
 use Rattle.header.specs.declared.header.SpliceInfoHeader.{SpliceInfoHeader}
-use Rattle.header.specs.declared.time.AdjustedTime.{AdjustedTime}
-use Rattle.header.specs.declared.time.SpliceTime.{SpliceTime}
-use Rattle.items.specs.Cover.{Ends, joined, runOf, TakesRest, Covered, times}
-use Rattle.items.specs.Items.{stepOf, readingOf, itemsOf}
-use Rattle.items.specs.declared.Item.{Item}
-use Rattle.loop_laws.proofs.Pieces as pieces
-use Rattle.loop_laws.proofs.Theorems as loops
-use Rattle.loop_laws.specs.Loops.{Given, givenMade, WrittenAgain, Pairs, ItemBack}
+use Rattle.splice_time.specs.declared.AdjustedTime.{AdjustedTime}
+use Rattle.splice_time.specs.declared.SpliceTime.{SpliceTime}
+use Rattle.descriptor_loop.specs.Cover.{Ends, joined, runOf, TakesRest, Covered, times}
+use Rattle.descriptor_loop.specs.Items.{stepOf, readingOf, itemsOf}
+use Rattle.descriptor_loop.specs.declared.Item.{Item}
+use Rattle.loop_round_trips.proofs.Pieces as pieces
+use Rattle.loop_round_trips.proofs.Theorems as loops
+use Rattle.loop_round_trips.specs.Loops.{Given, givenMade, WrittenAgain, Pairs, ItemBack}
 use Rattle.names.specs.Algorithm.{algorithmEntry, otherAlgorithm, algorithmOf, fairAlgorithm}
 use Rattle.names.specs.Command.{commandEntry, commandTypeOf, fairCommand}
 use Rattle.names.specs.Flags.{restrictionsBits}
@@ -65,8 +65,8 @@ use Rattle.names.specs.declared.command.SpliceCommandType.{SpliceCommandType}
 use Rattle.names.specs.declared.flags.DeviceRestrictions.{DeviceRestrictions}
 use Rattle.names.specs.declared.segmentation.SegmentationTypeId.{SegmentationTypeId}
 use Rattle.names.specs.declared.upid.SegmentationUpidType.{SegmentationUpidType}
-use Rattle.pen.specs.Written.{answerOf, laterOf}
-use Rattle.pen.specs.declared.Written.{Written}
+use Rattle.bit_stores.specs.Written.{answerOf, laterOf}
+use Rattle.bit_stores.specs.declared.Written.{Written}
 use Rattle.section.proofs.Acceptance as acceptance
 use Rattle.section.specs.Section.{commandType, commandBytes, commandLength, loopLength, loopPlace, loopBytes, movedRead, unknownCommand, conditions, first, sectionOf, numberOf, None}
 use Rattle.section.specs.declared.Section.{Section}
@@ -104,7 +104,7 @@ use Rattle.theorems.proofs.Sections as sections
 use Rattle.theorems.proofs.SectionsMade as sections-made
 use Rattle.theorems.proofs.Targets as targets
 use Rattle.theorems.proofs.SectionsOverC as sections-over-c
-use Rattle.header.proofs.Times as adjustments
+use Rattle.splice_time.proofs.Times as adjustments
 use Rattle.theorems.proofs.Tolerated as tolerated
 use Rattle.theorems.proofs.Whole as whole-runs
 use Rattle.theorems.proofs.Worked as worked
@@ -242,7 +242,7 @@ an-ending-refusal-takes-the-rest-of-the-loop = sections.ending-takes-rest
 -- ---- writing
 
 -- "A refused write leaves the target's bytes". By each writer's contract `answerOf` is its answer and `laterOf` are the target's later bytes, of what is made, m
--- (pen/specs/Written.antt).
+-- (bit_stores/specs/Written.antt).
 pub a-refused-write-changes-no-byte : (m : Made) (target : List ℕ) (n : ℕ) → answerOf m target ≡ Written.Refused n → laterOf m target ≡ target
 a-refused-write-changes-no-byte = targets.kept
 
@@ -274,7 +274,7 @@ pub what-is-made-of-a-section-is-one : (h : SpliceInfoHeader) (c : SpliceCommand
 what-is-made-of-a-section-is-one = sections-made.one-section-made
 
 -- "33 .. a value that no canonical reading has (list below)". What is made of a descriptor that is handed in is told by what is read, and by the widths of the fields (`DescriptorMakes`,
--- descriptor_laws/specs/Making.antt): 33 where no canonical payload reads as it, and else that payload in its frame. So the cases of 33 in `descriptorMade` need no belief for what is written; that they are 01's list is read there.
+-- descriptor_round_trips/specs/Making.antt): 33 where no canonical payload reads as it, and else that payload in its frame. So the cases of 33 in `descriptorMade` need no belief for what is written; that they are 01's list is read there.
 -- (What the types say of a descriptor that is handed in: `Handed`.)
 pub what-is-made-of-a-descriptor-is-told-by-what-is-read : (d : Descriptor) (identifier : List ℕ) (beside : Beside) (lent : List ℕ) → Handed d identifier beside lent
     → DescriptorMakes d identifier beside lent (descriptorMade d identifier beside lent)
@@ -441,8 +441,8 @@ the-section-with-eight-and-twelve-is-canonical = worked.both-canonical
 
 -- ---- over the C boundary
 
--- What the writers over C answer, of whatever words: what `CommandAnswer` and `SectionAnswer` say (flat_writer/specs/CommandWords.antt,
--- flat_section_writer/specs/SectionWords.antt), and no other answer is such. So the words of a value's flat form, as a reader over C
+-- What the writers over C answer, of whatever words: what `CommandAnswer` and `SectionAnswer` say (c_command_writer/specs/CommandWords.antt,
+-- c_section_writer/specs/SectionWords.antt), and no other answer is such. So the words of a value's flat form, as a reader over C
 -- answers them, are written as the value is written, or refused with the same number; those of a refusal are 33. (A slice has fewer than 2 ^ 64 bytes.)
 pub command-words-are-answered : (words components lent : List ℕ) → CommandAnswer words components lent (commandWordsMade words components lent)
 command-words-are-answered = command-answers.answered
@@ -470,7 +470,7 @@ pub uncounted-components-are-not-looked-at : (header command v w lent loop : Lis
 uncounted-components-are-not-looked-at = sections-over-c.uncounted
 
 -- What is made of the words of any step, with those of what stands beside it: 31 where its view lies outside, 32 where a word is over its field, 33 where the words are no
--- descriptor's, and else what is made of the descriptor that they are (`DescriptorAnswer`, flat_item_writer/specs/ItemWords.antt)
+-- descriptor's, and else what is made of the descriptor that they are (`DescriptorAnswer`, c_descriptor_writer/specs/ItemWords.antt)
 pub descriptor-words-are-answered : (words beside lent : List ℕ) → DescriptorAnswer words beside lent (descriptorWordsMade words beside lent)
 descriptor-words-are-answered = answered.descriptor-words-are-answered
 

@@ -1,4 +1,4 @@
--- What readers do not look at: section_length, and bytes behind a command's last field. And the range of a section's refusals. Assumes nothing.
+-- What readers do not look at: section_length, and bytes behind a command's last field. And the range of a section's refusals.
 use Prim.Native.Nat.{ℕ, _+_, _*_, _≤_}
 use mathlib.Core.Bool.{Bool, true, false}
 use mathlib.Core.List.{List, _∷_, _++_}
@@ -13,7 +13,7 @@ use Rattle.command.specs.declared.CommandRead.{CommandRead}
 use Rattle.command.specs.declared.SpliceCommand.{SpliceCommand}
 use Rattle.command.specs.declared.insert.SpliceMode.{SpliceMode}
 use Rattle.crc.specs.Crc.{crcOf}
-use Rattle.header.specs.Time.{spliceTime}
+use Rattle.splice_time.specs.Time.{spliceTime}
 use Rattle.section.specs.Section.{commandLength, commandType, commandBytes, roomAfter, loopLength, loopPlace, frameIn, frameOf, sectionOf, numberOf}
 use Rattle.section.specs.declared.Refusal.{Refusal}
 use Rattle.section.specs.declared.SectionRead.{SectionRead}
@@ -52,8 +52,8 @@ module _ (c a b d e : ℕ) (rest : List ℕ) where
 pub eleven : (r : SectionRead) → numberOf r ≤ 11
 unfolding numberOf
 eleven (SectionRead.Is x) = omega arith
-eleven (SectionRead.Refused Refusal.TooShort) = omega arith
-eleven (SectionRead.Refused Refusal.TooLong) = omega arith
+eleven (SectionRead.Refused Refusal.SectionTooShort) = omega arith
+eleven (SectionRead.Refused Refusal.InputTooLong) = omega arith
 eleven (SectionRead.Refused Refusal.OtherTable) = omega arith
 eleven (SectionRead.Refused Refusal.WrongCrc) = omega arith
 eleven (SectionRead.Refused Refusal.NoHeader) = omega arith

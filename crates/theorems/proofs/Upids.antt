@@ -1,4 +1,4 @@
--- The UPID of a segmentation descriptor that is read, and the one that is written in its payload. Assumes nothing.
+-- The UPID of a segmentation descriptor that is read, and the one that is written in its payload.
 --     sources          each UPID of a reading has one that is written, which was checked
 use Prim.Native.Nat.{ℕ}
 use mathlib.Core.Bool.{Bool, true, false}
@@ -23,7 +23,7 @@ use Rattle.descriptor.specs.Whole.{besideIn, besideOf}
 use Rattle.descriptor.specs.declared.DescriptorRead.{DescriptorRead}
 use Rattle.descriptor.specs.declared.segmentation.SegmentationDetail.{SegmentationDetail}
 use Rattle.descriptor.specs.declared.segmentation.SegmentationUpid.{SegmentationUpid}
-use Rattle.items.specs.declared.Item.{Item}
+use Rattle.descriptor_loop.specs.declared.Item.{Item}
 use Rattle.theorems.specs.Identifiers.{upidStart, upidsOf}
 
 -- ---- each UPID of a reading

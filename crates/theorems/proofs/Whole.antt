@@ -1,4 +1,4 @@
--- The identifiers of an accepted section are whole. Assumes nothing.
+-- The identifiers of an accepted section are whole.
 --     whole-at         of the item that is read at any offset of its loop
 --     whole-items      of each item of the loop
 --     whole-command    of its command
@@ -15,7 +15,7 @@ use Rattle.command.specs.Insert.{insert}
 use Rattle.command.specs.declared.CommandRead.{CommandRead}
 use Rattle.command.specs.declared.Private.{Private}
 use Rattle.command.specs.declared.SpliceCommand.{SpliceCommand}
-use Rattle.header.specs.Time.{spliceTime}
+use Rattle.splice_time.specs.Time.{spliceTime}
 use Rattle.table.proofs.Steps.{reads-number, reads-part, takes-remaining}
 use Rattle.table.proofs.Lists.{zero-one}
 use Rattle.table.specs.Bits.{pick, bitsOf, field, AllBytes}
@@ -37,18 +37,18 @@ use Rattle.descriptor.specs.declared.segmentation.SegmentationDescriptor.{Segme
 use Rattle.descriptor.specs.declared.segmentation.SegmentationDetail.{SegmentationDetail}
 use Rattle.descriptor.specs.declared.segmentation.SegmentationInsert.{SegmentationInsert}
 use Rattle.descriptor.specs.declared.segmentation.SegmentationUpid.{SegmentationUpid}
-use Rattle.descriptor_laws.proofs.Reported.{check-none, reports, mid-is-written, eidr-is-written}
-use Rattle.items.proofs.Lists.{walked}
-use Rattle.items.proofs.Places.{all-first}
-use Rattle.items.proofs.Steps.{Stands, Clause, long, ended, last, small, entire, clause}
-use Rattle.items.specs.Items.{itemAt, readAt, wholeAt, stepOf, besideItem, readingOf, Listed, listed, itemsOf}
-use Rattle.items.specs.Place.{viewsOf, movedUpid}
-use Rattle.items.specs.Walk.{movedDetail}
-use Rattle.items.specs.declared.Item.{Item}
-use Rattle.items.specs.declared.ItemRefusal.{ItemRefusal}
-use Rattle.items.specs.declared.Step.{Step}
-use Rattle.items.specs.declared.reading.Reading.{Reading}
-use Rattle.loop_laws.proofs.Places.{kind-stays}
+use Rattle.descriptor_round_trips.proofs.Reported.{check-none, reports, mid-is-written, eidr-is-written}
+use Rattle.descriptor_loop.proofs.Lists.{walked}
+use Rattle.descriptor_loop.proofs.Places.{all-first}
+use Rattle.descriptor_loop.proofs.Steps.{Stands, Clause, long, ended, last, small, entire, clause}
+use Rattle.descriptor_loop.specs.Items.{itemAt, readAt, wholeAt, stepOf, besideItem, readingOf, Listed, listed, itemsOf}
+use Rattle.descriptor_loop.specs.Place.{viewsOf, movedUpid}
+use Rattle.descriptor_loop.specs.Private.{movedDetail}
+use Rattle.descriptor_loop.specs.declared.Item.{Item}
+use Rattle.descriptor_loop.specs.declared.ItemRefusal.{ItemRefusal}
+use Rattle.descriptor_loop.specs.declared.Step.{Step}
+use Rattle.descriptor_loop.specs.declared.reading.Reading.{Reading}
+use Rattle.loop_round_trips.proofs.Places.{kind-stays}
 use Rattle.section.specs.Section.{commandLength, commandBytes, moved, sectionOf}
 use Rattle.section.specs.declared.Section.{Section}
 use Rattle.section.specs.declared.SectionRead.{SectionRead}
@@ -226,11 +226,11 @@ module _ (s : List ℕ) (i : Identifier) (r : OneRun s i) (offset L : ℕ) (st :
       }
 
   refusal-whole : (q : Refusal) → SaysRefusal payload q → WholeRefusal s (i .start + offset + 6) (i .start) (i .bytes) (ItemRefusal.Other (movedRefusal (offset + 6) q))
-  refusal-whole Refusal.TooLong t = tt
-  refusal-whole (Refusal.Short expected actual) t = tt
-  refusal-whole Refusal.Mismatch t = tt
-  refusal-whole (Refusal.NotText k v) t = text-whole k v t
-  refusal-whole (Refusal.WrongLength k expected actual) t = tt
+  refusal-whole Refusal.InputTooLong t = tt
+  refusal-whole (Refusal.NotEnoughData expected actual) t = tt
+  refusal-whole Refusal.UpidLengthTypeMismatch t = tt
+  refusal-whole (Refusal.InvalidUpidContent k v) t = text-whole k v t
+  refusal-whole (Refusal.InvalidUpidLength k expected actual) t = tt
 
   -- ---- whatever is read of it
 
@@ -289,11 +289,11 @@ module _ (s : List ℕ) (i : Identifier) (r : OneRun s i) (offset L : ℕ) (st :
 -- a refusal without a view
 no-text : (s : List ℕ) (p base : ℕ) (loop : List ℕ) (q : ItemRefusal) → viewsOf (Item.Refused q) ≡ [] → WholeRefusal s p base loop q
 no-text s p base loop ItemRefusal.InvalidDescriptorLength e = tt
-no-text s p base loop (ItemRefusal.Other Refusal.TooLong) e = tt
-no-text s p base loop (ItemRefusal.Other (Refusal.Short expected actual)) e = tt
-no-text s p base loop (ItemRefusal.Other Refusal.Mismatch) e = tt
-no-text s p base loop (ItemRefusal.Other (Refusal.NotText kind v)) e = zero-one cc
-no-text s p base loop (ItemRefusal.Other (Refusal.WrongLength kind expected actual)) e = tt
+no-text s p base loop (ItemRefusal.Other Refusal.InputTooLong) e = tt
+no-text s p base loop (ItemRefusal.Other (Refusal.NotEnoughData expected actual)) e = tt
+no-text s p base loop (ItemRefusal.Other Refusal.UpidLengthTypeMismatch) e = tt
+no-text s p base loop (ItemRefusal.Other (Refusal.InvalidUpidContent kind v)) e = zero-one cc
+no-text s p base loop (ItemRefusal.Other (Refusal.InvalidUpidLength kind expected actual)) e = tt
 
 module _ (s : List ℕ) (a : AllBytes s) (i : Identifier) (r : OneRun s i) where
   loop-bytes : AllBytes (i .bytes)

@@ -1,4 +1,4 @@
--- Where the UPID of a segmentation descriptor is written: by whole bytes, behind the fields before it. Assumes nothing.
+-- Where the UPID of a segmentation descriptor is written: by whole bytes, behind the fields before it.
 --     front-told       its type, its length and its bytes
 use Prim.Native.Nat.{ℕ, zero, suc, _+_, _*_, _/_, _%_, _^_, _≤_, _<_}
 use mathlib.Core.Bool.{Bool, true, false}

@@ -1,4 +1,4 @@
--- What a descriptor's payload says of its identifiers, in its own bytes. Assumes nothing.
+-- What a descriptor's payload says of its identifiers, in its own bytes.
 --     payload-says     of whatever is read of it
 use Prim.Native.Nat.{ℕ, zero, suc, _+_, _*_, _-_, _/_, _%_, _^_, _≤_, _<_}
 use mathlib.Core.Bool.{Bool, true, false}
@@ -17,7 +17,7 @@ use Rattle.table.specs.declared.View.{View}
 use Rattle.upid.specs.Upid as upid
 use Rattle.upid.specs.Upid.{checkOf}
 use Rattle.upid.specs.declared.Refusal.{Refusal}
-use Rattle.upid.specs.declared.Refusal.the-variants.{TooLong, Short, Mismatch, NotText, WrongLength}
+use Rattle.upid.specs.declared.Refusal.the-variants.{InputTooLong, NotEnoughData, UpidLengthTypeMismatch, InvalidUpidContent, InvalidUpidLength}
 use Rattle.upid.specs.declared.UpidRead.{UpidRead}
 use Rattle.upid.specs.declared.UpidRead.the-variants.{Fine, Refused}
 use Rattle.descriptor.proofs.Plains.{reserved-is}
@@ -53,11 +53,11 @@ SaysDetail s SegmentationDetail.Cancel = (5 ≤ length s) × (getD s 4 0 / 128 %
 SaysDetail s (SegmentationDetail.Insert i) = Told s i
 
 abbrev pub SaysRefusal : List ℕ → Refusal → Type 0
-SaysRefusal s TooLong = Unit {0}
-SaysRefusal s (Short expected actual) = Unit {0}
-SaysRefusal s Mismatch = Unit {0}
-SaysRefusal s (NotText kind v) = Headed s 0 kind v
-SaysRefusal s (WrongLength kind expected actual) = Unit {0}
+SaysRefusal s InputTooLong = Unit {0}
+SaysRefusal s (NotEnoughData expected actual) = Unit {0}
+SaysRefusal s UpidLengthTypeMismatch = Unit {0}
+SaysRefusal s (InvalidUpidContent kind v) = Headed s 0 kind v
+SaysRefusal s (InvalidUpidLength kind expected actual) = Unit {0}
 
 abbrev pub Says : List ℕ → DescriptorRead → Type 0
 Says s (DescriptorRead.Is (Descriptor.Avail x)) = Unit {0}
@@ -100,10 +100,10 @@ module _ (s : List ℕ) (bytes : (k : ℕ) → getD s k 0 < 256) where
         ∙ ap (λ (i : ℕ). getD s i 0) (let z : q + 2 + j ≡ q + suc (suc j) = omega arith in z)
 
     refused-upid : (r : Refusal) → checkOf (getD s q 0) its ≡ Refused r → SaysRefusal s (movedRefusal (q + 2) r)
-    refused-upid TooLong e = tt
-    refused-upid (Short expected actual) e = tt
-    refused-upid Mismatch e = tt
-    refused-upid (NotText k v) e =
+    refused-upid InputTooLong e = tt
+    refused-upid (NotEnoughData expected actual) e = tt
+    refused-upid UpidLengthTypeMismatch e = tt
+    refused-upid (InvalidUpidContent k v) e =
         let h = text-headed (getD s q 0) its k v e in
         record {
           behind = omega arith;
@@ -115,7 +115,7 @@ module _ (s : List ℕ) (bytes : (k : ℕ) → getD s k 0 < 256) where
               ∙ ap (λ (i : ℕ). getD s i 0) (let z : q + (2 + v .at - 0 - 1) ≡ q + 2 + v .at - 0 - 1 = omega arith in z);
           inside = omega (arith, h .inside, its-length);
         }
-    refused-upid (WrongLength k expected actual) e = tt
+    refused-upid (InvalidUpidLength k expected actual) e = tt
 
   -- ---- a segmentation descriptor
 

@@ -1,4 +1,4 @@
--- The text of refusal 24: it stands behind its own head, its type and its length, also where it is a part of a MID, at any level. Assumes nothing.
+-- The text of refusal 24: it stands behind its own head, its type and its length, also where it is a part of a MID, at any level.
 --     text-headed      of a UPID with its head before it
 use Prim.Native.Nat.{ℕ, zero, suc, _+_, _-_, _≤_, _<_}
 use mathlib.Core.Bool.{Bool, true, false, cond, not, _&&_}
@@ -14,7 +14,7 @@ use Rattle.table.specs.declared.View.{View}
 use Rattle.upid.specs.Text.{textOf}
 use Rattle.upid.specs.Upid.{checkOf, readOf, walkOf, plainOf, _then_, lengthOf, isText, reportedOf}
 use Rattle.upid.specs.declared.Refusal.{Refusal}
-use Rattle.upid.specs.declared.Refusal.the-variants.{TooLong, Short, Mismatch, NotText, WrongLength}
+use Rattle.upid.specs.declared.Refusal.the-variants.{InputTooLong, NotEnoughData, UpidLengthTypeMismatch, InvalidUpidContent, InvalidUpidLength}
 use Rattle.upid.specs.declared.UpidRead.{UpidRead}
 use Rattle.upid.specs.declared.UpidRead.the-variants.{Fine, Refused}
 
@@ -26,13 +26,13 @@ pub record Headed (bytes : List ℕ) (start q : ℕ) (v : View) : Type 0 where
   pub inside : v .at + v .len ≤ start + length bytes
 
 -- a payload of its own is refused as a whole
-plain-text : (k start : ℕ) (bytes : List ℕ) (q : ℕ) (v : View) → plainOf k start bytes ≡ Refused (NotText q v) → (q ≡ k) × (v ≡ record { at = start; len = length bytes })
+plain-text : (k start : ℕ) (bytes : List ℕ) (q : ℕ) (v : View) → plainOf k start bytes ≡ Refused (InvalidUpidContent q v) → (q ≡ k) × (v ≡ record { at = start; len = length bytes })
 unfolding plainOf
 plain-text k start bytes q v e = go (eqb k 0) (eqb (lengthOf k) 0) (eqb (length bytes) (lengthOf k)) (isText k && not (textOf bytes)) e
   where
     go : (a b c d : Bool)
-        → cond a (Refused Mismatch) (cond b (Fine (reportedOf k)) (cond (not c) (Refused (WrongLength k (lengthOf k) (length bytes)))
-        (cond d (Refused (NotText k (record { at = start; len = length bytes }))) (Fine (reportedOf k))))) ≡ Refused (NotText q v)
+        → cond a (Refused UpidLengthTypeMismatch) (cond b (Fine (reportedOf k)) (cond (not c) (Refused (InvalidUpidLength k (lengthOf k) (length bytes)))
+        (cond d (Refused (InvalidUpidContent k (record { at = start; len = length bytes }))) (Fine (reportedOf k))))) ≡ Refused (InvalidUpidContent q v)
         → (q ≡ k) × (v ≡ record { at = start; len = length bytes })
     go true b c d h = zero-one cc
     go false true c d h = zero-one cc
@@ -95,7 +95,7 @@ unfolding _then_
 then-refused (Fine k) b r e f g = g e
 then-refused (Refused x) b r e f g = f e
 
-walk-text : (n start : ℕ) (bytes : List ℕ) (q : ℕ) (v : View) → walkOf n start bytes ≡ Refused (NotText q v) → Headed bytes start q v
+walk-text : (n start : ℕ) (bytes : List ℕ) (q : ℕ) (v : View) → walkOf n start bytes ≡ Refused (InvalidUpidContent q v) → Headed bytes start q v
 unfolding walkOf
 walk-text zero start bytes q v e = zero-one cc
 walk-text (suc n) start [] q v e = zero-one cc
@@ -103,15 +103,15 @@ walk-text (suc n) start (k ∷ []) q v e = zero-one cc
 walk-text (suc n) start (k ∷ (l ∷ rest)) q v e =
     go (ltb (length rest) l) refl (walk-text n (start + 2) (take l rest) q v) (walk-text n (start + (2 + l)) (drop l rest) q v) e
   where
-    kinds : (t : Bool) → l ≤ length rest → (walkOf n (start + 2) (take l rest) ≡ Refused (NotText q v) → Headed (take l rest) (start + 2) q v)
-        → cond t (walkOf n (start + 2) (take l rest)) (plainOf k (start + 2) (take l rest)) ≡ Refused (NotText q v) → Headed (k ∷ (l ∷ rest)) start q v
+    kinds : (t : Bool) → l ≤ length rest → (walkOf n (start + 2) (take l rest) ≡ Refused (InvalidUpidContent q v) → Headed (take l rest) (start + 2) q v)
+        → cond t (walkOf n (start + 2) (take l rest)) (plainOf k (start + 2) (take l rest)) ≡ Refused (InvalidUpidContent q v) → Headed (k ∷ (l ∷ rest)) start q v
     kinds true fits f h = inner start k l rest fits q v (f h)
     kinds false fits f h = first start k l rest fits q v (plain-text k (start + 2) (take l rest) q v h)
 
-    go : (t : Bool) → ltb (length rest) l ≡ t → (walkOf n (start + 2) (take l rest) ≡ Refused (NotText q v) → Headed (take l rest) (start + 2) q v)
-        → (walkOf n (start + (2 + l)) (drop l rest) ≡ Refused (NotText q v) → Headed (drop l rest) (start + (2 + l)) q v)
-        → cond t (Refused (Short l (length rest)))
-        (cond (eqb k 13) (walkOf n (start + 2) (take l rest)) (plainOf k (start + 2) (take l rest)) then walkOf n (start + (2 + l)) (drop l rest)) ≡ Refused (NotText q v)
+    go : (t : Bool) → ltb (length rest) l ≡ t → (walkOf n (start + 2) (take l rest) ≡ Refused (InvalidUpidContent q v) → Headed (take l rest) (start + 2) q v)
+        → (walkOf n (start + (2 + l)) (drop l rest) ≡ Refused (InvalidUpidContent q v) → Headed (drop l rest) (start + (2 + l)) q v)
+        → cond t (Refused (NotEnoughData l (length rest)))
+        (cond (eqb k 13) (walkOf n (start + 2) (take l rest)) (plainOf k (start + 2) (take l rest)) then walkOf n (start + (2 + l)) (drop l rest)) ≡ Refused (InvalidUpidContent q v)
         → Headed (k ∷ (l ∷ rest)) start q v
     go true t f g h = zero-one cc
     go false t f g h =
@@ -119,11 +119,11 @@ walk-text (suc n) start (k ∷ (l ∷ rest)) q v e =
         then-refused _ _ _ h (kinds (eqb k 13) fits f) (λ z. after start k l rest fits q v (g z))
 
 -- of a UPID with its own head, two bytes that stand before its bytes
-pub text-headed : (k : ℕ) (bytes : List ℕ) (q : ℕ) (v : View) → checkOf k bytes ≡ Refused (NotText q v) → Headed (k ∷ (length bytes ∷ bytes)) 0 q (record { at = 2 + v .at; len = v .len })
+pub text-headed : (k : ℕ) (bytes : List ℕ) (q : ℕ) (v : View) → checkOf k bytes ≡ Refused (InvalidUpidContent q v) → Headed (k ∷ (length bytes ∷ bytes)) 0 q (record { at = 2 + v .at; len = v .len })
 unfolding checkOf readOf
 text-headed k bytes q v e = go (ltb 255 (length bytes)) (eqb (length bytes) 0) (eqb k 13) e
   where
-    go : (t u w : Bool) → cond t (Refused TooLong) (cond u (Fine 0) (cond w (walkOf (length bytes) 0 bytes) (plainOf k 0 bytes))) ≡ Refused (NotText q v)
+    go : (t u w : Bool) → cond t (Refused InputTooLong) (cond u (Fine 0) (cond w (walkOf (length bytes) 0 bytes) (plainOf k 0 bytes))) ≡ Refused (InvalidUpidContent q v)
         → Headed (k ∷ (length bytes ∷ bytes)) 0 q (record { at = 2 + v .at; len = v .len })
     go true u w h = zero-one cc
     go false true w h = zero-one cc

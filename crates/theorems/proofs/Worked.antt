@@ -1,4 +1,4 @@
--- Sections that are worked out. Assumes nothing.
+-- Sections that are worked out.
 use Prim.Native.Nat.{ℕ, _+_, _-_, _≤_}
 use mathlib.Core.Bool.{Bool, true, false, _&&_}
 use mathlib.Core.List.{List, [], _∷_}
@@ -7,7 +7,7 @@ use native.Mathlib.Omega.{arith}
 use lib.Dec.{ltb, eqb}
 use lib.ListN.{length, getD}
 use borrow.Author.Tests.{ltb-true, lt-ltb, le-ltb, eq-eqb}
-use Rattle.canonical_command.specs.Canonical.{canonicalCommand}
+use Rattle.command_canonical.specs.Canonical.{canonicalCommand}
 use Rattle.command.specs.Command as command
 use Rattle.command.specs.Command.{commandOf}
 use Rattle.command.specs.declared.CommandRead.{CommandRead}
@@ -15,11 +15,11 @@ use Rattle.command.specs.declared.SpliceCommand.{SpliceCommand}
 use Rattle.crc.specs.Crc.{crcOf, crcBits, crcBit}
 use Rattle.descriptor.specs.Descriptor.{descriptorOf, isCuei, segmentationOf, insertOf, inserted}
 use Rattle.descriptor.specs.Segmentation.{deliveryRestrictions, mode, duration, writtenUpid, parts, front, subSegments, back, head, segmentation}
-use Rattle.descriptor_form.specs.Canonical.{canonicalUpid, canonicalSegmentation, canonicalPayload, canonicalDescriptor, canonicalFrom, canonicalLoop}
+use Rattle.descriptor_measure.specs.Canonical.{canonicalUpid, canonicalSegmentation, canonicalPayload, canonicalDescriptor, canonicalFrom, canonicalLoop}
 use Rattle.header.specs.Header.{headerOf, headerRead, spliceHeader}
-use Rattle.header.specs.Time.{spliceTime}
-use Rattle.header.specs.declared.time.SpliceTime.{SpliceTime}
-use Rattle.items.specs.Items.{readAt, wholeAt, stepOf, itemsFrom, itemsOf}
+use Rattle.splice_time.specs.Time.{spliceTime}
+use Rattle.splice_time.specs.declared.SpliceTime.{SpliceTime}
+use Rattle.descriptor_loop.specs.Items.{readAt, wholeAt, stepOf, itemsFrom, itemsOf}
 use Rattle.names.specs.Algorithm.{algorithmOf}
 use Rattle.names.specs.Command as names
 use Rattle.section.proofs.Acceptance.{refusals-in-order, accepted-if-none}

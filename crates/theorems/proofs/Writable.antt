@@ -1,4 +1,4 @@
--- Whatever is read of a loop's item can be written, canonical or not. Assumes nothing.
+-- Whatever is read of a loop's item can be written, canonical or not.
 --     can-be-written    at any offset of any loop
 use Prim.Native.Nat.{ℕ, _+_, _-_, _≤_}
 use mathlib.Core.List.{List}
@@ -14,18 +14,18 @@ use Rattle.descriptor.specs.declared.Descriptor.{Descriptor}
 use Rattle.descriptor.specs.declared.Descriptor.the-variants.{Avail, Dtmf, Segmentation, Time, Reserved}
 use Rattle.descriptor.specs.declared.DescriptorRead.{DescriptorRead}
 use Rattle.descriptor.specs.declared.whole.Beside.{Beside}
-use Rattle.descriptor_form.specs.Same.{countBeside}
-use Rattle.descriptor_form.specs.Writing.{descriptorMade}
-use Rattle.descriptor_laws.proofs.Alike.{SameView, alike-made, made-told}
-use Rattle.descriptor_laws.proofs.Theorems.{descriptor-write-read}
-use Rattle.descriptor_laws.specs.Making.{viewIn}
-use Rattle.descriptor_laws.specs.Trips.{Handed}
-use Rattle.items.proofs.Steps.{Stands, Clause, long, ended, last, small, entire, clause}
-use Rattle.items.specs.Items.{itemAt, readAt, wholeAt, stepOf, besideItem, readingOf}
-use Rattle.items.specs.Place.{movedDescriptor}
-use Rattle.items.specs.declared.Item.{Item}
-use Rattle.items.specs.declared.Step.{Step}
-use Rattle.loop_laws.proofs.Places.{moved-values, moved-count, moved-view}
+use Rattle.descriptor_measure.specs.Same.{countBeside}
+use Rattle.descriptor_measure.specs.Writing.{descriptorMade}
+use Rattle.descriptor_round_trips.proofs.Alike.{SameView, alike-made, made-told}
+use Rattle.descriptor_round_trips.proofs.Theorems.{descriptor-write-read}
+use Rattle.descriptor_round_trips.specs.Making.{viewIn}
+use Rattle.descriptor_round_trips.specs.Trips.{Handed}
+use Rattle.descriptor_loop.proofs.Steps.{Stands, Clause, long, ended, last, small, entire, clause}
+use Rattle.descriptor_loop.specs.Items.{itemAt, readAt, wholeAt, stepOf, besideItem, readingOf}
+use Rattle.descriptor_loop.specs.Place.{movedDescriptor}
+use Rattle.descriptor_loop.specs.declared.Item.{Item}
+use Rattle.descriptor_loop.specs.declared.Step.{Step}
+use Rattle.loop_round_trips.proofs.Places.{moved-values, moved-count, moved-view}
 use Rattle.section.specs.Section.{sectionOf}
 use Rattle.section.specs.declared.Section.{Section}
 use Rattle.section.specs.declared.SectionRead.{SectionRead}

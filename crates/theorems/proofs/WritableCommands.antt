@@ -1,4 +1,4 @@
--- What is read of a command that is no insert can be written. Assumes nothing.
+-- What is read of a command that is no insert can be written.
 use Prim.Native.Nat.{ℕ, _+_, _-_, _*_, _^_, _≤_, _<_}
 use mathlib.Core.Bool.{Bool, true, false}
 use mathlib.Core.List.{List, [], _∷_}
@@ -14,10 +14,10 @@ use Rattle.command.specs.declared.Private.{Private}
 use Rattle.command.specs.declared.SpliceCommand.{SpliceCommand}
 use Rattle.command.specs.declared.components.ComponentSplice.{ComponentSplice}
 use Rattle.command_measure.specs.Made.{commandMade}
-use Rattle.descriptor_laws.specs.Making.{fit}
-use Rattle.header.specs.Time.{spliceTime, ticks, notImmediate}
-use Rattle.header.specs.declared.time.SpliceTime.{SpliceTime}
-use Rattle.header.specs.declared.time.SpliceTime.the-variants.{Immediate, Unspecified, At}
+use Rattle.descriptor_round_trips.specs.Making.{fit}
+use Rattle.splice_time.specs.Time.{spliceTime, ticks, notImmediate}
+use Rattle.splice_time.specs.declared.SpliceTime.{SpliceTime}
+use Rattle.splice_time.specs.declared.SpliceTime.the-variants.{Immediate, Unspecified, At}
 use Rattle.section.specs.Section.{commandType, commandBytes, moved, privateView, sectionOf}
 use Rattle.section.specs.declared.Section.{Section}
 use Rattle.section.specs.declared.SectionRead.{SectionRead}

@@ -1,5 +1,5 @@
 -- What is read of the fields of a segmentation descriptor can be written: each number is within its field, and each flag agrees with its part. The bytes need not be
--- canonical: reserved bits are any, and bytes may be left over. Assumes nothing.
+-- canonical: reserved bits are any, and bytes may be left over.
 --     front-kept, back-kept
 use Prim.Native.Nat.{ℕ, zero, suc, _+_, _*_, _-_, _/_, _^_, _≤_, _<_}
 use mathlib.Core.Bool.{Bool, true, false, not, _&&_}
@@ -49,7 +49,7 @@ use Rattle.descriptor.specs.declared.segmentation.SegmentationDuration.{Segment
 use Rattle.descriptor.specs.declared.segmentation.SegmentationMode.{SegmentationMode}
 use Rattle.descriptor.specs.declared.segmentation.SegmentationUpid.{SegmentationUpid}
 use Rattle.descriptor.specs.declared.segmentation.SubSegments.{SubSegments}
-use Rattle.descriptor_laws.specs.Making.{fit, componentNumbers}
+use Rattle.descriptor_round_trips.specs.Making.{fit, componentNumbers}
 use Rattle.theorems.proofs.WholeFields.{mode-ends, duration-ends, delivery-ends, place}
 
 module _ (s : List ℕ) where

@@ -1,4 +1,4 @@
--- What is read of an insert can be written, if its reserved bits are 127. Assumes nothing.
+-- What is read of an insert can be written, if its reserved bits are 127.
 --     insert-kept       what was read of an insert: its numbers are within their fields, its components are all immediate or all timed
 --     insert-written    so it is written
 use Prim.Native.Nat.{ℕ, zero, suc, _+_, _-_, _^_, _≤_, _<_}
@@ -23,11 +23,11 @@ use Rattle.command.specs.declared.insert.Insertion.{Insertion}
 use Rattle.command.specs.declared.insert.SpliceInsert.{SpliceInsert}
 use Rattle.command.specs.declared.insert.SpliceMode.{SpliceMode}
 use Rattle.command_measure.specs.Made.{counted, commandMade}
-use Rattle.descriptor_laws.specs.Making.{fit}
-use Rattle.flat_writer.proofs.Arrays.{array-take}
-use Rattle.header.specs.Time.{spliceTime, ticks, immediate}
-use Rattle.header.specs.declared.time.SpliceTime.{SpliceTime}
-use Rattle.header.specs.declared.time.SpliceTime.the-variants.{Immediate}
+use Rattle.descriptor_round_trips.specs.Making.{fit}
+use Rattle.c_command_writer.proofs.Arrays.{array-take}
+use Rattle.splice_time.specs.Time.{spliceTime, ticks, immediate}
+use Rattle.splice_time.specs.declared.SpliceTime.{SpliceTime}
+use Rattle.splice_time.specs.declared.SpliceTime.the-variants.{Immediate}
 use Rattle.section.specs.Section.{commandType, commandBytes, moved, sectionOf}
 use Rattle.section.specs.declared.Section.{Section}
 use Rattle.section.specs.declared.SectionRead.{SectionRead}

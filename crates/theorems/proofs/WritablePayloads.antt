@@ -1,4 +1,4 @@
--- Whatever is read of a descriptor's payload is written. The payload need not be canonical. Assumes nothing.
+-- Whatever is read of a descriptor's payload is written. The payload need not be canonical.
 --     ready          what is read of a payload is within its fields and fair
 --     is-written     so something is made of it
 use Prim.Native.Nat.{ℕ, _+_, _*_, _-_, _/_, _^_, _≤_, _<_}
@@ -40,16 +40,16 @@ use Rattle.descriptor.specs.declared.segmentation.SegmentationDetail.{Segmentat
 use Rattle.descriptor.specs.declared.segmentation.SegmentationInsert.{SegmentationInsert}
 use Rattle.descriptor.specs.declared.segmentation.SegmentationUpid.{SegmentationUpid}
 use Rattle.descriptor.specs.declared.whole.Beside.{Beside}
-use Rattle.descriptor_form.proofs.Making.{made-size}
-use Rattle.descriptor_form.specs.Same.{countBeside}
-use Rattle.descriptor_form.specs.Walk.{payloadSize}
-use Rattle.descriptor_form.specs.Writing.{framed, framedMade, allZero, alone, fairReserved, fairUpid, writtenKind, fairSegment, segmentationMade, payloadMade, descriptorMade, tagOf, identifierOf, upidSource, written, upidIn}
-use Rattle.descriptor_laws.proofs.MadeSo.{what-is-made}
-use Rattle.descriptor_laws.proofs.Payloads.{written-if-read}
-use Rattle.descriptor_laws.proofs.Reported.{check-none}
-use Rattle.descriptor_laws.proofs.SegmentBack.{counted-again}
-use Rattle.descriptor_laws.specs.Making.{fit, componentNumbers, numbersOf, viewIn, DescriptorMakes, outside, over, nobodys, long, its}
-use Rattle.descriptor_laws.specs.Trips.{Handed}
+use Rattle.descriptor_measure.proofs.Making.{made-size}
+use Rattle.descriptor_measure.specs.Same.{countBeside}
+use Rattle.descriptor_measure.specs.Private.{payloadSize}
+use Rattle.descriptor_measure.specs.Writing.{framed, framedMade, allZero, alone, fairReserved, fairUpid, writtenKind, fairSegment, segmentationMade, payloadMade, descriptorMade, tagOf, identifierOf, upidSource, written, upidIn}
+use Rattle.descriptor_round_trips.proofs.MadeSo.{what-is-made}
+use Rattle.descriptor_round_trips.proofs.Payloads.{written-if-read}
+use Rattle.descriptor_round_trips.proofs.Reported.{check-none}
+use Rattle.descriptor_round_trips.proofs.SegmentBack.{counted-again}
+use Rattle.descriptor_round_trips.specs.Making.{fit, componentNumbers, numbersOf, viewIn, DescriptorMakes, outside, over, nobodys, long, its}
+use Rattle.descriptor_round_trips.specs.Trips.{Handed}
 use Rattle.section_writer.proofs.Numbers.{byte-in, bytes-take, bytes-drop}
 use Rattle.theorems.proofs.ItemsWritten.{all-viewed}
 use Rattle.theorems.proofs.WholeFields.{head-ends, place, Placed, front-told, upidIn as upidThere}

@@ -1,4 +1,4 @@
--- What is read of a section can be written around any canonical loop that fits. Assumes nothing.
+-- What is read of a section can be written around any canonical loop that fits.
 use Prim.Native.Nat.{ℕ, _+_, _^_, _≤_, _<_}
 use mathlib.Core.Bool.{Bool, true, false, not, _&&_}
 use mathlib.Core.List.{List, [], _∷_}
@@ -11,11 +11,11 @@ use Rattle.command.specs.Command.{componentsOf}
 use Rattle.command.specs.declared.SpliceCommand.{SpliceCommand}
 use Rattle.command.specs.declared.insert.Insertion.{Insertion}
 use Rattle.command_measure.specs.Made.{commandMade}
-use Rattle.descriptor_form.specs.Canonical.{canonicalLoop}
+use Rattle.descriptor_measure.specs.Canonical.{canonicalLoop}
 use Rattle.header.specs.declared.header.SpliceInfoHeader.{SpliceInfoHeader}
 use Rattle.names.proofs.Algorithms.{algorithm-laws}
 use Rattle.names.specs.Algorithm.{algorithmNumber, algorithmOf, fairAlgorithm}
-use Rattle.pen.specs.Written.{bytesIn}
+use Rattle.bit_stores.specs.Written.{bytesIn}
 use Rattle.section.specs.Section.{commandBytes, sectionOf}
 use Rattle.section.specs.declared.Section.{Section}
 use Rattle.section.specs.declared.SectionRead.{SectionRead}

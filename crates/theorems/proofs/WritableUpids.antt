@@ -1,4 +1,4 @@
--- A UPID that is accepted, as it is reported, is one that a writer takes. Assumes nothing.
+-- A UPID that is accepted, as it is reported, is one that a writer takes.
 use Prim.Native.Nat.{ℕ, zero, suc, _+_, _≤_, _<_}
 use mathlib.Core.Bool.{Bool, true, false, not, cond, _&&_}
 use mathlib.Core.List.{List, [], _∷_}
@@ -16,8 +16,8 @@ use Rattle.upid.specs.declared.UpidRead.the-variants.{Fine}
 use Rattle.descriptor.specs.Descriptor.{reportedUpid}
 use Rattle.descriptor.specs.Segmentation.{agrees}
 use Rattle.descriptor.specs.declared.segmentation.SegmentationUpid.{SegmentationUpid}
-use Rattle.descriptor_form.specs.Writing.{allZero, accepts, fairUpid, writtenKind, writtenUpid}
-use Rattle.descriptor_laws.proofs.Reported.{check-none, reports, eidr-is-written}
+use Rattle.descriptor_measure.specs.Writing.{allZero, accepts, fairUpid, writtenKind, writtenUpid}
+use Rattle.descriptor_round_trips.proofs.Reported.{check-none, reports, eidr-is-written}
 use Rattle.theorems.proofs.Runs.{viewed-is, length-viewed}
 
 pub zeros-all : (n : ℕ) → allZero (replicate n 0) ≡ true

@@ -8,7 +8,7 @@ use lib.Dec.{leb, eqb}
 use lib.ListN.{length, replicate, take, drop, length-take, length-drop}
 use lib.Seq.{take-at, length-take-le}
 use borrow.Author.Tests.{eqb-true, le-leb, leb-true}
-use Rattle.canonical_command.specs.Canonical.{canonicalCommand}
+use Rattle.command_canonical.specs.Canonical.{canonicalCommand}
 use Rattle.command.proofs.InsertLeads.{Counted}
 use Rattle.command.specs.Command.{private, read, empty, commandOf, countIn, array, componentsOf}
 use Rattle.command.specs.Insert.{WithComponents, insert, blank, count, insertOf}
@@ -18,9 +18,9 @@ use Rattle.command.specs.declared.components.ComponentSplice.{ComponentSplice}
 use Rattle.command.specs.declared.insert.Insertion.{Insertion}
 use Rattle.command_measure.specs.Made.{counted, insertMade, commandMade}
 use Rattle.command_writer.proofs.Theorems.{insert-trip, time-back, private-back, insert-back}
-use Rattle.header.specs.Time.{spliceTime}
+use Rattle.splice_time.specs.Time.{spliceTime}
 use Rattle.header.specs.declared.header.SpliceInfoHeader.{SpliceInfoHeader}
-use Rattle.loop_laws.proofs.Places.{run-of-run}
+use Rattle.loop_round_trips.proofs.Places.{run-of-run}
 use Rattle.section.specs.Section.{commandLength, commandType, commandBytes, moved, sectionOf}
 use Rattle.section.specs.declared.Section.{Section}
 use Rattle.section.specs.declared.SectionRead.{SectionRead}

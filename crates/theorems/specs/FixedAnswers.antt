@@ -1,5 +1,5 @@
 -- What it means that a contract fixes the answer. Document 01, "Fixed answers": "Every public function's contract determines the answer and the target's later
--- bytes on each input, refusals too; any pair of answers satisfying it is proved equal". These are definitions.
+-- bytes on each input, refusals too; any pair of answers satisfying it is proved equal".
 --
 -- `Asked` and `Learnt` of a function are its contract: what its `requires` asks of the arguments, and what its `ensures` says of the arguments, the answer
 -- and the parameters at exit. The checker makes both of the clauses in the source, and a caller's proof rests on them.

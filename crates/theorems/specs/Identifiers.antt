@@ -1,4 +1,4 @@
--- The identifiers of an accepted section, and what it means that each is one unbroken run of it. These are definitions.
+-- The identifiers of an accepted section, and what it means that each is one unbroken run of it.
 use Prim.Native.Nat.{ℕ, _+_, _-_, _≤_}
 use mathlib.Core.Bool.{cond}
 use mathlib.Core.List.{List, [], _∷_, _++_, map}
@@ -13,9 +13,9 @@ use Rattle.descriptor.specs.Whole.{ofSegmentation, ofReserved, besideOf}
 use Rattle.descriptor.specs.declared.Descriptor.{Descriptor}
 use Rattle.descriptor.specs.declared.segmentation.SegmentationDetail.{SegmentationDetail}
 use Rattle.descriptor.specs.declared.segmentation.SegmentationUpid.{SegmentationUpid}
-use Rattle.items.specs.Items.{Listed, itemsOf}
-use Rattle.items.specs.Place.{viewsOf}
-use Rattle.items.specs.declared.Item.{Item}
+use Rattle.descriptor_loop.specs.Items.{Listed, itemsOf}
+use Rattle.descriptor_loop.specs.Place.{viewsOf}
+use Rattle.descriptor_loop.specs.declared.Item.{Item}
 use Rattle.section.specs.declared.Section.{Section}
 use Rattle.table.specs.Bits.{bitsOf}
 use Rattle.table.specs.Lent.{viewed}

@@ -1,4 +1,4 @@
--- What it means that the list of a section's identifiers (Identifiers.antt) is complete: what a reader is handed of each item is in it. These are definitions.
+-- What it means that the list of a section's identifiers (Identifiers.antt) is complete: what a reader is handed of each item is in it.
 use Prim.Native.Nat.{ℕ, _+_}
 use mathlib.Core.List.{List, List·Memᴰ}
 use mathlib.Core.Path.{_≡_}
@@ -6,9 +6,9 @@ use Rattle.command.specs.declared.SpliceCommand.{SpliceCommand}
 use Rattle.descriptor.specs.declared.Descriptor.{Descriptor}
 use Rattle.descriptor.specs.declared.segmentation.SegmentationDetail.{SegmentationDetail}
 use Rattle.descriptor.specs.declared.segmentation.SegmentationUpid.{SegmentationUpid}
-use Rattle.items.specs.Items.{Listed}
-use Rattle.items.specs.declared.Item.{Item}
-use Rattle.items.specs.declared.ItemRefusal.{ItemRefusal}
+use Rattle.descriptor_loop.specs.Items.{Listed}
+use Rattle.descriptor_loop.specs.declared.Item.{Item}
+use Rattle.descriptor_loop.specs.declared.ItemRefusal.{ItemRefusal}
 use Rattle.table.specs.Lent.{viewed}
 use Rattle.upid.specs.Cover.{All}
 use Rattle.upid.specs.Upid.{partView}
@@ -30,11 +30,11 @@ ListsDetail ids base loop y (SegmentationDetail.Insert i) = ListsUpid ids base l
 abbrev pub ListsItem : List Identifier → ℕ → List ℕ → Listed → Item → Type 0
 ListsItem ids base loop y Item.End = Unit {0}
 ListsItem ids base loop y (Item.Refused ItemRefusal.InvalidDescriptorLength) = Unit {0}
-ListsItem ids base loop y (Item.Refused (ItemRefusal.Other Refusal.TooLong)) = Unit {0}
-ListsItem ids base loop y (Item.Refused (ItemRefusal.Other (Refusal.Short expected actual))) = Unit {0}
-ListsItem ids base loop y (Item.Refused (ItemRefusal.Other Refusal.Mismatch)) = Unit {0}
-ListsItem ids base loop y (Item.Refused (ItemRefusal.Other (Refusal.NotText kind v))) = List·Memᴰ (inLent base loop v) ids
-ListsItem ids base loop y (Item.Refused (ItemRefusal.Other (Refusal.WrongLength kind expected actual))) = Unit {0}
+ListsItem ids base loop y (Item.Refused (ItemRefusal.Other Refusal.InputTooLong)) = Unit {0}
+ListsItem ids base loop y (Item.Refused (ItemRefusal.Other (Refusal.NotEnoughData expected actual))) = Unit {0}
+ListsItem ids base loop y (Item.Refused (ItemRefusal.Other Refusal.UpidLengthTypeMismatch)) = Unit {0}
+ListsItem ids base loop y (Item.Refused (ItemRefusal.Other (Refusal.InvalidUpidContent kind v))) = List·Memᴰ (inLent base loop v) ids
+ListsItem ids base loop y (Item.Refused (ItemRefusal.Other (Refusal.InvalidUpidLength kind expected actual))) = Unit {0}
 ListsItem ids base loop y (Item.Is (Descriptor.Avail x)) = Unit {0}
 ListsItem ids base loop y (Item.Is (Descriptor.Dtmf x)) = List·Memᴰ (inLent base loop (x .«dtmf_chars»)) ids
 ListsItem ids base loop y (Item.Is (Descriptor.Segmentation x)) = ListsDetail ids base loop y (x .«descriptor_detail»)

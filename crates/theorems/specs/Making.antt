@@ -1,20 +1,20 @@
 -- What a writer makes of a command and of a section, in terms of what the readers answer and of the fields' widths: nothing here says how bytes are put together, and
--- nothing lists what 33 refuses. 01: refusals 31 to 35 "are checked in order of number"; 33 is "a value that no canonical reading has". These are definitions.
+-- nothing lists what 33 refuses. 01: refusals 31 to 35 "are checked in order of number"; 33 is "a value that no canonical reading has".
 use Prim.Native.Nat.{ℕ, _≤_, _<_}
 use mathlib.Core.Bool.{true, false, _&&_}
 use mathlib.Core.List.{List, [], _∷_}
 use mathlib.Core.Path.{_≡_}
 use lib.ListN.{length, take}
-use Rattle.canonical_command.specs.Canonical.{canonicalCommand}
+use Rattle.command_canonical.specs.Canonical.{canonicalCommand}
 use Rattle.command.specs.Command.{countIn, kindOf, commandOf, componentsOf}
 use Rattle.command.specs.Insert.{programTime, count, breakTicks}
 use Rattle.command.specs.declared.CommandRead.{CommandRead}
 use Rattle.command.specs.declared.SpliceCommand.{SpliceCommand}
 use Rattle.command.specs.declared.components.ComponentSplice.{ComponentSplice}
 use Rattle.command.specs.declared.insert.SpliceInsert.{SpliceInsert}
-use Rattle.descriptor_form.specs.Canonical.{canonicalLoop}
-use Rattle.descriptor_laws.specs.Making.{fit}
-use Rattle.header.specs.Time.{ticks}
+use Rattle.descriptor_measure.specs.Canonical.{canonicalLoop}
+use Rattle.descriptor_round_trips.specs.Making.{fit}
+use Rattle.splice_time.specs.Time.{ticks}
 use Rattle.header.specs.declared.header.SpliceInfoHeader.{SpliceInfoHeader}
 use Rattle.names.specs.Algorithm.{algorithmNumber}
 use Rattle.section.specs.Section.{privateView, commandType, commandBytes, loopBytes, sectionOf}

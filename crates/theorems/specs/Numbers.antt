@@ -1,4 +1,4 @@
--- Which value a number stands for. These are definitions.
+-- Which value a number stands for.
 use Prim.Native.Nat.{ℕ}
 use mathlib.Core.Bool.{Bool, true}
 use mathlib.Core.Path.{_≡_}

@@ -1,18 +1,18 @@
--- The words of three structs of C: an insert's components, a step over a loop, and what stands beside an item. These are definitions.
+-- The words of three structs of C: an insert's components, a step over a loop, and what stands beside an item.
 use Prim.Native.Nat.{ℕ, _+_}
 use mathlib.Core.List.{List, [], _∷_, _++_}
 use lib.ListN.{take, drop}
 use Rattle.command.specs.Command.{commandOf, componentsOf}
-use Rattle.flat.specs.FlatCommand.{flatSplices}
-use Rattle.flat.specs.declared.components.FlatSplices.{FlatSplices}
-use Rattle.flat_item_writer.specs.ItemGiven.{descriptorWordsMade}
-use Rattle.flat_item_writer.specs.ItemWords.{itemWords}
-use Rattle.flat_items.specs.FlatItem.{flatStep, flatBeside}
-use Rattle.flat_items.specs.declared.beside.FlatBeside.{FlatBeside}
-use Rattle.flat_items.specs.declared.beside.FlatComponent.{FlatComponent}
-use Rattle.flat_items.specs.declared.steps.FlatStep.{FlatStep}
-use Rattle.flat_writer.specs.CommandWords.{placesWords}
-use Rattle.items.specs.Items.{readingOf, Listed}
+use Rattle.c_section.specs.FlatCommand.{flatSplices}
+use Rattle.c_section.specs.declared.components.FlatSplices.{FlatSplices}
+use Rattle.c_descriptor_writer.specs.ItemGiven.{descriptorWordsMade}
+use Rattle.c_descriptor_writer.specs.ItemWords.{itemWords}
+use Rattle.c_items.specs.FlatItem.{flatStep, flatBeside}
+use Rattle.c_items.specs.declared.beside.FlatBeside.{FlatBeside}
+use Rattle.c_items.specs.declared.beside.FlatComponent.{FlatComponent}
+use Rattle.c_items.specs.declared.steps.FlatStep.{FlatStep}
+use Rattle.c_command_writer.specs.CommandWords.{placesWords}
+use Rattle.descriptor_loop.specs.Items.{readingOf, Listed}
 use Rattle.section.specs.Section.{commandLength}
 use Rattle.table.specs.Writing.{Made}
 use Rattle.theorems.specs.Identifiers.{each}

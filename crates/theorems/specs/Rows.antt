@@ -3,7 +3,7 @@ use Prim.Native.Nat.{ℕ, zero, suc, _+_}
 use mathlib.Core.Bool.{true, false}
 use mathlib.Core.List.{List, [], _∷_, _++_, map}
 use mathlib.Core.Path.{_≡_}
-use Rattle.canonical_command.specs.Canonical.{canonicalCommand}
+use Rattle.command_canonical.specs.Canonical.{canonicalCommand}
 use Rattle.command.specs.Command.{commandOf, componentsOf}
 use Rattle.command.specs.declared.CommandRead.{CommandRead}
 use Rattle.command.specs.declared.SpliceCommand.{SpliceCommand}
@@ -19,10 +19,10 @@ use Rattle.descriptor.specs.declared.segmentation.SegmentationDetail.{Segmentat
 use Rattle.descriptor.specs.declared.segmentation.SegmentationDuration.{SegmentationDuration}
 use Rattle.descriptor.specs.declared.segmentation.SegmentationMode.{SegmentationMode}
 use Rattle.descriptor.specs.declared.segmentation.SubSegments.{SubSegments}
-use Rattle.header.specs.declared.time.SpliceTime.{SpliceTime}
-use Rattle.items.specs.Items as items
-use Rattle.items.specs.Items.{Listed, itemsOf}
-use Rattle.items.specs.declared.Item.{Item}
+use Rattle.splice_time.specs.declared.SpliceTime.{SpliceTime}
+use Rattle.descriptor_loop.specs.Items as items
+use Rattle.descriptor_loop.specs.Items.{Listed, itemsOf}
+use Rattle.descriptor_loop.specs.declared.Item.{Item}
 use Rattle.names.specs.declared.segmentation.SegmentationTypeId.{SegmentationTypeId}
 use Rattle.table.specs.Lent.{viewed}
 use Rattle.upid.specs.Upid as upids

@@ -1,13 +1,13 @@
 -- Equal readings of two sections, over what the readers answer. 01: "Equal readings means equal values and equal bytes in the views; the header's command length
--- and type, the views' places and array places past a count are left out." These are definitions.
+-- and type, the views' places and array places past a count are left out."
 use Prim.Native.Nat.{ℕ}
 use mathlib.Core.List.{List}
 use mathlib.Core.Path.{_≡_}
 use lib.ListN.{take}
 use Rattle.command.specs.Command.{withView, countIn, componentsOf}
 use Rattle.command.specs.declared.SpliceCommand.{SpliceCommand}
-use Rattle.items.specs.Items.{itemsOf}
-use Rattle.loop_laws.specs.Loops.{Pairs, SameItem}
+use Rattle.descriptor_loop.specs.Items.{itemsOf}
+use Rattle.loop_round_trips.specs.Loops.{Pairs, SameItem}
 use Rattle.section.specs.Section.{commandBytes, privateView}
 use Rattle.section.specs.declared.Section.{Section}
 use Rattle.header.specs.declared.header.SpliceInfoHeader.{SpliceInfoHeader}

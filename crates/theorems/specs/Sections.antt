@@ -1,5 +1,5 @@
 -- Sections that are worked out: document 01's of 18, 19 and 20 bytes, and one with a MID of two identifiers, of 8 bytes and
--- of 12. These are definitions.
+-- of 12.
 use Prim.Native.Nat.{ℕ}
 use mathlib.Core.List.{List, [], _∷_, _++_}
 use mathlib.Core.Path.{_≡_}

@@ -1,5 +1,5 @@
 -- What it means that an identifier of a section is whole: it is the very run that the section's own bytes announce, at the place where 01's layout puts it.
--- `OneRun` says less: that it is some run. These are definitions.
+-- `OneRun` says less: that it is some run.
 use Prim.Native.Nat.{ℕ, _+_, _*_, _-_, _/_, _%_, _≤_}
 use mathlib.Core.List.{List}
 use mathlib.Core.Path.{_≡_}
@@ -9,9 +9,9 @@ use Rattle.command.specs.declared.SpliceCommand.{SpliceCommand}
 use Rattle.descriptor.specs.declared.Descriptor.{Descriptor}
 use Rattle.descriptor.specs.declared.segmentation.SegmentationDetail.{SegmentationDetail}
 use Rattle.descriptor.specs.declared.segmentation.SegmentationUpid.{SegmentationUpid}
-use Rattle.items.specs.declared.Item.{Item}
-use Rattle.items.specs.declared.ItemRefusal.{ItemRefusal}
-use Rattle.items.specs.declared.reading.Reading.{Reading}
+use Rattle.descriptor_loop.specs.declared.Item.{Item}
+use Rattle.descriptor_loop.specs.declared.ItemRefusal.{ItemRefusal}
+use Rattle.descriptor_loop.specs.declared.reading.Reading.{Reading}
 use Rattle.section.specs.Section.{commandLength}
 use Rattle.section.specs.declared.Section.{Section}
 use Rattle.table.specs.Bits.{pick}
@@ -56,11 +56,11 @@ pub record WholeText (s : List ℕ) (p k : ℕ) (i : Identifier) : Type 0 where
 
 abbrev pub WholeRefusal : List ℕ → ℕ → ℕ → List ℕ → ItemRefusal → Type 0
 WholeRefusal s p base loop ItemRefusal.InvalidDescriptorLength = Unit {0}
-WholeRefusal s p base loop (ItemRefusal.Other Refusal.TooLong) = Unit {0}
-WholeRefusal s p base loop (ItemRefusal.Other (Refusal.Short expected actual)) = Unit {0}
-WholeRefusal s p base loop (ItemRefusal.Other Refusal.Mismatch) = Unit {0}
-WholeRefusal s p base loop (ItemRefusal.Other (Refusal.NotText kind v)) = WholeText s p kind (inLent base loop v)
-WholeRefusal s p base loop (ItemRefusal.Other (Refusal.WrongLength kind expected actual)) = Unit {0}
+WholeRefusal s p base loop (ItemRefusal.Other Refusal.InputTooLong) = Unit {0}
+WholeRefusal s p base loop (ItemRefusal.Other (Refusal.NotEnoughData expected actual)) = Unit {0}
+WholeRefusal s p base loop (ItemRefusal.Other Refusal.UpidLengthTypeMismatch) = Unit {0}
+WholeRefusal s p base loop (ItemRefusal.Other (Refusal.InvalidUpidContent kind v)) = WholeText s p kind (inLent base loop v)
+WholeRefusal s p base loop (ItemRefusal.Other (Refusal.InvalidUpidLength kind expected actual)) = Unit {0}
 
 -- ---- an item that is read at `offset` of a loop which starts at `base` of the section, with what stands beside it; its payload starts 6 bytes behind its head.
 -- "1 DTMF: preroll 8, count 3, reserved 5, count bytes"; "reserved, with tag, identifier and bytes": the length that is written counts

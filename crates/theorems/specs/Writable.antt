@@ -1,13 +1,13 @@
--- What it means that what is read of an item can be written. These are definitions.
+-- What it means that what is read of an item can be written.
 use Prim.Native.Nat.{ℕ}
 use mathlib.Core.Bool.{true}
 use mathlib.Core.List.{List}
 use mathlib.Core.Path.{_≡_}
 use Rattle.descriptor.specs.declared.Descriptor.{Descriptor}
-use Rattle.descriptor_form.specs.Canonical.{canonicalDescriptor}
-use Rattle.descriptor_form.specs.Writing.{descriptorMade}
-use Rattle.descriptor_laws.specs.Trips.{Handed, ReadAs}
-use Rattle.items.specs.Items.{readingOf}
+use Rattle.descriptor_measure.specs.Canonical.{canonicalDescriptor}
+use Rattle.descriptor_measure.specs.Writing.{descriptorMade}
+use Rattle.descriptor_round_trips.specs.Trips.{Handed, ReadAs}
+use Rattle.descriptor_loop.specs.Items.{readingOf}
 use Rattle.table.specs.Writing.{made}
 
 -- The descriptor d, read at an offset of a loop, with what stands beside it: it is of its types, bytes are made of it (no refusal, so neither 33 nor 34), and these are

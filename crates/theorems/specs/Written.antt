@@ -1,4 +1,4 @@
--- What is kept when the items of a section are written again, and what a write leaves in its target. These are definitions.
+-- What is kept when the items of a section are written again, and what a write leaves in its target.
 use Prim.Native.Nat.{ℕ}
 use mathlib.Core.List.{List, map}
 use mathlib.Core.Path.{_≡_}
@@ -6,15 +6,15 @@ use lib.ListN.{length, take, drop}
 use Rattle.descriptor.specs.declared.Descriptor.{Descriptor}
 use Rattle.descriptor.specs.declared.DescriptorRead.{DescriptorRead}
 use Rattle.descriptor.specs.declared.segmentation.SegmentationUpid.{SegmentationUpid}
-use Rattle.descriptor_laws.specs.Trips.{wholeIn}
-use Rattle.items.specs.Cover.{runOf}
-use Rattle.items.specs.Items.{readingOf, Listed}
-use Rattle.loop_laws.specs.Loops.{WrittenAgain}
-use Rattle.pen.specs.Written.{laterOf}
+use Rattle.descriptor_round_trips.specs.Trips.{wholeIn}
+use Rattle.descriptor_loop.specs.Cover.{runOf}
+use Rattle.descriptor_loop.specs.Items.{readingOf, Listed}
+use Rattle.loop_round_trips.specs.Loops.{WrittenAgain}
+use Rattle.bit_stores.specs.Written.{laterOf}
 use Rattle.table.specs.Lent.{viewed}
 use Rattle.table.specs.Writing.{Made, made}
 use Rattle.upid.specs.declared.Part.{Part}
-use Rattle.items.specs.declared.Item.{Item}
+use Rattle.descriptor_loop.specs.declared.Item.{Item}
 use Rattle.theorems.specs.Identifiers.{partsRead, upidsOf}
 
 -- a UPID with a view of lent bytes: its reported type, its bytes, and the parts, at every level, that are read of them

@@ -1,4 +1,4 @@
--- What each function may do, by its contract as the checker makes it: a relation of what is handed in and what comes back. `..-so` is what the contract then says of it. Assumes nothing.
+-- What each function may do, by its contract as the checker makes it: a relation of what is handed in and what comes back. `..-so` is what the contract then says of it.
 use Prim.Native.Nat.{ℕ}
 use mathlib.Core.Bool.{Bool}
 use mathlib.Core.List.{List}
@@ -7,14 +7,14 @@ use denote.Ref.{now}
 use Rattle.command.specs.declared.SpliceCommand.{SpliceCommand}
 use Rattle.command_measure.specs.Made.{commandMade}
 use Rattle.descriptor_writer.specs.Stores.{Writes}
-use Rattle.items.specs.Items.{stepOf, readingOf}
-use Rattle.items.specs.Place.{viewOf}
-use Rattle.items.specs.declared.Item.{Item}
-use Rattle.items.specs.declared.Step.{Step}
-use Rattle.items.specs.declared.reading.Reading.{Reading}
-use Rattle.loop_laws.specs.Loops.{Given, givenMade}
-use Rattle.pen.specs.Written.{answerOf, laterOf}
-use Rattle.pen.specs.declared.Written.{Written}
+use Rattle.descriptor_loop.specs.Items.{stepOf, readingOf}
+use Rattle.descriptor_loop.specs.Place.{viewOf}
+use Rattle.descriptor_loop.specs.declared.Item.{Item}
+use Rattle.descriptor_loop.specs.declared.Step.{Step}
+use Rattle.descriptor_loop.specs.declared.reading.Reading.{Reading}
+use Rattle.loop_round_trips.specs.Loops.{Given, givenMade}
+use Rattle.bit_stores.specs.Written.{answerOf, laterOf}
+use Rattle.bit_stores.specs.declared.Written.{Written}
 use Rattle.section.specs.Section.{sectionOf, privateView}
 use Rattle.section.specs.Whole.{wholeSectionOf}
 use Rattle.section.specs.declared.Section.{Section}
@@ -29,9 +29,9 @@ use Rattle.upid.specs.Upid.{upidOf, partView}
 use Rattle.upid.specs.declared.Part.{Part}
 use Rattle.upid.specs.declared.Upid.{Upid}
 use Rattle.descriptor_writer.proofs.write_descriptor.Reads as write-descriptor
-use Rattle.items.proofs.iteration.step.Reads as step
-use Rattle.items.proofs.place.bytes_of.Reads as bytes-of
-use Rattle.items.proofs.reading.read_item.Reads as read-item
+use Rattle.descriptor_loop.proofs.iteration.step.Reads as step
+use Rattle.descriptor_loop.proofs.place.bytes_of.Reads as bytes-of
+use Rattle.descriptor_loop.proofs.reading.read_item.Reads as read-item
 use Rattle.section.proofs.loop_of.Reads as loop-of
 use Rattle.section.proofs.private_bytes_of.Reads as private-bytes-of
 use Rattle.section.proofs.read_section.Reads as read-section

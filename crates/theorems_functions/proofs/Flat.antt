@@ -1,4 +1,4 @@
--- The words of an answer over C say what the answer says. Assumes nothing.
+-- The words of an answer over C say what the answer says.
 --     item-lies     an item whose identifier is whole
 --     parts-flat    the parts of a UPID, field by field
 use Prim.Native.Nat.{ℕ, zero, suc, _+_, _-_, _≤_, _<_}
@@ -13,17 +13,17 @@ use Rattle.descriptor.specs.declared.Descriptor.{Descriptor}
 use Rattle.descriptor.specs.declared.segmentation.SegmentationDetail.{SegmentationDetail}
 use Rattle.descriptor.specs.declared.segmentation.SegmentationDescriptor.{SegmentationDescriptor}
 use Rattle.descriptor.specs.declared.segmentation.SegmentationInsert.{SegmentationInsert}
-use Rattle.flat.specs.Flat.{flatView}
-use Rattle.flat_items.specs.FlatItem.{bareSegmentation, wholeSegmentation, itemWith, noTimes, segmentationItem, flatDescriptor, bareItem, flatItem, refusalIn, valuesIn, flatStep}
-use Rattle.flat_items.specs.FlatUpid.{three, flatPart, noParts, flatUpidRead, flatUpid}
-use Rattle.flat_items.specs.declared.steps.FlatStep.{FlatStep}
-use Rattle.items.specs.Items as items
-use Rattle.items.specs.declared.Item.{Item}
-use Rattle.items.specs.declared.ItemRefusal.{ItemRefusal}
-use Rattle.items.specs.declared.Step.{Step}
-use Rattle.items.specs.declared.reading.Reading.{Reading}
-use Rattle.loop_laws.specs.Loops.{Pairs}
-use Rattle.loop_laws.specs.Loops.Pairs.{over, pair}
+use Rattle.c_section.specs.Flat.{flatView}
+use Rattle.c_items.specs.FlatItem.{bareSegmentation, wholeSegmentation, itemWith, noTimes, segmentationItem, flatDescriptor, bareItem, flatItem, refusalIn, valuesIn, flatStep}
+use Rattle.c_items.specs.FlatUpid.{three, flatPart, noParts, flatUpidRead, flatUpid}
+use Rattle.c_items.specs.declared.steps.FlatStep.{FlatStep}
+use Rattle.descriptor_loop.specs.Items as items
+use Rattle.descriptor_loop.specs.declared.Item.{Item}
+use Rattle.descriptor_loop.specs.declared.ItemRefusal.{ItemRefusal}
+use Rattle.descriptor_loop.specs.declared.Step.{Step}
+use Rattle.descriptor_loop.specs.declared.reading.Reading.{Reading}
+use Rattle.loop_round_trips.specs.Loops.{Pairs}
+use Rattle.loop_round_trips.specs.Loops.Pairs.{over, pair}
 use Rattle.table.specs.Bits.{bitsOf, field}
 use Rattle.table.specs.declared.View.{View}
 use Rattle.theorems.specs.Identifiers.{Identifier, inLent}
@@ -40,11 +40,11 @@ use Rattle.theorems_functions.specs.Flat.{Lies, UpidLies, TextLies, Item
 numbered : (r : ItemRefusal) → 1 ≤ items.numberOf r
 unfolding items.numberOf upid.numberOf
 numbered ItemRefusal.InvalidDescriptorLength = omega arith
-numbered (ItemRefusal.Other Refusal.TooLong) = omega arith
-numbered (ItemRefusal.Other (Refusal.Short expected actual)) = omega arith
-numbered (ItemRefusal.Other Refusal.Mismatch) = omega arith
-numbered (ItemRefusal.Other (Refusal.NotText kind v)) = omega arith
-numbered (ItemRefusal.Other (Refusal.WrongLength kind expected actual)) = omega arith
+numbered (ItemRefusal.Other Refusal.InputTooLong) = omega arith
+numbered (ItemRefusal.Other (Refusal.NotEnoughData expected actual)) = omega arith
+numbered (ItemRefusal.Other Refusal.UpidLengthTypeMismatch) = omega arith
+numbered (ItemRefusal.Other (Refusal.InvalidUpidContent kind v)) = omega arith
+numbered (ItemRefusal.Other (Refusal.InvalidUpidLength kind expected actual)) = omega arith
 
 module _ (s : List ℕ) (base : ℕ) (loop : List ℕ) where
   lies-of : (at n : ℕ) (v : View) → Exactly s at n (inLent base loop v) → Lies s base at n (flatView v)
@@ -99,10 +99,10 @@ module _ (s : List ℕ) (base : ℕ) (loop : List ℕ) where
     refusal-lies : (q : ItemRefusal) → WholeRefusal s (base + offset + 6) base loop q → ItemLies s (base + offset) base (flatStep (stepWith (Item.Refused q)))
     unfolding items.numberOf upid.numberOf items.valuesOf upid.valuesOf
     refusal-lies ItemRefusal.InvalidDescriptorLength w = refused-lies ItemRefusal.InvalidDescriptorLength (λ e. absurd (eqb-false 22 24 refl e))
-    refusal-lies (ItemRefusal.Other Refusal.TooLong) w = refused-lies (ItemRefusal.Other Refusal.TooLong) (λ e. absurd (eqb-false 2 24 refl e))
-    refusal-lies (ItemRefusal.Other (Refusal.Short expected actual)) w = refused-lies (ItemRefusal.Other (Refusal.Short expected actual)) (λ e. absurd (eqb-false 21 24 refl e))
-    refusal-lies (ItemRefusal.Other Refusal.Mismatch) w = refused-lies (ItemRefusal.Other Refusal.Mismatch) (λ e. absurd (eqb-false 23 24 refl e))
-    refusal-lies (ItemRefusal.Other (Refusal.NotText kind v)) w = refused-lies (ItemRefusal.Other (Refusal.NotText kind v)) (λ e. record {
+    refusal-lies (ItemRefusal.Other Refusal.InputTooLong) w = refused-lies (ItemRefusal.Other Refusal.InputTooLong) (λ e. absurd (eqb-false 2 24 refl e))
+    refusal-lies (ItemRefusal.Other (Refusal.NotEnoughData expected actual)) w = refused-lies (ItemRefusal.Other (Refusal.NotEnoughData expected actual)) (λ e. absurd (eqb-false 21 24 refl e))
+    refusal-lies (ItemRefusal.Other Refusal.UpidLengthTypeMismatch) w = refused-lies (ItemRefusal.Other Refusal.UpidLengthTypeMismatch) (λ e. absurd (eqb-false 23 24 refl e))
+    refusal-lies (ItemRefusal.Other (Refusal.InvalidUpidContent kind v)) w = refused-lies (ItemRefusal.Other (Refusal.InvalidUpidContent kind v)) (λ e. record {
       kind = kind;
       at = v .at;
       len = v .len;
@@ -112,7 +112,7 @@ module _ (s : List ℕ) (base : ℕ) (loop : List ℕ) where
       type = w .kind;
       long = ap (λ (i : Identifier). i .len) (w .whole .is);
     })
-    refusal-lies (ItemRefusal.Other (Refusal.WrongLength kind expected actual)) w = refused-lies (ItemRefusal.Other (Refusal.WrongLength kind expected actual)) (λ e. absurd (eqb-false 25 24 refl e))
+    refusal-lies (ItemRefusal.Other (Refusal.InvalidUpidLength kind expected actual)) w = refused-lies (ItemRefusal.Other (Refusal.InvalidUpidLength kind expected actual)) (λ e. absurd (eqb-false 25 24 refl e))
 
     item-lies : (it : Item) → WholeItem s base loop offset r it → ItemLies s (base + offset) base (flatStep (stepWith it))
     unfolding flatStep flatItem refusalIn flatDescriptor segmentationItem bareItem wholeSegmentation

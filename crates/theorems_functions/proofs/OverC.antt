@@ -1,5 +1,5 @@
 -- The product's demands over C, of the exported functions: whoever meets their contracts gives this on every input. `ReadsSectionC s f` is what `scte35_read_section` may answer
--- of the bytes s that stand from its offset to the end, and so on. Assumes nothing.
+-- of the bytes s that stand from its offset to the end, and so on.
 use Prim.Native.Nat.{ℕ, _+_, _-_, _≤_}
 use mathlib.Core.Bool.{Bool, true}
 use mathlib.Core.List.{List, [], _∷_}
@@ -9,34 +9,34 @@ use lib.ListN.{length, take, drop, getD}
 use denote.Ref.{now}
 use borrow.Author.Tests.{eqb-false}
 use Rattle.command.specs.Command.{commandOf, componentsOf}
-use Rattle.flat.specs.Flat.{flatView}
-use Rattle.flat.specs.FlatCommand.{flatSplices}
-use Rattle.flat.specs.FlatSection.{flatSectionRead}
-use Rattle.flat.specs.declared.FlatView.{FlatView}
-use Rattle.flat.specs.declared.components.FlatSplices.{FlatSplices}
-use Rattle.flat.specs.declared.sections.FlatSection.{FlatSection}
-use Rattle.flat_item_writer.specs.ItemGiven.{descriptorWordsMade}
-use Rattle.flat_items.specs.FlatItem.{flatStep, flatBeside}
-use Rattle.flat_items.specs.FlatUpid.{flatUpid}
-use Rattle.flat_items.specs.declared.beside.FlatBeside.{FlatBeside}
-use Rattle.flat_items.specs.declared.steps.FlatStep.{FlatStep}
-use Rattle.flat_items.specs.declared.upids.FlatPart.{FlatPart}
-use Rattle.flat_items.specs.declared.upids.FlatUpid.{FlatUpid}
-use Rattle.flat_section_writer.specs.SectionGiven.{sectionWordsMade}
-use Rattle.flat_section_writer.specs.SectionWords.{headerWords}
-use Rattle.flat_writer.specs.CommandWords.{commandWords}
-use Rattle.flat_writer.specs.Words.{flatWritten}
-use Rattle.flat_writer.specs.declared.FlatWritten.{FlatWritten}
-use Rattle.items.proofs.Places.{all-into}
-use Rattle.items.specs.Items.{stepOf, readingOf, Listed, itemsOf}
-use Rattle.items.specs.Cover.{runOf}
-use Rattle.items.specs.declared.Item.{Item}
-use Rattle.items.specs.declared.Step.{Step}
-use Rattle.items.specs.declared.reading.Reading.{Reading}
-use Rattle.loop_laws.specs.Loops.{Pairs}
-use Rattle.loop_laws.specs.Loops.Pairs.{over, pair}
-use Rattle.pen.specs.Written.{answerOf, laterOf}
-use Rattle.pen.specs.declared.Written.{Written}
+use Rattle.c_section.specs.Flat.{flatView}
+use Rattle.c_section.specs.FlatCommand.{flatSplices}
+use Rattle.c_section.specs.FlatSection.{flatSectionRead}
+use Rattle.c_section.specs.declared.FlatView.{FlatView}
+use Rattle.c_section.specs.declared.components.FlatSplices.{FlatSplices}
+use Rattle.c_section.specs.declared.sections.FlatSection.{FlatSection}
+use Rattle.c_descriptor_writer.specs.ItemGiven.{descriptorWordsMade}
+use Rattle.c_items.specs.FlatItem.{flatStep, flatBeside}
+use Rattle.c_items.specs.FlatUpid.{flatUpid}
+use Rattle.c_items.specs.declared.beside.FlatBeside.{FlatBeside}
+use Rattle.c_items.specs.declared.steps.FlatStep.{FlatStep}
+use Rattle.c_items.specs.declared.upids.FlatPart.{FlatPart}
+use Rattle.c_items.specs.declared.upids.FlatUpid.{FlatUpid}
+use Rattle.c_section_writer.specs.SectionGiven.{sectionWordsMade}
+use Rattle.c_section_writer.specs.SectionWords.{headerWords}
+use Rattle.c_command_writer.specs.CommandWords.{commandWords}
+use Rattle.c_command_writer.specs.Words.{flatWritten}
+use Rattle.c_command_writer.specs.declared.FlatWritten.{FlatWritten}
+use Rattle.descriptor_loop.proofs.Places.{all-into}
+use Rattle.descriptor_loop.specs.Items.{stepOf, readingOf, Listed, itemsOf}
+use Rattle.descriptor_loop.specs.Cover.{runOf}
+use Rattle.descriptor_loop.specs.declared.Item.{Item}
+use Rattle.descriptor_loop.specs.declared.Step.{Step}
+use Rattle.descriptor_loop.specs.declared.reading.Reading.{Reading}
+use Rattle.loop_round_trips.specs.Loops.{Pairs}
+use Rattle.loop_round_trips.specs.Loops.Pairs.{over, pair}
+use Rattle.bit_stores.specs.Written.{answerOf, laterOf}
+use Rattle.bit_stores.specs.declared.Written.{Written}
 use Rattle.section.specs.Section.{commandLength, commandBytes, conditions, first, loopPlace, loopLength, sectionOf, numberOf}
 use Rattle.section.specs.declared.Refusal.{Refusal}
 use Rattle.section.specs.declared.Section.{Section}
@@ -159,8 +159,8 @@ scte35-read-section-refuses-in-order s f d = ap (λ (v : FlatSection). v .refusa
 is-read : (r : SectionRead) → numberOf r ≡ 0 → (x : Section) × (r ≡ SectionRead.Is x)
 unfolding numberOf
 is-read (SectionRead.Is x) e = (x, refl)
-is-read (SectionRead.Refused Refusal.TooShort) e = absurd (omega arith)
-is-read (SectionRead.Refused Refusal.TooLong) e = absurd (omega arith)
+is-read (SectionRead.Refused Refusal.SectionTooShort) e = absurd (omega arith)
+is-read (SectionRead.Refused Refusal.InputTooLong) e = absurd (omega arith)
 is-read (SectionRead.Refused Refusal.OtherTable) e = absurd (omega arith)
 is-read (SectionRead.Refused Refusal.WrongCrc) e = absurd (omega arith)
 is-read (SectionRead.Refused Refusal.NoHeader) e = absurd (omega arith)

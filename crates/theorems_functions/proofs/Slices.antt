@@ -1,4 +1,4 @@
--- The slices that are handed back of an item are whole. Assumes nothing.
+-- The slices that are handed back of an item are whole.
 use Prim.Native.Nat.{ℕ, _+_, _-_, _≤_}
 use mathlib.Core.Bool.{Bool, true, false, cond}
 use mathlib.Core.List.{List, [], _∷_}
@@ -14,11 +14,11 @@ use Rattle.descriptor.specs.declared.segmentation.SegmentationDetail.{Segmentat
 use Rattle.descriptor.specs.declared.segmentation.SegmentationDescriptor.{SegmentationDescriptor}
 use Rattle.descriptor.specs.declared.segmentation.SegmentationInsert.{SegmentationInsert}
 use Rattle.descriptor.specs.declared.segmentation.SegmentationUpid.{SegmentationUpid}
-use Rattle.items.proofs.Places.{upid-view, all-into}
-use Rattle.items.specs.Place.{viewOf, firstView}
-use Rattle.items.specs.declared.Item.{Item}
-use Rattle.items.specs.declared.ItemRefusal.{ItemRefusal}
-use Rattle.items.specs.declared.reading.Reading.{Reading}
+use Rattle.descriptor_loop.proofs.Places.{upid-view, all-into}
+use Rattle.descriptor_loop.specs.Place.{viewOf, firstView}
+use Rattle.descriptor_loop.specs.declared.Item.{Item}
+use Rattle.descriptor_loop.specs.declared.ItemRefusal.{ItemRefusal}
+use Rattle.descriptor_loop.specs.declared.reading.Reading.{Reading}
 use Rattle.section.specs.Section.{privateView, commandLength}
 use Rattle.table.specs.Bits.{pick}
 use Rattle.table.specs.Lent.{viewed, noView}
@@ -62,12 +62,12 @@ module _ (s : List ℕ) (base : ℕ) (loop : List ℕ) where
     item-slice : (it : Item) → WholeItem s base loop offset r it → ItemSlice s (base + offset) r (viewed loop (viewOf it)) it
     item-slice Item.End w = nothing-viewed loop
     item-slice (Item.Refused ItemRefusal.InvalidDescriptorLength) w = nothing-viewed loop
-    item-slice (Item.Refused (ItemRefusal.Other Refusal.TooLong)) w = nothing-viewed loop
-    item-slice (Item.Refused (ItemRefusal.Other (Refusal.Short expected actual))) w = nothing-viewed loop
-    item-slice (Item.Refused (ItemRefusal.Other Refusal.Mismatch)) w = nothing-viewed loop
-    item-slice (Item.Refused (ItemRefusal.Other (Refusal.NotText kind v))) w =
+    item-slice (Item.Refused (ItemRefusal.Other Refusal.InputTooLong)) w = nothing-viewed loop
+    item-slice (Item.Refused (ItemRefusal.Other (Refusal.NotEnoughData expected actual))) w = nothing-viewed loop
+    item-slice (Item.Refused (ItemRefusal.Other Refusal.UpidLengthTypeMismatch)) w = nothing-viewed loop
+    item-slice (Item.Refused (ItemRefusal.Other (Refusal.InvalidUpidContent kind v))) w =
         record { start = base + v .at; behind = w .behind; kind = w .kind; whole = slice-of s (base + v .at) (getD s (base + v .at - 1) 0) (inLent base loop v) (w .whole) }
-    item-slice (Item.Refused (ItemRefusal.Other (Refusal.WrongLength kind expected actual))) w = nothing-viewed loop
+    item-slice (Item.Refused (ItemRefusal.Other (Refusal.InvalidUpidLength kind expected actual))) w = nothing-viewed loop
     item-slice (Item.Is (Descriptor.Avail x)) w = nothing-viewed loop
     item-slice (Item.Is (Descriptor.Dtmf x)) w = slice-of s _ _ (inLent base loop (x .«dtmf_chars»)) w
     item-slice (Item.Is (Descriptor.Segmentation x)) w = detail (x .«descriptor_detail») w

@@ -1,4 +1,4 @@
--- A loop that is stepped through has the items that it is defined to have. Assumes nothing.
+-- A loop that is stepped through has the items that it is defined to have.
 --     stepped-are      what the steps answer
 --     steps-exist      and there are such steps
 use Prim.Native.Nat.{ℕ, _-_, _≤_, _<_}
@@ -6,11 +6,11 @@ use mathlib.Core.List.{List, [], _∷_}
 use mathlib.Core.Path.{_≡_, refl, ap, sym, _∙_}
 use native.Mathlib.Omega.{arith}
 use lib.ListN.{length}
-use Rattle.items.proofs.Lists.{rest, rest-end, rest-more, items-rest}
-use Rattle.items.proofs.Steps.{step-end, goes-on}
-use Rattle.items.specs.Items.{stepOf, Listed, listed, itemsOf, unlessEnd}
-use Rattle.items.specs.declared.Item.{Item}
-use Rattle.items.specs.declared.Step.{Step}
+use Rattle.descriptor_loop.proofs.Lists.{rest, rest-end, rest-more, items-rest}
+use Rattle.descriptor_loop.proofs.Steps.{step-end, goes-on}
+use Rattle.descriptor_loop.specs.Items.{stepOf, Listed, listed, itemsOf, unlessEnd}
+use Rattle.descriptor_loop.specs.declared.Item.{Item}
+use Rattle.descriptor_loop.specs.declared.Step.{Step}
 use Rattle.table.proofs.Lists.{zero-one}
 use Rattle.upid.proofs.Laws.{by-cases}
 use Rattle.theorems_functions.specs.Calls.{Stepped}

@@ -1,6 +1,6 @@
 -- The product's demands, of the functions: whoever meets their contracts, as the checker makes them of the sources, gives this on every input. `ReadsSection s r` is what
 -- `read_section` may answer of the bytes s, and so on (Contracts.antt). So a contract that is changed together with its body is refused here, where the definitions alone would not notice.
--- The same over C: OverC.antt. Assumes nothing.
+-- The same over C: OverC.antt.
 use Prim.Native.Nat.{ℕ, _+_, _≤_}
 use mathlib.Core.Bool.{Bool, true}
 use mathlib.Core.List.{List, [], _∷_, map}
@@ -15,17 +15,17 @@ use Rattle.descriptor.specs.declared.segmentation.SegmentationDescriptor.{Segme
 use Rattle.descriptor.specs.declared.segmentation.SegmentationDetail.{SegmentationDetail}
 use Rattle.descriptor.specs.declared.segmentation.SegmentationInsert.{SegmentationInsert}
 use Rattle.descriptor_writer.specs.Stores.{Writes}
-use Rattle.items.proofs.Places.{all-into}
-use Rattle.items.specs.Cover.{joined, runOf, Covered}
-use Rattle.items.specs.Items.{stepOf, readingOf, Listed, itemsOf}
-use Rattle.items.specs.Place.{viewOf}
-use Rattle.items.specs.declared.Item.{Item}
-use Rattle.items.specs.declared.Step.{Step}
-use Rattle.items.specs.declared.reading.Reading.{Reading}
-use Rattle.loop_laws.specs.Loops.{Given, WrittenAgain, Pairs}
-use Rattle.loop_laws.specs.Loops.Pairs.{over, pair}
-use Rattle.pen.specs.Written.{answerOf, laterOf}
-use Rattle.pen.specs.declared.Written.{Written}
+use Rattle.descriptor_loop.proofs.Places.{all-into}
+use Rattle.descriptor_loop.specs.Cover.{joined, runOf, Covered}
+use Rattle.descriptor_loop.specs.Items.{stepOf, readingOf, Listed, itemsOf}
+use Rattle.descriptor_loop.specs.Place.{viewOf}
+use Rattle.descriptor_loop.specs.declared.Item.{Item}
+use Rattle.descriptor_loop.specs.declared.Step.{Step}
+use Rattle.descriptor_loop.specs.declared.reading.Reading.{Reading}
+use Rattle.loop_round_trips.specs.Loops.{Given, WrittenAgain, Pairs}
+use Rattle.loop_round_trips.specs.Loops.Pairs.{over, pair}
+use Rattle.bit_stores.specs.Written.{answerOf, laterOf}
+use Rattle.bit_stores.specs.declared.Written.{Written}
 use Rattle.section.specs.Section.{commandBytes, conditions, first, sectionOf, numberOf, None}
 use Rattle.section.specs.Whole.{besideCommand, wholeSectionOf}
 use Rattle.section.specs.declared.Section.{Section}

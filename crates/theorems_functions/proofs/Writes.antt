@@ -1,4 +1,4 @@
--- What a write of bytes that are made answers and leaves; and that what stands beside a command that is read is what it is written with. Assumes nothing.
+-- What a write of bytes that are made answers and leaves; and that what stands beside a command that is read is what it is written with.
 use Prim.Native.Nat.{ℕ, _≤_, _<_}
 use mathlib.Core.Bool.{Bool, true, false}
 use mathlib.Core.List.{List, [], _∷_, _++_}
@@ -12,8 +12,8 @@ use Rattle.command.specs.declared.SpliceCommand.{SpliceCommand}
 use Rattle.command.specs.declared.components.ComponentSplice.{ComponentSplice}
 use Rattle.command_measure.specs.Made.{commandMade}
 use Rattle.descriptor_writer.specs.Stores.{Writes}
-use Rattle.pen.specs.Written.{answerOf, laterOf}
-use Rattle.pen.specs.declared.Written.{Written}
+use Rattle.bit_stores.specs.Written.{answerOf, laterOf}
+use Rattle.bit_stores.specs.declared.Written.{Written}
 use Rattle.section.specs.Whole.{besideCommand}
 use Rattle.section.specs.Section.{commandBytes, sectionOf}
 use Rattle.section.specs.Whole.{besideSection, wholeSectionOf}
@@ -25,17 +25,17 @@ use Rattle.table.specs.Bits.{pick}
 use Rattle.upid.proofs.Laws.{by-cases}
 use lib.Seq.{take-at}
 use Rattle.descriptor.specs.declared.Descriptor.{Descriptor}
-use Rattle.descriptor_form.specs.Writing.{descriptorMade}
-use Rattle.items.specs.Cover.{runOf}
-use Rattle.items.proofs.Lists.{walked}
-use Rattle.items.specs.Items.{stepOf, readingOf, Listed, itemsOf}
-use Rattle.items.specs.declared.Item.{Item}
-use Rattle.items.specs.declared.Step.{Step}
-use Rattle.items.specs.declared.reading.Reading.{Reading}
+use Rattle.descriptor_measure.specs.Writing.{descriptorMade}
+use Rattle.descriptor_loop.specs.Cover.{runOf}
+use Rattle.descriptor_loop.proofs.Lists.{walked}
+use Rattle.descriptor_loop.specs.Items.{stepOf, readingOf, Listed, itemsOf}
+use Rattle.descriptor_loop.specs.declared.Item.{Item}
+use Rattle.descriptor_loop.specs.declared.Step.{Step}
+use Rattle.descriptor_loop.specs.declared.reading.Reading.{Reading}
 use Rattle.theorems.proofs.Sections.{each-item}
 use Rattle.upid.specs.Cover.{All}
 use Rattle.upid.specs.Cover.All.{none, more}
-use Rattle.loop_laws.specs.Loops.{WrittenAgain}
+use Rattle.loop_round_trips.specs.Loops.{WrittenAgain}
 use Rattle.table.specs.Writing.{Made, made}
 use Rattle.theorems_functions.specs.Calls.{Puts}
 

@@ -1,4 +1,4 @@
--- Calls of the functions one after the other, and what a write does. These are definitions.
+-- Calls of the functions one after the other, and what a write does.
 use Prim.Native.Nat.{ℕ, _-_, _≤_, _<_}
 use mathlib.Core.List.{List, [], _∷_, _++_}
 use mathlib.Core.Path.{_≡_}
@@ -6,10 +6,10 @@ use lib.ListN.{length, drop}
 use Rattle.command.specs.declared.SpliceCommand.{SpliceCommand}
 use Rattle.command.specs.declared.components.ComponentSplice.{ComponentSplice}
 use Rattle.header.specs.declared.header.SpliceInfoHeader.{SpliceInfoHeader}
-use Rattle.items.specs.Items.{Listed}
-use Rattle.items.specs.declared.Item.{Item}
-use Rattle.items.specs.declared.Step.{Step}
-use Rattle.pen.specs.declared.Written.{Written}
+use Rattle.descriptor_loop.specs.Items.{Listed}
+use Rattle.descriptor_loop.specs.declared.Item.{Item}
+use Rattle.descriptor_loop.specs.declared.Step.{Step}
+use Rattle.bit_stores.specs.declared.Written.{Written}
 
 -- A loop that is stepped through from an offset on, each step from where the one before said, until one says that the loop has ended: what the steps answered.
 -- `Steps offset step` is what a step there may answer.

@@ -1,14 +1,14 @@
--- The same over C: what the words of an answer say of the section. These are definitions.
+-- The same over C: what the words of an answer say of the section.
 use Prim.Native.Nat.{ℕ, _+_, _*_, _-_, _/_, _≤_, _<_}
 use mathlib.Core.List.{List, [], _∷_, _++_}
 use mathlib.Core.Path.{_≡_}
 use lib.Dec.{eqb}
 use lib.ListN.{length, take, drop, getD}
-use Rattle.flat.specs.declared.FlatView.{FlatView}
-use Rattle.flat_items.specs.declared.descriptors.FlatItem.{FlatItem}
-use Rattle.flat_items.specs.declared.steps.FlatStep.{FlatStep}
-use Rattle.flat_items.specs.declared.upids.FlatPart.{FlatPart}
-use Rattle.flat_writer.specs.declared.FlatWritten.{FlatWritten}
+use Rattle.c_section.specs.declared.FlatView.{FlatView}
+use Rattle.c_items.specs.declared.descriptors.FlatItem.{FlatItem}
+use Rattle.c_items.specs.declared.steps.FlatStep.{FlatStep}
+use Rattle.c_items.specs.declared.upids.FlatPart.{FlatPart}
+use Rattle.c_command_writer.specs.declared.FlatWritten.{FlatWritten}
 use Rattle.table.specs.Bits.{pick, bitsOf, field}
 use Rattle.theorems.specs.Whole.{upidAt}
 use Rattle.upid.specs.Upid.{numberOf}

@@ -1,5 +1,5 @@
 -- What it means that the slice which a function hands back is the whole identifier that the section's own bytes announce (`Whole`, theorems/specs/Whole.antt,
--- says it of a reading's views). These are definitions.
+-- says it of a reading's views).
 use Prim.Native.Nat.{ℕ, _+_, _-_, _/_, _%_, _≤_}
 use mathlib.Core.List.{List, [], _∷_}
 use mathlib.Core.Path.{_≡_}
@@ -8,9 +8,9 @@ use lib.ListN.{length, getD}
 use Rattle.command.specs.declared.SpliceCommand.{SpliceCommand}
 use Rattle.descriptor.specs.declared.Descriptor.{Descriptor}
 use Rattle.descriptor.specs.declared.segmentation.SegmentationDetail.{SegmentationDetail}
-use Rattle.items.specs.declared.Item.{Item}
-use Rattle.items.specs.declared.ItemRefusal.{ItemRefusal}
-use Rattle.items.specs.declared.reading.Reading.{Reading}
+use Rattle.descriptor_loop.specs.declared.Item.{Item}
+use Rattle.descriptor_loop.specs.declared.ItemRefusal.{ItemRefusal}
+use Rattle.descriptor_loop.specs.declared.reading.Reading.{Reading}
 use Rattle.section.specs.Section.{commandLength}
 use Rattle.table.specs.Bits.{pick}
 use Rattle.theorems.specs.Whole.{Exactly, upidAt}
@@ -46,11 +46,11 @@ pub record TextSlice (s : List ℕ) (p k : ℕ) (b : List ℕ) : Type 0 where
 
 abbrev pub RefusalSlice : List ℕ → ℕ → List ℕ → ItemRefusal → Type 0
 RefusalSlice s p b ItemRefusal.InvalidDescriptorLength = b ≡ []
-RefusalSlice s p b (ItemRefusal.Other Refusal.TooLong) = b ≡ []
-RefusalSlice s p b (ItemRefusal.Other (Refusal.Short expected actual)) = b ≡ []
-RefusalSlice s p b (ItemRefusal.Other Refusal.Mismatch) = b ≡ []
-RefusalSlice s p b (ItemRefusal.Other (Refusal.NotText kind v)) = TextSlice s p kind b
-RefusalSlice s p b (ItemRefusal.Other (Refusal.WrongLength kind expected actual)) = b ≡ []
+RefusalSlice s p b (ItemRefusal.Other Refusal.InputTooLong) = b ≡ []
+RefusalSlice s p b (ItemRefusal.Other (Refusal.NotEnoughData expected actual)) = b ≡ []
+RefusalSlice s p b (ItemRefusal.Other Refusal.UpidLengthTypeMismatch) = b ≡ []
+RefusalSlice s p b (ItemRefusal.Other (Refusal.InvalidUpidContent kind v)) = TextSlice s p kind b
+RefusalSlice s p b (ItemRefusal.Other (Refusal.InvalidUpidLength kind expected actual)) = b ≡ []
 
 -- ---- an item that starts at byte q of the section, read as r, of which b is handed back: DTMF characters, a UPID, a reserved descriptor's bytes with its identifier
 abbrev pub ItemSlice : List ℕ → ℕ → Reading → List ℕ → Item → Type 0

@@ -1,4 +1,4 @@
--- Each refusal of an item and of a UPID by its own words. Assumes nothing.
+-- Each refusal of an item and of a UPID by its own words.
 use Prim.Native.Nat.{ℕ, zero, suc, _+_, _-_, _≤_, _<_}
 use mathlib.Core.Bool.{Bool, true, false, cond, not, _&&_, _||_}
 use mathlib.Core.List.{List, [], _∷_}
@@ -14,12 +14,12 @@ use Rattle.descriptor.specs.declared.Descriptor.{Descriptor}
 use Rattle.descriptor.specs.declared.segmentation.SegmentationDetail.{SegmentationDetail}
 use Rattle.descriptor.specs.declared.DescriptorRead.{DescriptorRead}
 use Rattle.descriptor.specs.declared.segmentation.SegmentationUpid.{SegmentationUpid}
-use Rattle.items.proofs.Steps.{step-long, step-end, step-few, step-over, step-full, step-small, step-whole}
-use Rattle.items.specs.Items.{bare, short, stepOf, wholeAt}
-use Rattle.items.specs.Items as items
-use Rattle.items.specs.declared.Item.{Item}
-use Rattle.items.specs.declared.ItemRefusal.{ItemRefusal}
-use Rattle.items.specs.declared.Step.{Step}
+use Rattle.descriptor_loop.proofs.Steps.{step-long, step-end, step-few, step-over, step-full, step-small, step-whole}
+use Rattle.descriptor_loop.specs.Items.{bare, short, stepOf, wholeAt}
+use Rattle.descriptor_loop.specs.Items as items
+use Rattle.descriptor_loop.specs.declared.Item.{Item}
+use Rattle.descriptor_loop.specs.declared.ItemRefusal.{ItemRefusal}
+use Rattle.descriptor_loop.specs.declared.Step.{Step}
 use Rattle.table.proofs.Lists.{zero-one}
 use Rattle.table.specs.Bits.{pick, bitsOf}
 use Rattle.table.specs.Lent.{viewed}
@@ -42,7 +42,7 @@ bare-refused s r n values next e a b = record { refusal = r; is = ap (λ (t : St
 module _ (loop : List ℕ) (offset : ℕ) where
   pub refusal-2 : 4076 < length loop → StepRefused (stepOf loop offset) 2 [] (length loop)
   unfolding items.numberOf items.valuesOf upid.numberOf upid.valuesOf
-  refusal-2 h = bare-refused _ (ItemRefusal.Other Refusal.TooLong) 2 [] (length loop) (step-long loop offset h) refl refl
+  refusal-2 h = bare-refused _ (ItemRefusal.Other Refusal.InputTooLong) 2 [] (length loop) (step-long loop offset h) refl refl
 
   module _ (fits : length loop ≤ 4076) where
     pub at-the-end : length loop ≤ offset → (stepOf loop offset .item ≡ Item.End) × (stepOf loop offset .next ≡ length loop)
@@ -50,7 +50,7 @@ module _ (loop : List ℕ) (offset : ℕ) where
 
     pub few-left : offset < length loop → length loop - offset ≤ 5 → StepRefused (stepOf loop offset) 21 (2 ∷ 0 ∷ []) (length loop)
     unfolding items.numberOf items.valuesOf upid.numberOf upid.valuesOf
-    few-left inside h = bare-refused _ (ItemRefusal.Other (Refusal.Short 2 0)) 21 _ (length loop) (step-few loop offset fits inside (omega arith)) refl refl
+    few-left inside h = bare-refused _ (ItemRefusal.Other (Refusal.NotEnoughData 2 0)) 21 _ (length loop) (step-few loop offset fits inside (omega arith)) refl refl
 
     module _ (six : offset + 6 ≤ length loop) where
       abbrev L : ℕ
@@ -58,7 +58,7 @@ module _ (loop : List ℕ) (offset : ℕ) where
 
       pub too-long-for-the-rest : length loop - offset < L + 2 → StepRefused (stepOf loop offset) 21 ((L + 2) ∷ 0 ∷ []) (length loop)
       unfolding items.numberOf items.valuesOf upid.numberOf upid.valuesOf
-      too-long-for-the-rest h = bare-refused _ (ItemRefusal.Other (Refusal.Short (L + 2) 0)) 21 _ (length loop) (step-over loop offset fits (omega arith) L refl (omega arith) h) refl refl
+      too-long-for-the-rest h = bare-refused _ (ItemRefusal.Other (Refusal.NotEnoughData (L + 2) 0)) 21 _ (length loop) (step-over loop offset fits (omega arith) L refl (omega arith) h) refl refl
 
       module _ (there : L + 2 ≤ length loop - offset) where
         pub length-255 : 254 < L → StepRefused (stepOf loop offset) 22 [] (length loop)
@@ -67,7 +67,7 @@ module _ (loop : List ℕ) (offset : ℕ) where
 
         pub length-below-4 : L ≤ 3 → StepRefused (stepOf loop offset) 21 (6 ∷ (L + 2) ∷ []) (offset + (L + 2))
         unfolding items.numberOf items.valuesOf upid.numberOf upid.valuesOf
-        length-below-4 h = bare-refused _ (ItemRefusal.Other (Refusal.Short 6 (L + 2))) 21 _ (offset + (L + 2)) (step-small loop offset fits (omega arith) L refl (omega arith) there (omega arith) (omega arith)) refl refl
+        length-below-4 h = bare-refused _ (ItemRefusal.Other (Refusal.NotEnoughData 6 (L + 2))) 21 _ (offset + (L + 2)) (step-small loop offset fits (omega arith) L refl (omega arith) there (omega arith) (omega arith)) refl refl
 
         pub else-read : 4 ≤ L → L ≤ 254 → stepOf loop offset ≡ wholeAt loop offset L
         else-read low high = step-whole loop offset fits (omega arith) L refl (omega arith) there high low
@@ -94,7 +94,7 @@ module _ (s : List ℕ) where
   avail-kind : KindIs 0 (availOf s)
   unfolding availOf
   avail-kind =
-      kind-pick 0 (ltb (length s) 4) (DescriptorRead.Refused (Refusal.Short 4 (length s))) (parse avail (bitsOf s) 0 andThen λ x at. DescriptorRead.Is (Descriptor.Avail x)) tt
+      kind-pick 0 (ltb (length s) 4) (DescriptorRead.Refused (Refusal.NotEnoughData 4 (length s))) (parse avail (bitsOf s) 0 andThen λ x at. DescriptorRead.Is (Descriptor.Avail x)) tt
       (kind-then 0 (parse avail (bitsOf s) 0) (λ x at. DescriptorRead.Is (Descriptor.Avail x)) (λ x at. refl))
 
   dtmf-kind : KindIs 1 (dtmfOf s)
@@ -104,7 +104,7 @@ module _ (s : List ℕ) where
   time-kind : KindIs 3 (timeOf s)
   unfolding timeOf
   time-kind =
-      kind-pick 3 (ltb (length s) 12) (DescriptorRead.Refused (Refusal.Short 12 (length s))) (parse time (bitsOf s) 0 andThen λ x at. DescriptorRead.Is (Descriptor.Time x)) tt
+      kind-pick 3 (ltb (length s) 12) (DescriptorRead.Refused (Refusal.NotEnoughData 12 (length s))) (parse time (bitsOf s) 0 andThen λ x at. DescriptorRead.Is (Descriptor.Time x)) tt
       (kind-then 3 (parse time (bitsOf s) 0) (λ x at. DescriptorRead.Is (Descriptor.Time x)) (λ x at. refl))
 
   insert-kind : (event at : ℕ) → KindIs 2 (insertOf s event at)
@@ -163,7 +163,7 @@ upid-refused r x n values e a b = record { refusal = x; is = e; number = a; told
 module _ (b : List ℕ) where
   pub upid-too-long : (k : ℕ) → 255 < length b → UpidRefused (checkOf k b) 2 []
   unfolding checkOf upid.numberOf upid.valuesOf
-  upid-too-long k h = upid-refused _ Refusal.TooLong 2 [] (rw (lt-ltb 255 (length b) h)) refl refl
+  upid-too-long k h = upid-refused _ Refusal.InputTooLong 2 [] (rw (lt-ltb 255 (length b) h)) refl refl
 
   module _ (some : 1 ≤ length b) (fits : length b ≤ 255) where
     -- what is read of a UPID that is no MID
@@ -173,12 +173,12 @@ module _ (b : List ℕ) where
 
     pub upid-of-type-0 : UpidRefused (checkOf 0 b) 23 []
     unfolding plainOf upid.numberOf upid.valuesOf
-    upid-of-type-0 = upid-refused _ Refusal.Mismatch 23 [] (plain 0 (λ z. omega arith)) refl refl
+    upid-of-type-0 = upid-refused _ Refusal.UpidLengthTypeMismatch 23 [] (plain 0 (λ z. omega arith)) refl refl
 
     -- a type with a fixed length n
     wrong-length : (k n : ℕ) → (k ≡ 0 → ⊥) → (k ≡ 13 → ⊥) → lengthOf k ≡ n → (n ≡ 0 → ⊥) → (length b ≡ n → ⊥) → UpidRefused (checkOf k b) 25 (k ∷ n ∷ length b ∷ [])
     unfolding plainOf upid.numberOf upid.valuesOf
-    wrong-length k n z m e p w = upid-refused _ (Refusal.WrongLength k n (length b)) 25 _ (plain k m ∙ rw (ne-eqb k 0 z, e, ne-eqb n 0 p, ne-eqb (length b) n w)) refl refl
+    wrong-length k n z m e p w = upid-refused _ (Refusal.InvalidUpidLength k n (length b)) 25 _ (plain k m ∙ rw (ne-eqb k 0 z, e, ne-eqb n 0 p, ne-eqb (length b) n w)) refl refl
 
     pub upid-of-wrong-length : All (λ (t : ℕ × ℕ). (length b ≡ t .1 → ⊥) → UpidRefused (checkOf (t .0) b) 25 (t .0 ∷ t .1 ∷ length b ∷ [])) fixedLengths
     unfolding lengthOf
@@ -196,7 +196,7 @@ module _ (b : List ℕ) where
     no-text : (k n : ℕ) → (k ≡ 0 → ⊥) → (k ≡ 13 → ⊥) → lengthOf k ≡ n → (n ≡ 0 → ⊥) → isText k ≡ true → length b ≡ n → textOf b ≡ false → UpidRefused (checkOf k b) 24 (k ∷ 0 ∷ n ∷ [])
     unfolding plainOf upid.numberOf upid.valuesOf
     no-text k n z m e p t l u =
-        upid-refused _ (Refusal.NotText k (record { at = 0; len = length b })) 24 _ (plain k m ∙ rw (ne-eqb k 0 z, e, ne-eqb n 0 p, eq-eqb (length b) n l, t, u)) refl (ap (λ (j : ℕ). k ∷ 0 ∷ j ∷ []) l)
+        upid-refused _ (Refusal.InvalidUpidContent k (record { at = 0; len = length b })) 24 _ (plain k m ∙ rw (ne-eqb k 0 z, e, ne-eqb n 0 p, eq-eqb (length b) n l, t, u)) refl (ap (λ (j : ℕ). k ∷ 0 ∷ j ∷ []) l)
 
     pub upid-no-text : All (λ (t : ℕ × ℕ). length b ≡ t .1 → textOf b ≡ false → UpidRefused (checkOf (t .0) b) 24 (t .0 ∷ 0 ∷ t .1 ∷ [])) texts
     unfolding lengthOf isText

@@ -1,5 +1,5 @@
 -- Worked sections, and each refusal of an item and of a UPID by its own words. A reader needs the specs of this crate beside this file. (Those of a section, 1 to 11: theorems/proofs/Theorems.antt,
--- `refusals-1-to-11-in-order`; of an adjusted time, 32: `numbers-of-34-bits-are-not-adjusted` there; of a short target, 36: `Puts` in theorems_functions.) Assumes nothing.
+-- `refusals-1-to-11-in-order`; of an adjusted time, 32: `numbers-of-34-bits-are-not-adjusted` there; of a short target, 36: `Puts` in theorems_functions.)
 use Prim.Native.Nat.{ℕ, _+_, _-_, _≤_, _<_}
 use mathlib.Core.Bool.{true, false}
 use mathlib.Core.List.{List, [], _∷_}
@@ -15,8 +15,8 @@ use Rattle.header.specs.Header as header
 use Rattle.header.specs.Header.{headerOf}
 use Rattle.header.specs.declared.header.HeaderRead.{HeaderRead}
 use Rattle.header.specs.declared.header.SpliceInfoHeader.{SpliceInfoHeader}
-use Rattle.items.specs.Items.{stepOf, wholeAt}
-use Rattle.items.specs.declared.Item.{Item}
+use Rattle.descriptor_loop.specs.Items.{stepOf, wholeAt}
+use Rattle.descriptor_loop.specs.declared.Item.{Item}
 use Rattle.names.specs.Flags.{Answer, networkOf, returnOf, restrictionsOf}
 use Rattle.section.specs.Section.{sectionOf}
 use Rattle.section.specs.declared.Section.{Section}
@@ -65,7 +65,7 @@ a-canonical-section-with-every-descriptor = worked.every-descriptor-canonical
 
 -- ---- 5: "a header alone under 11, its only refusal"
 
-pub a-header-under-11-bytes-is-refused-with-5 : (s : List ℕ) → length s < 11 → (headerOf s ≡ HeaderRead.TooShort) × (header.numberOf (headerOf s) ≡ 5)
+pub a-header-under-11-bytes-is-refused-with-5 : (s : List ℕ) → length s < 11 → (headerOf s ≡ HeaderRead.NoHeader) × (header.numberOf (headerOf s) ≡ 5)
 a-header-under-11-bytes-is-refused-with-5 s h = (header-refused s h, rw (header-refused s h))
 
 pub any-other-header-is-read : (s : List ℕ) → 11 ≤ length s → (x : SpliceInfoHeader) × (headerOf s ≡ HeaderRead.Header x)
@@ -127,13 +127,13 @@ pub another-identifier-is-reserved : (s : List ℕ) (tag a b c d : ℕ) → (a �
 another-identifier-is-reserved s tag a b c d h = refusals.other-identifier s tag a b c d h ∙ sym (reserved-is s tag)
 
 -- "0 avail: 32 bits. Shorter: 21 (4, actual)"
-pub an-avail-is-read-of-4-bytes : (s : List ℕ) → (length s < 4 → descriptorOf 0 cuei s ≡ DescriptorRead.Refused (Refusal.Short 4 (length s)))
+pub an-avail-is-read-of-4-bytes : (s : List ℕ) → (length s < 4 → descriptorOf 0 cuei s ≡ DescriptorRead.Refused (Refusal.NotEnoughData 4 (length s)))
     × (4 ≤ length s → descriptorOf 0 cuei s ≡ DescriptorRead.Is (Descriptor.Avail (record { «provider_avail_id» = field (bitsOf s) 0 32 })))
 unfolding descriptorOf isCuei
 an-avail-is-read-of-4-bytes s = (λ h. sym (avail-short s h), λ h. sym (avail-is s _ h refl))
 
 -- "3 time: seconds 48, nanoseconds 32, offset 16. Shorter: 21 (12, actual)"
-pub a-time-is-read-of-12-bytes : (s : List ℕ) → (length s < 12 → descriptorOf 3 cuei s ≡ DescriptorRead.Refused (Refusal.Short 12 (length s)))
+pub a-time-is-read-of-12-bytes : (s : List ℕ) → (length s < 12 → descriptorOf 3 cuei s ≡ DescriptorRead.Refused (Refusal.NotEnoughData 12 (length s)))
     × (12 ≤ length s → descriptorOf 3 cuei s
     ≡ DescriptorRead.Is (Descriptor.Time (record { «tai_seconds» = field (bitsOf s) 0 48; «tai_nanoseconds» = field (bitsOf s) 48 32; «utc_offset» = field (bitsOf s) 80 16 })))
 unfolding descriptorOf isCuei

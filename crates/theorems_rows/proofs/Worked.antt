@@ -1,4 +1,4 @@
--- Sections that are worked out, by computation. Assumes nothing.
+-- Sections that are worked out, by computation.
 use Prim.Native.Nat.{ℕ}
 use mathlib.Core.Bool.{true, false}
 use mathlib.Core.List.{List, [], _∷_}
@@ -12,9 +12,9 @@ use Rattle.command.specs.declared.insert.SpliceInsert.{SpliceInsert}
 use Rattle.command.specs.declared.insert.SpliceMode.{SpliceMode}
 use Rattle.command.specs.declared.insert.Break.{Break}
 use Rattle.names.specs.declared.flags.NetworkIndicator.{NetworkIndicator}
-use Rattle.canonical_command.specs.Canonical.{canonicalCommand}
+use Rattle.command_canonical.specs.Canonical.{canonicalCommand}
 use Rattle.descriptor.specs.Segmentation as segment
-use Rattle.descriptor_form.specs.Canonical.{canonicalUpid, canonicalSegmentation, canonicalPayload, canonicalDescriptor, canonicalFrom, canonicalLoop}
+use Rattle.descriptor_measure.specs.Canonical.{canonicalUpid, canonicalSegmentation, canonicalPayload, canonicalDescriptor, canonicalFrom, canonicalLoop}
 use Rattle.section_writer.specs.Canonical.{canonicalFrame, canonicalSection}
 use Rattle.crc.specs.Crc.{crcOf, crcBits, crcBit}
 use Rattle.descriptor.specs.Descriptor.{descriptorOf, isCuei, segmentationOf, insertOf, inserted, dtmfOf, reservedOf}
@@ -22,9 +22,9 @@ use Rattle.descriptor.specs.Plain.{avail, dtmf, time, privateBytes}
 use Rattle.descriptor.specs.Segmentation.{deliveryRestrictions, mode, duration, writtenUpid, parts, front, subSegments, back, head, segmentation}
 use Rattle.descriptor.specs.Whole.{besideOf, besideIn, filled}
 use Rattle.header.specs.Header.{headerOf, headerRead, spliceHeader}
-use Rattle.header.specs.Time.{spliceTime}
-use Rattle.items.specs.Items.{readAt, wholeAt, stepOf, itemsFrom, itemsOf}
-use Rattle.loop_laws.specs.Loops.Pairs.{over}
+use Rattle.splice_time.specs.Time.{spliceTime}
+use Rattle.descriptor_loop.specs.Items.{readAt, wholeAt, stepOf, itemsFrom, itemsOf}
+use Rattle.loop_round_trips.specs.Loops.Pairs.{over}
 use Rattle.names.specs.Algorithm.{algorithmOf}
 use Rattle.names.specs.Command as names
 use Rattle.section.specs.Section.{commandLength, commandType, commandBytes, roomAfter, loopLength, loopPlace, frameIn, moved, movedRead, accepted, frameOf, sectionOf, numberOf}

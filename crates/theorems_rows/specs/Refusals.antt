@@ -1,12 +1,12 @@
--- A refusal by 01's number and values. These are definitions.
+-- A refusal by 01's number and values.
 use Prim.Native.Nat.{ℕ}
 use mathlib.Core.List.{List, [], _∷_}
 use mathlib.Core.Path.{_≡_}
 use Rattle.descriptor.specs.declared.Descriptor.{Descriptor}
-use Rattle.items.specs.Items as items
-use Rattle.items.specs.declared.Item.{Item}
-use Rattle.items.specs.declared.ItemRefusal.{ItemRefusal}
-use Rattle.items.specs.declared.Step.{Step}
+use Rattle.descriptor_loop.specs.Items as items
+use Rattle.descriptor_loop.specs.declared.Item.{Item}
+use Rattle.descriptor_loop.specs.declared.ItemRefusal.{ItemRefusal}
+use Rattle.descriptor_loop.specs.declared.Step.{Step}
 use Rattle.upid.specs.Upid as upid
 use Rattle.upid.specs.declared.Refusal.{Refusal}
 use Rattle.upid.specs.declared.UpidRead.{UpidRead}

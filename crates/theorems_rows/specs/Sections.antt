@@ -1,4 +1,4 @@
--- Sections that are worked out, byte by byte. These are definitions.
+-- Sections that are worked out, byte by byte.
 use Prim.Native.Nat.{ℕ}
 use mathlib.Core.List.{List, [], _∷_, _++_}
 

@@ -1,4 +1,4 @@
--- From trees of parts to the public answer, for the statements in Theorems.antt. Assumes nothing.
+-- From trees of parts to the public answer, for the statements in Theorems.antt.
 use Prim.Native.Nat.{ℕ, zero, suc, _+_, _*_, _-_, _≤_}
 use mathlib.Core.Path.{_≡_, refl, sym, ap, _∙_}
 use mathlib.Core.Bool.{Bool, true, false, cond, not, _&&_}
@@ -12,10 +12,10 @@ use Rattle.upid.specs.Upid.{upidOf, checkOf, readOf, walkOf, plainOf, _t
 use Rattle.upid.specs.Text.{textOf}
 use Rattle.upid.specs.Cover.{All, none, more, Cut, joined, placed, whole, bytesOf, directOf, Covered, Ascending, Owned, Once}
 use Rattle.table.specs.declared.View.{View}
-use Rattle.upid.specs.Walk.{Accepted, Announced}
+use Rattle.upid.specs.Private.{Accepted, Announced}
 use Rattle.upid.specs.declared.Part.{Part}
 use Rattle.upid.specs.declared.Refusal.{Refusal}
-use Rattle.upid.specs.declared.Refusal.the-variants.{Short, NotText}
+use Rattle.upid.specs.declared.Refusal.the-variants.{NotEnoughData, InvalidUpidContent}
 use Rattle.upid.specs.declared.UpidRead.{UpidRead}
 use Rattle.upid.specs.declared.UpidRead.the-variants.{Fine, Refused}
 use Rattle.upid.proofs.Laws.{few, then-both, read-nil, read-more, list-nil, list-more, list-plain}
@@ -229,7 +229,7 @@ read-back-plain cs n h p =
 -- ---- the view of a refusal 24 lies in the UPID
 
 Inside : ℕ → UpidRead → Type 0
-Inside end a = (k : ℕ) (v : View) → a ≡ Refused (NotText k v) → v .at + v .len ≤ end
+Inside end a = (k : ℕ) (v : View) → a ≡ Refused (InvalidUpidContent k v) → v .at + v .len ≤ end
 
 inside-fine : (end k : ℕ) → Inside end (Fine k)
 unfolding Inside
@@ -248,7 +248,7 @@ unfolding _then_
 inside-then end (Fine k) b ha hb = hb
 inside-then end (Refused r) b ha hb = ha
 
-inside-short : (end expected actual : ℕ) → Inside end (Refused (Short expected actual))
+inside-short : (end expected actual : ℕ) → Inside end (Refused (NotEnoughData expected actual))
 unfolding Inside
 inside-short end expected actual q v e = let z : _≡_ {A = ℕ} 0 1 = cc in absurd (omega arith)
 
@@ -275,7 +275,7 @@ inside-walk (suc n) start (k ∷ (l ∷ rest)) =
     (inside-cond _ (eqb k 13) _ _ (inside-wider _ _ _ m (inside-walk n (start + 2) (take l rest))) (λ _. inside-wider _ _ _ m (inside-plain k (start + 2) (take l rest))))
     (inside-wider (start + (2 + l) + length (drop l rest)) _ _ (omega (arith, length-drop l rest)) (inside-walk n (start + (2 + l)) (drop l rest))))
 
-pub view-inside : (k : ℕ) (bytes : List ℕ) (q : ℕ) (v : View) → checkOf k bytes ≡ Refused (NotText q v) → v .at + v .len ≤ length bytes
+pub view-inside : (k : ℕ) (bytes : List ℕ) (q : ℕ) (v : View) → checkOf k bytes ≡ Refused (InvalidUpidContent q v) → v .at + v .len ≤ length bytes
 unfolding Inside checkOf readOf
 view-inside k bytes q v =
     inside-cond (length bytes) (ltb 255 (length bytes)) _ _ (λ q v e. let z : _≡_ {A = ℕ} 0 1 = cc in absurd (omega arith)) (λ _.

@@ -1,4 +1,4 @@
--- Cuttings of a MID. Assumes nothing.
+-- Cuttings of a MID.
 --     one-cutting    no two cuttings join to the same bytes
 --     placed-once    each byte lies in exactly one of the pieces of a cutting
 --     placed-runs    and their payloads are runs of the top UPID

@@ -1,4 +1,4 @@
--- Laws of the definitions of a MID. Assumes nothing.
+-- Laws of the definitions of a MID.
 --     read-nil, read-one, read-more    a MID is read by these three equations
 --     list-nil, list-more              and so are its parts
 --     few                              n bytes have at most n / 2 parts
@@ -11,11 +11,11 @@ use native.Mathlib.Omega.{arith}
 use lib.Dec.{ltb, eqb}
 use lib.ListN.{length, take, drop, length-append, length-take, length-drop}
 use borrow.Author.Tests.{ltb-true, ltb-false, ne-eqb}
-use Rattle.upid.specs.Walk.{Accepted}
+use Rattle.upid.specs.Private.{Accepted}
 use Rattle.upid.specs.Upid.{_then_, walkOf, readOf, partsOf, listOf, plainOf, reportedOf}
 use Rattle.upid.specs.declared.Part.{Part}
 use Rattle.upid.specs.declared.Refusal.{Refusal}
-use Rattle.upid.specs.declared.Refusal.the-variants.{Short}
+use Rattle.upid.specs.declared.Refusal.the-variants.{NotEnoughData}
 use Rattle.upid.specs.declared.UpidRead.{UpidRead}
 use Rattle.upid.specs.declared.UpidRead.the-variants.{Fine, Refused}
 
@@ -71,13 +71,13 @@ pub read-nil : (start : ℕ) → readOf 13 start [] ≡ Fine 13
 unfolding readOf walkOf
 read-nil start = refl
 
-pub read-one : (start k : ℕ) → readOf 13 start (k ∷ []) ≡ Refused (Short 1 0)
+pub read-one : (start k : ℕ) → readOf 13 start (k ∷ []) ≡ Refused (NotEnoughData 1 0)
 unfolding readOf walkOf
 read-one start k = refl
 
 -- a head of two bytes: its payload is short, or it is a part and what follows
 pub read-more : (start k l : ℕ) (rest : List ℕ) → readOf 13 start (k ∷ (l ∷ rest)) ≡
-    cond (ltb (length rest) l) (Refused (Short l (length rest)))
+    cond (ltb (length rest) l) (Refused (NotEnoughData l (length rest)))
     (readOf k (start + 2) (take l rest) then readOf 13 (start + (2 + l)) (drop l rest))
 unfolding readOf walkOf
 read-more start k l rest =

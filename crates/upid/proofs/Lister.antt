@@ -1,4 +1,4 @@
--- Laws of the walk that lists the parts of a MID, over bytes that were accepted: which MIDs are open at a place, and what parts are left. Assumes nothing.
+-- Laws of the walk that lists the parts of a MID, over bytes that were accepted: which MIDs are open at a place, and what parts are left.
 --     open-first            the walk begins in the top MID
 --     closed                it leaves a MID
 --     part-whole            it meets a part: the head is whole, and so is the payload
@@ -13,7 +13,7 @@ use lib.ListN.{length, take, drop, getD, set, length-drop}
 use lib.Seq.{drop-drop, drop-at, take-add, take-take, take-length, length-take-le, getD-take, getD-set-same, getD-set-other}
 use borrow.Author.Tests.{le-ltb}
 use Rattle.upid.specs.Upid.{readOf, listOf, reportedOf, listed}
-use Rattle.upid.specs.Walk.{grown, Accepted, Open, pending}
+use Rattle.upid.specs.Private.{grown, Accepted, Open, pending}
 use Rattle.upid.specs.declared.Part.{Part}
 use Rattle.upid.specs.declared.PartList.{PartList}
 use Rattle.upid.proofs.Laws.{few, read-more, list-more, list-mid, list-plain, then-both, accepted-mid}

@@ -1,5 +1,4 @@
 -- A byte in a range of `specs/Text.antt`, above it and below it (`hit`, `over`, `under`); the row that it begins (`row`), or none (`gap`).
--- Assumes nothing.
 use Prim.Native.Nat.{ℕ, suc, _≤_, _<_, max, min}
 use mathlib.Core.Path.{_≡_, refl, sym, _∙_}
 use mathlib.Core.Bool.{true, false, and-false}

@@ -1,4 +1,4 @@
--- Rows h, i and j of document 01, "Worked rows", and more of its rules, over the public definition. Assumes nothing.
+-- Rows h, i and j of document 01, "Worked rows", and more of its rules, over the public definition.
 use Prim.Native.Nat.{ℕ}
 use mathlib.Core.Path.{_≡_, refl}
 use mathlib.Core.List.{List, [], _∷_}

@@ -1,18 +1,18 @@
 -- What is proved of UPIDs, in the words of specs/Upid.antt and specs/Cover.antt. `upidOf k bytes` is the whole answer to the bytes under the
--- type k, which `read_upid` gives; `partsIn` are the parts in it. The proofs stand in Answers.antt. Assumes nothing.
+-- type k, which `read_upid` gives; `partsIn` are the parts in it. The proofs stand in Answers.antt.
 use Prim.Native.Nat.{ℕ, zero, suc, _+_, _-_, _≤_, _<_}
 use mathlib.Core.Path.{_≡_, refl}
 use mathlib.Core.Bool.{true}
 use mathlib.Core.List.{List, [], _∷_, _++_}
 use lib.ListN.{length, getD, replicate}
 use Rattle.table.specs.declared.View.{View}
-use Rattle.upid.specs.Walk.{Accepted, Announced}
+use Rattle.upid.specs.Private.{Accepted, Announced}
 use Rattle.upid.specs.Upid.{upidOf, checkOf, readOf, reportedOf, blankPart, walkOf, plainOf, _then_, listOf, partsOf, listed, unlessRefused, partsIn}
 use Rattle.upid.specs.Text.{characters, begun, Octets, textOf}
 use Rattle.upid.specs.Cover.{All, Cut, joined, placed, whole, bytesOf, directOf, Covered, Ascending, Owned, Once}
 use Rattle.upid.specs.declared.Part.{Part}
 use Rattle.upid.specs.declared.Refusal.{Refusal}
-use Rattle.upid.specs.declared.Refusal.the-variants.{NotText}
+use Rattle.upid.specs.declared.Refusal.the-variants.{InvalidUpidContent}
 use Rattle.upid.specs.declared.UpidRead.the-variants.{Fine, Refused}
 use Rattle.upid.proofs.Cutting as cutting
 use Rattle.upid.proofs.Answers as answers
@@ -117,5 +117,5 @@ no-byte-begins-two-rows = utf8.one-row
 -- ---- for readers of what holds a UPID
 
 -- the view of a refusal 24 lies in the UPID
-pub view-of-24-lies-inside : (k : ℕ) (bytes : List ℕ) (q : ℕ) (v : View) → checkOf k bytes ≡ Refused (NotText q v) → v .at + v .len ≤ length bytes
+pub view-of-24-lies-inside : (k : ℕ) (bytes : List ℕ) (q : ℕ) (v : View) → checkOf k bytes ≡ Refused (InvalidUpidContent q v) → v .at + v .len ≤ length bytes
 view-of-24-lies-inside = answers.view-inside

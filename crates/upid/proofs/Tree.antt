@@ -1,4 +1,4 @@
--- An accepted MID as a tree of parts, and what its records say of it. Assumes nothing.
+-- An accepted MID as a tree of parts, and what its records say of it.
 --     grow         an accepted MID is a tree's bytes, and its list of parts that tree's records
 --     whole-piece, inner-pieces    the top MID, and each MID inside it, is cut into its direct parts
 --     announced, shallow           each record has a head before it, and is not too deep
@@ -11,7 +11,7 @@ use lib.Dec.{eqb}
 use lib.ListN.{length, take, drop, getD, length-append, length-take, length-drop, take-append-drop}
 use lib.Seq.{take-length, take-append-seam, getD-drop}
 use borrow.Author.Tests.{lt-ltb, le-ltb, le-leb, lt-leb, eq-eqb, ne-eqb, eqb-true, eqb-false}
-use Rattle.upid.specs.Walk.{Accepted, Announced}
+use Rattle.upid.specs.Private.{Accepted, Announced}
 use Rattle.upid.specs.Upid.{readOf, listOf, reportedOf}
 use Rattle.upid.specs.Cover.{All, none, more, Ascending, nothing, before, Owned, Cut, joined, placed, whole, bytesOf, directly, directOf}
 use Rattle.upid.specs.declared.Part.{Part}

@@ -1,4 +1,4 @@
--- The test of text is RFC 3629's grammar. Assumes nothing.
+-- The test of text is RFC 3629's grammar.
 --     one-row         no byte begins two rows of the grammar: one test, computed over the bytes
 --     text-is-utf8, utf8-is-text    the test passes exactly on the grammar's strings
 use Prim.Native.Nat.{ℕ, zero, suc, _+_, _≤_, _<_}

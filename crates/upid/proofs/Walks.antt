@@ -1,4 +1,4 @@
--- Laws of a walk of a MID that meets its parts at a place `at` of its bytes, and of a list of parts. (The walk that fills the list: Lister.antt.) Assumes nothing.
+-- Laws of a walk of a MID that meets its parts at a place `at` of its bytes, and of a list of parts. (The walk that fills the list: Lister.antt.)
 --     read-end, read-head, read-short, read-stop, read-on    a turn of the walk
 --     grown-nil, grown-more, grown-blank                     a list grows by one run of parts after the other
 --     sound                                                  a turn over what was accepted
@@ -13,11 +13,11 @@ use lib.ListN.{length, take, drop, getD, set, replicate, length-replicate, lengt
 use lib.Seq.{sets, sets-eq, drop-cons, drop-drop}
 use borrow.Author.Tests.{lt-ltb, le-ltb, ne-eqb}
 use Rattle.upid.specs.Upid.{_then_, readOf, listOf, listed, checkOf, eidrOf, unlessRefused, upidOf}
-use Rattle.upid.specs.Walk.{grown, Accepted}
+use Rattle.upid.specs.Private.{grown, Accepted}
 use Rattle.upid.specs.declared.Part.{Part}
 use Rattle.upid.specs.declared.PartList.{PartList}
 use Rattle.upid.specs.declared.Refusal.{Refusal}
-use Rattle.upid.specs.declared.Refusal.the-variants.{Short}
+use Rattle.upid.specs.declared.Refusal.the-variants.{NotEnoughData}
 use Rattle.upid.specs.declared.UpidRead.{UpidRead}
 use Rattle.upid.specs.declared.UpidRead.the-variants.{Fine, Refused}
 use Rattle.upid.proofs.Laws.{read-nil, read-one, read-more, list-nil, then-off, then-on, by-cases}
@@ -41,12 +41,12 @@ read-end start at s h = rw (drop-of-length-le s h) (read-nil start)
 pub list-end : (level start at : ℕ) (s : List ℕ) → length s ≤ at → listOf 13 level start (drop at s) ≡ []
 list-end level start at s h = rw (drop-of-length-le s h) (list-nil level start)
 
-pub read-head : (start at : ℕ) (s : List ℕ) → at < length s → length s - at < 2 → readOf 13 start (drop at s) ≡ Refused (Short 1 0)
+pub read-head : (start at : ℕ) (s : List ℕ) → at < length s → length s - at < 2 → readOf 13 start (drop at s) ≡ Refused (NotEnoughData 1 0)
 read-head start at s h l = rw (at-one s at h l) (read-one start (getD s at 0))
 
 -- a part with its head of two bytes, and n bytes that its head announces
 module _ (start at n : ℕ) (s : List ℕ) (inside : at < length s) (head : 2 ≤ length s - at) (en : n ≡ getD s (at + 1) 0) where
-  pub read-short : length s - (at + 2) < n → readOf 13 start (drop at s) ≡ Refused (Short n (length s - (at + 2)))
+  pub read-short : length s - (at + 2) < n → readOf 13 start (drop at s) ≡ Refused (NotEnoughData n (length s - (at + 2)))
   read-short short =
       let e : length (drop (at + 2) s) ≡ length s - (at + 2) = length-drop (at + 2) s in
       rw (at-more s at inside head, read-more, ← en, e, lt-ltb _ _ short)

@@ -1,4 +1,4 @@
--- What it means that the parts of a MID cover it, and that it can be cut in no other way. These are definitions.
+-- What it means that the parts of a MID cover it, and that it can be cut in no other way.
 use Prim.Native.Nat.{ℕ, _+_, _≤_, _<_}
 use mathlib.Core.Bool.{Bool, true, cond, _&&_}
 use mathlib.Core.List.{List, [], _∷_, _++_, map, List·Memᴰ}

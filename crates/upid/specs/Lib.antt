@@ -1,4 +1,4 @@
 pub mod Text
 pub mod Upid
 pub mod Cover
-pub mod Walk
+pub mod Private

@@ -1,4 +1,4 @@
--- UTF-8 as RFC 3629, section 4, has it. These are definitions.
+-- UTF-8 as RFC 3629, section 4, has it.
 use Prim.Native.Nat.{ℕ, _+_}
 use mathlib.Core.Bool.{Bool, true, false, cond, _&&_}
 use mathlib.Core.List.{List, [], _∷_, _++_, foldl, List·Memᴰ}

@@ -1,4 +1,4 @@
--- What a UPID says (document 01, "Identifiers"). These are definitions.
+-- What a UPID says (document 01, "Identifiers").
 use Prim.Native.Nat.{ℕ, zero, suc, _+_}
 use mathlib.Core.Bool.{Bool, cond, not, _&&_, _||_}
 use mathlib.Core.List.{List, [], _∷_, _++_}
@@ -11,25 +11,25 @@ use Rattle.upid.specs.declared.Part.{Part}
 use Rattle.upid.specs.declared.PartList.{PartList}
 use Rattle.upid.specs.declared.Upid.{Upid}
 use Rattle.upid.specs.declared.Refusal.{Refusal}
-use Rattle.upid.specs.declared.Refusal.the-variants.{TooLong, Short, Mismatch, NotText, WrongLength}
+use Rattle.upid.specs.declared.Refusal.the-variants.{InputTooLong, NotEnoughData, UpidLengthTypeMismatch, InvalidUpidContent, InvalidUpidLength}
 use Rattle.upid.specs.declared.UpidRead.{UpidRead}
 use Rattle.upid.specs.declared.UpidRead.the-variants.{Fine, Refused}
 
 -- ---- document 01's number and values of each refusal
 
 unfoldable pub numberOf : Refusal → ℕ
-numberOf TooLong = 2
-numberOf (Short expected actual) = 21
-numberOf Mismatch = 23
-numberOf (NotText kind bytes) = 24
-numberOf (WrongLength kind expected actual) = 25
+numberOf InputTooLong = 2
+numberOf (NotEnoughData expected actual) = 21
+numberOf UpidLengthTypeMismatch = 23
+numberOf (InvalidUpidContent kind bytes) = 24
+numberOf (InvalidUpidLength kind expected actual) = 25
 
 unfoldable pub valuesOf : Refusal → List ℕ
-valuesOf TooLong = []
-valuesOf (Short expected actual) = expected ∷ actual ∷ []
-valuesOf Mismatch = []
-valuesOf (NotText kind bytes) = kind ∷ bytes .at ∷ bytes .len ∷ []
-valuesOf (WrongLength kind expected actual) = kind ∷ expected ∷ actual ∷ []
+valuesOf InputTooLong = []
+valuesOf (NotEnoughData expected actual) = expected ∷ actual ∷ []
+valuesOf UpidLengthTypeMismatch = []
+valuesOf (InvalidUpidContent kind bytes) = kind ∷ bytes .at ∷ bytes .len ∷ []
+valuesOf (InvalidUpidLength kind expected actual) = kind ∷ expected ∷ actual ∷ []
 
 -- ---- the types
 
@@ -52,10 +52,10 @@ reportedOf k = cond (eqb k 5) 6 k
 -- bytes, and length is tested before text.
 unfoldable pub plainOf : ℕ → ℕ → List ℕ → UpidRead
 plainOf k start bytes =
-    cond (eqb k 0) (Refused Mismatch)
+    cond (eqb k 0) (Refused UpidLengthTypeMismatch)
     (cond (eqb (lengthOf k) 0) (Fine (reportedOf k))
-    (cond (not (eqb (length bytes) (lengthOf k))) (Refused (WrongLength k (lengthOf k) (length bytes)))
-    (cond (isText k && not (textOf bytes)) (Refused (NotText k (record { at = start; len = length bytes })))
+    (cond (not (eqb (length bytes) (lengthOf k))) (Refused (InvalidUpidLength k (lengthOf k) (length bytes)))
+    (cond (isText k && not (textOf bytes)) (Refused (InvalidUpidContent k (record { at = start; len = length bytes })))
     (Fine (reportedOf k)))))
 
 -- ---- a MID "repeats type, length, payload"
@@ -71,9 +71,9 @@ Refused r then b = Refused r
 unfoldable pub walkOf : ℕ → ℕ → List ℕ → UpidRead
 walkOf zero start bytes = Fine 13
 walkOf (suc n) start [] = Fine 13
-walkOf (suc n) start (k ∷ []) = Refused (Short 1 0)
+walkOf (suc n) start (k ∷ []) = Refused (NotEnoughData 1 0)
 walkOf (suc n) start (k ∷ (l ∷ rest)) =
-    cond (ltb (length rest) l) (Refused (Short l (length rest)))
+    cond (ltb (length rest) l) (Refused (NotEnoughData l (length rest)))
     (cond (eqb k 13) (walkOf n (start + 2) (take l rest)) (plainOf k (start + 2) (take l rest))
     then walkOf n (start + (2 + l)) (drop l rest))
 
@@ -100,7 +100,7 @@ listOf k level start bytes = cond (eqb k 13) (partsOf (length bytes) level start
 -- "Length 0 at top level is None and reports type 0, whichever type was written"
 unfoldable pub checkOf : ℕ → List ℕ → UpidRead
 checkOf k bytes =
-    cond (ltb 255 (length bytes)) (Refused TooLong)
+    cond (ltb 255 (length bytes)) (Refused InputTooLong)
     (cond (eqb (length bytes) 0) (Fine 0)
     (readOf k 0 bytes))
 

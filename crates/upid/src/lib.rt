@@ -14,17 +14,17 @@ pub mod text;
 
 // Refusals 2, 21, 23, 24 and 25. A view counts from the start of the UPID.
 pub enum Refusal {
-    TooLong,
-    Short {
+    InputTooLong,
+    NotEnoughData {
         expected: usize,
         actual: usize,
     },
-    Mismatch,
-    NotText {
+    UpidLengthTypeMismatch,
+    InvalidUpidContent {
         kind: u8,
         bytes: View,
     },
-    WrongLength {
+    InvalidUpidLength {
         kind: u8,
         expected: usize,
         actual: usize,
@@ -63,7 +63,7 @@ pub fn check_upid(kind: u8, bytes: &[u8]) -> UpidRead
     ensures { λ r. ⌜ r ≡ checkOf kind (now (bytes .entry)) ⌝ }
 {
     if 255 < bytes.len() {
-        return UpidRead::Refused(Refusal::TooLong);
+        return UpidRead::Refused(Refusal::InputTooLong);
     }
     if bytes.len() == 0 {
         return UpidRead::Fine(0);

@@ -4,7 +4,7 @@ ghost use mathlib.Core.List.{[]};
 ghost use Prim.Native.Nat.{_+_, _≤_, _<_};
 ghost use lib.ListN.{length};
 ghost use Rattle.upid.specs.Upid.{readOf, listOf, listed};
-ghost use Rattle.upid.specs.Walk.{Listable};
+ghost use Rattle.upid.specs.Private.{Listable};
 use crate::Part;
 use crate::PartList;
 use crate::Refusal;
@@ -31,7 +31,7 @@ pub(crate) fn check_payload(kind: u8, s: &[u8], start: usize) -> UpidRead
     'walk: while at < s.len() {
         let left = s.len() - at;
         if left < 2 {
-            answer = UpidRead::Refused(Refusal::Short {
+            answer = UpidRead::Refused(Refusal::NotEnoughData {
                 expected: 1,
                 actual: 0,
             });
@@ -42,7 +42,7 @@ pub(crate) fn check_payload(kind: u8, s: &[u8], start: usize) -> UpidRead
         let body = at + 2;
         let present = s.len() - body;
         if present < n {
-            answer = UpidRead::Refused(Refusal::Short {
+            answer = UpidRead::Refused(Refusal::NotEnoughData {
                 expected: n,
                 actual: present,
             });

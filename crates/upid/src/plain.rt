@@ -38,7 +38,7 @@ pub(crate) fn check_plain(kind: u8, s: &[u8], start: usize) -> UpidRead
     ensures { λ r. ⌜ r ≡ plainOf kind start (now (s .entry)) ⌝ }
 {
     if kind == 0 {
-        return UpidRead::Refused(Refusal::Mismatch);
+        return UpidRead::Refused(Refusal::UpidLengthTypeMismatch);
     }
     let expected = fixed(kind);
     if expected == 0 {
@@ -46,7 +46,7 @@ pub(crate) fn check_plain(kind: u8, s: &[u8], start: usize) -> UpidRead
     }
     let actual = s.len();
     if actual != expected {
-        return UpidRead::Refused(Refusal::WrongLength {
+        return UpidRead::Refused(Refusal::InvalidUpidLength {
             kind,
             expected,
             actual,
@@ -56,7 +56,7 @@ pub(crate) fn check_plain(kind: u8, s: &[u8], start: usize) -> UpidRead
         if is_text(s) {
             return UpidRead::Fine(reported(kind));
         }
-        return UpidRead::Refused(Refusal::NotText {
+        return UpidRead::Refused(Refusal::InvalidUpidContent {
             kind,
             bytes: View {
                 at: start,

@@ -1,7 +1,7 @@
 // UTF-8 (RFC 3629).
 ghost use mathlib.Core.Path.{_≡_};
 ghost use Rattle.upid.specs.Text.{characters, begin, step, textOf};
-ghost use Rattle.upid.specs.Walk.{meaning};
+ghost use Rattle.upid.specs.Private.{meaning};
 
 // Where a reading stands after some bytes.
 enum Stand {

@@ -1,4 +1,4 @@
-//! An answer in the words of `crates/vectors`, which prints the port's in the same words.
+//! An answer in the words of `crates/run_vectors`, which prints the port's in the same words.
 use crate::answer::*;
 use std::fmt::Write;
 

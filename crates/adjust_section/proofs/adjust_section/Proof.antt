@@ -2,7 +2,7 @@
 use Prim.Native.Nat.{ℕ, _+_, _%_}
 use mathlib.Core.Path.{_≡_, sym, _∙_, ap}
 use native.Mathlib.Omega.{arith}
-use Rattle.pen.proofs.Writes.{refused-answer, short-answer}
+use Rattle.bit_stores.proofs.Writes.{refused-answer, short-answer}
 use Rattle.section.specs.Section.{sectionOf, numberOf}
 use Rattle.table.proofs.Reading.{field-lt}
 use Rattle.adjust_section.specs.Adjusted.{adjustmentIn, adjustedSection}

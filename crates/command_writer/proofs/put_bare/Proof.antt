@@ -4,7 +4,7 @@ use mathlib.Core.Path.{_≡_, sym, _∙_}
 use Prim.Native.Nat.{ℕ, _+_, _≤_}
 use lib.ListN.{length}
 use Rattle.command.specs.Command.{array}
-use Rattle.pen.specs.Written.{refusalIn, bytesIn}
+use Rattle.bit_stores.specs.Written.{refusalIn, bytesIn}
 use Rattle.table.proofs.Bits.{bytes-all}
 use Rattle.command_measure.specs.Made.{commandMade}
 use Rattle.command_writer.proofs.Payloads.{room-there, room-none}

@@ -2,7 +2,7 @@
 use mathlib.Core.List.{[]}
 use mathlib.Core.Path.{ap, _∙_}
 use Rattle.command.specs.Command.{array}
-use Rattle.pen.specs.Written.{bytesIn}
+use Rattle.bit_stores.specs.Written.{bytesIn}
 use Rattle.table.specs.Lent.{stored}
 use Rattle.table.specs.Writing.{Made}
 use Rattle.command_measure.proofs.Making.{insert-is, bare-made}

@@ -1,7 +1,7 @@
 -- `command_writer::store_private`: the identifier, then the view.
 use mathlib.Core.Path.{_≡_, refl, ap, sym, _∙_}
 use native.Mathlib.Omega.{arith}
-use Rattle.pen.proofs.Tables.{pens-append, pens-same}
+use Rattle.bit_stores.proofs.Tables.{pens-append, pens-same}
 use Rattle.table.specs.Bits.{bitsOfNum, bitsOf}
 use Rattle.table.specs.Lent.{viewed}
 use Rattle.table.proofs.Bits.{all-num}

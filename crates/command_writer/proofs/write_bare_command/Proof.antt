@@ -6,7 +6,7 @@ use Prim.Native.Nat.{ℕ, _+_, _≤_}
 use lib.ListN.{length}
 use Rattle.command.specs.Command.{array}
 use Rattle.command.proofs.Filling.{blank-length}
-use Rattle.pen.specs.Written.{answerOf, refusalIn, bytesIn}
+use Rattle.bit_stores.specs.Written.{answerOf, refusalIn, bytesIn}
 use Rattle.table.proofs.Bits.{bytes-all}
 use Rattle.command_measure.specs.Made.{commandMade}
 use Rattle.command_writer.proofs.Payloads.{command-made, answered, wrote-there, refused-later}

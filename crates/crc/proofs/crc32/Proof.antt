@@ -1,5 +1,5 @@
 -- `crc::crc32` meets its contract: the register after the word that is taken next, taken on over the bytes that are left, is the CRC of the
--- whole. Assumes nothing.
+-- whole.
 use mathlib.Core.Path.{_≡_, sym, ap, _∙_}
 use mathlib.Core.List.{List}
 use Prim.Native.Nat.{ℕ, _+_, _*_, _/_, _%_, _-_, _^_, _<_, _≤_}
@@ -11,7 +11,7 @@ use lib.Dec.{lit<}
 use lib.ListN.{length, getD, drop}
 use Rattle.crc_table.specs.Turns.{turns, reversed}
 use Rattle.crc.specs.Crc.{allOnes, crcOf}
-use Rattle.crc.specs.Walk.{crcBytes, numberAt}
+use Rattle.crc.specs.Private.{crcBytes, numberAt}
 use Rattle.crc.proofs.Bytes.{past-none, past-all, number-fits, number-first, pass}
 use Rattle.crc.proofs.Turns.{turns-lin, turns-add, turned-lt, reversed-lin, reversed-twice}
 use Rattle.crc.proofs.crc32.Statement.{statement}

@@ -1,11 +1,11 @@
--- `crc::crc32_plain` meets its contract: the register, taken on over the bytes that are left, is the CRC of the whole. Assumes nothing.
+-- `crc::crc32_plain` meets its contract: the register, taken on over the bytes that are left, is the CRC of the whole.
 use mathlib.Core.Path.{_≡_, _∙_, sym, ap}
 use Prim.Native.Nat.{ℕ, _≤_, _-_, _+_}
 use native.Mathlib.Omega.{arith}
 use borrow.Author.Needs.{needs}
 use lib.ListN.{length, drop}
 use Rattle.crc.specs.Crc.{crcOf}
-use Rattle.crc.specs.Walk.{crcBytes}
+use Rattle.crc.specs.Private.{crcBytes}
 use Rattle.crc.proofs.Bytes.{past-none, past-one, past-all}
 use Rattle.crc.proofs.crc32_plain.Statement.{statement}
 use Rattle.crc.proofs.crc32_plain.Tie as tie

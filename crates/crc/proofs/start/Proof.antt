@@ -1,4 +1,4 @@
--- `crc::start` meets its contract: antt takes the steps. Assumes nothing.
+-- `crc::start` meets its contract: antt takes the steps.
 use mathlib.Core.Path.{_≡_, refl}
 use Prim.Native.Nat.{ℕ, zero, suc, _<_}
 use native.Mathlib.Omega.{arith}

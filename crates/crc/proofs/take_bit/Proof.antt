@@ -1,4 +1,4 @@
--- `crc::take_bit` meets its contract: by cases on the feedback. Assumes nothing.
+-- `crc::take_bit` meets its contract: by cases on the feedback.
 use mathlib.Core.Path.{_≡_, refl, sym, ap}
 use Prim.Native.Nat.{ℕ, zero, suc}
 use lib.Bits.{bitXor}

@@ -1,4 +1,4 @@
--- `crc::take_byte` meets its contract: the register, taken on over the bits that are left, is that of all eight. Assumes nothing.
+-- `crc::take_byte` meets its contract: the register, taken on over the bits that are left, is that of all eight.
 use mathlib.Core.Path.{_≡_, refl, sym, ap, _∙_}
 use Prim.Native.Nat.{ℕ, _-_, _≤_}
 use native.Mathlib.Omega.{arith}

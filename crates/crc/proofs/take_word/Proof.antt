@@ -1,5 +1,5 @@
 -- `crc::take_word` meets its contract: the register is the sum of its bytes, each at its place, and the steps and the order of the bytes are
--- linear; a byte that has n zeros behind it is the byte after n steps. Assumes nothing.
+-- linear; a byte that has n zeros behind it is the byte after n steps.
 use mathlib.Core.Path.{_≡_, sym, ap, ap₂, _∙_}
 use Prim.Native.Nat.{ℕ, _+_, _*_, _/_, _%_, _^_, _<_}
 use native.Mathlib.Nat.{mul-one}

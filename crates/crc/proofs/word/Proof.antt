@@ -1,9 +1,9 @@
--- `crc::word` meets its contract: after i bytes n is the number that they make, and it leaves room for a byte. Assumes nothing.
+-- `crc::word` meets its contract: after i bytes n is the number that they make, and it leaves room for a byte.
 use mathlib.Core.Path.{_≡_, refl, sym, ap, _∙_, subst}
 use Prim.Native.Nat.{ℕ, _+_, _*_, _-_, _^_, _<_, _≤_}
 use native.Mathlib.Omega.{arith}
 use lib.ListN.{getD}
-use Rattle.crc.specs.Walk.{numberAt}
+use Rattle.crc.specs.Private.{numberAt}
 use Rattle.crc.proofs.Bytes.{number-fits, number-next}
 use Rattle.crc.proofs.word.Statement.{statement}
 use Rattle.crc.proofs.word.Tie as tie

@@ -1,4 +1,4 @@
--- `crc_table::reverse` meets its contract: it is the definition as code. Assumes nothing.
+-- `crc_table::reverse` meets its contract: it is the definition as code.
 use mathlib.Core.Path.{refl}
 use borrow.Author.Needs.{needs}
 use Rattle.crc_table.specs.Turns.{reversed}

@@ -1,4 +1,4 @@
--- `crc_table::turned` meets its contract: the steps that are left, after those that were taken, are all of them. Assumes nothing.
+-- `crc_table::turned` meets its contract: the steps that are left, after those that were taken, are all of them.
 use mathlib.Core.Path.{_≡_, refl, sym, ap, _∙_}
 use Prim.Native.Nat.{ℕ, zero, suc, _-_, _<_}
 use native.Mathlib.Numerals.{unary-clauses}

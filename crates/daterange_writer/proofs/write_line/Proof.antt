@@ -1,6 +1,6 @@
 -- `daterange_writer::write_line`: 53, or the line by its cue.
 use mathlib.Core.Path.{refl}
-use Rattle.pen.proofs.Writes.{refused-answer}
+use Rattle.bit_stores.proofs.Writes.{refused-answer}
 use Rattle.daterange_line.specs.declared.Cue.the-variants.{Cmd, Out, In}
 use Rattle.daterange_writer.proofs.Stored.{quoted-all, quoted-not, made-line, made-not-id, made-not-date}
 use borrow.Author.Needs.{needs}

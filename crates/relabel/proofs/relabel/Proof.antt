@@ -1,7 +1,7 @@
 -- `relabel::relabel`: by what the section reads as.
 use mathlib.Core.Path.{_≡_, ap, sym, _∙_}
-use Rattle.pen.proofs.Writes.{refused-answer}
-use Rattle.pen.specs.Written.{answerOf, laterOf}
+use Rattle.bit_stores.proofs.Writes.{refused-answer}
+use Rattle.bit_stores.specs.Written.{answerOf, laterOf}
 use Rattle.section.specs.Section.{numberOf}
 use Rattle.table.specs.Writing.{Made}
 use Rattle.relabel.proofs.Mades.{section-refused, section-accepted, framing}

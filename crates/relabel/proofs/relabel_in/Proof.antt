@@ -4,10 +4,10 @@ use mathlib.Core.Path.{_≡_, ap, sym, _∙_}
 use native.Mathlib.Omega.{arith}
 use borrow.Author.Tests.{not-true, not-false}
 use lib.ListN.{getD}
-use Rattle.pen.proofs.Writes.{refused-answer}
-use Rattle.pen.specs.Written.{answerOf, laterOf}
+use Rattle.bit_stores.proofs.Writes.{refused-answer}
+use Rattle.bit_stores.specs.Written.{answerOf, laterOf}
 use Rattle.table.specs.Writing.{Made}
-use Rattle.relabel.specs.Walk.{placedMade}
+use Rattle.relabel.specs.Private.{placedMade}
 use Rattle.relabel.specs.declared.Place.{Place}
 use Rattle.relabel.proofs.Cuts.{spotted, lies}
 use Rattle.relabel.proofs.Mades.{found-there, none-found, made-same}

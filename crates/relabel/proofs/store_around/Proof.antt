@@ -3,7 +3,7 @@ use Prim.Native.Nat.{ℕ}
 use mathlib.Core.List.{List}
 use mathlib.Core.Path.{_≡_, ap, _∙_}
 use Rattle.table.specs.Lent.{stored}
-use Rattle.relabel.specs.Walk.{itemOf, sealed}
+use Rattle.relabel.specs.Private.{itemOf, sealed}
 use borrow.Author.Needs.{needs}
 use Rattle.relabel.proofs.store_around.Statement.{statement}
 use Rattle.relabel.proofs.store_around.Tie as tie

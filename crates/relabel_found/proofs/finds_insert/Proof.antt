@@ -1,7 +1,7 @@
 -- `relabel_found::finds_insert`, answer by answer.
 use mathlib.Core.Path.{_≡_, ap, sym, _∙_}
 use borrow.Author.Tests.{not-true, not-false}
-use Rattle.items.specs.declared.Step.{Step}
+use Rattle.descriptor_loop.specs.declared.Step.{Step}
 use Rattle.relabel_found.specs.Found.{inserts}
 use Rattle.relabel_found.proofs.Walks.{found-long, found-none, found-some}
 use borrow.Author.Needs.{needs}

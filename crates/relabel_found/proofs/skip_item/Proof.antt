@@ -2,8 +2,8 @@
 use Prim.Native.Nat.{_-_, _≤_, _<_}
 use mathlib.Core.Path.{_≡_, ap, sym}
 use lib.ListN.{length}
-use Rattle.items.proofs.Steps.{step-few, step-over, step-full}
-use Rattle.items.specs.declared.Step.{Step}
+use Rattle.descriptor_loop.proofs.Steps.{step-few, step-over, step-full}
+use Rattle.descriptor_loop.specs.declared.Step.{Step}
 use Rattle.relabel_found.proofs.Walks.{next-is}
 use borrow.Author.Needs.{needs}
 use Rattle.relabel_found.proofs.skip_item.Statement.{statement}

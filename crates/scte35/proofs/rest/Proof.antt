@@ -1,4 +1,4 @@
--- `scte35::rest` meets its contract. Assumes nothing.
+-- `scte35::rest` meets its contract.
 use Prim.Native.Nat.{_-_, _≤_}
 use mathlib.Core.Path.{_≡_}
 use native.Mathlib.Omega.{arith}

@@ -1,4 +1,4 @@
--- `scte35::scte35_adjust_time` meets its contract: it is what it calls. Assumes nothing.
+-- `scte35::scte35_adjust_time` meets its contract: it is what it calls.
 use borrow.Author.Needs.{needs}
 use Rattle.scte35.proofs.scte35_adjust_time.Statement.{statement}
 use Rattle.scte35.proofs.scte35_adjust_time.Tie as tie

@@ -1,4 +1,4 @@
--- `scte35::scte35_crc` meets its contract. Assumes nothing.
+-- `scte35::scte35_crc` meets its contract.
 use mathlib.Core.Path.{_≡_, ap, sym, _∙_}
 use borrow.Author.Needs.{needs}
 use Rattle.crc.specs.Crc.{crcOf}

@@ -1,8 +1,8 @@
--- `scte35::scte35_read_command` meets its contract. Assumes nothing.
+-- `scte35::scte35_read_command` meets its contract.
 use mathlib.Core.Path.{_≡_, ap, sym, _∙_}
 use borrow.Author.Needs.{needs}
 use Rattle.command.specs.Command.{commandOf}
-use Rattle.flat.specs.FlatCommand.{flatCommandRead}
+use Rattle.c_section.specs.FlatCommand.{flatCommandRead}
 use Rattle.scte35.proofs.scte35_read_command.Statement.{statement}
 use Rattle.scte35.proofs.scte35_read_command.Tie as tie
 

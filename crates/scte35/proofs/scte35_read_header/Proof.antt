@@ -1,10 +1,10 @@
--- `scte35::scte35_read_header` meets its contract. Assumes nothing.
+-- `scte35::scte35_read_header` meets its contract.
 use mathlib.Core.List.{List}
 use mathlib.Core.Path.{_≡_, ap, _∙_}
 use Prim.Native.Nat.{ℕ}
 use borrow.Author.Needs.{needs}
 use Rattle.header.specs.Header.{headerOf}
-use Rattle.flat.specs.Flat.{flatHeaderRead}
+use Rattle.c_section.specs.Flat.{flatHeaderRead}
 use Rattle.scte35.proofs.scte35_read_header.Statement.{statement}
 use Rattle.scte35.proofs.scte35_read_header.Tie as tie
 

@@ -1,9 +1,9 @@
--- `scte35::scte35_read_insert_components` meets its contract. Assumes nothing.
+-- `scte35::scte35_read_insert_components` meets its contract.
 use mathlib.Core.Path.{_≡_, ap, sym, _∙_}
 use mathlib.Core.Path.{ap₂}
 use borrow.Author.Needs.{needs}
 use Rattle.command.specs.Command.{commandOf, componentsOf}
-use Rattle.flat.specs.FlatCommand.{flatSplices}
+use Rattle.c_section.specs.FlatCommand.{flatSplices}
 use Rattle.scte35.proofs.scte35_read_insert_components.Statement.{statement}
 use Rattle.scte35.proofs.scte35_read_insert_components.Tie as tie
 

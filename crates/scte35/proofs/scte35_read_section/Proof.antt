@@ -4,8 +4,8 @@ use mathlib.Core.List.{List}
 use mathlib.Core.Path.{_≡_, ap, sym, _∙_}
 use native.Mathlib.Omega.{arith}
 use borrow.Author.Needs.{needs}
-use Rattle.flat.specs.FlatSection.{flatSectionRead}
-use Rattle.flat.proofs.FlatSections.{of-kind, flat-is}
+use Rattle.c_section.specs.FlatSection.{flatSectionRead}
+use Rattle.c_section.proofs.FlatSections.{of-kind, flat-is}
 use Rattle.section.specs.Section.{sectionOf}
 use Rattle.section.proofs.Framing.{Framed, framed, is-refused}
 use Rattle.scte35.proofs.scte35_read_section.Statement.{statement}

@@ -1,8 +1,8 @@
--- `scte35::scte35_read_upid` meets its contract. Assumes nothing.
+-- `scte35::scte35_read_upid` meets its contract.
 use mathlib.Core.Path.{_≡_, ap, sym, _∙_}
 use borrow.Author.Needs.{needs}
 use Rattle.upid.specs.Upid.{upidOf}
-use Rattle.flat_items.specs.FlatUpid.{flatUpid}
+use Rattle.c_items.specs.FlatUpid.{flatUpid}
 use Rattle.scte35.proofs.scte35_read_upid.Statement.{statement}
 use Rattle.scte35.proofs.scte35_read_upid.Tie as tie
 

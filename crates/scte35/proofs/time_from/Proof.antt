@@ -1,4 +1,4 @@
--- `scte35::time_from` meets its contract: by cases on the kind and on the ticks. Assumes nothing.
+-- `scte35::time_from` meets its contract: by cases on the kind and on the ticks.
 use borrow.Author.Tests.{eq-eqb, ne-eqb, lt-ltb, le-ltb}
 use Rattle.scte35.proofs.time_from.Statement.{statement}
 use Rattle.scte35.proofs.time_from.Tie as tie

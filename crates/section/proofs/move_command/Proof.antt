@@ -2,7 +2,7 @@
 use Prim.Native.Nat.{_≤_}
 use native.Mathlib.Omega.{arith}
 use Rattle.section.specs.Section.{moved}
-use Rattle.section.specs.Walk.{viewStart}
+use Rattle.section.specs.Private.{viewStart}
 use borrow.Author.Needs.{needs}
 use Rattle.section.proofs.move_command.Statement.{statement}
 use Rattle.section.proofs.move_command.Tie as tie

@@ -1,5 +1,5 @@
 -- `section_writer::back_number`: no sum wraps, since each number is below 2 to the bits of its field.
-use Rattle.section_writer.specs.Walk.{backNumber}
+use Rattle.section_writer.specs.Private.{backNumber}
 use borrow.Author.Needs.{needs}
 use Rattle.section_writer.proofs.back_number.Statement.{statement}
 use Rattle.section_writer.proofs.back_number.Tie as tie

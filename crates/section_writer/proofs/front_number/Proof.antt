@@ -1,6 +1,6 @@
 -- `section_writer::front_number`: no sum wraps, since each number is below 2 to the bits of its field.
 use native.Mathlib.Omega.{arith}
-use Rattle.section_writer.specs.Walk.{frontNumber}
+use Rattle.section_writer.specs.Private.{frontNumber}
 use Rattle.section_writer.proofs.Heads.{Fitting, fitting}
 use borrow.Author.Needs.{needs}
 use Rattle.section_writer.proofs.front_number.Statement.{statement}

@@ -1,4 +1,4 @@
--- `upid::check_upid` meets its contract: each answer takes the definition's tests in turn. Assumes nothing.
+-- `upid::check_upid` meets its contract: each answer takes the definition's tests in turn.
 use borrow.Author.Needs.{needs}
 use borrow.Author.Tests.{lt-ltb, le-ltb, eq-eqb, ne-eqb}
 use Rattle.upid.specs.Upid.{checkOf}

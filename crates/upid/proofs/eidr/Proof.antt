@@ -1,4 +1,4 @@
--- `upid::eidr` meets its contract: the first i bytes are in place. Assumes nothing.
+-- `upid::eidr` meets its contract: the first i bytes are in place.
 use Prim.Native.Nat.{ℕ, _+_, _-_, _≤_, _<_}
 use mathlib.Core.Path.{_≡_, sym, ap, _∙_}
 use mathlib.Core.List.{List, append-nil}

@@ -1,6 +1,5 @@
 -- `upid::read_upid` meets its contract: what was accepted has at most 255 bytes, and as a MID it was read as one, which is what its list asks.
--- Assumes nothing.
-use Rattle.upid.specs.Walk.{Accepted}
+use Rattle.upid.specs.Private.{Accepted}
 use Rattle.upid.specs.Upid.{checkOf}
 use Rattle.upid.proofs.Walks.{check-short, check-mid, answer-refused, answer-fine}
 use borrow.Author.Needs.{needs}

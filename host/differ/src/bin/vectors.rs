@@ -1,4 +1,4 @@
-//! vectors INPUTS ANSWERS: a sample of inputs, and what the crate says of them in the words of `crates/vectors`. Inputs that docs/DIFFERENCES.md
+//! vectors INPUTS ANSWERS: a sample of inputs, and what the crate says of them in the words of `crates/run_vectors`. Inputs that docs/DIFFERENCES.md
 //! names (1, 2, 3, and 8, where the crate has no answer) are left out; of 4 and 7, the answer that the rules give is what a row says there.
 use differ::answer::*;
 use differ::rng::Rng;

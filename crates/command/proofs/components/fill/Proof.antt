@@ -8,7 +8,7 @@ use Rattle.table.specs.Bits.{bitsOf}
 use Rattle.table.specs.Table.{list, parse}
 use Rattle.command.specs.Command.{array}
 use Rattle.command.specs.Insert.{blank, component}
-use Rattle.command.specs.Walk.{filled}
+use Rattle.command.specs.Private.{filled}
 use Rattle.command.proofs.Filling.{fill-start, fill-turn, fill-lacks, fill-end, blank-length}
 use Rattle.command.proofs.components.fill.Statement.{statement}
 use Rattle.command.proofs.components.fill.Tie as tie

@@ -5,7 +5,7 @@ use native.Mathlib.Omega.{arith}
 use Rattle.table.specs.Bits.{bitsOf}
 use Rattle.table.specs.Table.{list, parse}
 use Rattle.command.specs.Insert.{blank, component}
-use Rattle.command.specs.Walk.{skimmedOf}
+use Rattle.command.specs.Private.{skimmedOf}
 use Rattle.command.proofs.Walking.{turn, turn-lacks, all-skimmed}
 use Rattle.command.proofs.components.skim.Statement.{statement}
 use Rattle.command.proofs.components.skim.Tie as tie

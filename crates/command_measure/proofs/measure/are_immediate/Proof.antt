@@ -6,7 +6,7 @@ use lib.ListN.{length}
 use borrow.Author.Tests.{lt-ltb}
 use Rattle.command.specs.Insert.{immediate, blank}
 use Rattle.command.specs.declared.components.ComponentSplice.{ComponentSplice}
-use Rattle.header.specs.declared.time.SpliceTime.the-variants.{Immediate}
+use Rattle.splice_time.specs.declared.SpliceTime.the-variants.{Immediate}
 use Rattle.command_measure.proofs.Making.{getD-any}
 use borrow.Author.Needs.{needs}
 use Rattle.command_measure.proofs.measure.are_immediate.Statement.{statement}

@@ -7,7 +7,7 @@ use lib.ListN.{length, take, drop, getD, length-drop, drop-of-length-le}
 use lib.Seq.{length-take-le, getD-take}
 use Rattle.command.specs.Command.{Tags}
 use Rattle.command.specs.declared.components.ComponentSplice.{ComponentSplice}
-use Rattle.header.specs.declared.time.SpliceTime.the-variants.{Immediate}
+use Rattle.splice_time.specs.declared.SpliceTime.the-variants.{Immediate}
 use Rattle.command_measure.specs.Survey.{adding, surveyed}
 use Rattle.command_measure.specs.declared.measure.Survey.{Survey}
 use Rattle.command_measure.proofs.Surveys.{surveyed-nil, surveyed-at, tags-at, survey-bytes}

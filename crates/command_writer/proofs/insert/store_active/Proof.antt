@@ -5,7 +5,7 @@ use Rattle.command.specs.Command.{array}
 use Rattle.command.specs.Insert.{count}
 use Rattle.command.specs.declared.components.ComponentSplice.{ComponentSplice}
 use Rattle.command.specs.declared.insert.SpliceMode.{SpliceMode}
-use Rattle.pen.proofs.Tables.{pens-same}
+use Rattle.bit_stores.proofs.Tables.{pens-same}
 use Rattle.command_measure.specs.Fields.{ink, placesOf, activeFields}
 use Rattle.command_writer.proofs.Storing.{fits-same, none-active}
 use borrow.Author.Needs.{needs}

@@ -4,7 +4,7 @@ use mathlib.Core.Path.{_≡_, refl, ap, sym, _∙_}
 use native.Mathlib.Omega.{arith}
 use mathlib.Core.List.{List, [], _∷_}
 use Rattle.command.specs.Command.{array}
-use Rattle.pen.proofs.Tables.{Goes, pens-same}
+use Rattle.bit_stores.proofs.Tables.{Goes, pens-same}
 use Rattle.table.specs.Writing.{Field, bits}
 use Rattle.command_measure.specs.Fields.{ink, placesOf, activeFields}
 use Rattle.command_writer.proofs.Storing.{pens-all, fits-same, cancel-fields, active-insert, head-bits, after-event}

@@ -2,7 +2,7 @@
 use mathlib.Core.Bool.{Bool}
 use mathlib.Core.List.{List, [], _∷_, _++_}
 use mathlib.Core.Path.{_≡_, refl, ap, sym}
-use Rattle.pen.proofs.Tables.{Goes, pens-same}
+use Rattle.bit_stores.proofs.Tables.{Goes, pens-same}
 use Rattle.table.specs.Writing.{Field, bits}
 use Rattle.command_measure.specs.Fields.{ink, modeFields, endFields, immediateIn, insertFlags, activeFields}
 use Rattle.command_writer.proofs.Storing.{pens-next, pens-fields, goes-same, mode-list, none-now}

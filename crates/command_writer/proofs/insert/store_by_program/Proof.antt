@@ -2,7 +2,7 @@
 use mathlib.Core.Bool.{Bool}
 use mathlib.Core.List.{List, [], _++_}
 use mathlib.Core.Path.{_≡_, ap, sym, _∙_}
-use Rattle.pen.proofs.Tables.{Goes, pens-same}
+use Rattle.bit_stores.proofs.Tables.{Goes, pens-same}
 use Rattle.table.specs.Writing.{Field}
 use Rattle.command_measure.specs.Fields.{ink, timeFields, modeFields, endFields, immediateIn, insertFlags, activeFields}
 use Rattle.command_writer.proofs.Storing.{pens-fields, goes-same, fits-front, mode-now, mode-timed, program-now}

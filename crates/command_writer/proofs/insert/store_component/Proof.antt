@@ -1,7 +1,7 @@
 -- `command_writer::insert::store_component`: the tag, then the time unless all is immediate.
 use mathlib.Core.Path.{_≡_, refl, ap, sym, _∙_}
 use native.Mathlib.Omega.{arith}
-use Rattle.pen.proofs.Tables.{Goes}
+use Rattle.bit_stores.proofs.Tables.{Goes}
 use Rattle.command_measure.specs.Fields.{ink, timeFields, componentFields}
 use Rattle.command_writer.proofs.Storing.{component-now, component-timed}
 use borrow.Author.Needs.{needs}

@@ -7,10 +7,10 @@ use native.Mathlib.Omega.{arith}
 use lib.ListN.{length, take, getD}
 use lib.Seq.{take-take}
 use Rattle.command.specs.declared.components.ComponentSplice.{ComponentSplice}
-use Rattle.header.specs.declared.time.SpliceTime.the-variants.{Immediate}
-use Rattle.pen.specs.Pen.{Pens}
-use Rattle.pen.specs.Walk.{Fits}
-use Rattle.pen.proofs.Tables.{pens-nil, pens-same}
+use Rattle.splice_time.specs.declared.SpliceTime.the-variants.{Immediate}
+use Rattle.bit_stores.specs.Pen.{Pens}
+use Rattle.bit_stores.specs.Private.{Fits}
+use Rattle.bit_stores.proofs.Tables.{pens-nil, pens-same}
 use Rattle.command_measure.specs.Fields.{ink, componentFields, listFields}
 use Rattle.command_writer.proofs.Storing.{component-more, pens-length, fits-fewer}
 use borrow.Author.Needs.{needs}

@@ -4,7 +4,7 @@ use mathlib.Core.List.{List, [], _∷_}
 use Rattle.command.specs.Command.{array}
 use Rattle.command.specs.Insert.{WithComponents}
 use Rattle.command.specs.declared.insert.Insertion.{Insertion}
-use Rattle.pen.proofs.Tables.{Goes, pens-same}
+use Rattle.bit_stores.proofs.Tables.{Goes, pens-same}
 use Rattle.table.specs.Writing.{Field, bits}
 use Rattle.command_measure.specs.Fields.{ink, placesOf, activeFields, insertFields}
 use Rattle.command_measure.specs.Made.{counted}

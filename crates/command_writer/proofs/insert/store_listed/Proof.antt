@@ -6,8 +6,8 @@ use mathlib.Core.Bool.{Bool}
 use mathlib.Core.List.{List, [], _∷_, _++_}
 use lib.ListN.{length, take}
 use Rattle.command.specs.Insert.{count}
-use Rattle.pen.specs.Walk.{Fits}
-use Rattle.pen.proofs.Tables.{Goes, pens-same}
+use Rattle.bit_stores.specs.Private.{Fits}
+use Rattle.bit_stores.proofs.Tables.{Goes, pens-same}
 use Rattle.table.specs.Bits.{bitsOfNum}
 use Rattle.table.specs.Writing.{Field, bits}
 use Rattle.table.proofs.Bits.{bytes-all}

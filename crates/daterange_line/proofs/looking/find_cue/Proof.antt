@@ -2,7 +2,7 @@
 use mathlib.Core.Path.{_≡_, refl, sym, _∙_}
 use native.Mathlib.Omega.{arith}
 use borrow.Author.Tests.{not-true, not-false}
-use Rattle.daterange_line.specs.Walk.{walk, lookOf}
+use Rattle.daterange_line.specs.Private.{walk, lookOf}
 use Rattle.daterange_line.specs.declared.looking.Turn.the-variants.{Bad, Done, More}
 use Rattle.daterange_line.proofs.Looks.{look-is, look-other, look-short, walk-none, walk-turn}
 use borrow.Author.Needs.{needs}

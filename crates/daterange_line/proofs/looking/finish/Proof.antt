@@ -1,6 +1,6 @@
 -- `daterange_line::looking::finish`, view by view.
 use borrow.Author.Tests.{eq-eqb, ne-eqb}
-use Rattle.daterange_line.specs.Walk.{ended}
+use Rattle.daterange_line.specs.Private.{ended}
 use Rattle.daterange_line.proofs.looking.finish.Statement.{statement}
 use Rattle.daterange_line.proofs.looking.finish.Tie as tie
 

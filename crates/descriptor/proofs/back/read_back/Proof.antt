@@ -3,7 +3,7 @@ use Prim.Native.Nat.{_+_, _≤_}
 use mathlib.Core.Path.{refl}
 use native.Mathlib.Omega.{arith}
 use lib.ListN.{length}
-use Rattle.descriptor.specs.Walk.{subSegmentsRead}
+use Rattle.descriptor.specs.Private.{subSegmentsRead}
 use Rattle.descriptor.proofs.Backs.{no-counts, back-short, back-is}
 use Rattle.descriptor.proofs.Parts.{told}
 use borrow.Author.Needs.{needs}

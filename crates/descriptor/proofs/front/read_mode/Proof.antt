@@ -2,7 +2,7 @@
 use mathlib.Core.List.{[]}
 use mathlib.Core.Path.{sym}
 use Rattle.table.proofs.Fields.{byte-field}
-use Rattle.descriptor.specs.Walk.{componentsPassed}
+use Rattle.descriptor.specs.Private.{componentsPassed}
 use Rattle.descriptor.proofs.Parts.{told, by-program, no-count, no-components, by-components}
 use borrow.Author.Needs.{needs}
 use Rattle.descriptor.proofs.front.read_mode.Statement.{statement}

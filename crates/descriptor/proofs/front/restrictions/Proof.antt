@@ -1,6 +1,6 @@
 -- `descriptor::front::restrictions`, by the third flag.
 use borrow.Author.Tests.{eq-eqb, ne-eqb}
-use Rattle.descriptor.specs.Walk.{restrictionsIn}
+use Rattle.descriptor.specs.Private.{restrictionsIn}
 use borrow.Author.Needs.{needs}
 use Rattle.descriptor.proofs.front.restrictions.Statement.{statement}
 use Rattle.descriptor.proofs.front.restrictions.Tie as tie

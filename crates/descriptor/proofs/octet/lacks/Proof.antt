@@ -1,6 +1,6 @@
 -- `descriptor::octet::lacks`, by definition.
 use mathlib.Core.Path.{refl}
-use Rattle.descriptor.specs.Walk.{lacking}
+use Rattle.descriptor.specs.Private.{lacking}
 use Rattle.descriptor.proofs.octet.lacks.Statement.{statement}
 use Rattle.descriptor.proofs.octet.lacks.Tie as tie
 

@@ -1,7 +1,7 @@
 -- `descriptor::segmentation::read_insert`: front, UPID and back in turn.
 use Prim.Native.Nat.{_*_}
 use mathlib.Core.Path.{sym, _∙_}
-use Rattle.descriptor.specs.Walk.{frontRead, backRead}
+use Rattle.descriptor.specs.Private.{frontRead, backRead}
 use Rattle.descriptor.proofs.Parts.{told}
 use Rattle.descriptor.proofs.Segmentations.{front-inside, no-front, bad-upid, no-back, insert-is}
 use borrow.Author.Needs.{needs}

@@ -1,6 +1,6 @@
 -- `descriptor::segmentation::read_segmentation`: the head, and what follows it.
 use mathlib.Core.Path.{_∙_}
-use Rattle.descriptor.specs.Walk.{headRead}
+use Rattle.descriptor.specs.Private.{headRead}
 use Rattle.descriptor.proofs.Parts.{told}
 use Rattle.descriptor.proofs.Segmentations.{no-head, cancel-is, insert-from}
 use borrow.Author.Needs.{needs}

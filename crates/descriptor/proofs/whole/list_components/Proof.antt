@@ -5,7 +5,7 @@ use mathlib.Core.Path.{_≡_, _∙_}
 use native.Mathlib.Omega.{arith}
 use lib.ListN.{length, length-set}
 use Rattle.descriptor.specs.Segmentation.{component}
-use Rattle.descriptor.specs.Walk.{componentRead}
+use Rattle.descriptor.specs.Private.{componentRead}
 use Rattle.descriptor.specs.Whole.{filled}
 use Rattle.descriptor.proofs.Besides.{fillingFrom, fill-start, fill-end, fill-turn, fill-short}
 use Rattle.descriptor.proofs.Parts.{told, ends-inside}

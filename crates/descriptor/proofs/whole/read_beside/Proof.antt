@@ -2,7 +2,7 @@
 use mathlib.Core.Path.{ap, _∙_}
 use native.Mathlib.Omega.{arith}
 use Rattle.upid.specs.Upid.{eidrOf}
-use Rattle.descriptor.specs.Walk.{mainRead, backRead, headRead}
+use Rattle.descriptor.specs.Private.{mainRead, backRead, headRead}
 use Rattle.descriptor.proofs.Besides.{components-from, eidr-as, beside-no-head, beside-cancelled, beside-no-front, beside-no-back, beside-program, beside-components}
 use Rattle.descriptor.proofs.Parts.{told}
 use Rattle.descriptor.proofs.Segmentations.{front-inside}

@@ -7,8 +7,8 @@ use lib.ListN.{length, take}
 use borrow.Author.Needs.{needs}
 use Rattle.table.specs.Writing.{contents}
 use Rattle.table.specs.declared.cursor.Cursor.{Cursor}
-use Rattle.descriptor_form.specs.Walk.{componentsFields}
-use Rattle.descriptor_writer.specs.Walk.{Stores}
+use Rattle.descriptor_measure.specs.Private.{componentsFields}
+use Rattle.descriptor_writer.specs.Private.{Stores}
 use Rattle.descriptor_writer.proofs.Storing.{put-none, component-next, components-all}
 use Rattle.descriptor_writer.proofs.parts.store_components.Statement.{statement}
 use Rattle.descriptor_writer.proofs.parts.store_components.Tie as tie

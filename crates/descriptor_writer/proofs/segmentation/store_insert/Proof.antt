@@ -1,5 +1,5 @@
 -- `descriptor_writer::segmentation::store_insert`, part by part.
-use Rattle.descriptor_form.specs.Writing.{upidSource}
+use Rattle.descriptor_measure.specs.Writing.{upidSource}
 use Rattle.descriptor_writer.proofs.Segmenting.{insert-stores}
 use borrow.Author.Needs.{needs}
 use Rattle.descriptor_writer.proofs.segmentation.store_insert.Statement.{statement}

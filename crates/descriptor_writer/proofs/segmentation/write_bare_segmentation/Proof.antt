@@ -4,7 +4,7 @@ use mathlib.Core.List.{[]}
 use mathlib.Core.Path.{_≡_, sym, _∙_}
 use native.Mathlib.Omega.{arith}
 use Rattle.descriptor.specs.Whole.{filled}
-use Rattle.descriptor_form.proofs.Tests.{blanks-length}
+use Rattle.descriptor_measure.proofs.Tests.{blanks-length}
 use Rattle.descriptor_writer.proofs.Listing.{none-listed}
 use Rattle.descriptor_writer.proofs.Segmenting.{segment-refused, segment-view, with-blanks}
 use borrow.Author.Needs.{needs}

@@ -5,8 +5,8 @@ use mathlib.Core.Path.{_≡_, sym}
 use native.Mathlib.Omega.{arith}
 use Rattle.table.specs.Bits.{bitsOf, field}
 use Rattle.table.proofs.Fields.{byte-field}
-use Rattle.table.proofs.Reading.{field-lt}
-use Rattle.header.proofs.Headers.{header-refused, header-is, flag-of, algorithm-of, high-part, low-part}
+use Rattle.table.proofs.Reading.{first-bit, field-lt}
+use Rattle.header.proofs.Headers.{header-refused, header-is, algorithm-of, high-part, low-part}
 use borrow.Author.Needs.{needs}
 use Rattle.header.proofs.header.read_header.Statement.{statement}
 use Rattle.header.proofs.header.read_header.Tie as tie
@@ -74,7 +74,7 @@ returns-2 c =
     let long = w .before .before .if1 .left in
     header-is s _ _ _ _ _ _ _ _ _ _ long
     (sym (byte-field s 0 (omega (arith, long)) (i .before .shared-slice-known3 .given 0 .fits)))
-    (flag-of s 1 (w .wide .result) (omega (arith, long)) (w .wide .ensures .0) (w .wide .ensures .1))
+    (first-bit s 1 (w .wide .result) (omega (arith, long)) (w .wide .ensures .0) (w .wide .ensures .1))
     (algorithm-of s 1 (w .wide .result) (omega (arith, long)) (w .wide .ensures .0) (w .wide .ensures .1))
     (b .before .before .time33 .ensures)
     (sym (byte-field s 6 (omega (arith, long)) (b .before .shared-slice-known4 .given 6 .fits)))

@@ -1,4 +1,4 @@
--- `scte35::adjusting::scte35_chain_adjustments` meets its contract: it is what it calls. Assumes nothing.
+-- `scte35::adjusting::scte35_chain_adjustments` meets its contract: it is what it calls.
 use borrow.Author.Needs.{needs}
 use Rattle.scte35.proofs.adjusting.scte35_chain_adjustments.Statement.{statement}
 use Rattle.scte35.proofs.adjusting.scte35_chain_adjustments.Tie as tie

@@ -1,4 +1,4 @@
--- `scte35::adjusting::scte35_move_time` meets its contract: it is what it calls. Assumes nothing.
+-- `scte35::adjusting::scte35_move_time` meets its contract: it is what it calls.
 use borrow.Author.Needs.{needs}
 use Rattle.scte35.proofs.adjusting.scte35_move_time.Statement.{statement}
 use Rattle.scte35.proofs.adjusting.scte35_move_time.Tie as tie

@@ -1,4 +1,4 @@
--- `scte35::canonical::scte35_is_canonical_section` meets its contract. Assumes nothing.
+-- `scte35::canonical::scte35_is_canonical_section` meets its contract.
 use mathlib.Core.Path.{_≡_, ap, sym, _∙_}
 use borrow.Author.Needs.{needs}
 use Rattle.section_writer.specs.Canonical.{canonicalSection}

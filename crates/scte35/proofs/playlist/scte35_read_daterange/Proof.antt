@@ -1,9 +1,9 @@
--- `scte35::playlist::scte35_read_daterange` meets its contract: it is what it calls. Assumes nothing.
+-- `scte35::playlist::scte35_read_daterange` meets its contract: it is what it calls.
 use Prim.Native.Nat.{ℕ}
 use mathlib.Core.List.{List}
 use mathlib.Core.Path.{_≡_, ap, _∙_}
 use Rattle.daterange_line.specs.Reading.{readOf, readLater}
-use Rattle.flat_daterange.specs.FlatDaterange.{flatDaterange}
+use Rattle.c_daterange.specs.FlatDaterange.{flatDaterange}
 use borrow.Author.Needs.{needs}
 use Rattle.scte35.proofs.playlist.scte35_read_daterange.Statement.{statement}
 use Rattle.scte35.proofs.playlist.scte35_read_daterange.Tie as tie

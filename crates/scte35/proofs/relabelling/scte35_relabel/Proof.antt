@@ -1,6 +1,6 @@
 -- `scte35::relabelling::scte35_relabel` meets its contract: it is what it calls.
 use mathlib.Core.Path.{_≡_, ap, _∙_}
-use Rattle.flat_writer.specs.Words.{flatWritten}
+use Rattle.c_command_writer.specs.Words.{flatWritten}
 use borrow.Author.Needs.{needs}
 use Rattle.scte35.proofs.relabelling.scte35_relabel.Statement.{statement}
 use Rattle.scte35.proofs.relabelling.scte35_relabel.Tie as tie

@@ -1,6 +1,6 @@
 -- `upid::mid::check_payload` meets its contract. It calls itself on a part of its slice, so its measure is the slice's length. The walk's
 -- invariant: nothing was refused so far, and what is left is read as the whole is. In the answers `part` is the place where a part's payload
--- is known to be there, `head` where its head is. Assumes nothing.
+-- is known to be there, `head` where its head is.
 use Prim.Native.Nat.{ℕ, _+_, _-_, _≤_, _<_}
 use mathlib.Core.Path.{_≡_, refl, sym, _∙_}
 use native.Mathlib.Omega.{arith}

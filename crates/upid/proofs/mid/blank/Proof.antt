@@ -1,4 +1,4 @@
--- `upid::mid::blank` meets its contract, by computation. Assumes nothing.
+-- `upid::mid::blank` meets its contract, by computation.
 use mathlib.Core.Path.{refl}
 use Rattle.upid.specs.Upid.{listed}
 use Rattle.upid.proofs.mid.blank.Statement.{statement}

@@ -1,13 +1,13 @@
 -- `upid::mid::list_parts` meets its contract. The loop's invariant: what is left of each open MID was accepted, and the parts that are left of them go
 -- after those of `out`; each level and each part took two bytes of head, so that both have their places. The measure: a turn goes two bytes on or leaves
--- a MID. In the answers `start`, `loop`, `turn` and `part` are the places where the function, the loop, its turn and a part begin. Assumes nothing.
+-- a MID. In the answers `start`, `loop`, `turn` and `part` are the places where the function, the loop, its turn and a part begin.
 use Prim.Native.Nat.{_+_, _*_, _-_, _≤_, _<_}
 use mathlib.Core.Path.{_≡_, refl, sym, ap, _∙_}
 use native.Mathlib.Omega.{arith}
 use lib.ListN.{length, getD, length-set}
 use borrow.Author.Needs.{needs}
 use Rattle.upid.specs.Upid.{listOf, listed}
-use Rattle.upid.specs.Walk.{grown, Open, pending}
+use Rattle.upid.specs.Private.{grown, Open, pending}
 use Rattle.upid.specs.declared.PartList.{PartList}
 use Rattle.upid.proofs.Laws.{list-plain, accepted-mid}
 use Rattle.upid.proofs.Lister.{open-first, part-whole, closed, passed, entered, begun, store, ended}

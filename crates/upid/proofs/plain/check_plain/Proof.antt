@@ -1,4 +1,4 @@
--- `upid::plain::check_plain` meets its contract: each answer takes the definition's tests in turn. Assumes nothing.
+-- `upid::plain::check_plain` meets its contract: each answer takes the definition's tests in turn.
 use borrow.Author.Tests.{eq-eqb, ne-eqb}
 use Rattle.upid.specs.Upid.{plainOf}
 use borrow.Author.Needs.{needs}

@@ -1,4 +1,4 @@
--- `upid::plain::fixed` meets its contract. Assumes nothing.
+-- `upid::plain::fixed` meets its contract.
 use Prim.Native.Nat.{ℕ, _≤_, _<_}
 use mathlib.Core.Path.{_≡_, refl}
 use mathlib.Core.Logic.{⊎-elim, inl, inr}

@@ -1,4 +1,4 @@
--- `upid::plain::has_text` meets its contract. Assumes nothing.
+-- `upid::plain::has_text` meets its contract.
 use Prim.Native.Nat.{ℕ, _≤_, _<_}
 use mathlib.Core.Path.{_≡_, refl}
 use mathlib.Core.Bool.{true, false}

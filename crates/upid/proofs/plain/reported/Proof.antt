@@ -1,4 +1,4 @@
--- `upid::plain::reported` meets its contract. Assumes nothing.
+-- `upid::plain::reported` meets its contract.
 use borrow.Author.Tests.{eq-eqb, ne-eqb}
 use Rattle.upid.specs.Upid.{reportedOf}
 use Rattle.upid.proofs.plain.reported.Statement.{statement}

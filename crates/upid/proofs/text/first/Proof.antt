@@ -1,4 +1,4 @@
--- `upid::text::first` meets its contract: the rows before the byte's own lie below it. Assumes nothing.
+-- `upid::text::first` meets its contract: the rows before the byte's own lie below it.
 use mathlib.Core.List.{[]}
 use native.Mathlib.Omega.{arith}
 use lib.ListN.{take, drop}

@@ -1,4 +1,4 @@
--- `upid::text::is_text` meets its contract: what is left of the bytes, read on from `t`, gives what the done gives. Assumes nothing.
+-- `upid::text::is_text` meets its contract: what is left of the bytes, read on from `t`, gives what the done gives.
 use Prim.Native.Nat.{ℕ, _+_, _-_, _≤_, _<_}
 use mathlib.Core.Path.{_≡_, refl, sym, ap, _∙_}
 use mathlib.Core.List.{List, [], foldl}
@@ -9,7 +9,7 @@ use lib.Seq.{drop-cons}
 use borrow.Author.Needs.{needs}
 use Rattle.upid.specs.declared.text.Stand.{Stand}
 use Rattle.upid.specs.Text.{State, wants, step, done, textOf}
-use Rattle.upid.specs.Walk.{meaning}
+use Rattle.upid.specs.Private.{meaning}
 use Rattle.upid.proofs.text.is_text.Statement.{statement}
 use Rattle.upid.proofs.text.is_text.Tie as tie
 

@@ -1,4 +1,4 @@
--- `upid::text::next` meets its contract, arm by arm. Assumes nothing.
+-- `upid::text::next` meets its contract, arm by arm.
 use Prim.Native.Nat.{ℕ, suc, _-_, _≤_, _<_}
 use mathlib.Core.Path.{_≡_, ap}
 use mathlib.Core.List.{[], _∷_}

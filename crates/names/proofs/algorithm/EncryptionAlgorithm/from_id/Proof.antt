@@ -1,4 +1,4 @@
--- `from_id` meets its contract: at a key the table computes, and behind all of them no name has the number. Assumes nothing.
+-- `from_id` meets its contract: at a key the table computes, and behind all of them no name has the number.
 use mathlib.Core.Path.{_∙_}
 use Rattle.names.specs.Algorithm.{algorithms, algorithmOf}
 use Rattle.names.proofs.Laws.{other}

@@ -1,4 +1,4 @@
--- `from_id` meets its contract: at a key the table computes, and behind all of them no name has the number. Assumes nothing.
+-- `from_id` meets its contract: at a key the table computes, and behind all of them no name has the number.
 use Rattle.names.specs.Command.{commands, commandTypeOf}
 use Rattle.names.proofs.Laws.{other}
 use Rattle.names.proofs.command.SpliceCommandType.from_id.Statement.{statement}

@@ -1,4 +1,4 @@
--- `id` meets its contract: in each arm the value is known. Assumes nothing.
+-- `id` meets its contract: in each arm the value is known.
 use borrow.Author.Needs.{needs}
 use Rattle.names.proofs.segmentation.SegmentationTypeId.id.Statement.{statement}
 use Rattle.names.proofs.segmentation.SegmentationTypeId.id.Tie as tie

@@ -1,4 +1,4 @@
--- `from_type` meets its contract: at a key the table computes, and behind all of them no name has the number. Assumes nothing.
+-- `from_type` meets its contract: at a key the table computes, and behind all of them no name has the number.
 use Rattle.names.specs.Upid.{upidTypes, upidTypeOf}
 use Rattle.names.proofs.Laws.{other}
 use Rattle.names.proofs.upid.SegmentationUpidType.from_type.Statement.{statement}

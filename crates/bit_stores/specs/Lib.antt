@@ -1,0 +1,3 @@
+pub mod Pen
+pub mod Written
+pub mod Private

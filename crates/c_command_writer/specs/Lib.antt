@@ -1,0 +1,4 @@
+pub mod Words
+pub mod CommandWords
+pub mod CommandGiven
+pub mod Private

@@ -1,0 +1,90 @@
+// The components of an insert: places of three words, after the refusal and the count of their struct.
+ghost use mathlib.Core.Path.{_≡_};
+ghost use Prim.Native.Nat.{_≤_};
+ghost use Rattle.c_command_writer.specs.CommandGiven.{timeFrom, componentFrom, componentsFrom, ownComponent, splicesWithin, ownSplices};
+ghost use Rattle.c_command_writer.specs.CommandWords.{componentWidths};
+ghost use Rattle.c_command_writer.specs.Words.{within};
+use crate::are_within;
+use crate::word_at;
+use crate::words_from;
+use command::components::ComponentSplice;
+use command::components::blanks;
+use splice_time::SpliceTime;
+
+pub(crate) fn time_from(kind: u64, ticks: u64) -> SpliceTime
+    ensures { λ r. ⌜ r ≡ timeFrom (record { kind = kind; ticks = ticks }) ⌝ }
+{
+    match kind {
+        1 => SpliceTime::Immediate,
+        3 => SpliceTime::At(ticks),
+        _ => SpliceTime::Unspecified,
+    }
+}
+
+fn component_from(words: &[u64]) -> ComponentSplice
+    ensures { λ r. ⌜ r ≡ componentFrom (now (words .entry)) ⌝ }
+{
+    ComponentSplice {
+        component_tag: (word_at(words, 0) % 256) as u8,
+        splice_time: time_from(word_at(words, 1), word_at(words, 2)),
+    }
+}
+
+// Refusal 33 of one of them: a kind that no time has, ticks beside another kind than that of a specified time. (A tag over 255 is refused with 32 before.)
+fn is_own_component(words: &[u64]) -> bool
+    ensures { λ r. ⌜ r ≡ ownComponent (now (words .entry)) ⌝ }
+{
+    if 255 < word_at(words, 0) {
+        return false;
+    }
+    match word_at(words, 1) {
+        1 | 2 => word_at(words, 2) == 0,
+        3 => true,
+        _ => false,
+    }
+}
+
+// The first `count` in their array, blank past them.
+pub(crate) fn components_from(count: usize, words: &[u64]) -> [ComponentSplice; 255]
+    requires { ⌜ count ≤ 255 ⌝ }
+    ensures { λ r. ⌜ r ≡ componentsFrom count (now (words .entry)) ⌝ }
+{
+    let mut out = blanks();
+    let mut i: usize = 0;
+    while i < count {
+        out[i] = component_from(words_from(words, 2 + i * 3));
+        i += 1;
+    }
+    out
+}
+
+// Refusal 32 of the first `count`.
+pub(crate) fn splices_within(count: usize, words: &[u64]) -> bool
+    requires { ⌜ count ≤ 255 ⌝ }
+    ensures { λ r. ⌜ r ≡ splicesWithin count (now (words .entry)) ⌝ }
+{
+    let widths: [u64; 3] = [8, 2, 33];
+    let mut i: usize = 0;
+    while i < count {
+        if !are_within(&widths, words_from(words, 2 + i * 3)) {
+            return false;
+        }
+        i += 1;
+    }
+    true
+}
+
+// Refusal 33 of the first `count`.
+pub(crate) fn own_splices(count: usize, words: &[u64]) -> bool
+    requires { ⌜ count ≤ 255 ⌝ }
+    ensures { λ r. ⌜ r ≡ ownSplices count (now (words .entry)) ⌝ }
+{
+    let mut i: usize = 0;
+    while i < count {
+        if !is_own_component(words_from(words, 2 + i * 3)) {
+            return false;
+        }
+        i += 1;
+    }
+    true
+}

@@ -1,0 +1,105 @@
+// What stands beside an item: an identifier; components, which are places of two words; and an EIDR, a byte to a word. Before the 255 places stand refusal,
+// three values and the count, five words; so the EIDR begins at word 515.
+ghost use mathlib.Core.Path.{_≡_};
+ghost use Prim.Native.Nat.{_≤_};
+ghost use Rattle.c_descriptor_writer.specs.ItemGiven.{identifierFrom, placeFrom, placesFrom, eidrFrom, besideFrom};
+ghost use Rattle.c_descriptor_writer.specs.ItemWords.{placesWithin, besideWithin};
+use c_command_writer::are_four_within;
+use c_command_writer::are_within;
+use c_command_writer::word_at;
+use c_command_writer::words_from;
+use descriptor::segmentation::ModeComponent;
+use descriptor::whole::Beside;
+use descriptor::whole::blank_beside;
+
+// Four bytes, the high one first.
+pub(crate) fn identifier_from(words: &[u64]) -> [u8; 4]
+    ensures { λ r. ⌜ r ≡ identifierFrom (now (words .entry)) ⌝ }
+{
+    let number = word_at(words, 5);
+    [
+        (number / 0x100_0000 % 256) as u8,
+        (number / 0x1_0000 % 256) as u8,
+        (number / 0x100 % 256) as u8,
+        (number % 256) as u8,
+    ]
+}
+
+fn place_from(words: &[u64]) -> ModeComponent
+    ensures { λ r. ⌜ r ≡ placeFrom (now (words .entry)) ⌝ }
+{
+    ModeComponent {
+        component_tag: (word_at(words, 0) % 256) as u8,
+        pts_offset: word_at(words, 1),
+    }
+}
+
+// The first `count` components in their array, blank past them.
+fn places_from(count: usize, words: &[u64]) -> [ModeComponent; 255]
+    requires { ⌜ count ≤ 255 ⌝ }
+    ensures { λ r. ⌜ r ≡ placesFrom count (now (words .entry)) ⌝ }
+{
+    let blank = blank_beside();
+    let mut out = blank.components;
+    let mut i: usize = 0;
+    while i < count {
+        out[i] = place_from(words_from(words, 5 + i * 2));
+        i += 1;
+    }
+    out
+}
+
+pub(crate) fn eidr_from(words: &[u64]) -> [u8; 12]
+    ensures { λ r. ⌜ r ≡ eidrFrom (now (words .entry)) ⌝ }
+{
+    let mut out = [0u8; 12];
+    let mut i: usize = 0;
+    while i < 12 {
+        out[i] = (word_at(words, 515 + i) % 256) as u8;
+        i += 1;
+    }
+    out
+}
+
+pub(crate) fn beside_from(count: usize, words: &[u64]) -> Beside
+    requires { ⌜ count ≤ 255 ⌝ }
+    ensures { λ r. ⌜ r ≡ besideFrom count (now (words .entry)) ⌝ }
+{
+    Beside {
+        components: places_from(count, words),
+        eidr: eidr_from(words),
+    }
+}
+
+// Refusal 32 of the first `count` components.
+fn places_within(count: usize, words: &[u64]) -> bool
+    requires { ⌜ count ≤ 255 ⌝ }
+    ensures { λ r. ⌜ r ≡ placesWithin count (now (words .entry)) ⌝ }
+{
+    let widths: [u64; 2] = [8, 33];
+    let mut i: usize = 0;
+    while i < count {
+        if !are_within(&widths, words_from(words, 5 + i * 2)) {
+            return false;
+        }
+        i += 1;
+    }
+    true
+}
+
+// And of the EIDR.
+pub(crate) fn beside_within(count: usize, words: &[u64]) -> bool
+    requires { ⌜ count ≤ 255 ⌝ }
+    ensures { λ r. ⌜ r ≡ besideWithin count (now (words .entry)) ⌝ }
+{
+    if !places_within(count, words) {
+        return false;
+    }
+    if !are_four_within(8, 8, 8, 8, words_from(words, 515)) {
+        return false;
+    }
+    if !are_four_within(8, 8, 8, 8, words_from(words, 519)) {
+        return false;
+    }
+    are_four_within(8, 8, 8, 8, words_from(words, 523))
+}

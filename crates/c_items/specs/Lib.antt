@@ -1,0 +1,3 @@
+pub mod FlatUpid
+pub mod FlatItem
+pub mod Private

@@ -1,0 +1,52 @@
+-- `c_section::commands::flat_insert` meets its contract.
+use borrow.Author.Needs.{needs}
+use Rattle.c_section.specs.FlatCommand.{flatInsertion}
+use Rattle.c_section.proofs.commands.flat_insert.Statement.{statement}
+use Rattle.c_section.proofs.commands.flat_insert.Tie as tie
+
+enum-told : tie.Need-enum-told
+enum-told c = search needs
+
+cast-bare-insert : tie.Need-cast-bare-insert
+cast-bare-insert c = search needs
+
+cast-bare-insert-2 : tie.Need-cast-bare-insert-2
+cast-bare-insert-2 c = search needs
+
+bare-insert-requires : tie.Need-bare-insert-requires
+bare-insert-requires c κs = search needs
+
+enum-known-detail : tie.Need-enum-known-detail
+enum-known-detail c = search needs
+
+cast-whole-insert : tie.Need-cast-whole-insert
+cast-whole-insert c = search needs
+
+cast-whole-insert-2 : tie.Need-cast-whole-insert-2
+cast-whole-insert-2 c = search needs
+
+whole-insert-requires : tie.Need-whole-insert-requires
+whole-insert-requires c κs = search needs
+
+returns : tie.Need-returns
+unfolding flatInsertion
+returns c = rw (c .before .before .before .enum-told .given .1) (c .bare-insert .ensures)
+
+returns-2 : tie.Need-returns-2
+unfolding flatInsertion
+returns-2 c = rw (c .before .before .before .before .detail .given .1) (c .whole-insert .ensures)
+
+pub flat-insert-spec : {M : Type 1} → statement M
+flat-insert-spec =
+    tie.close
+    (tie.spec
+    enum-told
+    cast-bare-insert
+    cast-bare-insert-2
+    bare-insert-requires
+    enum-known-detail
+    cast-whole-insert
+    cast-whole-insert-2
+    whole-insert-requires
+    returns
+    returns-2)

@@ -1,0 +1,83 @@
+// The components of an insert.
+ghost use mathlib.Core.Path.{_≡_};
+ghost use mathlib.Core.List.{map};
+ghost use Rattle.c_section.specs.FlatCommand.{flatComponent, noComponents, flatSplices};
+use crate::FlatTime;
+use crate::commands::flat_command;
+use crate::flat_time;
+use command::CommandRead;
+use command::components::ComponentSplice;
+
+#[repr(C)]
+pub struct FlatComponentSplice {
+    pub component_tag: u64,
+    pub splice_time: FlatTime,
+}
+
+// The components before the count, blank past it: a time that is not specified.
+#[repr(C)]
+pub struct FlatSplices {
+    pub refusal: u64,
+    pub count: u64,
+    pub components: [FlatComponentSplice; 255],
+}
+
+fn flat_component(c: ComponentSplice) -> FlatComponentSplice
+    ensures { λ r. ⌜ r ≡ flatComponent c ⌝ }
+{
+    let time = c.splice_time;
+    FlatComponentSplice {
+        component_tag: c.component_tag as u64,
+        splice_time: flat_time(time),
+    }
+}
+
+fn no_components() -> [FlatComponentSplice; 255]
+    ensures { λ r. ⌜ r ≡ noComponents ⌝ }
+{
+    [FlatComponentSplice {
+        component_tag: 0,
+        splice_time: FlatTime { kind: 0, ticks: 0 },
+    }; 255]
+}
+
+fn flat_components(cs: [ComponentSplice; 255]) -> [FlatComponentSplice; 255]
+    ensures { λ r. ⌜ r ≡ map flatComponent cs ⌝ }
+{
+    let mut out = no_components();
+    let mut i: usize = 0;
+    while i < 255 {
+        let c = cs[i];
+        out[i] = flat_component(c);
+        i += 1;
+    }
+    out
+}
+
+// Of the answer to an insert's payload, and its components.
+pub fn flat_splices(read: CommandRead, cs: [ComponentSplice; 255]) -> FlatSplices
+    ensures { λ r. ⌜ r ≡ flatSplices read cs ⌝ }
+{
+    match read {
+        CommandRead::Is(c) => {
+            let told = flat_command(c);
+            let insert = told.insert;
+            let mode = insert.mode;
+            FlatSplices {
+                refusal: 0,
+                count: mode.component_count,
+                components: flat_components(cs),
+            }
+        }
+        CommandRead::UnknownType => FlatSplices {
+            refusal: 10,
+            count: 0,
+            components: no_components(),
+        },
+        CommandRead::Malformed => FlatSplices {
+            refusal: 11,
+            count: 0,
+            components: no_components(),
+        },
+    }
+}

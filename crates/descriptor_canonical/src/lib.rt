@@ -1,0 +1,75 @@
+// Whether the bytes of a descriptor and of a loop are canonical (document 01, "Canonical form and writer"): a walk by byte places that writes nothing.
+ghost use mathlib.Core.Path.{_≡_};
+ghost use Prim.Native.Nat.{_<_};
+ghost use Rattle.descriptor_measure.specs.Canonical.{canonicalPayload, canonicalDescriptor, canonicalLoop};
+use crate::payload::is_canonical_dtmf;
+use crate::segment::is_canonical_segmentation;
+use descriptor::is_cuei;
+
+mod payload;
+mod segment;
+
+// A byte as a size.
+pub(crate) fn size(b: u8) -> usize
+    ensures { λ r. ⌜ (r ≡ b) × (r < 256) ⌝ }
+{
+    b as usize
+}
+
+// By identifier and tag. Every payload of a reserved descriptor is canonical.
+fn is_canonical_payload(tag: u8, identifier: [u8; 4], payload: &[u8]) -> bool
+    ensures { λ r. ⌜ r ≡ canonicalPayload tag identifier (now (payload .entry)) ⌝ }
+{
+    if is_cuei(identifier) {
+        return match tag {
+            0 => payload.len() == 4,
+            1 => is_canonical_dtmf(payload),
+            2 => is_canonical_segmentation(payload),
+            3 => payload.len() == 12,
+            _ => true,
+        };
+    }
+    true
+}
+
+// Whether these are the bytes of one canonical descriptor.
+pub fn is_canonical_descriptor(s: &[u8]) -> bool
+    ensures { λ r. ⌜ r ≡ canonicalDescriptor (now (s .entry)) ⌝ }
+{
+    let end = s.len();
+    if end < 6 {
+        return false;
+    }
+    let len = size(s[1]);
+    if len + 2 != end {
+        return false;
+    }
+    if 254 < len {
+        return false;
+    }
+    let identifier = [s[2], s[3], s[4], s[5]];
+    is_canonical_payload(s[0], identifier, &s[6..end])
+}
+
+// Whether these are the bytes of canonical descriptors, one after the other.
+pub fn is_canonical_loop(s: &[u8]) -> bool
+    ensures { λ r. ⌜ r ≡ canonicalLoop (now (s .entry)) ⌝ }
+{
+    let mut at: usize = 0;
+    while at < s.len() {
+        let left = s.len() - at;
+        if left < 6 {
+            return false;
+        }
+        let taken = size(s[at + 1]) + 2;
+        if left < taken {
+            return false;
+        }
+        let next = at + taken;
+        if !is_canonical_descriptor(&s[at..next]) {
+            return false;
+        }
+        at = next;
+    }
+    true
+}

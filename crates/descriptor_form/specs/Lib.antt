@@ -1,4 +1,0 @@
-pub mod Writing
-pub mod Canonical
-pub mod Same
-pub mod Walk

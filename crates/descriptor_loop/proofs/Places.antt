@@ -1,0 +1,130 @@
+-- Laws of views that are moved.
+--     all-first, all-into, all-map    what holds of all of a list
+--     upid-none .. text-first         the answers of the functions that move
+--     item-views                      the views of an item are those of its payload's reading, moved
+use Prim.Native.Nat.{ℕ, _+_, _^_, _<_}
+use mathlib.Core.Bool.{Bool, true, false, cond, _||_}
+use mathlib.Core.List.{List, [], _∷_, map}
+use mathlib.Core.Path.{_≡_, refl, ap, sym}
+use lib.Dec.{eqb}
+use borrow.Author.Tests.{eq-eqb, ne-eqb}
+use Rattle.table.specs.Lent.{shifted}
+use Rattle.table.specs.declared.View.{View}
+use Rattle.upid.specs.Cover.{All, none, more}
+use Rattle.upid.specs.declared.Refusal.{Refusal}
+use Rattle.upid.specs.declared.Refusal.the-variants.{InputTooLong, NotEnoughData, UpidLengthTypeMismatch, InvalidUpidContent, InvalidUpidLength}
+use Rattle.descriptor.specs.Descriptor.{movedRefusal}
+use Rattle.descriptor.specs.Views.{withoutView, upidViews, detailViews, descriptorViews, refusalViews}
+use Rattle.descriptor.specs.Private.{readViews}
+use Rattle.descriptor.specs.declared.Descriptor.{Descriptor}
+use Rattle.descriptor.specs.declared.Descriptor.the-variants.{Avail, Dtmf, Segmentation, Time, Reserved}
+use Rattle.descriptor.specs.declared.DescriptorRead.{DescriptorRead}
+use Rattle.descriptor.specs.declared.DescriptorRead.the-variants as read
+use Rattle.descriptor.specs.declared.segmentation.SegmentationDetail.{SegmentationDetail}
+use Rattle.descriptor.specs.declared.segmentation.SegmentationDetail.the-variants.{Cancel, Insert}
+use Rattle.descriptor.specs.declared.plain.DTMFDescriptor.{DTMFDescriptor}
+use Rattle.descriptor.specs.declared.segmentation.SegmentationDescriptor.{SegmentationDescriptor}
+use Rattle.descriptor.specs.declared.segmentation.SegmentationInsert.{SegmentationInsert}
+use Rattle.descriptor.specs.declared.segmentation.SegmentationUpid.{SegmentationUpid}
+use Rattle.descriptor.specs.Segmentation.{withUpid}
+use Rattle.descriptor_loop.specs.Place.{viewsOf, movedUpid, movedDescriptor}
+use Rattle.descriptor_loop.specs.Private.{Movable, movedInsert, movedDetail}
+use Rattle.descriptor_loop.specs.Items.{itemAt}
+
+module _ {A : Type 0} {P : A → Type 0} where
+  pub all-first : {x : A} {xs : List A} → All P (x ∷ xs) → P x
+  all-first (more p ps) = p
+
+  pub all-into : {Q : A → Type 0} {xs : List A} → ((x : A) → P x → Q x) → All P xs → All Q xs
+  all-into f none = none
+  all-into f (more {x = x} p ps) = more (f x p) (all-into f ps)
+
+  pub all-map : {B : Type 0} (f : B → A) {xs : List B} → All (λ (x : B). P (f x)) xs → All P (map f xs)
+  all-map f none = none
+  all-map f (more p ps) = more p (all-map f ps)
+
+pub upid-view : (u : SegmentationUpid) → (u .kind ≡ 0 → ⊥) → (u .kind ≡ 10 → ⊥) → upidViews u ≡ u .bytes ∷ []
+upid-view u some plain = rw (ne-eqb _ _ some, ne-eqb _ _ plain)
+
+-- ---- the answers of the functions that move
+
+module _ (base : ℕ) (u : SegmentationUpid) where
+  pub upid-none : u .kind ≡ 0 → u ≡ movedUpid base u
+  upid-none h = rw (eq-eqb _ _ h)
+
+  module _ (some : u .kind ≡ 0 → ⊥) where
+    pub upid-eidr : u .kind ≡ 10 → u ≡ movedUpid base u
+    upid-eidr h = rw (ne-eqb _ _ some, eq-eqb _ _ h)
+
+    module _ (plain : u .kind ≡ 10 → ⊥) where
+      pub upid-first : Movable base (upidViews u) → base + u .bytes .at < 2 ^ 64
+      upid-first m = all-first (rw (upid-view u some plain) at m)
+
+      pub upid-there : (v : View) → v ≡ shifted base (u .bytes) → _≡_ {A = SegmentationUpid} (record { kind = u .kind; bytes = v }) (movedUpid base u)
+      upid-there v e = rw (ne-eqb _ _ some, ne-eqb _ _ plain, e)
+
+pub insert-there : (base : ℕ) (i : SegmentationInsert) (u : SegmentationUpid) → u ≡ movedUpid base (i .«segmentation_upid») → withUpid i u ≡ movedInsert base i
+insert-there base i u e = rw e
+
+module _ (base : ℕ) (d : Descriptor) where
+  pub dtmf-first : (x : DTMFDescriptor) → d ≡ Dtmf x → Movable base (descriptorViews d) → base + x .«dtmf_chars» .at < 2 ^ 64
+  dtmf-first x e m = all-first (rw e at m)
+
+  pub private-first : (tag : ℕ) (v : View) → d ≡ Reserved tag v → Movable base (descriptorViews d) → base + v .at < 2 ^ 64
+  private-first tag v e m = all-first (rw e at m)
+
+  pub insert-all : (s : SegmentationDescriptor) (i : SegmentationInsert) → d ≡ Segmentation s → s .«descriptor_detail» ≡ Insert i
+      → Movable base (descriptorViews d) → Movable base (upidViews (i .«segmentation_upid»))
+  insert-all s i e f m = let n : Movable base (detailViews (s .«descriptor_detail»)) = rw e at m in rw f at n
+
+  pub cancel-stays : (s : SegmentationDescriptor) → d ≡ Segmentation s → s .«descriptor_detail» ≡ Cancel → Segmentation s ≡ movedDescriptor base d
+  cancel-stays s e f =
+      let g : movedDetail base (s .«descriptor_detail») ≡ s .«descriptor_detail» = rw f in
+      rw e (ap (λ (x : SegmentationDetail). Segmentation (record { «segmentation_event_id» = s .«segmentation_event_id»; «descriptor_detail» = x })) (sym g))
+
+  pub insert-moves : (s : SegmentationDescriptor) (i j : SegmentationInsert) → d ≡ Segmentation s → s .«descriptor_detail» ≡ Insert i → j ≡ movedInsert base i
+      → Segmentation (record { «segmentation_event_id» = s .«segmentation_event_id»; «descriptor_detail» = Insert j }) ≡ movedDescriptor base d
+  insert-moves s i j e f g = rw (e, f, g)
+
+pub text-first : (base : ℕ) (r : Refusal) (kind : ℕ) (v : View) → r ≡ InvalidUpidContent kind v → Movable base (refusalViews r) → base + v .at < 2 ^ 64
+text-first base r kind v e m = all-first (rw e at m)
+
+-- ---- the views of what is moved
+
+by-test : (t : Bool) (base : ℕ) (u : SegmentationUpid)
+    → let there : SegmentationUpid = cond t u (record { kind = u .kind; bytes = shifted base (u .bytes) }) in
+    cond t [] (there .bytes ∷ []) ≡ map (shifted base) (cond t [] (u .bytes ∷ []))
+by-test true base u = refl
+by-test false base u = refl
+
+same-kind : (t : Bool) (base : ℕ) (u : SegmentationUpid) → (let there : SegmentationUpid = cond t u (record { kind = u .kind; bytes = shifted base (u .bytes) }) in there .kind) ≡ u .kind
+same-kind true base u = refl
+same-kind false base u = refl
+
+upid-views : (base : ℕ) (u : SegmentationUpid) → upidViews (movedUpid base u) ≡ map (shifted base) (upidViews u)
+upid-views base u =
+    let t : Bool = withoutView (u .kind) in
+    rw (same-kind t base u) (by-test t base u)
+
+detail-views : (base : ℕ) (d : SegmentationDetail) → detailViews (movedDetail base d) ≡ map (shifted base) (detailViews d)
+detail-views base Cancel = refl
+detail-views base (Insert i) = upid-views base (i .«segmentation_upid»)
+
+descriptor-views : (base : ℕ) (d : Descriptor) → descriptorViews (movedDescriptor base d) ≡ map (shifted base) (descriptorViews d)
+descriptor-views base (Avail x) = refl
+descriptor-views base (Dtmf x) = refl
+descriptor-views base (Segmentation x) = detail-views base (x .«descriptor_detail»)
+descriptor-views base (Time x) = refl
+descriptor-views base (Reserved tag bytes) = refl
+
+refusal-views : (base : ℕ) (r : Refusal) → refusalViews (movedRefusal base r) ≡ map (shifted base) (refusalViews r)
+refusal-views base InputTooLong = refl
+refusal-views base (NotEnoughData expected actual) = refl
+refusal-views base UpidLengthTypeMismatch = refl
+refusal-views base (InvalidUpidContent kind bytes) = refl
+refusal-views base (InvalidUpidLength kind expected actual) = refl
+
+-- the views of an item are those of its payload's reading, moved
+pub item-views : (base : ℕ) (d : DescriptorRead) → viewsOf (itemAt base d) ≡ map (shifted base) (readViews d)
+item-views base (read.Is d) = descriptor-views base d
+item-views base (read.Refused r) = refusal-views base r

@@ -1,0 +1,4 @@
+pub mod Place
+pub mod Items
+pub mod Cover
+pub mod Private

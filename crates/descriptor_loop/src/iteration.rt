@@ -1,0 +1,139 @@
+// The step over a loop, and how many items a loop has.
+ghost use mathlib.Core.Path.{_≡_};
+ghost use Prim.Native.Nat.{_+_, _≤_, _<_};
+ghost use lib.ListN.{length};
+ghost use Rattle.descriptor_loop.specs.Items.{bare, short, wholeAt, stepOf, countOf};
+use crate::Item;
+use crate::ItemRefusal;
+use crate::Step;
+use crate::place::move_descriptor;
+use crate::place::move_refusal;
+use descriptor::Descriptor;
+use descriptor::DescriptorRead;
+use descriptor::read_descriptor;
+use upid::Refusal;
+
+fn wide(b: u8) -> usize
+    ensures { λ r. ⌜ (r ≡ b) × (r < 256) ⌝ }
+{
+    b as usize
+}
+
+// An item without an identifier.
+fn plain(item: Item, next: usize) -> Step
+    ensures { λ r. ⌜ r ≡ bare item next ⌝ }
+{
+    Step {
+        item,
+        identifier: [0; 4],
+        next,
+    }
+}
+
+// Refusal 21.
+fn lacks(expected: usize, actual: usize) -> Item
+    ensures { λ r. ⌜ r ≡ short expected actual ⌝ }
+{
+    Item::Refused(ItemRefusal::Other(Refusal::NotEnoughData { expected, actual }))
+}
+
+// An item of `len` bytes after its head, of which four are the identifier.
+fn whole(bytes: &[u8], offset: usize, len: usize) -> Step
+    requires { ⌜ (4 ≤ len) × (offset + (len + 2) ≤ length (now bytes)) × (length (now bytes) ≤ 4076) ⌝ }
+    ensures { λ r. ⌜ r ≡ wholeAt (now (bytes .entry)) offset len ⌝ }
+{
+    let tag = bytes[offset];
+    let id = [
+        bytes[offset + 2],
+        bytes[offset + 3],
+        bytes[offset + 4],
+        bytes[offset + 5],
+    ];
+    let start = offset + 6;
+    let next = offset + (len + 2);
+    match read_descriptor(tag, id, &bytes[start..next]) {
+        DescriptorRead::Refused(r) => {
+            let refusal = ItemRefusal::Other(move_refusal(r, start));
+            return plain(Item::Refused(refusal), next);
+        }
+        DescriptorRead::Is(d) => match d {
+            Descriptor::Avail(_) => return plain(Item::Is(d), next),
+            Descriptor::Dtmf(_) => return plain(Item::Is(move_descriptor(d, start)), next),
+            Descriptor::Segmentation(_) => return plain(Item::Is(move_descriptor(d, start)), next),
+            Descriptor::Time(_) => return plain(Item::Is(d), next),
+            Descriptor::Reserved {
+                tag: _,
+                private_bytes: _,
+            } => {
+                return Step {
+                    item: Item::Is(move_descriptor(d, start)),
+                    identifier: id,
+                    next,
+                };
+            }
+        },
+    }
+}
+
+// An item of which at least six bytes are there, by its length.
+fn by_length(bytes: &[u8], offset: usize) -> Step
+    requires { ⌜ (offset + 6 ≤ length (now bytes)) × (length (now bytes) ≤ 4076) ⌝ }
+    ensures { λ r. ⌜ r ≡ stepOf (now (bytes .entry)) offset ⌝ }
+{
+    let end = bytes.len();
+    let left = end - offset;
+    let len = wide(bytes[offset + 1]);
+    if left < len + 2 {
+        return plain(lacks(len + 2, 0), end);
+    }
+    if 254 < len {
+        return plain(Item::Refused(ItemRefusal::InvalidDescriptorLength), end);
+    }
+    if len < 4 {
+        return plain(lacks(6, len + 2), offset + (len + 2));
+    }
+    whole(bytes, offset, len)
+}
+
+// The item at an offset of a loop, and where the next one starts.
+pub fn step(bytes: &[u8], offset: usize) -> Step
+    ensures { λ r. ⌜ r ≡ stepOf (now (bytes .entry)) offset ⌝ }
+{
+    let end = bytes.len();
+    if 4076 < end {
+        return plain(
+            Item::Refused(ItemRefusal::Other(Refusal::InputTooLong)),
+            end,
+        );
+    }
+    if end <= offset {
+        return plain(Item::End, end);
+    }
+    if end - offset < 6 {
+        return plain(lacks(2, 0), end);
+    }
+    by_length(bytes, offset)
+}
+
+// How many items a loop has, or refusal 2.
+pub enum Counted {
+    Are(usize),
+    Refused(ItemRefusal),
+}
+
+// The items of a loop, counted step by step.
+pub fn count_items(bytes: &[u8]) -> Counted
+    ensures { λ r. ⌜ r ≡ countOf (now (bytes .entry)) ⌝ }
+{
+    if 4076 < bytes.len() {
+        return Counted::Refused(ItemRefusal::Other(Refusal::InputTooLong));
+    }
+    let mut count: usize = 0;
+    let mut offset: usize = 0;
+    while offset < bytes.len() {
+        let s = step(bytes, offset);
+        offset = s.next;
+        count += 1;
+    }
+    Counted::Are(count)
+}

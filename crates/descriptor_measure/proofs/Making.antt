@@ -1,0 +1,130 @@
+-- What is made of a segmentation descriptor: its bytes, by the table.
+--     made-zero     no refusal: the bytes of its fields
+--     by-table      what is made is what the table's structure makes, so that its laws hold
+--     made-size     as many bytes as `payloadSize` says; made-bits: and as many bits
+use Prim.Native.Nat.{ℕ, _+_, _*_, _<_, _≤_}
+use mathlib.Core.Bool.{Bool, true, false, _&&_}
+use mathlib.Core.List.{List, [], _∷_}
+use mathlib.Core.Path.{_≡_, refl, ap, ap₂, sym, _∙_}
+use native.Mathlib.Omega.{arith}
+use lib.Dec.{leb}
+use lib.ListN.{length, take}
+use lib.Seq.{length-take-le}
+use borrow.Author.Tests.{leb-true}
+use Rattle.table.specs.Bits.{pick, bytesOf}
+use Rattle.table.specs.Writing.{Field, walk, seen, within, contents, print, Made, made, refused, makeOf, make, refusalIn}
+use Rattle.table.proofs.Lists.{zero-one, and-true}
+use Rattle.table.proofs.Structure.{Wrote, wrote, write-size}
+use Rattle.table.proofs.Walks.{print-length}
+use Rattle.descriptor.specs.Segmentation.{componentCount, countOf, fairDetail, fairFront, frontOf, segmentation}
+use Rattle.descriptor.specs.declared.segmentation.ModeComponent.{ModeComponent}
+use Rattle.descriptor.specs.declared.segmentation.SegmentationDescriptor.{SegmentationDescriptor}
+use Rattle.descriptor.specs.declared.segmentation.SegmentationDetail.{SegmentationDetail}
+use Rattle.descriptor.specs.declared.segmentation.SegmentationDetail.the-variants.{Cancel, Insert}
+use Rattle.descriptor.specs.declared.segmentation.SegmentationDuration.{SegmentationDuration}
+use Rattle.descriptor.specs.declared.segmentation.SegmentationMode.{SegmentationMode}
+use Rattle.descriptor.specs.declared.segmentation.SegmentationUpid.{SegmentationUpid}
+use Rattle.descriptor.specs.declared.whole.Beside.{Beside}
+use Rattle.descriptor.proofs.SegmentationLaws.{detailBytes, segmentation-ends, segmentationStructure}
+use Rattle.descriptor_measure.specs.Private.{segmentFields, payloadSize}
+use Rattle.descriptor_measure.specs.Writing.{allZero, fairUpid, fairSegment, segmentationMade, upidIn, upidSource, written, writtenDetail}
+use Rattle.descriptor_measure.proofs.Fields.{fields-are}
+
+-- ---- what is made, undone
+if-made : (b : Bool) (m : Made) (n : ℕ) (s : List ℕ) → pick b m (refused n) ≡ made s → (b ≡ true) × (m ≡ made s)
+if-made true m n s e = (refl, e)
+if-made false m n s e = zero-one cc
+
+if-zero : (b : Bool) (m : Made) (n : ℕ) → 0 < n → refusalIn (pick b m (refused n)) ≡ 0 → (b ≡ true) × (refusalIn m ≡ 0)
+if-zero true m n h e = (refl, e)
+if-zero false m n h e = absurd (omega arith)
+
+makes : (fair : Bool) (l : List ℕ) (fs : List Field) → refusalIn (makeOf fair l fs) ≡ 0 → makeOf fair l fs ≡ made (bytesOf (print (contents l fs)))
+makes fair l fs e =
+    let i = if-zero (seen l fs) _ 31 (omega arith) e in
+    let j = if-zero (within fs) _ 32 (omega arith) (i .1) in
+    let k = if-zero fair _ 33 (omega arith) (j .1) in
+    rw (i .0, j .0, k .0)
+
+fair-written : (d : SegmentationDetail) → fairDetail d ≡ true → fairDetail (writtenDetail d) ≡ true
+unfolding fairDetail fairFront
+fair-written Cancel e = e
+fair-written (Insert i) e = e
+
+pub count-written : (d : SegmentationDetail) → countOf (frontOf (writtenDetail d) .«segmentation_mode») ≡ countOf (frontOf d .«segmentation_mode»)
+count-written Cancel = refl
+count-written (Insert i) = refl
+
+-- ---- the bytes of a payload
+size-is : (d : SegmentationDetail) → detailBytes (writtenDetail d) ≡ payloadSize d
+unfolding payloadSize
+size-is Cancel = refl
+size-is (Insert i) = refl
+
+-- no refusal: a UPID's view in the lent bytes, and not too long
+pub zero-view : (x : SegmentationDescriptor) (id : List ℕ) (beside : Beside) (lent : List ℕ) → refusalIn (segmentationMade x id beside lent) ≡ 0
+    → (upidIn x .bytes .len ≤ 255) × (upidIn x .bytes .at + upidIn x .bytes .len ≤ length lent)
+unfolding segmentationMade
+zero-view x id beside lent e =
+    let i = if-zero (leb (upidIn x .bytes .at + upidIn x .bytes .len) (length lent)) _ 31 (omega arith) e in
+    let j = if-zero (leb (upidIn x .bytes .len) 255) _ 32 (omega arith) (i .1) in
+    (leb-true (upidIn x .bytes .len) 255 (j .0), leb-true (upidIn x .bytes .at + upidIn x .bytes .len) (length lent) (i .0))
+
+module _ (x : SegmentationDescriptor) (id : List ℕ) (beside : Beside) (lent : List ℕ) (all : componentCount x ≤ length (beside .components)) where
+  abbrev source : List ℕ
+  source = upidSource (upidIn x) (beside .eidr) lent
+
+  abbrev cs : List ModeComponent
+  cs = take (componentCount x) (beside .components)
+
+  pub counted : length cs ≡ componentCount x
+  counted = length-take-le (componentCount x) (beside .components) all
+
+  pub made-zero : refusalIn (segmentationMade x id beside lent) ≡ 0
+      → segmentationMade x id beside lent ≡ made (bytesOf (print (contents source (segmentFields (x .«segmentation_event_id») (x .«descriptor_detail») cs))))
+  unfolding segmentationMade
+  made-zero e =
+      let i = if-zero (leb (upidIn x .bytes .at + upidIn x .bytes .len) (length lent)) _ 31 (omega arith) e in
+      let j = if-zero (leb (upidIn x .bytes .len) 255) _ 32 (omega arith) (i .1) in
+      let k = makes (fairSegment x id (beside .eidr) lent) source (walk segmentation (written x (beside .components)) 0 .fields) (j .1) in
+      rw (i .0, j .0) (k ∙ ap (λ (l : List Field). made (bytesOf (print (contents source l)))) (fields-are (x .«segmentation_event_id») (x .«descriptor_detail») cs counted))
+
+  module _ (b : List ℕ) (e : segmentationMade x id beside lent ≡ made b) where
+    undone : (leb (upidIn x .bytes .at + upidIn x .bytes .len) (length lent) ≡ true)
+        × (leb (upidIn x .bytes .len) 255 ≡ true)
+        × (make segmentation (fairSegment x id (beside .eidr) lent) source (written x (beside .components)) ≡ made b)
+    unfolding segmentationMade
+    undone =
+        let i = if-made (leb (upidIn x .bytes .at + upidIn x .bytes .len) (length lent)) _ 31 b e in
+        let j = if-made (leb (upidIn x .bytes .len) 255) _ 32 b (i .1) in
+        (i .0, j .0, j .1)
+
+    told : Wrote (fairSegment x id (beside .eidr) lent) source (walk segmentation (written x (beside .components)) 0 .fields) b
+    told = wrote (fairSegment x id (beside .eidr) lent) source (walk segmentation (written x (beside .components)) 0 .fields) b (undone .2)
+
+    -- 33 as a whole
+    pub all-fair : (allZero id ≡ true) × (fairDetail (x .«descriptor_detail») ≡ true) × (fairUpid (upidIn x) (beside .eidr) lent ≡ true)
+    unfolding fairSegment
+    all-fair =
+        let i = and-true (allZero id) _ (told .fit) in
+        let j = and-true (fairDetail (x .«descriptor_detail»)) _ (i .1) in
+        (i .0, j .0, j .1)
+
+    pub by-table : make segmentation (fairDetail (writtenDetail (x .«descriptor_detail»))) source (written x (beside .components)) ≡ made b
+    by-table =
+        ap (λ (f : Bool). makeOf f source (walk segmentation (written x (beside .components)) 0 .fields)) (fair-written (x .«descriptor_detail») (all-fair .1) ∙ sym (told .fit))
+        ∙ undone .2
+
+    pub made-size : length b ≡ payloadSize (x .«descriptor_detail»)
+    made-size =
+        write-size segmentation segmentationStructure source (written x (beside .components)) b (counted ∙ sym (count-written (x .«descriptor_detail»))) by-table
+        ∙ size-is (x .«descriptor_detail»)
+
+    -- and as many bits
+    pub made-bits : length (print (contents source (segmentFields (x .«segmentation_event_id») (x .«descriptor_detail») cs))) ≡ payloadSize (x .«descriptor_detail») * 8
+    made-bits =
+        let fs = walk segmentation (written x (beside .components)) 0 .fields in
+        let l = segmentation-ends (written x (beside .components)) 0 (counted ∙ sym (count-written (x .«descriptor_detail»))) (fair-written (x .«descriptor_detail») (all-fair .1)) refl in
+        let p : length (print (contents source fs)) ≡ payloadSize (x .«descriptor_detail») * 8 =
+        omega (arith, print-length source fs 0 (told .views), l .2, size-is (x .«descriptor_detail»)) in
+        rw (fields-are (x .«segmentation_event_id») (x .«descriptor_detail») cs counted) at p

@@ -1,0 +1,4 @@
+pub mod Writing
+pub mod Canonical
+pub mod Same
+pub mod Private

@@ -1,0 +1,59 @@
+// A UPID that is written.
+ghost use mathlib.Core.Path.{_≡_};
+ghost use Rattle.descriptor_measure.specs.Writing.{writtenKind, writtenUpid, fairUpid};
+use crate::is_zero;
+use descriptor::segmentation::SegmentationUpid;
+use table::lent::view;
+use upid::UpidRead;
+use upid::check_upid;
+
+// The type as it is written: 5 of an eight-byte ISAN.
+pub fn written_kind(u: SegmentationUpid) -> u8
+    ensures { λ r. ⌜ r ≡ writtenKind u ⌝ }
+{
+    let bytes = u.bytes;
+    if u.kind == 6 {
+        if bytes.len == 8 {
+            return 5;
+        }
+    }
+    u.kind
+}
+
+// Refusal 33: whether a canonical reading may have this UPID, with this EIDR beside it.
+pub(crate) fn is_fair_upid(u: SegmentationUpid, eidr: [u8; 12], lent: &[u8]) -> bool
+    ensures { λ r. ⌜ r ≡ fairUpid u eidr (now (lent .entry)) ⌝ }
+{
+    let bytes = u.bytes;
+    if u.kind == 10 {
+        return bytes.len == 0;
+    }
+    if !is_zero(&eidr[..]) {
+        return false;
+    }
+    if u.kind == 0 {
+        return bytes.len == 0;
+    }
+    if bytes.len == 0 {
+        return false;
+    }
+    if u.kind == 5 {
+        return false;
+    }
+    let part = view(lent, bytes);
+    match check_upid(written_kind(u), part) {
+        UpidRead::Fine(_) => true,
+        UpidRead::Refused(_) => false,
+    }
+}
+
+// How many bytes of it are written: twelve of an EIDR.
+pub fn upid_size(u: SegmentationUpid) -> usize
+    ensures { λ r. ⌜ r ≡ writtenUpid u .bytes .len ⌝ }
+{
+    let bytes = u.bytes;
+    if u.kind == 10 {
+        return 12;
+    }
+    bytes.len
+}

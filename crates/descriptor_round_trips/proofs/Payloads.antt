@@ -1,0 +1,106 @@
+-- The payload that is written of a descriptor is the canonical payload that reads as it, and there is no other.
+--     payload-back       what is written reads as what was handed in, and is canonical
+--     written-if-read    a canonical payload that reads as what is handed in is what is written of it
+use Prim.Native.Nat.{ℕ, _+_, _/_, _≤_}
+use mathlib.Core.Bool.{Bool, true}
+use mathlib.Core.List.{List}
+use mathlib.Core.Path.{_≡_, refl, ap, sym, subst, _∙_}
+use native.Mathlib.Omega.{arith}
+use lib.ListN.{length}
+use Rattle.table.specs.Bits.{AllBytes}
+use Rattle.table.specs.Writing.{Field, walk, contents, print, made, makeOf}
+use Rattle.table.proofs.Bits.{all-bytesN}
+use Rattle.table.proofs.Structure as laws
+use Rattle.table.proofs.Walks.{print-bits}
+use Rattle.descriptor.specs.Plain.{avail, dtmf, time, privateBytes}
+use Rattle.descriptor.specs.Segmentation.{fairDetail, segmentation}
+use Rattle.descriptor.specs.Whole.{wholeOf, identifierRead, besideRead}
+use Rattle.descriptor.specs.declared.Descriptor.{Descriptor}
+use Rattle.descriptor.specs.declared.Descriptor.the-variants.{Avail, Dtmf, Segmentation, Time, Reserved}
+use Rattle.descriptor.specs.declared.DescriptorRead.the-variants.{Is}
+use Rattle.descriptor.specs.declared.whole.Beside.{Beside}
+use Rattle.descriptor.specs.declared.whole.WholeDescriptor.{WholeDescriptor}
+use Rattle.descriptor_measure.specs.Canonical.{canonicalPayload}
+use Rattle.descriptor_measure.specs.Same.{SameReading, countBeside}
+use Rattle.descriptor_measure.specs.Writing.{alone, fairReserved, payloadMade, tagOf, identifierOf, upidIn, upidSource, written, writtenDetail}
+use Rattle.descriptor_measure.proofs.Making.{by-table}
+use Rattle.descriptor_round_trips.specs.Making.{viewIn, Payload}
+use Rattle.descriptor_round_trips.specs.Trips.{Handed}
+use Rattle.descriptor_round_trips.proofs.Alike.{alike-payload, payload-told, same-frame, same-view}
+use Rattle.descriptor_round_trips.proofs.Canon.{avail-canonical, dtmf-canonical, time-canonical, reserved-canonical}
+use Rattle.descriptor_round_trips.proofs.PlainTrips.{ReadsBack, avail-reads-back, dtmf-reads-back, time-reads-back, reserved-reads-back}
+use Rattle.descriptor_round_trips.proofs.SegmentBack.{segmentation-back}
+use Rattle.descriptor_round_trips.proofs.Wholes.{payload-is, whole-read}
+
+-- ---- what is written
+
+-- it is bytes
+are-bytes : (fair : Bool) (lent : List ℕ) (fs : List Field) (b : List ℕ) → makeOf fair lent fs ≡ made b → AllBytes b
+are-bytes fair lent fs b e =
+    let p = print (contents lent fs) in
+    rw (laws.wrote fair lent fs b e .bytes) (all-bytesN (length p / 8) p (print-bits (contents lent fs)))
+
+module _ (id : List ℕ) (beside : Beside) (lent p : List ℕ) where
+  pub counted : (d : Descriptor) → Handed d id beside lent → countBeside d ≤ length (beside .components)
+  counted d h = omega (arith, h .count, h .places)
+
+  payload-bytes : (d : Descriptor) → Handed d id beside lent → payloadMade d id beside lent ≡ made p → AllBytes p
+  unfolding payloadMade
+  payload-bytes (Avail x) h e = are-bytes (alone id (beside .eidr)) lent (walk avail x 0 .fields) p e
+  payload-bytes (Dtmf x) h e = are-bytes (alone id (beside .eidr)) lent (walk dtmf x 0 .fields) p e
+  payload-bytes (Segmentation x) h e =
+      are-bytes (fairDetail (writtenDetail (x .«descriptor_detail»))) (upidSource (upidIn x) (beside .eidr) lent) (walk segmentation (written x (beside .components)) 0 .fields) p
+      (by-table x id beside lent (counted (Segmentation x) h) p e)
+  payload-bytes (Time x) h e = are-bytes (alone id (beside .eidr)) lent (walk time x 0 .fields) p e
+  payload-bytes (Reserved tag v) h e = are-bytes (fairReserved tag id (beside .eidr)) lent (walk privateBytes v 0 .fields) p e
+
+  read-back : (d : Descriptor) → Handed d id beside lent → payloadMade d id beside lent ≡ made p → ReadsBack d id beside lent p × (canonicalPayload (tagOf d) (identifierOf d id) p ≡ true)
+  read-back (Avail x) h e = (avail-reads-back id beside lent p (h .four) (h .twelve) x e, avail-canonical id beside lent p x e)
+  read-back (Dtmf x) h e = (dtmf-reads-back id beside lent p (h .four) (h .twelve) x (h .are) e, dtmf-canonical id beside lent p x e)
+  read-back (Segmentation x) h e = segmentation-back x id beside lent p (h .four) (h .twelve) (h .held) (h .are) (counted (Segmentation x) h) e
+  read-back (Time x) h e = (time-reads-back id beside lent p (h .four) (h .twelve) x e, time-canonical id beside lent p x e)
+  read-back (Reserved tag v) h e = (reserved-reads-back id beside lent p (h .four) (h .twelve) tag v (h .are) e, reserved-canonical id beside lent p tag v e)
+
+  identifier-four : (d : Descriptor) → length id ≡ 4 → length (identifierOf d id) ≡ 4
+  identifier-four (Avail x) four = refl
+  identifier-four (Dtmf x) four = refl
+  identifier-four (Segmentation x) four = refl
+  identifier-four (Time x) four = refl
+  identifier-four (Reserved tag v) four = four
+
+  pub payload-back : (d : Descriptor) → Handed d id beside lent → payloadMade d id beside lent ≡ made p → Payload d id beside lent (tagOf d) (identifierOf d id) p
+  payload-back d h e =
+      let r = read-back d h e in
+      let again : Descriptor = r .0 .again in
+      let w = whole-read (tagOf d) (identifierOf d id) p again (r .0 .reading) in
+      record {
+        four = identifier-four d (h .four);
+        are = payload-bytes d h e;
+        form = r .1;
+        again = again;
+        reading = ap (λ (x : WholeDescriptor). x .read) w;
+        same = subst (λ (x : WholeDescriptor). SameReading p again (x .identifier) (x .beside) lent d id beside) (sym w) (r .0 .same);
+      }
+
+-- ---- what reads as it
+module _ (d : Descriptor) (id : List ℕ) (beside : Beside) (lent : List ℕ) (there : viewIn d .at + viewIn d .len ≤ length lent) where
+  pub written-if-read : (tag : ℕ) (own p : List ℕ) → Payload d id beside lent tag own p
+      → (payloadMade d id beside lent ≡ made p) × (tagOf d ≡ tag) × (identifierOf d id ≡ own)
+  written-if-read tag own p q =
+      let k = payload-is tag own p (q .four) (q .are) (q .form) in
+      let x : Descriptor = k .read in
+      let w = whole-read tag own p x (k .reading) in
+      let z : x ≡ q .again = one x (q .again) (sym (ap (λ (x : WholeDescriptor). x .read) w) ∙ q .reading) in
+      let same : SameReading p x (identifierRead (Is x) own) (besideRead (Is x) p) lent d id beside =
+      subst (λ (x : WholeDescriptor). SameReading p (k .read) (x .identifier) (x .beside) lent d id beside) w
+      (subst (λ (x : Descriptor). SameReading p x (wholeOf tag own p .identifier) (wholeOf tag own p .beside) lent d id beside) (sym z) (q .same)) in
+      let writes : payloadMade x id (besideRead (Is x) p) p ≡ made p = subst (λ (i : List ℕ). payloadMade x i (besideRead (Is x) p) p ≡ made p) (same .identifiers) (k .writes) in
+      let views = same-view p lent x d (same .values) (same .bytes) (payload-told p p id (besideRead (Is x) p) x (k .places) writes) there in
+      let f = same-frame x d id (same .values) in (
+        alike-payload p lent id (besideRead (Is x) p) beside (same .eidrs) x d (k .places) (same .values) views (same .components) p writes,
+        sym (f .0) ∙ k .tagged,
+        sym (f .1) ∙ ap (identifierOf x) (sym (same .identifiers)) ∙ k .identified,
+      )
+    where
+      one : (x y : Descriptor) → Is x ≡ Is y → x ≡ y
+      one x y e = cc

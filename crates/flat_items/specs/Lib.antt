@@ -1,3 +1,0 @@
-pub mod FlatUpid
-pub mod FlatItem
-pub mod Walk

@@ -1,4 +1,0 @@
-pub mod Words
-pub mod CommandWords
-pub mod CommandGiven
-pub mod Walk

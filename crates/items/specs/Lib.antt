@@ -1,4 +1,0 @@
-pub mod Place
-pub mod Items
-pub mod Cover
-pub mod Walk
