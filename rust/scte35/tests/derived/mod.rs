@@ -80,16 +80,20 @@ impl Node {
 }
 
 fn leaf(r: &mut Random) -> Node {
-    match r.below(5) {
-        0 => Node::Leaf(8, r.bytes(8)),
-        1 => Node::Leaf(3, r.letters(12)),
-        2 => Node::Leaf(5, r.bytes(8)),
-        3 => Node::Leaf(12, r.some(1, 14)),
-        _ => {
+    let kind = [1, 2, 3, 3, 4, 5, 6, 7, 8, 8, 9, 9, 10, 11, 12, 14, 15, 200][r.below(18)];
+    let bytes = match kind {
+        2 => r.letters(8),
+        3 | 7 => r.letters(12),
+        4 => r.bytes(32),
+        5 | 8 => r.bytes(8),
+        6 | 10 => r.bytes(12),
+        9 | 15 => {
             let n = 1 + r.below(20);
-            Node::Leaf(9, r.letters(n))
+            r.letters(n)
         }
-    }
+        _ => r.some(1, 14),
+    };
+    Node::Leaf(kind, bytes)
 }
 
 fn node(r: &mut Random, depth: usize) -> Node {
