@@ -1,6 +1,6 @@
-/* main HEX: what a section says, and whether it is what is written of its reading. Ends with 1 where a canonical section is not, with 2 where HEX is not pairs of
- * hexadecimal digits, with 3 where the section is refused. main relabel: one identifier of the incident's cue replaced, and every byte compared; ends with 1 where
- * one is another. */
+/* main HEX: what a section says, and whether it is what is written of its reading. Ends with 1 where a canonical section is not, with 2 where HEX is not pairs
+ * of hexadecimal digits, with 3 where the section is refused. main relabel: one identifier of the incident's cue replaced, and every byte compared; ends with 1
+ * where one is another. */
 #include <inttypes.h>
 #include <stdio.h>
 #include <string.h>

@@ -10,11 +10,11 @@ use std::borrow::Cow;
 /// Writes the section in which one identifier is replaced, from the target's first byte on; says how many bytes that are.
 ///
 /// `offset` is the item's in its loop, as `Step` and `Item` count it; part 0 is the item's UPID itself, part k the k-th of its MID's parts as `read_upid` lists
-/// them (from 1 on, at any level). The type is the one that is written: 5 with 8 bytes is taken, and 6 with 8 bytes is refused. Every length around the identifier
-/// and the CRC are mended; no other byte changes.
+/// them (from 1 on, at any level). The type is the one that is written: 5 with 8 bytes is taken, and 6 with 8 bytes is refused. Every length around the
+/// identifier and the CRC are mended; no other byte changes.
 ///
 /// Refused, in this order, with 1 to 11 for the section, `Refusal::NoSuchIdentifier`, `Refusal::TooLarge`, `Refusal::Unwritable`, `Refusal::ResultTooLong` and
-/// `Refusal::TargetTooShort`; a refused write changes no byte.
+/// `Refusal::TargetTooShort`; a refused write changes no byte. `Section::relabel` is the same of a reading.
 pub fn relabel(
     section: &[u8],
     offset: usize,
