@@ -25,10 +25,10 @@ fn main() {
         }
     }
     let written = met.get(&0).copied().unwrap_or(0);
-    let told: Vec<String> = met.iter().filter(|(number, _)| **number > 0).map(|(number, n)| format!("{number}: {n}")).collect();
-    println!("refused with {}", told.join(", "));
-    let named: u64 = run.named.values().sum();
-    println!("{} read again by the crate: {} differences, {named} of them named in docs/DIFFERENCES.md", written, named + run.unnamed);
+    let refused: Vec<String> = met.iter().filter(|(number, _)| **number > 0).map(|(number, n)| format!("{number}: {n}")).collect();
+    println!("refused with {}", refused.join(", "));
+    let named: Vec<String> = run.named.iter().map(|(entry, n)| format!("{n} of entry {entry}")).collect();
+    println!("{written} read again by the crate: items that differ: {} (docs/DIFFERENCES.md); of no entry {}", named.join(", "), run.unnamed);
     println!("seed {seed}: {count} relabellings, {written} written, {canonical} of these of canonical sections; each as derived");
     if run.unnamed > 0 || canonical == 0 || !met.keys().copied().eq(derived::NUMBERS) {
         println!("a difference that is not named, or an answer that was not met");

@@ -87,10 +87,11 @@ fn leaf(r: &mut Random) -> Node {
         4 => r.bytes(32),
         5 | 8 => r.bytes(8),
         6 | 10 => r.bytes(12),
-        9 | 15 => {
+        9 => {
             let n = 1 + r.below(20);
             r.letters(n)
         }
+        15 => [b"urn:".to_vec(), r.letters(9)].concat(),
         _ => r.some(1, 14),
     };
     Node::Leaf(kind, bytes)
