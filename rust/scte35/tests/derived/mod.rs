@@ -354,6 +354,23 @@ impl Case {
         assert_eq!(&target[expected.len()..], &filled[expected.len()..], "{}", what());
         assert!(scte35::read_section(expected).is_ok(), "{}", what());
         assert!(!scte35::is_canonical_section(old) || scte35::is_canonical_section(expected), "{}", what());
+        assert_eq!(self.back(), self.with_its_length(), "{}", what());
+    }
+
+    /// The result, with the identifier that stood there put back.
+    fn back(&self) -> Vec<u8> {
+        let section = scte35::read_section(&self.old).expect("accepted");
+        let stood = section.identifiers().find(|x| x.item == Some(self.offset) && x.part == self.part).expect("named");
+        scte35::relabel_to_vec(&self.expected, self.offset, self.part, stood.written_type().expect("a UPID's"), stood.bytes).expect("it stood there")
+    }
+
+    /// The old section; where its section_length was wrong, with the right one.
+    fn with_its_length(&self) -> Vec<u8> {
+        let mut s = self.old[..self.old.len() - 4].to_vec();
+        let n = self.old.len() - 3;
+        s[1] = (s[1] & 0xF0) | (n >> 8 & 15) as u8;
+        s[2] = n as u8;
+        closed(&s)
     }
 
     /// Is what it begins with in canonical form?
