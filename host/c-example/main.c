@@ -1,5 +1,6 @@
-/* main HEX: what a section says, and whether it is what is written of its reading. Ends with 1 where a canonical section is not, with 2 where HEX is not pairs of
- * hexadecimal digits, with 3 where the section is refused. */
+/* main HEX: what a section says, and whether it is what is written of its reading. Ends with 1 where a canonical section is not, with 2 where HEX is not pairs
+ * of hexadecimal digits, with 3 where the section is refused. main relabel: one identifier of the incident's cue replaced, and every byte compared; ends with 1
+ * where one is another. */
 #include <inttypes.h>
 #include <stdio.h>
 #include <string.h>
@@ -108,9 +109,45 @@ static long unhex(const char *text, uint8_t *bytes, size_t room)
     return (long)room;
 }
 
+/* The incident's cue: a MID of 8 and 12 bytes. The eight-byte part becomes twelve bytes long; the other part's twelve bytes are untouched. */
+static int relabel_the_incident(void)
+{
+    static const char cue[] = "FC303F000000000000FFFFF00506FE0000000000290227435545490000002A7FBF0D18"
+                              "08081122334455667788"
+                              "030C414243443132333435363738100101A86A17BC";
+    static const char expected[] = "FC3043000000000000FFFFF00506FE00000000002D022B435545490000002A7FBF0D1C"
+                                   "030C4E4557533030303030303031"
+                                   "030C414243443132333435363738100101CFE1DA2E";
+    static uint8_t s[SCTE35_MAX_SECTION], wanted[SCTE35_MAX_SECTION], target[SCTE35_MAX_SECTION], back[SCTE35_MAX_SECTION];
+    static const uint8_t old[] = {0x11, 0x22, 0x33, 0x44, 0x55, 0x66, 0x77, 0x88};
+    size_t n = (size_t)unhex(cue, s, sizeof s), m = (size_t)unhex(expected, wanted, sizeof wanted);
+
+    /* the item at offset 0 of the loop, part 1 of its MID */
+    struct scte35_written w = scte35_relabel(s, n, 0, 1, SCTE35_UPID_AD_ID, (const uint8_t *)"NEWS00000001", 12, target, sizeof target);
+    if (w.refusal)
+        return printf("relabelling refused %" PRIu64 ": %s\n", w.refusal, scte35_refusal_text(w.refusal)), 1;
+    for (size_t i = 0; i < m || i < w.length; i++)
+        if (i >= m || i >= w.length || target[i] != wanted[i])
+            return printf("relabelled: byte %zu is another\n", i), 1;
+    print_bytes("relabelled: ", target, w.length);
+
+    /* and back: the old cue, byte for byte */
+    w = scte35_relabel(target, w.length, 0, 1, SCTE35_UPID_TI, old, sizeof old, back, sizeof back);
+    if (w.refusal || w.length != n || memcmp(back, s, n))
+        return printf("\nrelabelled back: another\n"), 1;
+    /* no third part: refused, and no byte of the target is changed */
+    w = scte35_relabel(s, n, 0, 3, SCTE35_UPID_TI, old, sizeof old, back, sizeof back);
+    if (w.refusal != SCTE35_REFUSAL_NO_SUCH_IDENTIFIER || memcmp(back, s, n))
+        return printf("\npart 3: not refused as it should be\n"), 1;
+    printf("\nrelabelled back: the same; part 3: %s\n", scte35_refusal_text(w.refusal));
+    return 0;
+}
+
 int main(int argc, char **argv)
 {
     static uint8_t s[SCTE35_MAX_SECTION + 1]; /* one more than is read */
+    if (argc == 2 && !strcmp(argv[1], "relabel"))
+        return scte35_abi() != SCTE35_ABI || relabel_the_incident();
     long length = argc == 2 ? unhex(argv[1], s, sizeof s) : -1;
     if (length < 0) {
         fprintf(stderr, "one section, as pairs of hexadecimal digits\n");

@@ -10,7 +10,7 @@ use std::path::PathBuf;
 use std::process::{Command, Stdio};
 use verbs::{cue, stderr, stdout, INCIDENT, NULL};
 
-const VERBS: [&str; 6] = ["show", "identifiers", "map", "check", "make", "completions"];
+const VERBS: [&str; 8] = ["show", "identifiers", "map", "check", "make", "adjust", "relabel", "completions"];
 
 /// A folder of its own for a test, with a `cue` in it that a shell can start.
 fn folder(name: &str) -> PathBuf {

@@ -46,6 +46,30 @@
 //! # assert_eq!(items, [Ok(SpliceDescriptor::Avail { provider_avail_id: 310 })]);
 //! ```
 //!
+//! `Section::relabel` replaces one identifier and mends every length around it; every other byte stays:
+//!
+//! ```
+//! use scte35::*;
+//!
+//! /// The cue with every airing id (type 8) of its MIDs replaced by an Ad-ID.
+//! fn relabelled(bytes: &[u8], ad_id: &str) -> Result<Vec<u8>, Refusal> {
+//!     let new = Upid::Text { upid_type: SegmentationUpidType::AdID, text: ad_id };
+//!     let mut cue = bytes.to_vec();
+//!     loop {
+//!         let section = read_section(&cue)?;
+//!         let is_one = |x: &Identifier| x.part > 0 && x.upid_type == Some(SegmentationUpidType::TI);
+//!         let Some((Some(item), part)) = section.identifiers().find(is_one).map(|x| (x.item, x.part)) else { return Ok(cue) };
+//!         // lengths and places may have moved: the result is read again
+//!         cue = section.relabel_to_vec(item, part, &new)?;
+//!     }
+//! }
+//! # let digits = "FC303F000000000000FFFFF00506FE0000000000290227435545490000002A7FBF0D1808081122334455667788030C414243443132333435363738100101A86A17BC";
+//! # let cue: Vec<u8> = (0..digits.len() / 2).map(|i| u8::from_str_radix(&digits[2 * i..2 * i + 2], 16).unwrap()).collect();
+//! # let new = relabelled(&cue, "NEWS00000001").unwrap();
+//! # let texts: Vec<_> = read_section(&new).unwrap().identifiers().filter_map(|x| x.text().map(String::from)).collect();
+//! # assert_eq!(texts, ["NEWS00000001", "ABCD12345678"]);
+//! ```
+//!
 //! Nothing is kept between calls, and every function may be called from any thread.
 #![deny(missing_docs)]
 
@@ -105,8 +129,8 @@ fn view<'a>(lent: &'a [u8], v: &raw::View) -> &'a [u8] {
     &lent[v.at as usize..][..v.len as usize]
 }
 
-/// A section: its header, its command, and its descriptor loop. `==` compares all that these hold, and so the loop's bytes; `Section::reads_as` compares
-/// readings.
+/// A section: its header, its command, and its descriptor loop; one that was read keeps the bytes that it was read from, too. `==` compares header, command and
+/// loop, and so the loop's bytes; `Section::reads_as` compares readings.
 #[derive(Debug, Clone, PartialEq, Eq, Hash)]
 #[non_exhaustive]
 pub struct Section<'a> {
@@ -116,12 +140,38 @@ pub struct Section<'a> {
     pub command: SpliceCommand<'a>,
     /// the descriptor loop
     pub descriptors: SpliceDescriptors<'a>,
+    from: Origin<'a>,
+}
+
+/// What a section was read from, if it was read. It has no part in `==`.
+#[derive(Clone, Copy)]
+struct Origin<'a>(Option<&'a [u8]>);
+
+impl PartialEq for Origin<'_> {
+    fn eq(&self, _: &Self) -> bool {
+        true
+    }
+}
+
+impl Eq for Origin<'_> {}
+
+impl std::hash::Hash for Origin<'_> {
+    fn hash<H: std::hash::Hasher>(&self, _: &mut H) {}
+}
+
+impl std::fmt::Debug for Origin<'_> {
+    fn fmt(&self, f: &mut std::fmt::Formatter<'_>) -> std::fmt::Result {
+        match self.0 {
+            Some(bytes) => write!(f, "{} bytes", bytes.len()),
+            None => f.write_str("made"),
+        }
+    }
 }
 
 impl<'a> Section<'a> {
     /// A section of these, to be written.
     pub fn new(header: SpliceInfoHeader, command: SpliceCommand<'a>, descriptors: SpliceDescriptors<'a>) -> Self {
-        Section { header, command, descriptors }
+        Section { header, command, descriptors, from: Origin(None) }
     }
 
     /// The time of its command (`SpliceCommand::splice_time`) with the header's adjustment added, where one is specified. Refused with
@@ -159,6 +209,7 @@ pub fn read_section(bytes: &[u8]) -> Result<Section<'_>, Refusal> {
             // a command's views count from the section's first byte
             command: SpliceCommand::of(&s.command, &bytes[..(s.payload.at + s.payload.len) as usize], s.payload.at as usize, 0),
             descriptors: SpliceDescriptors::of(bytes, &s.descriptors),
+            from: Origin(Some(bytes)),
         }),
         n => Err(Refusal::answered(n, [0; 3])),
     }

@@ -1,6 +1,8 @@
 //! bench SIDE HEX TURNS ROUNDS: one section, read that many times with all its items. SIDE: `here` (the C functions), `api` (the Rust interface
 //! over them), `section` (the C function of a section alone), `crate`; or `write`: read once, and written back that many times by the C functions.
+//! bench SIDE HEX OFFSET PART TYPE NEW TURNS ROUNDS: `relabel`, one identifier of the section replaced, or `crc`, the CRC of the result.
 //! Prints nanoseconds a turn, of the best round. `host/bench` counts the instructions of the function `bench_SIDE` and of what it calls.
+//! bench close HEX: the section of these bytes, its length and CRC put right. bench size HEX OFFSET PART TYPE NEW: the bytes of the result.
 use mpeg2ts_reader::psi::{SectionCommonHeader, WholeCompactSyntaxPayloadParser};
 use std::hint::black_box;
 use std::time::Instant;
@@ -104,6 +106,59 @@ fn bench_write(read: &Read, joined: &mut [u8; 4096], target: &mut [u8; 4096]) ->
     scte35::raw::write_section_words(header, command, components, &read.section, &joined[..end], target).length
 }
 
+/// An identifier that is replaced.
+struct Relabelling {
+    section: Vec<u8>,
+    offset: usize,
+    part: usize,
+    upid_type: u8,
+    new: Vec<u8>,
+}
+
+impl Relabelling {
+    /// HEX OFFSET PART TYPE NEW
+    fn of(words: &[String]) -> Relabelling {
+        let number = |word: &str| word.parse().expect("a number");
+        let bytes = differ::answer::unhex;
+        Relabelling {
+            section: bytes(&words[0]),
+            offset: number(&words[1]),
+            part: number(&words[2]),
+            upid_type: number(&words[3]) as u8,
+            new: bytes(&words[4]),
+        }
+    }
+
+    fn result(&self) -> Vec<u8> {
+        let mut target = [0; 4096];
+        let length = bench_relabel(self, &mut target) as usize;
+        assert!(length > 0, "refused");
+        target[..length].to_vec()
+    }
+}
+
+#[no_mangle]
+#[inline(never)]
+fn bench_relabel(x: &Relabelling, target: &mut [u8; 4096]) -> u64 {
+    scte35::raw::relabel(&x.section, x.offset, x.part, x.upid_type, &x.new, target).length
+}
+
+#[no_mangle]
+#[inline(never)]
+fn bench_crc(bytes: &[u8]) {
+    black_box(scte35::raw::crc(bytes, 0));
+}
+
+/// section_length, and the CRC behind all
+fn close(mut bytes: Vec<u8>) -> String {
+    let length = bytes.len() + 4 - 3;
+    bytes[1] = (bytes[1] & 0xF0) | (length >> 8) as u8;
+    bytes[2] = length as u8;
+    let crc = scte35::crc(&bytes);
+    bytes.extend(crc.to_be_bytes());
+    differ::answer::hex(&bytes)
+}
+
 /// Nanoseconds a turn, of the best round.
 fn best(turns: u32, rounds: u32, mut turn: impl FnMut()) -> f64 {
     let mut best = f64::MAX;
@@ -118,8 +173,14 @@ fn best(turns: u32, rounds: u32, mut turn: impl FnMut()) -> f64 {
 fn main() {
     let words: Vec<String> = std::env::args().collect();
     let section = differ::answer::unhex(&words[2]);
-    let turns: u32 = words[3].parse().expect("a number of turns");
-    let rounds: u32 = words[4].parse().expect("a number of rounds");
+    match words[1].as_str() {
+        "close" => return println!("{}", close(section)),
+        "size" => return println!("{}", Relabelling::of(&words[2..]).result().len()),
+        _ => {}
+    }
+    let (before, last) = words.split_at(words.len() - 2);
+    let turns: u32 = last[0].parse().expect("a number of turns");
+    let rounds: u32 = last[1].parse().expect("a number of rounds");
     let reading = |side: fn(&[u8])| best(turns, rounds, || black_box(side)(black_box(&section)));
     let took = match words[1].as_str() {
         "here" => reading(bench_here),
@@ -134,7 +195,17 @@ fn main() {
             assert_eq!(&target[..section.len()], section, "the samples are canonical");
             took
         }
-        _ => panic!("here, api, section, crate or write"),
+        "relabel" => {
+            let (x, mut target) = (Relabelling::of(&before[2..]), [0; 4096]);
+            best(turns, rounds, || {
+                black_box(bench_relabel(black_box(&x), &mut target));
+            })
+        }
+        "crc" => {
+            let result = Relabelling::of(&before[2..]).result();
+            best(turns, rounds, || bench_crc(black_box(&result)))
+        }
+        _ => panic!("here, api, section, crate, write, relabel or crc"),
     };
     println!("{took:.1}");
 }

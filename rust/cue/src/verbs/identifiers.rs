@@ -44,7 +44,8 @@ pub fn run(words: &ArgMatches, console: &mut Console) -> io::Result<()> {
     })
 }
 
-fn line(console: &mut Console, cue: u64, item: &str, x: &Identifier<'_>) -> io::Result<()> {
+/// The line of an identifier of that item.
+pub fn line(console: &mut Console, cue: u64, item: &str, x: &Identifier<'_>) -> io::Result<()> {
     write!(console.out, "{cue} {item} {} ", x.level)?;
     match (x.upid_type, x.written_type()) {
         (Some(reported), Some(written)) => write!(console.out, "{} {}", reported.id(), written.id())?,
