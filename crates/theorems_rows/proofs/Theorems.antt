@@ -18,7 +18,7 @@ use Rattle.header.specs.declared.header.SpliceInfoHeader.{SpliceInfoHeader}
 use Rattle.descriptor_loop.specs.Items.{stepOf, wholeAt}
 use Rattle.descriptor_loop.specs.declared.Item.{Item}
 use Rattle.names.specs.Flags.{Answer, networkOf, returnOf, restrictionsOf}
-use Rattle.section.specs.Section.{sectionOf}
+use Rattle.section.specs.Section.{sectionOf, commandType}
 use Rattle.section.specs.declared.Section.{Section}
 use Rattle.section.specs.declared.SectionRead.{SectionRead}
 use Rattle.section_writer.specs.Canonical.{canonicalSection}
@@ -31,7 +31,7 @@ use Rattle.upid.specs.Upid.{checkOf}
 use Rattle.upid.specs.declared.Refusal.{Refusal}
 use Rattle.upid.specs.declared.UpidRead.{UpidRead}
 use Rattle.theorems_rows.specs.Refusals.{StepRefused, UpidRefused, kindOf, fixedLengths, texts, plainLengths}
-use Rattle.theorems_rows.specs.Sections.{eighteen, nineteen, insertSection, otherInsertSection, everyIdentifier, everyDescriptor}
+use Rattle.theorems_rows.specs.Sections.{eighteen, nineteen, insertSection, otherInsertSection, everyIdentifier, everyDescriptor, everyCommand}
 use Rattle.theorems_rows.proofs.Refusals as refusals
 use Rattle.theorems_rows.proofs.Worked as worked
 
@@ -62,6 +62,10 @@ two-sections-with-equal-readings = (worked.insertReading, worked.insertReading, 
 -- there is a canonical section with an insert by components and every kind of descriptor
 pub a-canonical-section-with-every-descriptor : canonicalSection everyDescriptor ≡ true
 a-canonical-section-with-every-descriptor = worked.every-descriptor-canonical
+
+-- and one with each other command (a time_signal: `the-section-with-eight-and-twelve-is-canonical`)
+pub canonical-sections-with-every-command : All (λ (c : List ℕ × ℕ). (canonicalSection (c .0) ≡ true) × (commandType (c .0) ≡ c .1)) everyCommand
+canonical-sections-with-every-command = worked.every-command-canonical
 
 -- ---- 5: "a header alone under 11, its only refusal"
 

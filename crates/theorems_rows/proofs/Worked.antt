@@ -35,9 +35,10 @@ use Rattle.table.specs.Table.{number, bit, reserved, part, remaining, list, can
 use Rattle.theorems.specs.Identifiers.{identifiersOf}
 use Rattle.theorems.specs.Same.{SameSections}
 use Rattle.theorems.specs.Sections.{EmptyCommand, Identified}
+use Rattle.upid.specs.Cover.{All, none, more}
 use Rattle.upid.specs.Text.{textOf, done, step, within}
 use Rattle.upid.specs.Upid.{upidOf, checkOf, readOf, walkOf, _then_, plainOf, lengthOf, isText, reportedOf, listOf, partsOf, listed, unlessRefused, eidrOf}
-use Rattle.theorems_rows.specs.Sections.{eighteen, nineteen, insertSection, otherInsertSection, everyIdentifier, everyDescriptor}
+use Rattle.theorems_rows.specs.Sections.{eighteen, nineteen, insertSection, otherInsertSection, everyIdentifier, everyDescriptor, everyCommand, nullSection, programInsertSection, cancelledInsertSection, bandwidthSection, privateSection}
 
 pub eighteen-is-one : EmptyCommand eighteen × (length eighteen ≡ 18)
 unfolding crcOf crcBits crcBit commandLength
@@ -134,3 +135,31 @@ other-bytes e = eqb-false 0x0F 0x1F refl (ap (λ (l : List ℕ). getD l 19 0) e)
 pub every-descriptor-canonical : canonicalSection everyDescriptor ≡ true
 unfolding everyDescriptor canonicalSection canonicalFrame canonicalCommand canonicalLoop canonicalFrom canonicalDescriptor canonicalPayload canonicalSegmentation canonicalBy canonicalUpid numberOf sectionOf frameOf frameIn accepted movedRead moved commandLength commandType commandBytes roomAfter loopLength loopPlace crcOf crcBits crcBit headerOf headerRead spliceHeader spliceTime commandOf insert active moded ending breakDuration timeUnless component isCuei avail dtmf time privateBytes segmentation head front parts deliveryRestrictions mode segment.component duration writtenUpid back subSegments number bit reserved part remaining list viewed checkOf readOf walkOf _then_ plainOf lengthOf isText reportedOf textOf done step within
 every-descriptor-canonical = refl
+
+-- ---- and with every other command
+
+abbrev CanonicalWith : List ℕ → ℕ → Type 0
+CanonicalWith s type = (canonicalSection s ≡ true) × (commandType s ≡ type)
+
+null-canonical : CanonicalWith nullSection 0x00
+unfolding canonicalSection canonicalFrame canonicalCommand canonicalLoop canonicalFrom canonicalBy numberOf sectionOf frameOf frameIn accepted movedRead moved commandLength commandType commandBytes roomAfter loopLength loopPlace crcOf crcBits crcBit headerOf headerRead spliceHeader spliceTime commandOf private insert active moded ending breakDuration timeUnless component number bit reserved part remaining list viewed
+null-canonical = (refl, refl)
+
+program-insert-canonical : CanonicalWith programInsertSection 0x05
+unfolding canonicalSection canonicalFrame canonicalCommand canonicalLoop canonicalFrom canonicalBy numberOf sectionOf frameOf frameIn accepted movedRead moved commandLength commandType commandBytes roomAfter loopLength loopPlace crcOf crcBits crcBit headerOf headerRead spliceHeader spliceTime commandOf private insert active moded ending breakDuration timeUnless component number bit reserved part remaining list viewed
+program-insert-canonical = (refl, refl)
+
+cancelled-insert-canonical : CanonicalWith cancelledInsertSection 0x05
+unfolding canonicalSection canonicalFrame canonicalCommand canonicalLoop canonicalFrom canonicalBy numberOf sectionOf frameOf frameIn accepted movedRead moved commandLength commandType commandBytes roomAfter loopLength loopPlace crcOf crcBits crcBit headerOf headerRead spliceHeader spliceTime commandOf private insert active moded ending breakDuration timeUnless component number bit reserved part remaining list viewed
+cancelled-insert-canonical = (refl, refl)
+
+bandwidth-canonical : CanonicalWith bandwidthSection 0x07
+unfolding canonicalSection canonicalFrame canonicalCommand canonicalLoop canonicalFrom canonicalBy numberOf sectionOf frameOf frameIn accepted movedRead moved commandLength commandType commandBytes roomAfter loopLength loopPlace crcOf crcBits crcBit headerOf headerRead spliceHeader spliceTime commandOf private insert active moded ending breakDuration timeUnless component number bit reserved part remaining list viewed
+bandwidth-canonical = (refl, refl)
+
+private-canonical : CanonicalWith privateSection 0xFF
+unfolding canonicalSection canonicalFrame canonicalCommand canonicalLoop canonicalFrom canonicalBy numberOf sectionOf frameOf frameIn accepted movedRead moved commandLength commandType commandBytes roomAfter loopLength loopPlace crcOf crcBits crcBit headerOf headerRead spliceHeader spliceTime commandOf private insert active moded ending breakDuration timeUnless component number bit reserved part remaining list viewed
+private-canonical = (refl, refl)
+
+pub every-command-canonical : All (λ (c : List ℕ × ℕ). (canonicalSection (c .0) ≡ true) × (commandType (c .0) ≡ c .1)) everyCommand
+every-command-canonical = more null-canonical (more program-insert-canonical (more cancelled-insert-canonical (more bandwidth-canonical (more private-canonical none))))
