@@ -21,10 +21,9 @@ use c_command_writer::lower_refusal;
 use c_command_writer::word_at;
 use c_items::steps::flat_step;
 use descriptor::Descriptor;
-use descriptor::segmentation::SegmentationDetail;
-use descriptor::segmentation::SegmentationMode;
 use descriptor_loop::Item;
 use descriptor_loop::Step;
+use descriptor_measure::segment::count_in_segmentation;
 use descriptor_writer::write_bare_descriptor;
 use descriptor_writer::write_descriptor;
 
@@ -32,28 +31,18 @@ pub mod beside;
 pub mod values;
 
 // How many components it has.
-fn count_in(d: Descriptor) -> u8
+fn count_in_descriptor(d: Descriptor) -> u8
     ensures { λ r. ⌜ r ≡ countBeside d ⌝ }
 {
-    let segmentation = match d {
-        Descriptor::Avail(_) => return 0,
-        Descriptor::Dtmf(_) => return 0,
-        Descriptor::Segmentation(x) => x,
-        Descriptor::Time(_) => return 0,
+    match d {
+        Descriptor::Avail(_) => 0,
+        Descriptor::Dtmf(_) => 0,
+        Descriptor::Segmentation(x) => count_in_segmentation(x),
+        Descriptor::Time(_) => 0,
         Descriptor::Reserved {
             tag: _,
             private_bytes: _,
-        } => return 0,
-    };
-    let detail = segmentation.descriptor_detail;
-    let insert = match detail {
-        SegmentationDetail::Cancel => return 0,
-        SegmentationDetail::Insert(i) => i,
-    };
-    let mode = insert.segmentation_mode;
-    match mode {
-        SegmentationMode::Program => 0,
-        SegmentationMode::Component(n) => n,
+        } => 0,
     }
 }
 
@@ -77,7 +66,7 @@ pub fn descriptor_refusal(d: Descriptor, words: &[u64], beside: &[u64]) -> u64
     if !is_item_within(words) {
         return 32;
     }
-    if !beside_within(count_in(d) as usize, beside) {
+    if !beside_within(count_in_descriptor(d) as usize, beside) {
         return 32;
     }
     if !is_own_item(d, words) {
@@ -126,7 +115,7 @@ fn write_from_words(words: &[u64], beside: &[u64], lent: &[u8], target: &mut [u8
 {
     let d = descriptor_given(words);
     let identifier = identifier_from(words);
-    let count = count_in(d) as usize;
+    let count = count_in_descriptor(d) as usize;
     let refusal = descriptor_refusal(d, words, beside);
     if 0 < refusal {
         return lower_refusal(

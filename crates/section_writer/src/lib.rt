@@ -12,7 +12,7 @@ ghost use Rattle.bit_stores.specs.Written.{answerOf, laterOf};
 ghost use Rattle.section_writer.specs.Writing.{writerConditions, kindOf, sectionMade};
 ghost use Rattle.section.specs.Section.{first, frameOf};
 ghost use Rattle.section.specs.declared.FrameRead.{FrameRead};
-ghost use Rattle.section_writer.specs.Private.{frontNumber, backNumber, tail, answerFor};
+ghost use Rattle.section_writer.specs.Private.{frontNumber, backNumber, tail, answerSection};
 ghost use Rattle.table.specs.Lent.{stored};
 use bit_stores::Written;
 use command::CommandRead;
@@ -158,13 +158,13 @@ fn kind_of(command: SpliceCommand) -> u8
 }
 
 // What is answered where the target has `room` bytes: one of the refusals 31 to 36, or how many bytes the section has.
-fn answer_for(
+fn answer_section(
     header: SpliceInfoHeader,
     measured: Measured,
     descriptors: &[u8],
     room: usize,
 ) -> Written
-    ensures { λ r. ⌜ r ≡ answerFor header measured (now (descriptors .entry)) room ⌝ }
+    ensures { λ r. ⌜ r ≡ answerSection header measured (now (descriptors .entry)) room ⌝ }
 {
     let canonical = is_canonical_loop(descriptors);
     let extent = descriptors.len();
@@ -194,7 +194,7 @@ pub fn write_section(
 {
     let measured = measure_command(command, components, lent);
     let size = measured.size;
-    let answer = answer_for(header, measured, descriptors, target.len());
+    let answer = answer_section(header, measured, descriptors, target.len());
     match answer {
         Written::Wrote(_) => {
             put_head(target, header, kind_of(command), size, descriptors.len());
@@ -219,7 +219,7 @@ pub fn write_bare_section(
 {
     let measured = measure_bare(command, lent);
     let size = measured.size;
-    let outcome = answer_for(header, measured, descriptors, target.len());
+    let outcome = answer_section(header, measured, descriptors, target.len());
     match outcome {
         Written::Wrote(_) => {
             put_head(target, header, kind_of(command), size, descriptors.len());
