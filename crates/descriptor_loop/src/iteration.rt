@@ -11,13 +11,8 @@ use crate::place::move_refusal;
 use descriptor::Descriptor;
 use descriptor::DescriptorRead;
 use descriptor::read_descriptor;
+use table::numbers::size;
 use upid::Refusal;
-
-fn wide(b: u8) -> usize
-    ensures { λ r. ⌜ (r ≡ b) × (r < 256) ⌝ }
-{
-    b as usize
-}
 
 // An item without an identifier.
 fn plain(item: Item, next: usize) -> Step
@@ -82,7 +77,7 @@ fn by_length(bytes: &[u8], offset: usize) -> Step
 {
     let end = bytes.len();
     let left = end - offset;
-    let len = wide(bytes[offset + 1]);
+    let len = size(bytes[offset + 1]);
     if left < len + 2 {
         return plain(lacks(len + 2, 0), end);
     }

@@ -12,12 +12,7 @@ use descriptor::segmentation::SegmentationDetail;
 use descriptor_loop::Item;
 use descriptor_loop::iteration::step;
 use table::numbers::byte;
-
-fn wide(b: u8) -> usize
-    ensures { λ r. ⌜ (r ≡ b) × (r < 256) ⌝ }
-{
-    b as usize
-}
+use table::numbers::size;
 
 // Where the item after the one at an offset starts: `step` says it too, but reads the item.
 fn skip_item(items: &[u8], at: usize) -> usize
@@ -29,7 +24,7 @@ fn skip_item(items: &[u8], at: usize) -> usize
     if left < 6 {
         return end;
     }
-    let len = wide(items[at + 1]);
+    let len = size(items[at + 1]);
     if left < len + 2 {
         return end;
     }
@@ -102,7 +97,7 @@ fn components_size(flags: u8, count: u8) -> usize
     if flags / 128 % 2 == 1 {
         return 0;
     }
-    1 + wide(count) * 6
+    1 + size(count) * 6
 }
 
 // How many bytes the duration takes.
