@@ -21,9 +21,10 @@ use c_command_writer::lower_refusal;
 use c_command_writer::word_at;
 use c_items::steps::flat_step;
 use descriptor::Descriptor;
+use descriptor::segmentation::SegmentationDetail;
+use descriptor::segmentation::SegmentationMode;
 use descriptor_loop::Item;
 use descriptor_loop::Step;
-use descriptor_measure::segment::count_in_segmentation;
 use descriptor_writer::write_bare_descriptor;
 use descriptor_writer::write_descriptor;
 
@@ -34,15 +35,25 @@ pub mod values;
 fn count_in_descriptor(d: Descriptor) -> u8
     ensures { λ r. ⌜ r ≡ countBeside d ⌝ }
 {
-    match d {
-        Descriptor::Avail(_) => 0,
-        Descriptor::Dtmf(_) => 0,
-        Descriptor::Segmentation(x) => count_in_segmentation(x),
-        Descriptor::Time(_) => 0,
+    let segmentation = match d {
+        Descriptor::Avail(_) => return 0,
+        Descriptor::Dtmf(_) => return 0,
+        Descriptor::Segmentation(x) => x,
+        Descriptor::Time(_) => return 0,
         Descriptor::Reserved {
             tag: _,
             private_bytes: _,
-        } => 0,
+        } => return 0,
+    };
+    let detail = segmentation.descriptor_detail;
+    let insert = match detail {
+        SegmentationDetail::Cancel => return 0,
+        SegmentationDetail::Insert(i) => i,
+    };
+    let mode = insert.segmentation_mode;
+    match mode {
+        SegmentationMode::Program => 0,
+        SegmentationMode::Component(n) => n,
     }
 }
 
