@@ -165,7 +165,7 @@ same-behind c d level start (past x h) top other rest more f e g =
 -- ---- what is told of the piece itself
 
 pub reported-other : (k : ℕ) → (k ≡ 13 → ⊥) → reportedOf k ≡ 13 → ⊥
-reported-other k no e = no (reported-mid k e)
+reported-other k other e = other (reported-mid k e)
 
 pub reported-list : (k level start : ℕ) (s : List ℕ) → listOf (reportedOf k) level start s ≡ listOf k level start s
 unfolding reportedOf
