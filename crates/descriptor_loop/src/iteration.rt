@@ -5,6 +5,7 @@ ghost use lib.ListN.{length};
 ghost use Rattle.descriptor_loop.specs.Items.{bare, short, wholeAt, stepOf, countOf};
 use crate::Item;
 use crate::ItemRefusal;
+use crate::MAX_LOOP;
 use crate::Step;
 use crate::place::move_descriptor;
 use crate::place::move_refusal;
@@ -95,7 +96,7 @@ pub fn step(bytes: &[u8], offset: usize) -> Step
     ensures { λ r. ⌜ r ≡ stepOf (now (bytes .entry)) offset ⌝ }
 {
     let end = bytes.len();
-    if 4076 < end {
+    if MAX_LOOP < end {
         return plain(
             Item::Refused(ItemRefusal::Other(Refusal::InputTooLong)),
             end,
@@ -120,7 +121,7 @@ pub enum Counted {
 pub fn count_items(bytes: &[u8]) -> Counted
     ensures { λ r. ⌜ r ≡ countOf (now (bytes .entry)) ⌝ }
 {
-    if 4076 < bytes.len() {
+    if MAX_LOOP < bytes.len() {
         return Counted::Refused(ItemRefusal::Other(Refusal::InputTooLong));
     }
     let mut count: usize = 0;

@@ -14,6 +14,7 @@ use crc::crc32;
 use relabel_found::finds_insert;
 use relabel_found::upid_head;
 use relabel_upid::relabel_upid;
+use section::MAX_SECTION;
 use section::SectionRead;
 use section::read_section;
 use table::numbers::size;
@@ -162,7 +163,7 @@ fn limit_of(section: &[u8], p: Place) -> usize
     let old = p.end - (p.head + 2);
     let item = size(section[own]) - old;
     let others = section.len() - old;
-    lesser(254 - item, 4096 - others)
+    lesser(254 - item, MAX_SECTION - others)
 }
 
 // The place of the item at an offset of the loop, where one is found.

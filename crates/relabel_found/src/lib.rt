@@ -10,6 +10,7 @@ ghost use Rattle.relabel_payload.specs.Payload.{upidHead};
 use descriptor::Descriptor;
 use descriptor::segmentation::SegmentationDetail;
 use descriptor_loop::Item;
+use descriptor_loop::MAX_LOOP;
 use descriptor_loop::iteration::step;
 use table::numbers::byte;
 use table::numbers::size;
@@ -79,7 +80,7 @@ fn is_insert(item: Item) -> bool
 pub fn finds_insert(items: &[u8], offset: usize) -> bool
     ensures { λ r. ⌜ r ≡ found (now (items .entry)) offset ⌝ }
 {
-    if 4076 < items.len() {
+    if MAX_LOOP < items.len() {
         return false;
     }
     if !begins_item(items, offset) {
