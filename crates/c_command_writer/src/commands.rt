@@ -198,7 +198,7 @@ pub(crate) fn command_from(c: FlatCommand) -> SpliceCommand
 }
 
 // How many components it has.
-pub fn count_in(c: SpliceCommand) -> u8
+pub fn count_in_command(c: SpliceCommand) -> u8
     ensures { λ r. ⌜ r ≡ countIn c ⌝ }
 {
     let insertion = match c {
@@ -233,7 +233,7 @@ pub fn command_given(words: &[u64]) -> SpliceCommand
 pub fn components_given(c: SpliceCommand, words: &[u64]) -> [ComponentSplice; 255]
     ensures { λ r. ⌜ r ≡ componentsFrom (countIn c) (now (words .entry)) ⌝ }
 {
-    components_from(count_in(c) as usize, words)
+    components_from(count_in_command(c) as usize, words)
 }
 
 // Refusal 32 of the words of a command, in their order: is each within its width?
@@ -336,7 +336,7 @@ fn is_flat_command(c: FlatCommand, words: &[u64]) -> bool
 pub fn command_refusal(c: SpliceCommand, words: &[u64], components: &[u64]) -> u64
     ensures { λ r. ⌜ r ≡ commandRefusal c (now (words .entry)) (now (components .entry)) ⌝ }
 {
-    let count = count_in(c) as usize;
+    let count = count_in_command(c) as usize;
     if !is_command_within(words) {
         return 32;
     }
@@ -406,7 +406,7 @@ pub fn write_command_words(
 {
     let command = command_given(words);
     let refusal = command_refusal(command, words, components);
-    if count_in(command) == 0 {
+    if count_in_command(command) == 0 {
         return write_bare_words(refusal, command, lent, target);
     }
     write_listed_words(refusal, command, components, lent, target)

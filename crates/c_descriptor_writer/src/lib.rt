@@ -32,7 +32,7 @@ pub mod beside;
 pub mod values;
 
 // How many components it has.
-fn count_in(d: Descriptor) -> u8
+fn count_in_descriptor(d: Descriptor) -> u8
     ensures { λ r. ⌜ r ≡ countBeside d ⌝ }
 {
     let segmentation = match d {
@@ -77,7 +77,7 @@ pub fn descriptor_refusal(d: Descriptor, words: &[u64], beside: &[u64]) -> u64
     if !is_item_within(words) {
         return 32;
     }
-    if !beside_within(count_in(d) as usize, beside) {
+    if !beside_within(count_in_descriptor(d) as usize, beside) {
         return 32;
     }
     if !is_own_item(d, words) {
@@ -126,7 +126,7 @@ fn write_from_words(words: &[u64], beside: &[u64], lent: &[u8], target: &mut [u8
 {
     let d = descriptor_given(words);
     let identifier = identifier_from(words);
-    let count = count_in(d) as usize;
+    let count = count_in_descriptor(d) as usize;
     let refusal = descriptor_refusal(d, words, beside);
     if 0 < refusal {
         return lower_refusal(

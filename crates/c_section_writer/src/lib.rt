@@ -16,7 +16,7 @@ use c_command_writer::are_within;
 use c_command_writer::commands::command_given;
 use c_command_writer::commands::command_refusal;
 use c_command_writer::commands::components_given;
-use c_command_writer::commands::count_in;
+use c_command_writer::commands::count_in_command;
 use c_command_writer::flat_written;
 use c_command_writer::lower_refusal;
 use c_command_writer::word_at;
@@ -158,7 +158,7 @@ pub fn write_section_words(
         header_refusal(header),
         command_refusal(c, command, components),
     );
-    if count_in(c) == 0 {
+    if count_in_command(c) == 0 {
         return write_bare_words(refusal, h, c, lent, descriptors, target);
     }
     write_listed_words(refusal, h, c, components, lent, descriptors, target)

@@ -41,7 +41,7 @@ use Rattle.table.proofs.Walks.{print-bits, print-length}
 use Rattle.command_measure.specs.Fields.{ink, timeFields, insertFields, privateInk}
 use Rattle.command_measure.specs.Made.{counted, timesFit, insertMade, commandMade, measuredOf}
 use Rattle.command_measure.specs.declared.Measured.{Measured}
-use Rattle.command_writer.specs.Private.{hasRoom, answerTo}
+use Rattle.command_writer.specs.Private.{hasRoom, answerMeasured}
 use Rattle.command_measure.proofs.Making.{measured-parts, time-whole, insert-whole, private-fields}
 use Rattle.command_measure.proofs.Ties.{time-fields, insert-fields}
 
@@ -169,11 +169,11 @@ module _ (m : Made) (r : Measured) (is : r ≡ measuredOf m) where
       go (refused n) e = sym (stored-nil t at)
 
 module _ (m : Made) (t : List ℕ) where
-  pub answered : (r : Measured) → r ≡ measuredOf m → (refusalIn m ≡ 0 → m ≡ made (bytesIn m)) → answerTo r (length t) ≡ answerOf m t
+  pub answered : (r : Measured) → r ≡ measuredOf m → (refusalIn m ≡ 0 → m ≡ made (bytesIn m)) → answerMeasured r (length t) ≡ answerOf m t
   unfolding measuredOf bytesIn answerOf
-  answered r is h = ap (λ (x : Measured). answerTo x (length t)) is ∙ go m h
+  answered r is h = ap (λ (x : Measured). answerMeasured x (length t)) is ∙ go m h
     where
-      go : (m : Made) → (refusalIn m ≡ 0 → m ≡ made (bytesIn m)) → answerTo (measuredOf m) (length t) ≡ answerOf m t
+      go : (m : Made) → (refusalIn m ≡ 0 → m ≡ made (bytesIn m)) → answerMeasured (measuredOf m) (length t) ≡ answerOf m t
       go (made b) h = refl
       go (refused zero) h = let e = h refl in zero-one cc
       go (refused (suc n)) h = rw (ne-eqb (suc n) 0 (λ e. omega (arith, e)))

@@ -6,7 +6,7 @@ ghost use lib.ListN.{length};
 ghost use Rattle.command_measure.specs.Made.{counted, insertMade, commandMade};
 ghost use Rattle.command.specs.Command.{array, countIn};
 ghost use Rattle.command_measure.specs.Fields.{privateInk};
-ghost use Rattle.command_writer.specs.Private.{hasRoom, answerTo};
+ghost use Rattle.command_writer.specs.Private.{hasRoom, answerMeasured};
 ghost use Rattle.bit_stores.specs.Pen.{Pens};
 ghost use Rattle.bit_stores.specs.Private.{Fits};
 ghost use Rattle.bit_stores.specs.Written.{answerOf, laterOf, refusalIn, bytesIn};
@@ -87,8 +87,8 @@ pub fn put_bare(out: &mut [u8], at: usize, command: SpliceCommand, lent: &[u8])
 }
 
 // What is answered where the target has `room` bytes.
-fn answer_to(measured: Measured, room: usize) -> Written
-    ensures { λ r. ⌜ r ≡ answerTo measured room ⌝ }
+fn answer_measured(measured: Measured, room: usize) -> Written
+    ensures { λ r. ⌜ r ≡ answerMeasured measured room ⌝ }
 {
     let refusal = measured.refusal;
     let size = measured.size;
@@ -106,7 +106,7 @@ pub fn write_bare_command(command: SpliceCommand, lent: &[u8], target: &mut [u8]
     ensures answer { λ r. ⌜ r ≡ answerOf (commandMade command (array []) (now (lent .entry))) (now (target .entry)) ⌝ }
     ensures bytes { λ _. ⌜ now (target .exit) ≡ laterOf (commandMade command (array []) (now (lent .entry))) (now (target .entry)) ⌝ }
 {
-    let answer = answer_to(measure_bare(command, lent), target.len());
+    let answer = answer_measured(measure_bare(command, lent), target.len());
     match answer {
         Written::Wrote(_) => store_bare(target, 0, command, lent),
         Written::Refused(_) => {}
@@ -146,7 +146,7 @@ fn write_insert(i: Insertion, components: [ComponentSplice; 255], target: &mut [
     ensures answer { λ r. ⌜ r ≡ answerOf (insertMade (counted i components)) (now (target .entry)) ⌝ }
     ensures bytes { λ _. ⌜ now (target .exit) ≡ laterOf (insertMade (counted i components)) (now (target .entry)) ⌝ }
 {
-    let answer = answer_to(measure_insert(i, components), target.len());
+    let answer = answer_measured(measure_insert(i, components), target.len());
     match answer {
         Written::Wrote(_) => {
             let _ = store_insert(target, Cursor { byte: 0, bit: 0 }, i, components);

@@ -64,21 +64,21 @@ unfolding timeOf time number
 time-on s more d e = long-on 12 s more _ _ d (then-on Time time (λ v n o. tt) s more d) e
 
 -- ---- a segmentation descriptor: bytes behind the head of a cancelled one, and behind sub-segments
-blind-head : Blind head
+pub blind-head : Blind head
 unfolding head number bit reserved
 blind-head = λ event cancel kept. tt
 
-blind-delivery : (free : Bool) → Blind (deliveryRestrictions free)
+pub blind-delivery : (free : Bool) → Blind (deliveryRestrictions free)
 unfolding deliveryRestrictions number bit reserved
 blind-delivery free = blind-pick free _ _ (λ kept. tt) (λ web blackout archive device. tt)
 
-blind-mode : (program : Bool) → Blind (mode program)
+pub blind-mode : (program : Bool) → Blind (mode program)
 unfolding mode component number reserved
 blind-mode program =
     blind-pick program _ _ tt
     λ n. blind-inside (list n blankComponent component) _ _ (blind-list n blankComponent component (λ tag kept offset. tt)) λ cs. tt
 
-blind-duration : (flagged : Bool) → Blind (duration flagged)
+pub blind-duration : (flagged : Bool) → Blind (duration flagged)
 unfolding duration number
 blind-duration flagged = blind-pick flagged _ _ (λ t. tt) tt
 

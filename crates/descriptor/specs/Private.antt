@@ -27,7 +27,7 @@ use Rattle.descriptor.specs.declared.front.ComponentsPassed.{ComponentsP
 use Rattle.descriptor.specs.declared.front.DurationRead.{DurationRead}
 use Rattle.descriptor.specs.declared.front.Front.{Front}
 use Rattle.descriptor.specs.declared.front.FrontRead.{FrontRead}
-use Rattle.descriptor.specs.declared.front.MainRead.{MainRead}
+use Rattle.descriptor.specs.declared.front.ModeAndUpidRead.{ModeAndUpidRead}
 use Rattle.descriptor.specs.declared.front.ModeRead.{ModeRead}
 use Rattle.descriptor.specs.declared.front.WrittenRead.{WrittenRead}
 use Rattle.descriptor.specs.declared.octet.Octet.{Octet}
@@ -94,10 +94,10 @@ frontRead (FrontRead.Got x) r = (cs : List ModeComponent) × (r ≡ got (record 
 frontRead (FrontRead.Lacks e) r = r ≡ short (e .expected) (e .actual)
 
 -- of the same reading the mode and the UPID alone
-abbrev pub mainRead : MainRead → Answer Fore → Type 0
-mainRead (MainRead.Got x) r =
+abbrev pub modeAndUpidRead : ModeAndUpidRead → Answer Fore → Type 0
+modeAndUpidRead (ModeAndUpidRead.Got x) r =
     (f : Front) × (cs : List ModeComponent) × (r ≡ got (record { front = f; components = cs }) (x .next * 8)) × (f .«segmentation_mode» ≡ x .mode) × (f .«segmentation_upid» ≡ x .upid)
-mainRead MainRead.Lacks r = (expected : ℕ) × (actual : ℕ) × (r ≡ short expected actual)
+modeAndUpidRead ModeAndUpidRead.Lacks r = (expected : ℕ) × (actual : ℕ) × (r ≡ short expected actual)
 
 abbrev pub headRead : HeadRead → Answer Head → Type 0
 headRead (HeadRead.Got x) r = r ≡ got (record { event = x .event; cancel = x .cancel }) 40

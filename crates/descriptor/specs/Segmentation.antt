@@ -1,5 +1,5 @@
 -- The payload of a segmentation descriptor. 01, "Loop items". The rules of its UPID are not the table's: here it has the type that is written.
-use Prim.Native.Nat.{ℕ, _+_, _*_}
+use Prim.Native.Nat.{ℕ, _+_, _*_, _/_, _%_}
 use mathlib.Core.Bool.{Bool, true, false, not, _&&_}
 use mathlib.Core.List.{List, []}
 use lib.Dec.{eqb}
@@ -123,6 +123,10 @@ duration flagged =
 abbrev pub durationSize : SegmentationDuration → ℕ
 durationSize SegmentationDuration.Absent = 0
 durationSize (Ticks t) = 5
+
+-- how many bytes both take, by the byte of flags and the byte after it
+abbrev pub fieldsBefore : ℕ → ℕ → ℕ
+fieldsBefore flags count = pick (eqb (flags / 128 % 2) 1) 0 (1 + count * 6) + pick (eqb (flags / 64 % 2) 1) 5 0
 
 -- ---- "UPID type 8, length 8, bytes"
 

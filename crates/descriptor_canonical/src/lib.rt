@@ -5,16 +5,10 @@ ghost use Rattle.descriptor_measure.specs.Canonical.{canonicalPayload, canonica
 use crate::payload::is_canonical_dtmf;
 use crate::segment::is_canonical_segmentation;
 use descriptor::is_cuei;
+use table::numbers::size;
 
 mod payload;
 mod segment;
-
-// A byte as a size.
-pub(crate) fn size(b: u8) -> usize
-    ensures { λ r. ⌜ (r ≡ b) × (r < 256) ⌝ }
-{
-    b as usize
-}
 
 // By identifier and tag. Every payload of a reserved descriptor is canonical.
 fn is_canonical_payload(tag: u8, identifier: [u8; 4], payload: &[u8]) -> bool

@@ -6,7 +6,7 @@ ghost use Rattle.descriptor_measure.specs.Canonical.{canonicalSegmentation};
 ghost use Rattle.descriptor_measure.specs.Writing.{accepts};
 ghost use Rattle.upid.specs.Upid.{checkOf};
 ghost use Rattle.descriptor_canonical.specs.Private.{flagsOnes, lastingBytes, componentsOnes, endsAt, upidAt, componentsAt, insertFits};
-use crate::size;
+use table::numbers::size;
 use upid::UpidRead;
 use upid::check_upid;
 

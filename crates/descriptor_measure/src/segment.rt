@@ -260,7 +260,7 @@ pub fn refusal_of_segmentation(
 // ---- the bytes of a payload
 
 // How many components it has.
-pub fn count_of(x: SegmentationDescriptor) -> u8
+pub fn count_in_segmentation(x: SegmentationDescriptor) -> u8
     ensures { λ r. ⌜ r ≡ componentCount x ⌝ }
 {
     let detail = x.descriptor_detail;

@@ -26,6 +26,7 @@ use Rattle.descriptor_measure.specs.Canonical.{canonicalSegmentation, canonical
 use Rattle.descriptor_measure.specs.Same.{SameReading, countBeside}
 use Rattle.descriptor_measure.specs.Writing.{cuei, framed, framedMade, payloadMade, descriptorMade, tagOf, identifierOf}
 use Rattle.table.specs.Table.{canonicalBy}
+use Rattle.table.proofs.Structure.{bytes-drop}
 use Rattle.descriptor_round_trips.specs.Making.{Payload}
 use Rattle.descriptor_round_trips.specs.Trips.{wholeIn, ReadAs}
 use Rattle.descriptor_round_trips.proofs.Canon.{canonical-framed}
@@ -62,11 +63,6 @@ reads-as d id beside lent tag own p r =
     }
 
 -- ---- canonical bytes, by identifier and tag
-
-pub bytes-after : (n : ℕ) (s : List ℕ) → AllBytes s → AllBytes (drop n s)
-bytes-after zero s a = a
-bytes-after (suc n) [] a = a
-bytes-after (suc n) (b ∷ s) a = bytes-after n s (a .1)
 
 cuei-is : (id : List ℕ) → length id ≡ 4 → isCuei id ≡ true → cuei ≡ id
 unfolding isCuei
@@ -165,7 +161,7 @@ whole-back s a c =
     let id : List ℕ = take 4 (drop 2 s) in
     let p : List ℕ = drop 6 s in
     let four : length id ≡ 4 = length-take-le 4 (drop 2 s) (omega (arith, length-drop 2 s)) in
-    let r = payload-is tag id p four (bytes-after 6 s a) (f .2) in
+    let r = payload-is tag id p four (bytes-drop 6 s a) (f .2) in
     let w = whole-read tag id p (r .read) (r .reading) in
     record {
       read = r .read;

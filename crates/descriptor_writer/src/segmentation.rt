@@ -30,7 +30,7 @@ use descriptor::segmentation::SegmentationInsert;
 use descriptor::segmentation::SegmentationUpid;
 use descriptor::whole::blank_beside;
 use descriptor_measure::segment::by_program;
-use descriptor_measure::segment::count_of;
+use descriptor_measure::segment::count_in_segmentation;
 use descriptor_measure::segment::duration_size;
 use descriptor_measure::segment::is_free;
 use descriptor_measure::segment::lasts;
@@ -175,7 +175,7 @@ pub(crate) fn write_segmentation(
     if refusal != 0 {
         return Written::Refused(refusal);
     }
-    let n = count_of(x) as usize;
+    let n = count_in_segmentation(x) as usize;
     let mut room = [0u8; 1530];
     let _last = store_components(&mut room[..], Cursor { byte: 0, bit: 0 }, components, n);
     let end = n * 6;
@@ -192,7 +192,7 @@ pub(crate) fn write_bare_segmentation(
 ) -> Written
     ensures { λ r. ⌜ Writes (framedMade 2 cuei (segmentationMade x identifier (record { components = filled []; eidr = eidr }) (now (lent .entry)))) (now (target .entry)) (now (target .exit)) r ⌝ }
 {
-    if 0 < count_of(x) {
+    if 0 < count_in_segmentation(x) {
         let blank = blank_beside();
         let components = blank.components;
         return write_segmentation(x, identifier, components, eidr, lent, target);

@@ -19,6 +19,7 @@ use Rattle.relabel_found.specs.Found.{found, kindIn, sizeIn, upidIn}
 use Rattle.relabel_joined.specs.Relabel.{kindThen}
 use Rattle.relabel_payload.specs.Payload.{upidHead}
 use Rattle.relabel_upid.specs.Relabel.{upidMade, upTo}
+use Rattle.section.proofs.Acceptance.{number-some}
 use Rattle.section.proofs.Framing.{Framed, framed}
 use Rattle.section.specs.Section.{commandLength, commandType, commandBytes, loopLength, loopBytes, loopPlace, frameIn, frameOf, movedRead, accepted, through, sectionOf, numberOf}
 use Rattle.section.specs.declared.Frame.{Frame}
@@ -180,20 +181,6 @@ module _ (s : List ℕ) (offset part k : ℕ) (new : List ℕ) where
         ∙ ap₂ (λ (j : ℕ) (u : List ℕ). wrapped s (placeIn s offset) (kindThen part j k) (upTo limit (upidMade j u part k new))) (sym (kind-is s offset at)) (sym (upid-is s offset at)))
 
 -- ---- by the section's reading
-
-number-some : (r : Refusal) → numberOf (SectionRead.Refused r) ≡ 0 → ⊥
-unfolding numberOf
-number-some Refusal.SectionTooShort e = omega arith
-number-some Refusal.InputTooLong e = omega arith
-number-some Refusal.OtherTable e = omega arith
-number-some Refusal.WrongCrc e = omega arith
-number-some Refusal.NoHeader e = omega arith
-number-some Refusal.Encrypted e = omega arith
-number-some Refusal.CommandTooLong e = omega arith
-number-some Refusal.NoLoopLength e = omega arith
-number-some Refusal.LoopTooLong e = omega arith
-number-some Refusal.UnknownCommand e = omega arith
-number-some Refusal.MalformedCommand e = omega arith
 
 module _ (s : List ℕ) (offset part k : ℕ) (new : List ℕ) where
   pub section-refused : (r : Refusal) (q : ℕ) → sectionOf s ≡ SectionRead.Refused r → q ≡ numberOf (sectionOf s) → relabelMade s offset part k new ≡ refused q

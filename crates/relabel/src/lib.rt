@@ -9,14 +9,15 @@ ghost use Rattle.table.specs.Lent.{stored};
 ghost use Rattle.relabel.specs.Relabel.{loopMade, relabelMade};
 ghost use Rattle.section.specs.Section.{commandLength, loopLength};
 ghost use Rattle.relabel.specs.Private.{Spotted, placeIn, Lies, Takes, Limit, oldSize, headOf, itemOf, sealed, placedMade};
-use adjust_section::refusal_number;
 use bit_stores::Written;
 use crc::crc32;
 use relabel_found::finds_insert;
 use relabel_found::upid_head;
 use relabel_upid::relabel_upid;
+use section::MAX_SECTION;
 use section::SectionRead;
 use section::read_section;
+use table::numbers::size;
 use table::numbers::wide;
 use table::store::put_byte;
 use table::store::put_bytes;
@@ -29,12 +30,6 @@ struct Place {
     item: usize,
     head: usize,
     end: usize,
-}
-
-fn size_of(b: u8) -> usize
-    ensures { λ r. ⌜ (r ≡ b) × (r < 256) ⌝ }
-{
-    b as usize
 }
 
 fn lesser(a: usize, b: usize) -> usize
@@ -89,7 +84,7 @@ fn store_item(section: &[u8], p: Place, kind: u8, n: usize, target: &mut [u8])
     let own = p.item + 1;
     let named = p.item + 2;
     let head = p.head;
-    let len = size_of(section[own]) - (p.end - (head + 2)) + n;
+    let len = size(section[own]) - (p.end - (head + 2)) + n;
     put_bytes(target, list, &section[list..own]);
     put_byte(target, own, len as u8);
     put_bytes(target, named, &section[named..head]);
@@ -166,9 +161,9 @@ fn limit_of(section: &[u8], p: Place) -> usize
 {
     let own = p.item + 1;
     let old = p.end - (p.head + 2);
-    let item = size_of(section[own]) - old;
+    let item = size(section[own]) - old;
     let others = section.len() - old;
-    lesser(254 - item, 4096 - others)
+    lesser(254 - item, MAX_SECTION - others)
 }
 
 // The place of the item at an offset of the loop, where one is found.
@@ -179,10 +174,10 @@ fn place_of(section: &[u8], list: usize, len: usize, offset: usize) -> Place
     let item = list + offset;
     let own = item + 1;
     let start = item + 6;
-    let stop = item + 2 + size_of(section[own]);
+    let stop = item + 2 + size(section[own]);
     let head = start + upid_head(&section[start..stop]);
     let counts = head + 1;
-    let end = head + 2 + size_of(section[counts]);
+    let end = head + 2 + size(section[counts]);
     Place {
         list,
         len,
@@ -229,10 +224,9 @@ pub fn relabel(
     ensures answer { λ r. ⌜ r ≡ answerOf (relabelMade (now (section .entry)) offset part k (now (new .entry))) (now (target .entry)) ⌝ }
     ensures bytes { λ _. ⌜ now (target .exit) ≡ laterOf (relabelMade (now (section .entry)) offset part k (now (new .entry))) (now (target .entry)) ⌝ }
 {
-    let read = read_section(section);
-    let x = match read {
+    let x = match read_section(section) {
         SectionRead::Is(x) => x,
-        SectionRead::Refused(_) => return Written::Refused(refusal_number(read)),
+        SectionRead::Refused(r) => return Written::Refused(r.number()),
     };
     let place = x.descriptors;
     relabel_in(section, place.at, place.len, offset, part, k, new, target)

@@ -9,7 +9,7 @@ use lib.Dec.{eqb}
 use lib.ListN.{length, take, drop, getD, length-append, length-take, length-drop, List·getD-append}
 use lib.Seq.{take-append-le, drop-append-le, drop-append-add, take-append-seam, take-at, drop-at, getD-append-seam, getD-append-add, getD-take, length-take-le, drop-drop}
 use Rattle.descriptor.specs.Descriptor.{cuei, reportedUpid}
-use Rattle.descriptor.specs.Segmentation.{cancelled, withUpid}
+use Rattle.descriptor.specs.Segmentation.{cancelled, fieldsBefore, withUpid}
 use Rattle.descriptor.specs.Views.{withUpids}
 use Rattle.descriptor.specs.declared.Descriptor.{Descriptor}
 use Rattle.descriptor.specs.declared.Descriptor.the-variants.{Avail, Dtmf, Segmentation, Time, Reserved}
@@ -29,7 +29,7 @@ use Rattle.relabel_joined.specs.Relabel.{kindThen}
 use Rattle.relabel_loop.proofs.Pieces.{piece, step-of-whole}
 use Rattle.relabel_loop.specs.Item.{segmentationItem}
 use Rattle.relabel_loop.specs.Loop.{movedItem, movedListed, behindItem, withItem, OthersStay}
-use Rattle.relabel_payload.specs.Payload.{payload, fieldsBefore, upidHead}
+use Rattle.relabel_payload.specs.Payload.{payload, upidHead}
 use Rattle.table.specs.Bits.{pick}
 use Rattle.upid.proofs.Laws.{by-cases}
 use Rattle.upid.specs.Cover.{All, none, more}

@@ -14,38 +14,21 @@ use Rattle.table.specs.Bits.{bitsOf, field, AllBytes}
 use Rattle.table.specs.Table.{Table, done, inside, number, bit, reserved, part, list, got, short, parse}
 use Rattle.table.specs.declared.View.{View}
 use Rattle.table.proofs.Fields.{byte-field}
-use Rattle.table.proofs.Longer.{Blind, blind-inside, blind-pick, blind-list}
+use Rattle.table.proofs.Longer.{Blind}
 use Rattle.table.proofs.Steps.{reads-in, takes-in, reads-number, reads-part, takes-number, takes-part}
+use Rattle.table.proofs.Swaps.{forward, swap, EndsAt, ends-at, ends-inside, ends-pick, ends-list}
+use Rattle.descriptor.proofs.Longer.{blind-delivery, blind-mode, blind-duration}
 use Rattle.descriptor.specs.Segmentation.{Fore, Moded, Head, deliveryRestrictions, component, blankComponent, mode, duration, writtenUpid, parts, front, head, insertFrom, subSegments, back}
 use Rattle.descriptor.specs.declared.segmentation.DeliveryRestrictionFlags.{DeliveryRestrictionFlags}
 use Rattle.descriptor.specs.declared.segmentation.SegmentationDuration.{SegmentationDuration}
 use Rattle.descriptor.specs.declared.segmentation.SegmentationUpid.{SegmentationUpid}
 use Rattle.relabel_payload.specs.Payload.{payload}
-use Rattle.relabel_payload.proofs.Swaps.{forward, swap, EndsAt, ends-at, ends-inside, ends-pick, ends-list}
 
--- ---- tables that never ask how many bytes are left, and end where a byte begins (descriptor has the first in its Longer.antt, where they are private)
+-- ---- tables that never ask how many bytes are left, and end where a byte begins
 
 blind-bit : Blind bit
 unfolding bit
 blind-bit = λ v. tt
-
-pub blind-head : Blind head
-unfolding head number bit reserved
-blind-head = λ event cancel kept. tt
-
-blind-delivery : (free : Bool) → Blind (deliveryRestrictions free)
-unfolding deliveryRestrictions number bit reserved
-blind-delivery free = blind-pick free _ _ (λ kept. tt) (λ web blackout archive device. tt)
-
-blind-mode : (program : Bool) → Blind (mode program)
-unfolding mode component number reserved
-blind-mode program =
-    blind-pick program _ _ tt
-    λ n. blind-inside (list n blankComponent component) _ _ (blind-list n blankComponent component (λ tag kept offset. tt)) λ cs. tt
-
-blind-duration : (flagged : Bool) → Blind (duration flagged)
-unfolding duration number
-blind-duration flagged = blind-pick flagged _ _ (λ t. tt) tt
 
 ends-bit-0 : EndsAt bit 0 1
 unfolding bit

@@ -14,6 +14,7 @@ use Rattle.table.specs.Table.{Table, number, remaining, Answer, got, short, par
 use Rattle.table.specs.declared.View.{View}
 use Rattle.table.proofs.Bits.{bits-append, length-bits}
 use Rattle.table.proofs.Lists.{zero-one}
+use Rattle.table.proofs.Swaps.{swap, Sightless, sightless-inside, sightless-pick, later, shift, ends-at}
 use Rattle.upid.specs.Upid.{checkOf}
 use Rattle.upid.specs.Private.{Accepted}
 use Rattle.upid.specs.declared.UpidRead.{UpidRead}
@@ -28,14 +29,22 @@ use Rattle.descriptor.specs.declared.segmentation.SegmentationDetail.{Segmentat
 use Rattle.descriptor.specs.declared.segmentation.SegmentationDetail.the-variants.{Cancel, Insert}
 use Rattle.descriptor.specs.declared.segmentation.SegmentationInsert.{SegmentationInsert}
 use Rattle.descriptor.specs.declared.segmentation.SegmentationUpid.{SegmentationUpid}
+use Rattle.descriptor.proofs.Heads.{head-ends, front-told}
+use Rattle.descriptor.proofs.Longer.{blind-head}
 use Rattle.relabel_payload.specs.Payload.{payload, upidHead, Holed}
-use Rattle.relabel_payload.proofs.Fronts.{blind-head, ends-head, Split, split-front, Written, written-is, written-puts}
-use Rattle.relabel_payload.proofs.Spots.{head-at}
-use Rattle.relabel_payload.proofs.Swaps.{swap, Sightless, sightless-inside, sightless-pick, later, shift, ends-at}
+use Rattle.relabel_payload.proofs.Fronts.{ends-head, Split, split-front, Written, written-is, written-puts}
 
 -- what a table reads
 abbrev Of : {X : Type 0} → Table X → Type 0
 Of {X} t = X
+
+-- the head of the UPID that is read stands where the payload's own bytes say
+head-at : (s : List ℕ) → ((k : ℕ) → getD s k 0 < 256) → (h : Head) (a : ℕ) → parse head (bitsOf s) 0 ≡ got h a → (x : Fore) (m : ℕ) → parse front (bitsOf s) a ≡ got x m
+    → x .front .«segmentation_upid» .bytes .at ≡ upidHead s + 2
+unfolding upidHead
+head-at s bytes h a eh x m e =
+    let p = front-told s bytes x m (ap (parse front (bitsOf s)) (sym (head-ends s h a eh)) ∙ e) in
+    ap (λ (u : SegmentationUpid). u .bytes .at) (p .is) ∙ ap (λ (n : ℕ). n + 2) (p .before)
 
 -- ---- an insert that was read, field by field
 

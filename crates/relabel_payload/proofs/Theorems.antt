@@ -1,4 +1,4 @@
--- What is proved of a segmentation payload whose UPID is replaced, in the words of specs/Payload.antt. The proofs stand in Swaps.antt, Fronts.antt and Payloads.antt.
+-- What is proved of a segmentation payload whose UPID is replaced, in the words of specs/Payload.antt. The proofs stand in Fronts.antt and Payloads.antt, over Swaps.antt of `table`.
 use Prim.Native.Nat.{ℕ, _<_}
 use mathlib.Core.List.{List}
 use mathlib.Core.Path.{_≡_}

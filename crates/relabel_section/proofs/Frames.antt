@@ -31,7 +31,7 @@ use Rattle.section.specs.declared.Section.{Section}
 use Rattle.section.specs.declared.SectionRead.{SectionRead}
 use Rattle.section.proofs.Acceptance.{none-if-accepted}
 use Rattle.section.proofs.Framing.{number-of, extent-is, commandRead, is-accepted}
-use Rattle.relabel_payload.proofs.Swaps.{swap}
+use Rattle.table.proofs.Swaps.{swap}
 use Rattle.relabel_section.specs.Frame.{foreOf, spareOf, restWith, bodyWith, sectionWith}
 
 -- ---- fields behind three bytes that may differ, of bytes that begin alike

@@ -16,15 +16,15 @@ use Rattle.upid.specs.Private.{Accepted}
 use Rattle.upid.specs.declared.Part.{Part}
 use Rattle.upid.specs.declared.PartList.{PartList}
 use Rattle.upid.specs.declared.Upid.{Upid}
-use Rattle.upid.proofs.Answers.{at-most-127, all-127}
-use Rattle.upid.proofs.Tree.{all-map}
+use Rattle.upid.proofs.Answers.{parts-of-mid, at-most-127, all-127}
+use Rattle.upid.proofs.Tree.{all-append, all-map}
 use Rattle.upid.proofs.Walks.{check-mid}
 use Rattle.relabel_upid.specs.Hole.{Hole, here, inside, past, filled}
 use Rattle.relabel_upid.specs.Relabel.{instead, around, mended, spliced, partAt, taken, wholeMade, partMade, upidMade}
 use Rattle.relabel_upid.specs.Private.{Mends, Mendable, Ahead, Storable}
-use Rattle.relabel_upid.proofs.Answers.{part-is, take-is, parts-of-mid, has-parts}
+use Rattle.relabel_upid.proofs.Answers.{part-is, take-is, has-parts}
 use Rattle.relabel_upid.proofs.Holes.{startAt, recorded, inner, before, Fair, Found, find, length-front, length-filled}
-use Rattle.relabel_upid.proofs.Places.{all-append, lies-in, spot}
+use Rattle.relabel_upid.proofs.Places.{lies-in, spot}
 use Rattle.relabel_upid.proofs.Turns.{mended-length, mended-append, part-long, part-unfit, part-made}
 
 -- ---- where the parts before a part lie

@@ -21,10 +21,10 @@ use Rattle.upid.specs.declared.Part.{Part}
 use Rattle.upid.specs.declared.PartList.{PartList}
 use Rattle.upid.specs.declared.UpidRead.{UpidRead}
 use Rattle.upid.specs.declared.UpidRead.the-variants.{Fine, Refused}
+use Rattle.upid.proofs.Answers.{anywhere}
 use Rattle.upid.proofs.Laws.{read-nil, read-more}
 use Rattle.relabel_upid.specs.Relabel.{instead, around, mended, partAt, replacedIn, taken, wholeMade, partMade, upTo}
 use Rattle.relabel_upid.specs.Private.{Mends, Mendable}
-use Rattle.relabel_upid.proofs.Anywhere.{anywhere}
 
 -- ---- whether an identifier is taken
 

@@ -1,5 +1,5 @@
 -- What the writer answers and leaves, return by return.
---     refused-for, short-for, wrote-for    what `answer_for` answers
+--     refused-for, short-for, wrote-for    what `answer_section` answers
 --     section-answer                       that it is what the section's definition says
 --     allowed, wrote-section               what stands where the answer is that it is written
 use Prim.Native.Nat.{ℕ, zero, suc, _+_, _<_, _≤_}
@@ -26,7 +26,7 @@ use Rattle.table.specs.Writing.{Made, made, refused}
 use Rattle.table.proofs.Lists.{zero-one}
 use Rattle.table.proofs.Stores.{length-stored}
 use Rattle.section_writer.specs.Frame.{sectionLength, head, frame, numbersFit, fairHead}
-use Rattle.section_writer.specs.Private.{tail, answerFor}
+use Rattle.section_writer.specs.Private.{tail, answerSection}
 use Rattle.section_writer.specs.Writing.{writerConditions, unless, sectionMade, kindOf}
 use Rattle.section_writer.proofs.Frames.{length-frame}
 use Rattle.section_writer.proofs.Stored.{section-stored}
@@ -39,16 +39,16 @@ unless-refused (suc n) b h = refl
 -- ---- the answer, by the first refusal that applies
 module _ (h : SpliceInfoHeader) (m : Measured) (loop : List ℕ) (room : ℕ) (k : Bool) (n : ℕ)
     (ek : k ≡ canonicalLoop loop) (en : n ≡ first 31 (writerConditions h (m .refusal) (m .size) (length loop) k)) where
-  pub refused-for : 0 < n → Written.Refused n ≡ answerFor h m loop room
-  unfolding answerFor
+  pub refused-for : 0 < n → Written.Refused n ≡ answerSection h m loop room
+  unfolding answerSection
   refused-for z = rw (← ek, ← en, ne-eqb n 0 (λ e. omega (arith, e, z)))
 
-  pub short-for : n ≤ 0 → room < sectionLength (m .size) (length loop) → Written.Refused 36 ≡ answerFor h m loop room
-  unfolding answerFor
+  pub short-for : n ≤ 0 → room < sectionLength (m .size) (length loop) → Written.Refused 36 ≡ answerSection h m loop room
+  unfolding answerSection
   short-for z l = rw (← ek, ← en, eq-eqb n 0 (omega arith), lt-leb (sectionLength (m .size) (length loop)) room l)
 
-  pub wrote-for : n ≤ 0 → sectionLength (m .size) (length loop) ≤ room → Written.Wrote (sectionLength (m .size) (length loop)) ≡ answerFor h m loop room
-  unfolding answerFor
+  pub wrote-for : n ≤ 0 → sectionLength (m .size) (length loop) ≤ room → Written.Wrote (sectionLength (m .size) (length loop)) ≡ answerSection h m loop room
+  unfolding answerSection
   wrote-for z l = rw (← ek, ← en, eq-eqb n 0 (omega arith), le-leb (sectionLength (m .size) (length loop)) room l)
 
   pub short-enough : n ≤ 0 → sectionLength (m .size) (length loop) ≤ 4096
@@ -84,8 +84,8 @@ module _ (h : SpliceInfoHeader) (c : SpliceCommand) (cs : List ComponentSplice) 
   long : length (frame h (kindOf c) payload loop) ≡ sectionLength (m .size) (length loop)
   long = length-frame h (kindOf c) payload loop ∙ omega (arith, size-is)
 
-  pub section-answer : (t : List ℕ) → answerFor h m loop (length t) ≡ answerOf section t
-  unfolding answerFor
+  pub section-answer : (t : List ℕ) → answerSection h m loop (length t) ≡ answerOf section t
+  unfolding answerSection
   section-answer t = go (eqb n 0) refl (leb (sectionLength (m .size) (length loop)) (length t)) refl
     where
       go : (z : Bool) → eqb n 0 ≡ z → (f : Bool) → leb (sectionLength (m .size) (length loop)) (length t) ≡ f
@@ -95,9 +95,9 @@ module _ (h : SpliceInfoHeader) (c : SpliceCommand) (cs : List ComponentSplice) 
       go true e true l = rw long at (wrote-answer section t (frame h (kindOf c) payload loop) (is-made (eqb-true n 0 e)) (let o = leb-true (sectionLength (m .size) (length loop)) (length t) l in omega (arith, o, long)) .0)
 
   -- where the answer is that it is written
-  module _ (t : List ℕ) (r : Written) (k : ℕ) (is : r ≡ answerFor h m loop (length t)) (e : r ≡ Written.Wrote k) where
+  module _ (t : List ℕ) (r : Written) (k : ℕ) (is : r ≡ answerSection h m loop (length t)) (e : r ≡ Written.Wrote k) where
     no-refusal : (n ≡ 0) × (sectionLength (m .size) (length loop) ≤ length t)
-    unfolding answerFor
+    unfolding answerSection
     no-refusal = go (eqb n 0) refl (leb (sectionLength (m .size) (length loop)) (length t)) refl (sym is ∙ e)
       where
         go : (z : Bool) → eqb n 0 ≡ z → (f : Bool) → leb (sectionLength (m .size) (length loop)) (length t) ≡ f

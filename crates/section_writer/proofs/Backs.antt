@@ -22,9 +22,9 @@ use Rattle.table.specs.Table.{number, bit}
 use Rattle.table.specs.Writing.{walk, contents, print}
 use Rattle.table.proofs.Bits.{bits-join, bytes-num, length-bits}
 use Rattle.table.proofs.Fields.{field-add, field-byte}
-use Rattle.table.proofs.Structure.{wrote}
+use Rattle.table.proofs.Structure.{wrote, bytes-take, bytes-drop}
 use Rattle.section_writer.specs.Frame.{headed, headerBytes, opening, sectionLength, head, withLength, body, frame}
-use Rattle.section_writer.proofs.Numbers.{number-bytes, bytes-take, bytes-drop, byte-in, field-behind, field-front}
+use Rattle.section_writer.proofs.Numbers.{number-bytes, byte-in, field-behind, field-front}
 
 -- ---- the first three bytes
 pub opening-is : (n : ℕ) → n - 3 < 2 ^ 12 → opening n ≡ 0xfc ∷ bigEndian 2 (0x3000 + (n - 3))

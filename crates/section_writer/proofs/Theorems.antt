@@ -25,12 +25,12 @@ use Rattle.section_writer.specs.Private.{sameHeaders, SameAround}
 use Rattle.table.specs.Bits.{AllBytes}
 use Rattle.table.specs.Writing.{Made, made}
 use Rattle.table.proofs.Lists.{and-true}
+use Rattle.table.proofs.Structure.{bytes-take, bytes-drop}
 use Rattle.section_writer.specs.Canonical.{canonicalFrame, canonicalSection}
 use Rattle.section_writer.specs.Frame.{headed, frame}
 use Rattle.section_writer.specs.Writing.{sectionMade}
 use Rattle.section_writer.proofs.Commands.{one-command}
 use Rattle.section_writer.proofs.Frames.{frame-command-type, frame-command-bytes}
-use Rattle.section_writer.proofs.Numbers.{bytes-take, bytes-drop}
 use Rattle.section_writer.proofs.Parts.{Parts, parts-of}
 use Rattle.section_writer.proofs.Trips.{Wrote, section-wrote, section-write-read, section-read-write, one-section}
 

@@ -5,7 +5,7 @@ use mathlib.Core.Path.{_≡_}
 use lib.ListN.{length, drop}
 use Rattle.command.specs.Command.{private, byType}
 use Rattle.command.specs.Insert.{insert}
-use Rattle.command_writer.specs.Private.{answerTo}
+use Rattle.command_writer.specs.Private.{answerMeasured}
 use Rattle.command_measure.specs.declared.Measured.{Measured}
 use Rattle.crc.specs.Crc.{crcBytesOf}
 use Rattle.descriptor_measure.specs.Canonical.{canonicalLoop}
@@ -34,8 +34,8 @@ unfoldable pub tail : List ℕ → List ℕ → List ℕ
 tail before loop = withLength loop ++ crcBytesOf (before ++ withLength loop)
 
 -- What is answered where the target has `room` bytes: of a header, of what the command measures, and of the loop.
-unfoldable pub answerFor : SpliceInfoHeader → Measured → List ℕ → ℕ → Written
-answerFor h m loop room = answerTo (record { refusal = first 31 (writerConditions h (m .refusal) (m .size) (length loop) (canonicalLoop loop)); size = sectionLength (m .size) (length loop) }) room
+unfoldable pub answerSection : SpliceInfoHeader → Measured → List ℕ → ℕ → Written
+answerSection h m loop room = answerMeasured (record { refusal = first 31 (writerConditions h (m .refusal) (m .size) (length loop) (canonicalLoop loop)); size = sectionLength (m .size) (length loop) }) room
 
 -- ---- equal readings, by the tables. "Equal readings means equal values and equal bytes in the views; the header's command length and type, the views' places and array places past a count are
 -- left out."

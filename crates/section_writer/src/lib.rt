@@ -12,7 +12,7 @@ ghost use Rattle.bit_stores.specs.Written.{answerOf, laterOf};
 ghost use Rattle.section_writer.specs.Writing.{writerConditions, kindOf, sectionMade};
 ghost use Rattle.section.specs.Section.{first, frameOf};
 ghost use Rattle.section.specs.declared.FrameRead.{FrameRead};
-ghost use Rattle.section_writer.specs.Private.{frontNumber, backNumber, tail, answerFor};
+ghost use Rattle.section_writer.specs.Private.{frontNumber, backNumber, tail, answerSection};
 ghost use Rattle.table.specs.Lent.{stored};
 use bit_stores::Written;
 use command::CommandRead;
@@ -28,6 +28,7 @@ use command_writer::put_command;
 use crc::crc32;
 use descriptor_canonical::is_canonical_loop;
 use header::header::SpliceInfoHeader;
+use section::COMMAND_AT;
 use section::Frame;
 use section::FrameRead;
 use section::read_frame;
@@ -36,6 +37,9 @@ use table::numbers::bits;
 use table::numbers::wide;
 use table::store::put_bytes;
 use table::store::put_number;
+
+// What a section has room for: 4,096 bytes less the 20 around command and loop.
+const MAX_INSIDE: usize = 4076;
 
 // ---- what is asked of a header
 
@@ -87,11 +91,10 @@ fn refusal_of(header: SpliceInfoHeader, r: u8, size: usize, extent: usize, canon
     if !fair_head(header) {
         return 33;
     }
-    // 4,096 bytes less the 20 around command and loop
-    if 4076 < size {
+    if MAX_INSIDE < size {
         return 34;
     }
-    if 4076 - size < extent {
+    if MAX_INSIDE - size < extent {
         return 34;
     }
     if !canonical {
@@ -158,13 +161,13 @@ fn kind_of(command: SpliceCommand) -> u8
 }
 
 // What is answered where the target has `room` bytes: one of the refusals 31 to 36, or how many bytes the section has.
-fn answer_for(
+fn answer_section(
     header: SpliceInfoHeader,
     measured: Measured,
     descriptors: &[u8],
     room: usize,
 ) -> Written
-    ensures { λ r. ⌜ r ≡ answerFor header measured (now (descriptors .entry)) room ⌝ }
+    ensures { λ r. ⌜ r ≡ answerSection header measured (now (descriptors .entry)) room ⌝ }
 {
     let canonical = is_canonical_loop(descriptors);
     let extent = descriptors.len();
@@ -194,12 +197,12 @@ pub fn write_section(
 {
     let measured = measure_command(command, components, lent);
     let size = measured.size;
-    let answer = answer_for(header, measured, descriptors, target.len());
+    let answer = answer_section(header, measured, descriptors, target.len());
     match answer {
         Written::Wrote(_) => {
             put_head(target, header, kind_of(command), size, descriptors.len());
-            put_command(target, 14, command, components, lent);
-            put_tail(target, 14 + size, descriptors);
+            put_command(target, COMMAND_AT, command, components, lent);
+            put_tail(target, COMMAND_AT + size, descriptors);
         }
         Written::Refused(_) => {}
     }
@@ -219,12 +222,12 @@ pub fn write_bare_section(
 {
     let measured = measure_bare(command, lent);
     let size = measured.size;
-    let outcome = answer_for(header, measured, descriptors, target.len());
+    let outcome = answer_section(header, measured, descriptors, target.len());
     match outcome {
         Written::Wrote(_) => {
             put_head(target, header, kind_of(command), size, descriptors.len());
-            put_bare(target, 14, command, lent);
-            put_tail(target, 14 + size, descriptors);
+            put_bare(target, COMMAND_AT, command, lent);
+            put_tail(target, COMMAND_AT + size, descriptors);
         }
         Written::Refused(_) => {}
     }
@@ -239,8 +242,8 @@ fn is_canonical_around(s: &[u8], frame: Frame) -> bool
     ensures { λ r. ⌜ r ≡ canonicalFrame (now (s .entry)) ⌝ }
 {
     let payload = frame.command;
-    let end = 14 + payload.len;
-    match read_command(s[13], &s[14..end]) {
+    let end = COMMAND_AT + payload.len;
+    match read_command(s[13], &s[COMMAND_AT..end]) {
         CommandRead::Is(_) => {}
         CommandRead::UnknownType => return false,
         CommandRead::Malformed => return false,

@@ -41,12 +41,12 @@ wrote fair lent fs b e = go (seen lent fs) (within fs) fair refl refl refl e
     go true true true p q r e = record { views = p; widths = q; fit = r; bytes = cc }
 
 -- ---- bytes that were written, found again
-bytes-take : (n : ℕ) (s : List ℕ) → AllBytes s → AllBytes (take n s)
+pub bytes-take : (n : ℕ) (s : List ℕ) → AllBytes s → AllBytes (take n s)
 bytes-take zero s a = tt
 bytes-take (suc n) [] a = tt
 bytes-take (suc n) (b ∷ s) a = (a .0, bytes-take n s (a .1))
 
-bytes-drop : (n : ℕ) (s : List ℕ) → AllBytes s → AllBytes (drop n s)
+pub bytes-drop : (n : ℕ) (s : List ℕ) → AllBytes s → AllBytes (drop n s)
 bytes-drop zero s a = a
 bytes-drop (suc n) [] a = a
 bytes-drop (suc n) (b ∷ s) a = bytes-drop n s (a .1)

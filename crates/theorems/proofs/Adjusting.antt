@@ -8,12 +8,11 @@ use Rattle.adjust_section.specs.Adjusted.{adjustmentIn, sectionWith, adjustedSe
 use Rattle.adjust_section.specs.Readings.{readingWith}
 use Rattle.adjust_section.proofs.Parts.{length-section, front-same}
 use Rattle.adjust_section.proofs.Stays.{long, reads-again, loop-stays, command-stays, lengths-stay}
-use Rattle.adjust_section.proofs.Stored.{none-holds}
 use Rattle.adjust_section.proofs.Theorems.{accepted-number, made-is}
 use Rattle.section.specs.Section.{sectionOf, numberOf}
 use Rattle.section.specs.declared.Section.{Section}
 use Rattle.section.specs.declared.SectionRead.{SectionRead}
-use Rattle.section.proofs.Acceptance.{accepted-if-none}
+use Rattle.section.proofs.Acceptance.{is-read}
 use Rattle.section_writer.specs.Canonical.{canonicalFrame, canonicalSection}
 use Rattle.table.specs.Writing.{made}
 
@@ -40,5 +39,5 @@ same p s x is k =
 pub an-adjusted-section-is-canonical-where-it-was : (s : List ℕ) (a : ℕ) (new : List ℕ) → adjustedSection s a ≡ made new → canonicalSection new ≡ canonicalSection s
 an-adjusted-section-is-canonical-where-it-was s a new e =
     let m = made-is s a new e in
-    let x = accepted-if-none s (none-holds s (m .0)) in
+    let x = is-read (sectionOf s) (m .0) in
     rw (← m .2) (same ((adjustmentIn s + a) % 8589934592) s (x .0) (x .1) (mod-lt (adjustmentIn s + a) (omega arith)))

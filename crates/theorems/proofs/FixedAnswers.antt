@@ -43,6 +43,7 @@ use Rattle.crc_table.proofs.second_byte.turned_48.Reads as turned-48
 use Rattle.crc_table.proofs.third_byte.turned_40.Reads as turned-40
 use Rattle.crc_table.proofs.last_byte.turned_32.Reads as turned-32
 use Rattle.table.proofs.numbers.wide.Reads as wide
+use Rattle.table.proofs.numbers.size.Reads as size
 use Rattle.table.proofs.numbers.flag_number.Reads as flag-number
 use Rattle.table.proofs.numbers.byte.Reads as byte
 use Rattle.table.proofs.numbers.bits.Reads as bits
@@ -168,6 +169,9 @@ turned-32-answers = record { takes-any = λ κ a. tt; is = λ κ a r e l. l }
 
 pub wide-answers : Answers wide.Asked wide.Learnt (λ κ r e. r) (λ κ a. (a .0))
 wide-answers = record { takes-any = λ κ a. tt; is = λ κ a r e l. l .0 }
+
+pub size-answers : Answers size.Asked size.Learnt (λ κ r e. r) (λ κ a. (a .0))
+size-answers = record { takes-any = λ κ a. tt; is = λ κ a r e l. l .0 }
 
 pub flag-number-answers : Answers flag-number.Asked flag-number.Learnt (λ κ r e. r) (λ κ a. flagNumber (a .0))
 flag-number-answers = record { takes-any = λ κ a. tt; is = λ κ a r e l. l .0 }

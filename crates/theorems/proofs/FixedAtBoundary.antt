@@ -52,7 +52,7 @@ use Rattle.c_command_writer.proofs.are_four_within.Reads as are-four-within
 use Rattle.c_command_writer.proofs.are_same.Reads as are-same
 use Rattle.c_command_writer.proofs.are_four_same.Reads as are-four-same
 use Rattle.c_command_writer.proofs.commands.command_given.Reads as command-given
-use Rattle.c_command_writer.proofs.commands.count_in.Reads as count-in
+use Rattle.c_command_writer.proofs.commands.count_in_command.Reads as count-in-command
 use Rattle.c_command_writer.proofs.commands.components_given.Reads as components-given
 use Rattle.c_command_writer.proofs.commands.command_refusal.Reads as command-refusal
 use Rattle.c_command_writer.proofs.commands.write_command_words.Reads as write-command-words
@@ -152,8 +152,8 @@ are-four-same-answers = record { takes-any = λ κ a. tt; is = λ κ a r e l. l 
 pub command-given-answers : Answers command-given.Asked command-given.Learnt (λ κ r e. r) (λ κ a. commandGiven (now (a .0)))
 command-given-answers = record { takes-any = λ κ a. tt; is = λ κ a r e l. l }
 
-pub count-in-answers : Answers count-in.Asked count-in.Learnt (λ κ r e. r) (λ κ a. countIn (a .0))
-count-in-answers = record { takes-any = λ κ a. tt; is = λ κ a r e l. l }
+pub count-in-command-answers : Answers count-in-command.Asked count-in-command.Learnt (λ κ r e. r) (λ κ a. countIn (a .0))
+count-in-command-answers = record { takes-any = λ κ a. tt; is = λ κ a r e l. l }
 
 pub components-given-answers : Answers components-given.Asked components-given.Learnt (λ κ r e. r) (λ κ a. componentsFrom (countIn (a .0)) (now (a .1 .0)))
 components-given-answers = record { takes-any = λ κ a. tt; is = λ κ a r e l. l }

@@ -33,7 +33,7 @@ use Rattle.descriptor_measure.proofs.segment.lasts.Reads as lasts
 use Rattle.descriptor_measure.proofs.segment.is_free.Reads as is-free
 use Rattle.descriptor_measure.proofs.segment.refusal_of_bare.Reads as refusal-of-bare
 use Rattle.descriptor_measure.proofs.segment.refusal_of_segmentation.Reads as refusal-of-segmentation
-use Rattle.descriptor_measure.proofs.segment.count_of.Reads as count-of
+use Rattle.descriptor_measure.proofs.segment.count_in_segmentation.Reads as count-in-segmentation
 use Rattle.descriptor_measure.proofs.segment.mode_size.Reads as mode-size
 use Rattle.descriptor_measure.proofs.segment.duration_size.Reads as duration-size
 use Rattle.descriptor_measure.proofs.segment.sub_size.Reads as sub-size
@@ -103,8 +103,8 @@ refusal-of-bare-answers = record { takes-any = λ κ a. tt; is = λ κ a r e l. 
 pub refusal-of-segmentation-answers : Answers refusal-of-segmentation.Asked refusal-of-segmentation.Learnt (λ κ r e. r) (λ κ a. refusalIn (segmentationMade (a .0) (a .1 .0) (record { components = (a .1 .1 .0); eidr = (a .1 .1 .1 .0) }) (now (a .1 .1 .1 .1 .0))))
 refusal-of-segmentation-answers = record { takes-any = λ κ a. tt; is = λ κ a r e l. l }
 
-pub count-of-answers : Answers count-of.Asked count-of.Learnt (λ κ r e. r) (λ κ a. componentCount (a .0))
-count-of-answers = record { takes-any = λ κ a. tt; is = λ κ a r e l. l }
+pub count-in-segmentation-answers : Answers count-in-segmentation.Asked count-in-segmentation.Learnt (λ κ r e. r) (λ κ a. componentCount (a .0))
+count-in-segmentation-answers = record { takes-any = λ κ a. tt; is = λ κ a r e l. l }
 
 pub mode-size-answers : Answers mode-size.Asked mode-size.Learnt (λ κ r e. r) (λ κ a. modeSize (a .0))
 mode-size-answers = record { takes-any = λ κ a. tt; is = λ κ a r e l. l .0 }

@@ -2,16 +2,12 @@
 -- readers.
 use mathlib.Core.Path.{_≡_, sym, _∙_}
 use denote.Ref.{now}
-use Rattle.adjust_section.proofs.refusal_number.Reads as refusal-number
 use Rattle.relabel.proofs.relabel.Reads as relabel
 use Rattle.relabel_found.proofs.finds_insert.Reads as finds-insert
 use Rattle.relabel_found.proofs.upid_head.Reads as upid-head
 use Rattle.relabel_upid.proofs.relabel_upid.Reads as relabel-upid
 use Rattle.scte35.proofs.relabelling.scte35_relabel.Reads as scte35-relabel
 use Rattle.theorems.specs.FixedAnswers.{Fixed, FixedIn}
-
-pub refusal-number-is-fixed : Fixed refusal-number.Asked refusal-number.Learnt
-refusal-number-is-fixed = record { takes-any = λ κ a. tt; one-answer = λ κ a x y e f p q. p ∙ sym q }
 
 pub finds-insert-is-fixed : Fixed finds-insert.Asked finds-insert.Learnt
 finds-insert-is-fixed = record { takes-any = λ κ a. tt; one-answer = λ κ a x y e f p q. p ∙ sym q }

@@ -30,7 +30,6 @@ use Rattle.loop_round_trips.specs.Loops.{WrittenAgain, Given, givenMade, Pairs,
 use Rattle.section.specs.Section.{loopBytes, sectionOf}
 use Rattle.section.specs.declared.Section.{Section}
 use Rattle.section.specs.declared.SectionRead.{SectionRead}
-use Rattle.section_writer.proofs.Numbers.{bytes-take, bytes-drop}
 use Rattle.section_writer.proofs.Theorems.{canonical-parts, no-other-section}
 use Rattle.section_writer.specs.Canonical.{canonicalSection}
 use Rattle.section_writer.specs.Private.{SameAround}
@@ -38,6 +37,7 @@ use Rattle.table.specs.Bits.{pick, AllBytes}
 use Rattle.table.specs.Lent.{viewed}
 use Rattle.table.specs.Writing.{made}
 use Rattle.table.specs.declared.View.{View}
+use Rattle.table.proofs.Structure.{bytes-take, bytes-drop}
 use Rattle.upid.specs.Cover.{All}
 use Rattle.upid.specs.Upid.{upidOf, partsIn}
 use Rattle.theorems.specs.Identifiers.{loopIn, detailUpids, upidsOf}

@@ -16,7 +16,6 @@ pub mod Runs
 pub mod Upids
 pub mod Items
 pub mod Sections
-pub mod WholeFields
 pub mod WholeTexts
 pub mod WholePayloads
 pub mod Whole

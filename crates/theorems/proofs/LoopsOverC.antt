@@ -31,7 +31,6 @@ use Rattle.loop_round_trips.proofs.Pieces.{At, said, run-is}
 use Rattle.section.specs.Section.{sectionOf}
 use Rattle.section.specs.declared.Section.{Section}
 use Rattle.section.specs.declared.SectionRead.{SectionRead}
-use Rattle.section_writer.proofs.Numbers.{bytes-take, bytes-drop}
 use Rattle.section_writer.specs.Canonical.{canonicalSection}
 use Rattle.table.proofs.Reading.{field-lt}
 use Rattle.table.proofs.Steps.{reads-in, reads-number, reads-flag, reads-ones}
@@ -39,6 +38,7 @@ use Rattle.table.specs.Bits.{pick, bitsOf, field, AllBytes}
 use Rattle.table.specs.Lent.{viewed}
 use Rattle.table.specs.Table.{done, inside, list, Answer, got, short, parse}
 use Rattle.table.specs.Writing.{made}
+use Rattle.table.proofs.Structure.{bytes-take, bytes-drop}
 use Rattle.upid.specs.Cover.{All}
 use Rattle.upid.specs.Upid.{eidrOf}
 use Rattle.theorems.specs.Identifiers.{loopIn}

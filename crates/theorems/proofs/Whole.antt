@@ -22,12 +22,15 @@ use Rattle.table.specs.Bits.{pick, bitsOf, field, AllBytes}
 use Rattle.table.specs.Lent.{viewed, shifted, noView}
 use Rattle.table.specs.Table.{Answer, got, short, parse}
 use Rattle.table.specs.declared.View.{View}
+use Rattle.table.proofs.Structure.{bytes-take, bytes-drop}
 use Rattle.upid.proofs.Theorems.{every-byte-lies-in-one-part}
 use Rattle.upid.specs.Cover.{All, whole, Once}
 use Rattle.upid.specs.Upid as upid
 use Rattle.upid.specs.Upid.{upidOf, checkOf, reportedOf}
 use Rattle.upid.specs.declared.Refusal.{Refusal}
 use Rattle.upid.specs.declared.UpidRead.the-variants.{Fine}
+use Rattle.descriptor.proofs.Heads.{upidIn}
+use Rattle.descriptor.specs.Segmentation.{fieldsBefore}
 use Rattle.descriptor.specs.Descriptor.{movedRefusal, reportedUpid, descriptorOf}
 use Rattle.descriptor.specs.Views.{withoutView}
 use Rattle.descriptor.specs.Whole.{besideOf, identifierRead}
@@ -52,14 +55,13 @@ use Rattle.loop_round_trips.proofs.Places.{kind-stays}
 use Rattle.section.specs.Section.{commandLength, commandBytes, moved, sectionOf}
 use Rattle.section.specs.declared.Section.{Section}
 use Rattle.section.specs.declared.SectionRead.{SectionRead}
-use Rattle.section_writer.proofs.Numbers.{bytes-take, bytes-drop, byte-in}
+use Rattle.section_writer.proofs.Numbers.{byte-in}
 use Rattle.theorems.specs.Identifiers.{Identifier, OneRun, inSection, inLent, partsRead, upidsOf, loopIn, Unsplit}
-use Rattle.theorems.specs.Whole.{Exactly, WholeUpid, fieldsBefore, upidAt, WholeDetail, WholeText, WholeRefusal, WholeItem, WholeAt, WholePrivate, WholeCommand}
+use Rattle.theorems.specs.Whole.{Exactly, WholeUpid, upidAt, WholeDetail, WholeText, WholeRefusal, WholeItem, WholeAt, WholePrivate, WholeCommand}
 use Rattle.theorems.proofs.Framed.{laid}
 use Rattle.theorems.proofs.Items.{Found, found, unsplit, mid-of}
 use Rattle.theorems.proofs.Runs.{viewed-is, length-viewed, length-run, section-run, lent-run, getD-run}
 use Rattle.theorems.proofs.Sections.{each-item, loop-run, loop-short}
-use Rattle.theorems.proofs.WholeFields.{upidIn}
 use Rattle.theorems.proofs.WholeTexts.{Headed}
 use Rattle.theorems.proofs.WholePayloads.{upidPlace, Told, SaysDetail, SaysRefusal, Says, payload-says}
 

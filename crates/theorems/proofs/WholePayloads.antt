@@ -23,7 +23,7 @@ use Rattle.upid.specs.declared.UpidRead.the-variants.{Fine, Refused}
 use Rattle.descriptor.proofs.Plains.{reserved-is}
 use Rattle.descriptor.specs.Descriptor.{_andThen_, movedRefusal, reportedUpid, ifFine, availOf, dtmfOf, timeOf, reservedOf, inserted, insertOf, segmentationOf, isCuei, descriptorOf}
 use Rattle.descriptor.specs.Plain.{avail, dtmf, time}
-use Rattle.descriptor.specs.Segmentation.{Fore, Head, head, front, back, insertFrom, segmentation, modeSize, durationSize}
+use Rattle.descriptor.specs.Segmentation.{Fore, Head, head, front, back, insertFrom, segmentation, modeSize, durationSize, fieldsBefore}
 use Rattle.descriptor.specs.Whole.{besideIn, besideOf}
 use Rattle.descriptor.specs.declared.Descriptor.{Descriptor}
 use Rattle.descriptor.specs.declared.DescriptorRead.{DescriptorRead}
@@ -31,9 +31,8 @@ use Rattle.descriptor.specs.declared.plain.DTMFDescriptor.{DTMFDescriptor}
 use Rattle.descriptor.specs.declared.segmentation.SegmentationDetail.{SegmentationDetail}
 use Rattle.descriptor.specs.declared.segmentation.SegmentationInsert.{SegmentationInsert}
 use Rattle.descriptor.specs.declared.segmentation.SegmentationUpid.{SegmentationUpid}
-use Rattle.theorems.specs.Whole.{fieldsBefore}
 use Rattle.theorems.proofs.Runs.{viewed-is, length-viewed}
-use Rattle.theorems.proofs.WholeFields.{head-ends, head-cancels, place, upidIn, Placed, front-told}
+use Rattle.descriptor.proofs.Heads.{head-ends, head-cancels, place, upidIn, Placed, front-told}
 use Rattle.theorems.proofs.WholeTexts.{Headed, text-headed}
 
 -- where it stands in its payload, by what is read of the fields before it

@@ -8,6 +8,7 @@ use lib.ListN.{length, take, drop, getD, length-take, length-drop}
 use Rattle.table.proofs.Lists.{zero-one}
 use Rattle.table.specs.Bits.{AllBytes}
 use Rattle.table.specs.Writing.{made}
+use Rattle.table.proofs.Structure.{bytes-take, bytes-drop}
 use Rattle.descriptor.specs.Descriptor.{descriptorOf}
 use Rattle.descriptor.specs.Whole.{besideRead, identifierRead}
 use Rattle.descriptor.specs.declared.Descriptor.{Descriptor}
@@ -29,7 +30,6 @@ use Rattle.loop_round_trips.proofs.Places.{moved-values, moved-count, moved-vie
 use Rattle.section.specs.Section.{sectionOf}
 use Rattle.section.specs.declared.Section.{Section}
 use Rattle.section.specs.declared.SectionRead.{SectionRead}
-use Rattle.section_writer.proofs.Numbers.{bytes-take, bytes-drop}
 use Rattle.theorems.specs.Identifiers.{loopIn}
 use Rattle.theorems.specs.Writable.{Writable}
 use Rattle.theorems.proofs.ItemsWritten.{all-viewed}

@@ -50,7 +50,7 @@ use Rattle.descriptor.specs.declared.segmentation.SegmentationMode.{Segmentatio
 use Rattle.descriptor.specs.declared.segmentation.SegmentationUpid.{SegmentationUpid}
 use Rattle.descriptor.specs.declared.segmentation.SubSegments.{SubSegments}
 use Rattle.descriptor_round_trips.specs.Making.{fit, componentNumbers}
-use Rattle.theorems.proofs.WholeFields.{mode-ends, duration-ends, delivery-ends, place}
+use Rattle.descriptor.proofs.Heads.{mode-ends, duration-ends, delivery-ends, place}
 
 module _ (s : List ℕ) where
   component-kept : (at : ℕ) (y : ModeComponent) (m : ℕ) → parse component (bitsOf s) at ≡ got y m → (y .«component_tag» < 2 ^ 8) × (y .«pts_offset» < 2 ^ 33)

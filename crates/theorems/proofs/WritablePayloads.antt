@@ -50,9 +50,9 @@ use Rattle.descriptor_round_trips.proofs.Reported.{check-none}
 use Rattle.descriptor_round_trips.proofs.SegmentBack.{counted-again}
 use Rattle.descriptor_round_trips.specs.Making.{fit, componentNumbers, numbersOf, viewIn, DescriptorMakes, outside, over, nobodys, long, its}
 use Rattle.descriptor_round_trips.specs.Trips.{Handed}
-use Rattle.section_writer.proofs.Numbers.{byte-in, bytes-take, bytes-drop}
+use Rattle.section_writer.proofs.Numbers.{byte-in}
 use Rattle.theorems.proofs.ItemsWritten.{all-viewed}
-use Rattle.theorems.proofs.WholeFields.{head-ends, place, Placed, front-told, upidIn as upidThere}
+use Rattle.descriptor.proofs.Heads.{head-ends, place, Placed, front-told, upidIn as upidThere}
 use Rattle.theorems.proofs.WritableFields.{FrontKept, front-kept, BackKept, back-kept}
 use Rattle.theorems.proofs.WritableUpids as upids
 use Rattle.theorems.proofs.WritableUpids.{zeros-all, zeros-bytes, no-bytes}

@@ -25,7 +25,6 @@ use Rattle.section.specs.Section.{commandLength, commandType, commandBytes, mov
 use Rattle.section.specs.declared.Section.{Section}
 use Rattle.section.specs.declared.SectionRead.{SectionRead}
 use Rattle.section_writer.proofs.Commands.{Read, read-by}
-use Rattle.section_writer.proofs.Numbers.{bytes-take, bytes-drop}
 use Rattle.section_writer.proofs.Parts.{parts-of}
 use Rattle.section_writer.proofs.Theorems.{canonical-parts, section-is-written-back}
 use Rattle.section_writer.proofs.Whole.{Held, whole-reads-back}
@@ -33,7 +32,7 @@ use Rattle.section_writer.specs.Canonical.{canonicalSection}
 use Rattle.section_writer.specs.Trips.{ReadsBack}
 use Rattle.section_writer.specs.Writing.{kindOf, sectionMade}
 use Rattle.table.proofs.Lists.{zero-one, and-true}
-use Rattle.table.proofs.Structure.{wrote}
+use Rattle.table.proofs.Structure.{wrote, bytes-take, bytes-drop}
 use Rattle.table.specs.Bits.{pick, bitsOf, AllBytes}
 use Rattle.table.specs.Lent.{viewed}
 use Rattle.table.specs.Table.{number, part, remaining, Answer, got, parse, canonicalBy}

@@ -1,11 +1,12 @@
 -- What it means that an identifier of a section is whole: it is the very run that the section's own bytes announce, at the place where 01's layout puts it.
 -- `OneRun` says less: that it is some run.
-use Prim.Native.Nat.{ℕ, _+_, _*_, _-_, _/_, _%_, _≤_}
+use Prim.Native.Nat.{ℕ, _+_, _-_, _/_, _%_, _≤_}
 use mathlib.Core.List.{List}
 use mathlib.Core.Path.{_≡_}
 use lib.Dec.{eqb}
 use lib.ListN.{length, take, drop, getD}
 use Rattle.command.specs.declared.SpliceCommand.{SpliceCommand}
+use Rattle.descriptor.specs.Segmentation.{fieldsBefore}
 use Rattle.descriptor.specs.declared.Descriptor.{Descriptor}
 use Rattle.descriptor.specs.declared.segmentation.SegmentationDetail.{SegmentationDetail}
 use Rattle.descriptor.specs.declared.segmentation.SegmentationUpid.{SegmentationUpid}
@@ -37,9 +38,6 @@ pub record WholeUpid (s : List ℕ) (h base : ℕ) (loop beside : List ℕ) (u :
 
 -- where it stands in a payload that starts at byte p of the section, by the section's own bytes: behind "event id 32, cancel 1, reserved 7" and the byte of flags;
 -- "if not program: count 8, each tag 8, reserved 7, offset 33"; "duration 40 if flagged"
-abbrev pub fieldsBefore : ℕ → ℕ → ℕ
-fieldsBefore flags count = pick (eqb (flags / 128 % 2) 1) 0 (1 + count * 6) + pick (eqb (flags / 64 % 2) 1) 5 0
-
 abbrev pub upidAt : List ℕ → ℕ → ℕ
 upidAt s p = p + (6 + fieldsBefore (getD s (p + 5) 0) (getD s (p + 6) 0))
 

@@ -37,8 +37,8 @@ use Rattle.loop_round_trips.specs.Loops.{Pairs}
 use Rattle.loop_round_trips.specs.Loops.Pairs.{over, pair}
 use Rattle.bit_stores.specs.Written.{answerOf, laterOf}
 use Rattle.bit_stores.specs.declared.Written.{Written}
+use Rattle.section.proofs.Acceptance.{is-read}
 use Rattle.section.specs.Section.{commandLength, commandBytes, conditions, first, loopPlace, loopLength, sectionOf, numberOf}
-use Rattle.section.specs.declared.Refusal.{Refusal}
 use Rattle.section.specs.declared.Section.{Section}
 use Rattle.section.specs.declared.SectionRead.{SectionRead}
 use Rattle.section_writer.specs.Canonical.{canonicalSection}
@@ -155,21 +155,6 @@ pub scte35-read-section-refuses-in-order : (s : List ℕ) (f : FlatSection) → 
 scte35-read-section-refuses-in-order s f d = ap (λ (v : FlatSection). v .refusal) (reads-section-so d) ∙ flat-number (sectionOf s) ∙ demands.refusals-1-to-11-in-order s
 
 -- ---- an accepted section
-
-is-read : (r : SectionRead) → numberOf r ≡ 0 → (x : Section) × (r ≡ SectionRead.Is x)
-unfolding numberOf
-is-read (SectionRead.Is x) e = (x, refl)
-is-read (SectionRead.Refused Refusal.SectionTooShort) e = absurd (omega arith)
-is-read (SectionRead.Refused Refusal.InputTooLong) e = absurd (omega arith)
-is-read (SectionRead.Refused Refusal.OtherTable) e = absurd (omega arith)
-is-read (SectionRead.Refused Refusal.WrongCrc) e = absurd (omega arith)
-is-read (SectionRead.Refused Refusal.NoHeader) e = absurd (omega arith)
-is-read (SectionRead.Refused Refusal.Encrypted) e = absurd (omega arith)
-is-read (SectionRead.Refused Refusal.CommandTooLong) e = absurd (omega arith)
-is-read (SectionRead.Refused Refusal.NoLoopLength) e = absurd (omega arith)
-is-read (SectionRead.Refused Refusal.LoopTooLong) e = absurd (omega arith)
-is-read (SectionRead.Refused Refusal.UnknownCommand) e = absurd (omega arith)
-is-read (SectionRead.Refused Refusal.MalformedCommand) e = absurd (omega arith)
 
 -- what is read, where there is no refusal
 record Accepted (s : List ℕ) (f : FlatSection) : Type 0 where

@@ -18,11 +18,12 @@ use Rattle.section.proofs.Acceptance.{refusals-in-order}
 use Rattle.section_writer.specs.Canonical.{canonicalFrame, canonicalSection}
 use Rattle.section_writer.specs.Frame as frame
 use Rattle.section_writer.proofs.Forms.{framed}
-use Rattle.section_writer.proofs.Numbers.{bytes-take, byte-in}
+use Rattle.section_writer.proofs.Numbers.{byte-in}
 use Rattle.section_writer.proofs.Parts.{parts-of}
 use Rattle.section_writer.proofs.Theorems.{canonical-parts}
 use Rattle.table.specs.Bits.{bitsOf, field, AllBytes}
 use Rattle.table.proofs.Fields.{field-in, field-byte}
+use Rattle.table.proofs.Structure.{bytes-take}
 use Rattle.transport_packet.specs.Sections.{sectionLength, Right}
 use Rattle.transport.specs.declared.Assembler.{Assembler}
 use Rattle.transport.specs.declared.Taken.the-variants.{Section as Gave}

@@ -34,7 +34,7 @@ unfolding unlessRefused
 kept (Fine k) ps h = refl
 kept (Refused r) ps h = absurd h
 
-parts-of-mid : (top : List ℕ) → Accepted (checkOf 13 top) → partsIn (upidOf 13 top) ≡ listOf 13 1 0 top
+pub parts-of-mid : (top : List ℕ) → Accepted (checkOf 13 top) → partsIn (upidOf 13 top) ≡ listOf 13 1 0 top
 parts-of-mid top a = parts-in 13 top ∙ kept _ _ a
 
 -- ---- a MID's pieces cover it
@@ -153,7 +153,7 @@ either : (t : Bool) (a b c d : UpidRead) → (Accepted a → Accepted c) → (Ac
 either true a b c d f g h = f h
 either false a b c d f g h = g h
 
-then-all : (a b : UpidRead) → Accepted a → Accepted b → Accepted (a then b)
+pub then-all : (a b : UpidRead) → Accepted a → Accepted b → Accepted (a then b)
 unfolding _then_
 then-all (Fine k) b ha hb = hb
 then-all (Refused r) b ha hb = absurd ha
@@ -180,7 +180,7 @@ walk-anywhere (suc n) s t (k ∷ (l ∷ rest)) h =
     (walk-anywhere n (s + (2 + l)) (t + (2 + l)) (drop l rest) (both .1)))
     h
 
-anywhere : (k s t : ℕ) (bytes : List ℕ) → Accepted (readOf k s bytes) → Accepted (readOf k t bytes)
+pub anywhere : (k s t : ℕ) (bytes : List ℕ) → Accepted (readOf k s bytes) → Accepted (readOf k t bytes)
 unfolding readOf
 anywhere k s t bytes = either (eqb k 13) _ _ _ _ (walk-anywhere (length bytes) s t bytes) (plain-anywhere k s t bytes)
 
@@ -192,13 +192,17 @@ join-read start (c ∷ cs) (more h hs) =
     rw (read-more, le-ltb _ _ n, take-append-seam, drop-append-seam)
     (then-all _ _ (anywhere (c .kind) 0 (start + 2) (c .payload) h) (join-read (start + (2 + length (c .payload))) cs hs))
 
-join-checked : (cs : List Cut) → length (joined cs) ≤ 255 → All (λ (c : Cut). Accepted (readOf (c .kind) 0 (c .payload))) cs → Accepted (checkOf 13 (joined cs))
+-- what is accepted where it stands is accepted as a whole UPID
+pub check-of-read : (k : ℕ) (s : List ℕ) → length s ≤ 255 → Accepted (readOf k 0 s) → Accepted (checkOf k s)
 unfolding checkOf
-join-checked cs n h = rw (le-ltb _ _ n) (go (eqb (length (joined cs)) 0))
+check-of-read k s n a = rw (le-ltb _ _ n) (go (eqb (length s) 0))
   where
-    go : (t : Bool) → Accepted (cond t (Fine 0) (readOf 13 0 (joined cs)))
+    go : (t : Bool) → Accepted (cond t (Fine 0) (readOf k 0 s))
     go true = tt
-    go false = join-read 0 cs h
+    go false = a
+
+join-checked : (cs : List Cut) → length (joined cs) ≤ 255 → All (λ (c : Cut). Accepted (readOf (c .kind) 0 (c .payload))) cs → Accepted (checkOf 13 (joined cs))
+join-checked cs n h = check-of-read 13 (joined cs) n (join-read 0 cs h)
 
 pub read-back : (cs : List Cut) → length (joined cs) ≤ 255 → All (λ (c : Cut). Accepted (readOf (c .kind) 0 (c .payload))) cs
     → Accepted (checkOf 13 (joined cs)) × (directOf (whole (joined cs)) (partsIn (upidOf 13 (joined cs))) ≡ placed 1 0 cs)

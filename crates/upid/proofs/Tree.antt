@@ -101,7 +101,7 @@ grow (suc n) level start (k ∷ (l ∷ rest)) h a =
 
 -- ---- every one of these
 
-all-append : {A : Type 0} {P : A → Type 0} {xs ys : List A} → All P xs → All P ys → All P (xs ++ ys)
+pub all-append : {A : Type 0} {P : A → Type 0} {xs ys : List A} → All P xs → All P ys → All P (xs ++ ys)
 all-append none hy = hy
 all-append (more h hx) hy = more h (all-append hx hy)
 
@@ -201,7 +201,7 @@ pub record Piece (top : List ℕ) (ps : List Part) (m : Part) : Type 0 where
 among : {top : List ℕ} {ps qs : List Part} {m : Part} → directOf m qs ≡ directOf m ps → Piece top ps m → Piece top qs m
 among e h = record { cutting = h .cutting; joins = h .joins; size = h .size; pieces = e ∙ h .pieces }
 
-reported-mid : (k : ℕ) → reportedOf k ≡ 13 → k ≡ 13
+pub reported-mid : (k : ℕ) → reportedOf k ≡ 13 → k ≡ 13
 unfolding reportedOf
 reported-mid k = go (eqb k 5)
   where

@@ -11,12 +11,7 @@ use crate::Refusal;
 use crate::UpidRead;
 use crate::plain::check_plain;
 use crate::plain::reported;
-
-fn wide(b: u8) -> usize
-    ensures { λ r. ⌜ (r ≡ b) × (r < 256) ⌝ }
-{
-    b as usize
-}
+use table::numbers::size;
 
 // A payload, and where it is a MID each of its parts in byte order: the first refusal ends the walk. `start` is where it lies in the top UPID.
 pub(crate) fn check_payload(kind: u8, s: &[u8], start: usize) -> UpidRead
@@ -38,7 +33,7 @@ pub(crate) fn check_payload(kind: u8, s: &[u8], start: usize) -> UpidRead
             break 'walk;
         }
         let k = s[at];
-        let n = wide(s[at + 1]);
+        let n = size(s[at + 1]);
         let body = at + 2;
         let present = s.len() - body;
         if present < n {
@@ -94,7 +89,7 @@ pub(crate) fn list_parts(kind: u8, s: &[u8]) -> PartList
     let mut at: usize = 0;
     'walk: while 0 < level {
         let open = level - 1;
-        let end = wide(ends[open]);
+        let end = size(ends[open]);
         if at == end {
             level = open;
             continue 'walk;
@@ -102,7 +97,7 @@ pub(crate) fn list_parts(kind: u8, s: &[u8]) -> PartList
         let k = s[at];
         let l = s[at + 1];
         let from = at + 2;
-        let to = from + wide(l);
+        let to = from + size(l);
         let count = out.count;
         out.parts[count] = Part {
             kind: reported(k),

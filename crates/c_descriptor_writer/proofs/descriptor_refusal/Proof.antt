@@ -17,7 +17,7 @@ fits : (k : tie.Else1) → let a = k .before .before .before .before .args in wi
 fits k = sym (k .before .is-item-within .ensures) ∙ not-false _ (k .if1 .left)
 
 all-fit : (k : tie.After-beside-within) → let a = k .before .before .before .before .before .before .args in k .beside-within .result ≡ besideWithin (countBeside (a .d)) (a .beside .now)
-all-fit k = k .beside-within .ensures ∙ ap (λ (n : ℕ). besideWithin n (k .before .before .before .before .before .before .args .beside .now)) (k .before .count-in .ensures)
+all-fit k = k .beside-within .ensures ∙ ap (λ (n : ℕ). besideWithin n (k .before .before .before .before .before .before .args .beside .now)) (k .before .count-in-descriptor .ensures)
 
 is-item-within-requires : tie.Need-is-item-within-requires
 is-item-within-requires c κs = search needs
@@ -28,8 +28,8 @@ returns c =
     let a = c .before .before .before .before .args in
     first-wide (within itemWidths (drop 5 (a .words .now))) (besideWithin (countBeside (a .d)) (a .beside .now)) (ownItem (a .d) (a .words .now)) (sym (c .before .is-item-within .ensures) ∙ not-true _ (c .if1 .taken))
 
-count-in-requires : tie.Need-count-in-requires
-count-in-requires c κs = search needs
+count-in-descriptor-requires : tie.Need-count-in-descriptor-requires
+count-in-descriptor-requires c κs = search needs
 
 cast-beside-within : tie.Need-cast-beside-within
 cast-beside-within c = search needs
@@ -64,7 +64,7 @@ descriptor-refusal-spec =
     (tie.spec
     is-item-within-requires
     returns
-    count-in-requires
+    count-in-descriptor-requires
     cast-beside-within
     beside-within-requires
     returns-2

@@ -24,11 +24,11 @@ parts words beside lent g identifier n r e f h j = rw (j, h, f, e)
 
 made : (k : tie.After-descriptor-refusal) →
     let a = k .before .before .before .before .before .before .before .before .args in
-    noLess (k .descriptor-refusal .result) (descriptorMade (k .before .before .before .descriptor-given .result) (k .before .before .identifier-from .result) (besideFrom (k .before .count-in .result) (a .beside .now)) (a .lent .now))
+    noLess (k .descriptor-refusal .result) (descriptorMade (k .before .before .before .descriptor-given .result) (k .before .before .identifier-from .result) (besideFrom (k .before .count-in-descriptor .result) (a .beside .now)) (a .lent .now))
     ≡ descriptorWordsMade (a .words .now) (a .beside .now) (a .lent .now)
 made k =
     let a = k .before .before .before .before .before .before .before .before .args in
-    parts (a .words .now) (a .beside .now) (a .lent .now) _ _ _ _ (k .before .before .before .descriptor-given .ensures) (k .before .before .identifier-from .ensures) (k .before .count-in .ensures) (k .descriptor-refusal .ensures)
+    parts (a .words .now) (a .beside .now) (a .lent .now) _ _ _ _ (k .before .before .before .descriptor-given .ensures) (k .before .before .identifier-from .ensures) (k .before .count-in-descriptor .ensures) (k .descriptor-refusal .ensures)
 
 small : (k : tie.After-descriptor-refusal) → k .descriptor-refusal .result ≤ 36
 unfolding descriptorRefusal
@@ -43,8 +43,8 @@ descriptor-given-requires c κs = search needs
 identifier-from-requires : tie.Need-identifier-from-requires
 identifier-from-requires c κs = search needs
 
-count-in-requires : tie.Need-count-in-requires
-count-in-requires c κs = search needs
+count-in-descriptor-requires : tie.Need-count-in-descriptor-requires
+count-in-descriptor-requires c κs = search needs
 
 cast-count : tie.Need-cast-count
 cast-count c = search needs
@@ -75,7 +75,7 @@ returns c =
     let k = c .before .before .before .before .before .before in
     let a = c .before .before .before .before .before .before .before .before .before .before .before .before .before .before .args in
     let w = words-refused _ _ (k .descriptor-refusal .result) (a .target .now) (c .before .before .before .write-given .result) (made k) (c .before .before .before .before .before .if1 .taken) (small k) (c .before .before .before .write-given .ensures .answer) in
-    (c .lower-refusal .ensures ∙ w .0, ap (λ (l : List ℕ). l ++ a .target .now) (c .before .before .before .write-given .ensures .target-later ∙ later-nil (descriptorMade (k .before .before .before .descriptor-given .result) (k .before .before .identifier-from .result) (besideFrom (k .before .count-in .result) (a .beside .now)) (a .lent .now))) ∙ w .1)
+    (c .lower-refusal .ensures ∙ w .0, ap (λ (l : List ℕ). l ++ a .target .now) (c .before .before .before .write-given .ensures .target-later ∙ later-nil (descriptorMade (k .before .before .before .descriptor-given .result) (k .before .before .identifier-from .result) (besideFrom (k .before .count-in-descriptor .result) (a .beside .now)) (a .lent .now))) ∙ w .1)
 
 write-given-requires-2 : tie.Need-write-given-requires-2
 write-given-requires-2 c κs = search needs
@@ -99,7 +99,7 @@ write-from-words-spec =
     (tie.spec
     descriptor-given-requires
     identifier-from-requires
-    count-in-requires
+    count-in-descriptor-requires
     cast-count
     descriptor-refusal-requires
     sub-write-given

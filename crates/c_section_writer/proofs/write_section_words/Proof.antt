@@ -61,8 +61,8 @@ command-refusal-requires c κs = search needs
 either-refusal-requires : tie.Need-either-refusal-requires
 either-refusal-requires c κs = search needs
 
-count-in-requires : tie.Need-count-in-requires
-count-in-requires c κs = search needs
+count-in-command-requires : tie.Need-count-in-command-requires
+count-in-command-requires c κs = search needs
 
 write-bare-words-requires : tie.Need-write-bare-words-requires
 write-bare-words-requires c κs = small (c .before .before .before)
@@ -77,7 +77,7 @@ returns c =
     let n = t .before in
     let k = n .before in
     let a = k .before .before .before .before .before .before .before .before .before .before .before .args in
-    let e = made k (array []) (no-places (countIn (k .before .before .before .command-given .result)) (a .components .now) (sym (n .count-in .ensures) ∙ t .if1 .taken)) in
+    let e = made k (array []) (no-places (countIn (k .before .before .before .command-given .result)) (a .components .now) (sym (n .count-in-command .ensures) ∙ t .if1 .taken)) in
     (q .write-bare-words .ensures .0 ∙ ap (λ (m : Made). flatWritten (answerOf m (a .target .now))) e, q .write-bare-words .ensures .1 ∙ ap (λ (m : Made). laterOf m (a .target .now)) e)
 
 write-listed-words-requires : tie.Need-write-listed-words-requires
@@ -103,7 +103,7 @@ write-section-words-spec =
     header-refusal-requires
     command-refusal-requires
     either-refusal-requires
-    count-in-requires
+    count-in-command-requires
     write-bare-words-requires
     same-length
     returns

@@ -14,19 +14,19 @@ use borrow.Author.Needs.{needs}
 use Rattle.command_writer.proofs.write_bare_command.Statement.{statement}
 use Rattle.command_writer.proofs.write_bare_command.Tie as tie
 
-is : (w : tie.After-answer-to) → let a = w .before .before .before .before .args in w .answer-to .result ≡ answerOf (commandMade (a .command) (array []) (a .lent .now)) (a .target .now)
+is : (w : tie.After-answer-measured) → let a = w .before .before .before .before .args in w .answer-measured .result ≡ answerOf (commandMade (a .command) (array []) (a .lent .now)) (a .target .now)
 is w =
     let k = w .before in
     let a = k .before .before .before .args in
-    w .answer-to .ensures
+    w .answer-measured .ensures
     ∙ answered (commandMade (a .command) (array []) (a .lent .now)) (a .target .now) (k .measure-bare .result) (k .measure-bare .ensures .0)
     (command-made (a .command) (array []) (a .lent .now) blank-length (k .measure-bare .ensures .1))
 
 measure-bare-requires : tie.Need-measure-bare-requires
 measure-bare-requires c κs = search needs
 
-answer-to-requires : tie.Need-answer-to-requires
-answer-to-requires c κs = search needs
+answer-measured-requires : tie.Need-answer-measured-requires
+answer-measured-requires c κs = search needs
 
 enum-told : tie.Need-enum-told
 enum-told c = search needs
@@ -66,7 +66,7 @@ write-bare-command-spec =
     tie.close
     (tie.spec
     measure-bare-requires
-    answer-to-requires
+    answer-measured-requires
     enum-told
     store-bare-requires
     enum-told-2

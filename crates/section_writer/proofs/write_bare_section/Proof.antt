@@ -12,17 +12,17 @@ use borrow.Author.Needs.{needs}
 use Rattle.section_writer.proofs.write_bare_section.Statement.{statement}
 use Rattle.section_writer.proofs.write_bare_section.Tie as tie
 
-is : (w : tie.After-answer-for) → let a = w .before .before .before .before .before .args in w .answer-for .result ≡ answerOf (sectionMade (a .header) (commandMade (a .command) (array []) (a .lent .now)) (kindOf (a .command)) (a .descriptors .now)) (a .target .now)
+is : (w : tie.After-answer-section) → let a = w .before .before .before .before .before .args in w .answer-section .result ≡ answerOf (sectionMade (a .header) (commandMade (a .command) (array []) (a .lent .now)) (kindOf (a .command)) (a .descriptors .now)) (a .target .now)
 is w =
     let m = w .before in
     let a = m .before .before .before .before .args in
-    w .answer-for .ensures ∙ section-answer (a .header) (a .command) (array []) (a .lent .now) (a .descriptors .now) (m .measure-bare .result) (m .measure-bare .ensures .0) (a .target .now)
+    w .answer-section .ensures ∙ section-answer (a .header) (a .command) (array []) (a .lent .now) (a .descriptors .now) (m .measure-bare .result) (m .measure-bare .ensures .0) (a .target .now)
 
 measure-bare-requires : tie.Need-measure-bare-requires
 measure-bare-requires c κs = search needs
 
-answer-for-requires : tie.Need-answer-for-requires
-answer-for-requires c κs = search needs
+answer-section-requires : tie.Need-answer-section-requires
+answer-section-requires c κs = search needs
 
 enum-told : tie.Need-enum-told
 enum-told c = search needs
@@ -36,7 +36,7 @@ put-head-requires c κs =
     let w = t .before .before in
     let m = w .before in
     let a = m .before .before .before .before .args in
-    let g = allowed (a .header) (a .command) (array []) (a .lent .now) (a .descriptors .now) (m .measure-bare .result) (m .measure-bare .ensures .0) (a .target .now) _ _ (w .answer-for .ensures) (t .enum-told .given .1) in
+    let g = allowed (a .header) (a .command) (array []) (a .lent .now) (a .descriptors .now) (m .measure-bare .result) (m .measure-bare .ensures .0) (a .target .now) _ _ (w .answer-section .ensures) (t .enum-told .given .1) in
     (g .0, g .1, g .2, omega (arith, g .3))
 
 put-bare-requires : tie.Need-put-bare-requires
@@ -48,7 +48,7 @@ add-put-tail c =
     let w = t .before .before in
     let m = w .before in
     let a = m .before .before .before .before .args in
-    let g = allowed (a .header) (a .command) (array []) (a .lent .now) (a .descriptors .now) (m .measure-bare .result) (m .measure-bare .ensures .0) (a .target .now) _ _ (w .answer-for .ensures) (t .enum-told .given .1) in
+    let g = allowed (a .header) (a .command) (array []) (a .lent .now) (a .descriptors .now) (m .measure-bare .result) (m .measure-bare .ensures .0) (a .target .now) _ _ (w .answer-section .ensures) (t .enum-told .given .1) in
     omega (arith, g .2)
 
 put-tail-requires : tie.Need-put-tail-requires
@@ -59,7 +59,7 @@ put-tail-requires c κs =
     let w = t .before .before in
     let m = w .before in
     let a = m .before .before .before .before .args in
-    let g = allowed (a .header) (a .command) (array []) (a .lent .now) (a .descriptors .now) (m .measure-bare .result) (m .measure-bare .ensures .0) (a .target .now) _ _ (w .answer-for .ensures) (t .enum-told .given .1) in
+    let g = allowed (a .header) (a .command) (array []) (a .lent .now) (a .descriptors .now) (m .measure-bare .result) (m .measure-bare .ensures .0) (a .target .now) _ _ (w .answer-section .ensures) (t .enum-told .given .1) in
     let n = kept-length (a .target .now) _ _ _ _ _ _ (h .put-head .ensures) (p .put-bare .ensures) in
     (omega (arith, g .2), omega (arith, g .3, n))
 
@@ -79,7 +79,7 @@ returns c =
     let w = t .before .before in
     let m = w .before in
     let a = m .before .before .before .before .args in
-    (is w, wrote-section (a .header) (a .command) (array []) (a .lent .now) (a .descriptors .now) (m .measure-bare .result) (m .measure-bare .ensures .0) (a .target .now) _ _ (w .answer-for .ensures) (t .enum-told .given .1) _ _ _ _ (k .kind-of .ensures) (h .put-head .ensures) (p .put-bare .ensures) (e .put-tail .ensures))
+    (is w, wrote-section (a .header) (a .command) (array []) (a .lent .now) (a .descriptors .now) (m .measure-bare .result) (m .measure-bare .ensures .0) (a .target .now) _ _ (w .answer-section .ensures) (t .enum-told .given .1) _ _ _ _ (k .kind-of .ensures) (h .put-head .ensures) (p .put-bare .ensures) (e .put-tail .ensures))
 
 returns-2 : tie.Need-returns-2
 returns-2 c =
@@ -92,7 +92,7 @@ write-bare-section-spec =
     tie.close
     (tie.spec
     measure-bare-requires
-    answer-for-requires
+    answer-section-requires
     enum-told
     kind-of-requires
     put-head-requires

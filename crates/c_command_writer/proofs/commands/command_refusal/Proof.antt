@@ -17,8 +17,8 @@ use Rattle.c_command_writer.proofs.commands.command_refusal.Tie as tie
 fits : (k : tie.Else1) → let a = k .before .before .before .before .before .args in within commandWidths (a .words .now) ≡ true
 fits k = sym (k .before .is-command-within .ensures) ∙ not-false _ (k .if1 .left)
 
-count : (k : tie.After-count-in) → k .count-in .result ≡ countIn (k .before .before .before .args .c)
-count k = k .count-in .ensures
+count : (k : tie.After-count-in-command) → k .count-in-command .result ≡ countIn (k .before .before .before .args .c)
+count k = k .count-in-command .ensures
 
 all-fit : (k : tie.After-splices-within) → let a = k .before .before .before .before .before .before .args in k .splices-within .result ≡ splicesWithin (countIn (a .c)) (a .components .now)
 all-fit k = k .splices-within .ensures ∙ ap (λ (n : ℕ). splicesWithin n (k .before .before .before .before .before .before .args .components .now)) (count (k .before .before .before))
@@ -30,8 +30,8 @@ own k = k .is-flat-command .ensures ∙ ap (λ (f : FlatCommand). same (commandW
 all-own : (k : tie.After-own-splices) → let a = k .before .before .before .before .before .before .before .before .before .before .before .args in k .own-splices .result ≡ ownSplices (countIn (a .c)) (a .components .now)
 all-own k = k .own-splices .ensures ∙ ap (λ (n : ℕ). ownSplices n (k .before .before .before .before .before .before .before .before .before .before .before .args .components .now)) (count (k .before .before .before .before .before .before .before .before))
 
-count-in-requires : tie.Need-count-in-requires
-count-in-requires c κs = search needs
+count-in-command-requires : tie.Need-count-in-command-requires
+count-in-command-requires c κs = search needs
 
 cast-count : tie.Need-cast-count
 cast-count c = search needs
@@ -85,7 +85,7 @@ pub command-refusal-spec : {M : Type 1} → statement M
 command-refusal-spec =
     tie.close
     (tie.spec
-    count-in-requires
+    count-in-command-requires
     cast-count
     is-command-within-requires
     returns

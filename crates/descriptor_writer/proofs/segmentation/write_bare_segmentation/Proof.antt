@@ -11,8 +11,8 @@ use borrow.Author.Needs.{needs}
 use Rattle.descriptor_writer.proofs.segmentation.write_bare_segmentation.Statement.{statement}
 use Rattle.descriptor_writer.proofs.segmentation.write_bare_segmentation.Tie as tie
 
-count-of-requires : tie.Need-count-of-requires
-count-of-requires c κs = search needs
+count-in-segmentation-requires : tie.Need-count-in-segmentation-requires
+count-in-segmentation-requires c κs = search needs
 
 blank-beside-requires : tie.Need-blank-beside-requires
 blank-beside-requires c κs = search needs
@@ -56,13 +56,13 @@ returns-3 : tie.Need-returns-3
 returns-3 c =
     let a = c .before .before .before .before .before .before .before .before .before .before .before .args in
     c .before .before .write-fair-segmentation .ensures .fair (a .identifier) (filled []) blanks-length (sym (c .before .before .before .before .before .before .refusal-of-bare .ensures) ∙ c .before .before .before .before .before .if2 .left)
-    (none-listed _ (filled []) (sym (c .before .before .before .before .before .before .before .before .count-of .ensures) ∙ omega (arith, c .before .before .before .before .before .before .before .if1 .left)))
+    (none-listed _ (filled []) (sym (c .before .before .before .before .before .before .before .before .count-in-segmentation .ensures) ∙ omega (arith, c .before .before .before .before .before .before .before .if1 .left)))
 
 pub write-bare-segmentation-spec : {M : Type 1} → statement M
 write-bare-segmentation-spec =
     tie.close
     (tie.spec
-    count-of-requires
+    count-in-segmentation-requires
     blank-beside-requires
     write-segmentation-requires
     same-length

@@ -18,8 +18,8 @@ returns c =
     let a = c .before .before .before .before .args in
     segment-refused (a .x) _ (record { components = a .components; eidr = a .eidr }) (a .lent .now) (a .target .now) _ (c .before .refusal-of-segmentation .ensures) (c .if1 .taken)
 
-count-of-requires : tie.Need-count-of-requires
-count-of-requires c κs = search needs
+count-in-segmentation-requires : tie.Need-count-in-segmentation-requires
+count-in-segmentation-requires c κs = search needs
 
 cast-n : tie.Need-cast-n
 cast-n c = search needs
@@ -54,7 +54,7 @@ returns-2 : tie.Need-returns-2
 returns-2 c =
     let z = c .before .before .before .before .before .before .before .before .before .before .before .before .before .before in
     let a = z .args in
-    let n = c .before .before .before .before .before .before .before .before .before .count-of in
+    let n = c .before .before .before .before .before .before .before .before .before .count-in-segmentation in
     let many : length (a .components) ≡ 255 = omega (arith, z) in
     c .before .before .write-fair-segmentation .ensures .fair (a .identifier) (a .components) many (sym (c .before .before .before .before .before .before .before .before .before .before .before .refusal-of-segmentation .ensures) ∙ c .before .before .before .before .before .before .before .before .before .before .if1 .left)
     (listed-so (a .x) (a .components) _ (n .ensures) many (omega (arith, n)) _ (all-zeros 1530) (length-replicate {A = ℕ} 1530 0) _ _ (c .before .before .before .before .before .before .before .store-components .ensures []))
@@ -65,7 +65,7 @@ write-segmentation-spec =
     (tie.spec
     refusal-of-segmentation-requires
     returns
-    count-of-requires
+    count-in-segmentation-requires
     cast-n
     slice-aggregate-store-components
     store-components-requires

@@ -1,5 +1,5 @@
--- Where the head of the UPID stands in a segmentation payload: behind the fields before it, by the payload's own bytes.
---     head-at       its place
+-- Where the head of a segmentation descriptor's UPID is written: by whole bytes, behind the fields before it.
+--     front-told       its type, its length and its bytes
 use Prim.Native.Nat.{ℕ, zero, suc, _+_, _*_, _/_, _%_, _^_, _≤_, _<_}
 use mathlib.Core.Bool.{Bool, true, false}
 use mathlib.Core.List.{List, []}
@@ -7,11 +7,12 @@ use mathlib.Core.Path.{_≡_, refl, ap, sym, _∙_}
 use native.Mathlib.Omega.{arith}
 use lib.Dec.{eqb}
 use lib.ListN.{length, getD}
+use borrow.Author.Tests.{eqb-true}
 use Rattle.table.proofs.Fields.{byte-field, field-in}
 use Rattle.table.proofs.Steps.{reads-in, reads-number, reads-flag, reads-ones, reads-part}
 use Rattle.table.specs.Bits.{pick, bitsOf, field}
 use Rattle.table.specs.Table.{list, Answer, got, short, parse}
 use Rattle.descriptor.specs.Segmentation.{
   deliveryRestrictions,
   component,
   blankComponent,
@@ -20,6 +21,7 @@ use Rattle.descriptor.specs.Segmentation.{
   modeSize,
   duration,
   durationSize,
+  fieldsBefore,
   writtenUpid,
   Fore,
   parts,
@@ -28,12 +30,11 @@ use Rattle.descriptor.specs.Segmentation.{
   head,
   blankFront,
 }
 use Rattle.descriptor.specs.declared.segmentation.DeliveryRestrictionFlags.{DeliveryRestrictionFlags}
 use Rattle.descriptor.specs.declared.segmentation.ModeComponent.{ModeComponent}
 use Rattle.descriptor.specs.declared.segmentation.SegmentationDuration.{SegmentationDuration}
 use Rattle.descriptor.specs.declared.segmentation.SegmentationMode.{SegmentationMode}
 use Rattle.descriptor.specs.declared.segmentation.SegmentationUpid.{SegmentationUpid}
-use Rattle.relabel_payload.specs.Payload.{fieldsBefore, upidHead}
 
 module _ (s : List ℕ) where
   -- ---- how many bits each field before it takes
@@ -106,22 +107,51 @@ module _ (s : List ℕ) where
 
 -- ---- the UPID
 
+-- the place of its type, of what is read up to it
+abbrev pub place : Fore → ℕ
+place f = 6 + (modeSize (f .front .«segmentation_mode») + durationSize (f .front .«segmentation_duration»))
+
+-- its type and its length stand there, and its bytes behind them
+abbrev pub upidIn : List ℕ → ℕ → SegmentationUpid
+upidIn s q = record { kind = getD s q 0; bytes = record { at = q + 2; len = getD s (q + 1) 0 } }
+
 module _ (s : List ℕ) (bytes : (k : ℕ) → getD s k 0 < 256) where
-  upid-at : (at : ℕ) (u : SegmentationUpid) (m : ℕ) → parse writtenUpid (bitsOf s) at ≡ got u m → u .bytes .at ≡ (at + 8 + 8) / 8
+  upid-told : (q : ℕ) (u : SegmentationUpid) (m : ℕ) → parse writtenUpid (bitsOf s) (q * 8) ≡ got u m → (u ≡ upidIn s q) × (q + 2 + getD s (q + 1) 0 ≤ length s)
   unfolding writtenUpid
-  upid-at at u m e =
-      let i₁ = reads-number s at 8 _ _ u m e in
-      let i₂ = reads-number s (at + 8) 8 _ _ u m (i₁ .1) in
-      let j = reads-part s (at + 8 + 8) (field (bitsOf s) (at + 8) 8) _ _ u m (i₂ .1) in
-      let z : u ≡ record { kind = field (bitsOf s) at 8; bytes = record { at = (at + 8 + 8) / 8; len = field (bitsOf s) (at + 8) 8 } } = cc (j .1) in
-      ap (λ (x : SegmentationUpid). x .bytes .at) z
+  upid-told q u m e =
+      let i₁ = reads-number s (q * 8) 8 _ _ u m e in
+      let i₂ = reads-number s (q * 8 + 8) 8 _ _ u m (i₁ .1) in
+      let j = reads-part s (q * 8 + 8 + 8) (field (bitsOf s) (q * 8 + 8) 8) _ _ u m (i₂ .1) in
+      let k : field (bitsOf s) (q * 8) 8 ≡ getD s q 0 = byte-field s q (omega (arith, i₁ .0)) (bytes q) in
+      let a : q * 8 + 8 ≡ (q + 1) * 8 = omega arith in
+      let l : field (bitsOf s) (q * 8 + 8) 8 ≡ getD s (q + 1) 0 = ap (λ (x : ℕ). field (bitsOf s) x 8) a ∙ byte-field s (q + 1) (omega (arith, i₂ .0)) (bytes (q + 1)) in
+      let p : (q * 8 + 8 + 8) / 8 ≡ q + 2 = omega arith in
+      let z : u ≡ record { kind = field (bitsOf s) (q * 8) 8; bytes = record { at = (q * 8 + 8 + 8) / 8; len = field (bitsOf s) (q * 8 + 8) 8 } } = cc (j .1) in
+      (z ∙ cc, omega (arith, j .0, l))
+
+  upid-at : (q at : ℕ) → at ≡ q * 8 → (u : SegmentationUpid) (m : ℕ) → parse writtenUpid (bitsOf s) at ≡ got u m → (u ≡ upidIn s q) × (q + 2 + getD s (q + 1) 0 ≤ length s)
+  upid-at q at p u m e = upid-told q u m (rw p at e)
+
+  -- the cancel bit
+  pub head-cancels : (h : Head) (m : ℕ) → parse head (bitsOf s) 0 ≡ got h m → h .cancel ≡ true → (5 ≤ length s) × (getD s 4 0 / 128 % 2 ≡ 1)
+  unfolding head
+  head-cancels h m e on =
+      let e₁ = reads-number s 0 32 _ _ h m e .1 in
+      let e₂ = reads-flag s 32 _ _ h m e₁ .1 in
+      let i = reads-ones s 33 7 _ h m e₂ in
+      let z : h ≡ record { event = field (bitsOf s) 0 32; cancel = eqb (field (bitsOf s) 32 1) 1 } = cc (i .1) in
+      let c : eqb (field (bitsOf s) 32 1) 1 ≡ true = sym (ap (λ (k : Head). k .cancel) z) ∙ on in
+      let f : field (bitsOf s) (4 * 8 + 0) 1 ≡ getD s 4 0 / 2 ^ 7 % 2 ^ 1 = field-in s 4 (omega (arith, i .0)) (bytes 4) 0 1 7 refl in
+      (omega (arith, i .0), sym f ∙ eqb-true _ _ c)
 
   abbrev readIn : Answer Fore → Fore
   readIn (got x m) = x
   readIn (short e a) = record { front = blankFront; components = [] }
 
-  abbrev Placed : Fore → Type 0
-  Placed f = f .front .«segmentation_upid» .bytes .at ≡ 6 + fieldsBefore (getD s 5 0) (getD s 6 0) + 2
+  pub record Placed (f : Fore) : Type 0 where
+    pub is : f .front .«segmentation_upid» ≡ upidIn s (place f)
+    pub there : place f + 2 + getD s (place f + 1) 0 ≤ length s
+    pub before : place f ≡ 6 + fieldsBefore (getD s 5 0) (getD s 6 0)
 
   -- how many bytes the fields before it take, by the flags
   mode-size : (b : Bool) (at : ℕ) → at ≡ 48 → (y : Moded) (m : ℕ) → parse (mode b) (bitsOf s) at ≡ got y m → modeSize (y .mode) ≡ pick b 0 (1 + getD s 6 0 * 6)
@@ -158,10 +188,10 @@ module _ (s : List ℕ) (bytes : (k : ℕ) → getD s k 0 < 256) where
       omega (arith, delivery-ends s g 43 (i .inner) (i .seam) (i .front), mode-ends s p (i .seam) (j .inner) (j .seam) (j .front), duration-ends s l (j .seam) (k .inner) (k .seam) (k .front)) in
       let sized : modeSize (j .inner .mode) ≡ pick p 0 (1 + getD s 6 0 * 6) = mode-size p (i .seam) (delivery-ends s g 43 (i .inner) (i .seam) (i .front)) (j .inner) (j .seam) (j .front) in
       let lasts : durationSize (k .inner) ≡ pick l 5 0 = duration-size l (j .seam) (k .inner) (k .seam) (k .front) in
-      let t : w .inner .bytes .at ≡ q + 2 = upid-at (k .seam) (w .inner) (w .seam) (w .front) ∙ omega arith in
-      rw (← ap readIn (w .back)) (t ∙ rw (ep, el) (omega (arith, sized, lasts)))
+      let t = upid-at q (k .seam) at (w .inner) (w .seam) (w .front) in
+      rw (← ap readIn (w .back)) (record { is = t .0; there = t .1; before = rw (ep, el) (omega (arith, sized, lasts)) })
 
-  front-told : (x : Fore) (m : ℕ) → parse front (bitsOf s) 40 ≡ got x m → Placed x
+  pub front-told : (x : Fore) (m : ℕ) → parse front (bitsOf s) 40 ≡ got x m → Placed x
   unfolding front
   front-told x m e =
       let i = reads-flag s 40 _ _ x m e in
@@ -171,9 +201,3 @@ module _ (s : List ℕ) (bytes : (k : ℕ) → getD s k 0 < 256) where
       let p : field (bitsOf s) (5 * 8 + 0) 1 ≡ getD s 5 0 / 2 ^ 7 % 2 ^ 1 = field-in s 5 there (bytes 5) 0 1 7 refl in
       let l : field (bitsOf s) (5 * 8 + 1) 1 ≡ getD s 5 0 / 2 ^ 6 % 2 ^ 1 = field-in s 5 there (bytes 5) 1 1 6 refl in
       parts-told _ _ _ (ap (λ (n : ℕ). eqb n 1) (sym p)) (ap (λ (n : ℕ). eqb n 1) (sym l)) x m e₃
-
-  -- the head of the UPID that is read stands there
-  pub head-at : (h : Head) (a : ℕ) → parse head (bitsOf s) 0 ≡ got h a → (x : Fore) (m : ℕ) → parse front (bitsOf s) a ≡ got x m
-      → x .front .«segmentation_upid» .bytes .at ≡ upidHead s + 2
-  unfolding upidHead
-  head-at h a eh x m e = front-told x m (ap (parse front (bitsOf s)) (sym (head-ends s h a eh)) ∙ e)

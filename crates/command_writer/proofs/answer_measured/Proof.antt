@@ -1,8 +1,8 @@
--- `command_writer::answer_to`, test by test.
+-- `command_writer::answer_measured`, test by test.
 use native.Mathlib.Omega.{arith}
 use borrow.Author.Tests.{le-leb, lt-leb, eq-eqb, ne-eqb}
-use Rattle.command_writer.proofs.answer_to.Statement.{statement}
-use Rattle.command_writer.proofs.answer_to.Tie as tie
+use Rattle.command_writer.proofs.answer_measured.Statement.{statement}
+use Rattle.command_writer.proofs.answer_measured.Tie as tie
 
 returns : tie.Need-returns
 returns c = rw (ne-eqb (c .before .args .measured .refusal) 0 (λ e. omega (arith, e, c .if1 .taken)))
@@ -13,5 +13,5 @@ returns-2 c = let a = c .before .before .args in rw (eq-eqb (a .measured .refusa
 returns-3 : tie.Need-returns-3
 returns-3 c = let a = c .before .before .args in rw (eq-eqb (a .measured .refusal) 0 (omega arith), le-leb (a .measured .size) (a .room) (omega arith))
 
-pub answer-to-spec : {M : Type 1} → statement M
-answer-to-spec = tie.close (tie.spec returns returns-2 returns-3)
+pub answer-measured-spec : {M : Type 1} → statement M
+answer-measured-spec = tie.close (tie.spec returns returns-2 returns-3)

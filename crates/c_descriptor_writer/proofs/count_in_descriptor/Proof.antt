@@ -1,7 +1,7 @@
--- `c_descriptor_writer::count_in`, by kind and mode.
+-- `c_descriptor_writer::count_in_descriptor`, by kind and mode.
 use borrow.Author.Needs.{needs}
-use Rattle.c_descriptor_writer.proofs.count_in.Statement.{statement}
-use Rattle.c_descriptor_writer.proofs.count_in.Tie as tie
+use Rattle.c_descriptor_writer.proofs.count_in_descriptor.Statement.{statement}
+use Rattle.c_descriptor_writer.proofs.count_in_descriptor.Tie as tie
 
 enum-told : tie.Need-enum-told
 enum-told c = search needs
@@ -51,8 +51,8 @@ returns-6 c = rw (c .before .before .before .before .before .before .d .given .1
 returns-7 : tie.Need-returns-7
 returns-7 c = rw (c .before .before .before .before .before .before .before .d .given .1, c .before .before .before .before .detail .given .1, c .before .mode .given .1)
 
-pub count-in-spec : {M : Type 1} → statement M
-count-in-spec =
+pub count-in-descriptor-spec : {M : Type 1} → statement M
+count-in-descriptor-spec =
     tie.close
     (tie.spec
     enum-told

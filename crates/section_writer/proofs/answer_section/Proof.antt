@@ -1,9 +1,9 @@
--- `section_writer::answer_for`, test by test.
+-- `section_writer::answer_section`, test by test.
 use native.Mathlib.Omega.{arith}
 use Rattle.section_writer.proofs.Answers.{refused-for, short-for, wrote-for, short-enough}
 use borrow.Author.Needs.{needs}
-use Rattle.section_writer.proofs.answer_for.Statement.{statement}
-use Rattle.section_writer.proofs.answer_for.Tie as tie
+use Rattle.section_writer.proofs.answer_section.Statement.{statement}
+use Rattle.section_writer.proofs.answer_section.Tie as tie
 
 is-canonical-loop-requires : tie.Need-is-canonical-loop-requires
 is-canonical-loop-requires c κs = search needs
@@ -50,5 +50,5 @@ returns-3 c =
     let a = l .before .before .args in
     wrote-for (a .header) (a .measured) (a .descriptors .now) (a .room) _ _ (l .is-canonical-loop .ensures) (r .refusal-of .ensures) (i .if1 .left) (c .if2 .left)
 
-pub answer-for-spec : {M : Type 1} → statement M
-answer-for-spec = tie.close (tie.spec is-canonical-loop-requires refusal-of-requires returns add-length add-length-2 returns-2 returns-3)
+pub answer-section-spec : {M : Type 1} → statement M
+answer-section-spec = tie.close (tie.spec is-canonical-loop-requires refusal-of-requires returns add-length add-length-2 returns-2 returns-3)

@@ -11,26 +11,23 @@ use lib.Dec.{leb}
 use lib.ListN.{length, take, drop, length-append, length-drop}
 use lib.Seq.{drop-append-le, take-append-le, drop-append-add}
 use borrow.Author.Tests.{leb-true, leb-false, le-leb, lt-leb}
 use Rattle.table.specs.Bits.{pick, bitsOf, num, field}
 use Rattle.table.specs.Table.{Table, done, uint, view, left, must, inside, list, Answer, got, short, parse}
 use Rattle.table.proofs.Laws.{field-there, view-there}
 use Rattle.table.proofs.Longer.{Blind}
 
 -- ---- what ended before the place
 
-got-forward : {X : Type 0} (t : Table X) (bs : List ℕ) (at : ℕ) (x : X) (m : ℕ) → parse t bs at ≡ got x m → at ≤ m
-got-forward (done y) bs at x m e = let z : at ≡ m = cc in omega arith
-got-forward (uint w p k) bs at x m e =
-    let i = field-there w p k bs at x m e in
-    omega (arith, got-forward (k (field bs at w)) bs (at + w) x m (i .1))
-got-forward (view n p k) bs at x m e =
-    let i = view-there n p k bs at x m e in
-    omega (arith, got-forward (k (at / 8)) bs (at + n * 8) x m (i .1))
-got-forward (left p k) bs at x m e = got-forward (k ((length bs - at) / 8)) bs at x m e
-got-forward (must b t) bs at x m e = got-forward t bs at x m e
-
 pub forward : {X : Type 0} (t : Table X) (bs : List ℕ) (at : ℕ) (x : X) (m : ℕ) → parse t bs at ≡ got x m → at ≤ m
-forward = got-forward
+forward (done y) bs at x m e = let z : at ≡ m = cc in omega arith
+forward (uint w p k) bs at x m e =
+    let i = field-there w p k bs at x m e in
+    omega (arith, forward (k (field bs at w)) bs (at + w) x m (i .1))
+forward (view n p k) bs at x m e =
+    let i = view-there n p k bs at x m e in
+    omega (arith, forward (k (at / 8)) bs (at + n * 8) x m (i .1))
+forward (left p k) bs at x m e = forward (k ((length bs - at) / 8)) bs at x m e
+forward (must b t) bs at x m e = forward t bs at x m e
 
 field-same : (pre r other : List ℕ) (at w : ℕ) → at + w ≤ length pre → field (pre ++ r) at w ≡ field (pre ++ other) at w
 field-same pre r other at w h = ap (num 0) (before r ∙ sym (before other))
@@ -42,13 +39,13 @@ pub swap : {X : Type 0} (t : Table X) → Blind t → (pre r other : List ℕ) (
 swap (done y) b pre r other at x m e h = e
 swap (uint w p k) b pre r other at x m e h =
     let i = field-there w p k (pre ++ r) at x m e in
-    let f : at + w ≤ m = got-forward (k (field (pre ++ r) at w)) (pre ++ r) (at + w) x m (i .1) in
+    let f : at + w ≤ m = forward (k (field (pre ++ r) at w)) (pre ++ r) (at + w) x m (i .1) in
     let g : leb (at + w) (length (pre ++ other)) ≡ true = le-leb (at + w) (length (pre ++ other)) (omega (arith, length-append pre other)) in
     ap₂ (λ (t : Bool) (v : ℕ). pick t (parse (k v) (pre ++ other) (at + w)) (short (w / 8) ((length (pre ++ other) - at) / 8))) g (sym (field-same pre r other at w (omega arith)))
     ∙ swap (k (field (pre ++ r) at w)) (b (field (pre ++ r) at w)) pre r other (at + w) x m (i .1) h
 swap (view n p k) b pre r other at x m e h =
     let i = view-there n p k (pre ++ r) at x m e in
-    let f : at + n * 8 ≤ m = got-forward (k (at / 8)) (pre ++ r) (at + n * 8) x m (i .1) in
+    let f : at + n * 8 ≤ m = forward (k (at / 8)) (pre ++ r) (at + n * 8) x m (i .1) in
     let g : leb (at + n * 8) (length (pre ++ other)) ≡ true = le-leb (at + n * 8) (length (pre ++ other)) (omega (arith, length-append pre other)) in
     ap (λ (t : Bool). pick t (parse (k (at / 8)) (pre ++ other) (at + n * 8)) (short 1 0)) g
     ∙ swap (k (at / 8)) (b (at / 8)) pre r other (at + n * 8) x m (i .1) h

@@ -1,4 +1,4 @@
--- `descriptor::front::read_main`: the same parts in turn.
+-- `descriptor::front::read_mode_and_upid`: the same parts in turn.
 use Prim.Native.Nat.{_+_, _≤_}
 use mathlib.Core.Path.{refl}
 use native.Mathlib.Omega.{arith}
@@ -8,8 +8,8 @@ use Rattle.descriptor.specs.Private.{modeRead, durationRead, upidRead}
 use Rattle.descriptor.proofs.Parts.{told, ends-inside}
 use Rattle.descriptor.proofs.Segmentations.{no-flags, no-mode, no-lasting, no-upid, front-is}
 use borrow.Author.Needs.{needs}
-use Rattle.descriptor.proofs.front.read_main.Statement.{statement}
-use Rattle.descriptor.proofs.front.read_main.Tie as tie
+use Rattle.descriptor.proofs.front.read_mode_and_upid.Statement.{statement}
+use Rattle.descriptor.proofs.front.read_mode_and_upid.Tie as tie
 
 returns : tie.Need-returns
 returns c = let a = c .before .before .args in (0, 0, no-flags (a .s .now) (a .at) (c .if1 .taken))
@@ -107,8 +107,8 @@ returns-5 c =
     let w = told upidRead _ _ _ (u .u .given .1) (read-upid .read-written-upid .ensures) in
     (_, g .0, front-is (a .s .now) (a .at) (k .before .if1 .left) (k .shared-slice-known2 .given (a .at) .fits) _ _ (g .1) _ _ h _ refl _ _ w, refl, refl)
 
-pub read-main-spec : {M : Type 1} → statement M
-read-main-spec =
+pub read-mode-and-upid-spec : {M : Type 1} → statement M
+read-mode-and-upid-spec =
     tie.close
     (tie.spec
     returns

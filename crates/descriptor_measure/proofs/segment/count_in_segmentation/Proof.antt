@@ -1,7 +1,7 @@
--- `descriptor_measure::segment::count_of`, by its mode.
+-- `descriptor_measure::segment::count_in_segmentation`, by its mode.
 use borrow.Author.Needs.{needs}
-use Rattle.descriptor_measure.proofs.segment.count_of.Statement.{statement}
-use Rattle.descriptor_measure.proofs.segment.count_of.Tie as tie
+use Rattle.descriptor_measure.proofs.segment.count_in_segmentation.Statement.{statement}
+use Rattle.descriptor_measure.proofs.segment.count_in_segmentation.Tie as tie
 
 enum-told : tie.Need-enum-told
 enum-told c = search needs
@@ -24,7 +24,7 @@ returns-2 c = rw (c .before .before .before .detail .given .1, c .enum-told2 .gi
 returns-3 : tie.Need-returns-3
 returns-3 c = rw (c .before .before .before .before .detail .given .1, c .before .mode .given .1)
 
-pub count-of-spec : {M : Type 1} → statement M
-count-of-spec =
+pub count-in-segmentation-spec : {M : Type 1} → statement M
+count-in-segmentation-spec =
     tie.close
     (tie.spec enum-told returns enum-known-detail enum-told-2 enum-known-mode returns-2 returns-3)
