@@ -224,8 +224,7 @@ back-refilled : (fore post : List ℕ) (k : ℕ) (u : List ℕ) (c : ℕ) (v : L
 back-refilled fore post k u c v b n e =
     let old : parse back (bitsOf (lead fore k u ++ post)) (length (lead fore k u) * 8) ≡ got b n =
     ap₂ (λ (s : List ℕ) (l : ℕ). parse back (bitsOf s) (l * 8)) (sym (payload-lead fore post k u)) (lead-size fore k u) ∙ e in
-    let r = back-same (lead fore k u) (lead fore c v) post b n old in
-    (
+    let r = back-same (lead fore k u) (lead fore c v) post b n old in (
       r .0,
       ap₂ (λ (s : List ℕ) (l : ℕ). parse back (bitsOf s) (l * 8)) (payload-lead fore post c v) (sym (lead-size fore c v)) ∙ r .1 ∙ ap (λ (l : ℕ). got b (l * 8 + r .0)) (lead-size fore c v),
       omega (arith, r .2, lead-size fore k u),

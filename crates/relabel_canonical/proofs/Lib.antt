@@ -1,0 +1,4 @@
+pub mod Frames
+pub mod Loops
+pub mod Canon
+pub mod Theorems
