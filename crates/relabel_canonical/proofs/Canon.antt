@@ -20,13 +20,13 @@ use Rattle.relabel.proofs.Ats.{some-made}
 use Rattle.relabel.proofs.Cuts.{loop-there}
 use Rattle.relabel.proofs.Mades.{framing}
 use Rattle.relabel.specs.Relabel.{payloadIn, payloadThen, relabelMade}
-use Rattle.relabel_found.proofs.Inserts.{Inserted, inserted, hole-at, byte-in, fore-in, kind-in, post-in}
+use Rattle.relabel_found.proofs.Inserts.{Inserted, inserted, hole-at, byte-in, fore-in, kind-in, upid-in, post-in}
 use Rattle.relabel_found.specs.Found.{foreIn, kindIn, upidIn, postIn}
 use Rattle.relabel_joined.proofs.Theorems.{made-fine, made-byte}
 use Rattle.relabel_joined.specs.Relabel.{kindThen, itemThen}
 use Rattle.relabel_laws.specs.Result.{Result}
 use Rattle.relabel_loop.specs.Loop.{withItem}
-use Rattle.relabel_payload.specs.Payload.{payload, Tabled, Holed}
+use Rattle.relabel_payload.specs.Payload.{payload, upidHead, Tabled, Holed}
 use Rattle.relabel_section.specs.Frame.{sectionWith}
 use Rattle.section.proofs.Acceptance.{none-if-accepted}
 use Rattle.section.specs.Section.{commandLength, commandType, commandBytes, loopLength, loopBytes, sectionOf, conditions, None}
@@ -89,10 +89,19 @@ module _ (s : List ℕ) (offset part k : ℕ) (new r : List ℕ) (bytes : (j : �
       let h = hole-at loop offset loop-byte i in
       let f = made-fine (kindIn pay) (upidIn pay) part k new (x .upid) (x .made-of) in
       let t = h .tabled K (x .upid) (f .0) (made-byte (kindIn pay) (upidIn pay) part k new (x .upid) byte (x .made-of)) (f .1) in
-      subst (λ (l : List ℕ). Tabled pay l (postIn pay) K (x .upid)) (fore-in pay _ _ h)
-      (subst (λ (l : List ℕ). Tabled pay (h .fore) l K (x .upid)) (post-in pay _ _ h) t)
+      rw (← fore-in pay _ _ h, ← post-in pay _ _ h) t
 
-  fits : length (sectionWith s (withItem loop (listed loop offset) d)) ≤ 4096
+  -- and what it reads now
+  pub tabled-now : Tabled pay (foreIn pay) (postIn pay) (kindIn pay) (upidIn pay)
+  tabled-now =
+      let h = hole-at loop offset loop-byte i in
+      let kind : h .kind < 256 = omega (arith, kind-in pay _ _ h, byte-in loop (offset + 6) (getD loop (offset + 1) 0 - 4) loop-byte (upidHead pay)) in
+      four (fore-in pay _ _ h) (post-in pay _ _ h) (kind-in pay _ _ h) (upid-in pay _ _ h) (h .tabled (h .kind) (h .bytes) (h .reported) kind (h .fine))
+    where
+      four : {a b c d u v : List ℕ} {m n : ℕ} → a ≡ b → c ≡ d → m ≡ n → u ≡ v → Tabled pay a c m u → Tabled pay b d n v
+      four e f g h t = rw (← e, ← f, ← g, ← h) t
+
+  pub fits : length (sectionWith s (withItem loop (listed loop offset) d)) ≤ 4096
   fits = ltb-false 4096 _ (none-if-accepted _ _ (x .kept .section) .1 .0)
 
   module _ (c : canonicalSection s ≡ true) where
