@@ -34,14 +34,14 @@ fine-of (Fine q) h = (q, refl)
 fine-of (Refused r) h = absurd h
 
 -- what is made of a UPID is accepted under the type that it then has
-made-fine : (kind : ℕ) (top : List ℕ) (part k : ℕ) (new b : List ℕ) → upidMade kind top part k new ≡ made b → (q : ℕ) × (checkOf (kindThen part kind k) b ≡ Fine q)
+pub made-fine : (kind : ℕ) (top : List ℕ) (part k : ℕ) (new b : List ℕ) → upidMade kind top part k new ≡ made b → (q : ℕ) × (checkOf (kindThen part kind k) b ≡ Fine q)
 unfolding upidOf
 made-fine kind top zero k new b e = fine-of (checkOf k b) (the-upid-itself kind top k new b e .1)
 made-fine kind top (suc i) k new b e =
     let x = every-other-identifier-stays kind top i k new b e in
     fine-of (checkOf kind b) (subst (λ (t : ℕ). Accepted (checkOf t b)) (sym (x .0)) (x .1 .accepted))
 
-made-byte : (kind : ℕ) (top : List ℕ) (part k : ℕ) (new b : List ℕ) → k < 256 → upidMade kind top part k new ≡ made b → kindThen part kind k < 256
+pub made-byte : (kind : ℕ) (top : List ℕ) (part k : ℕ) (new b : List ℕ) → k < 256 → upidMade kind top part k new ≡ made b → kindThen part kind k < 256
 made-byte kind top zero k new b h e = h
 made-byte kind top (suc i) k new b h e = omega (arith, every-other-identifier-stays kind top i k new b e .0)
 

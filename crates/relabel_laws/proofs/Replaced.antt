@@ -26,7 +26,8 @@ use Rattle.table.specs.Writing.{made}
 use Rattle.upid.specs.Cover.{All}
 use Rattle.relabel_laws.specs.Identifiers.{ofUpid, ofPayload, ofItem, each, identifiersIn, upidThen}
 use Rattle.relabel_laws.specs.Result.{Result}
-use Rattle.relabel_laws.proofs.Lists.{each-append, moved-item, moved-each, front-each, lead-within, payload-then, own-item}
+use Rattle.relabel_laws.proofs.Items.{at-listed}
+use Rattle.relabel_laws.proofs.Lists.{each-append, tells, moved-item, moved-each, front-each, lead-within, payload-then, own-item}
 
 -- ---- the UPID
 
@@ -81,10 +82,7 @@ module _ (s : List ℕ) (offset part k : ℕ) (new r : List ℕ) (x : Result s o
 
   old-item : ofItem loop it ≡ ofPayload pay
   unfolding ofItem
-  old-item =
-      let z : stepOf loop offset .next - offset - 6 ≡ getD loop (offset + 1) 0 - 4 = omega (arith, i .next, i .named) in
-      ap (λ (b : Bool). pick b (ofPayload (take (stepOf loop offset .next - offset - 6) (drop (offset + 6) loop))) []) yes
-      ∙ ap (λ (n : ℕ). ofPayload (take n (drop (offset + 6) loop))) z
+  old-item = at-listed tells loop offset (x .there) ∙ ap (λ (b : Bool). pick b (ofPayload pay) []) yes
 
   old-tail : each loop (x .tail) ≡ each behind (itemsOf behind)
   old-tail =

@@ -3,7 +3,7 @@
 --     written-is       the UPID that was read, as bytes
 --     written-puts     any UPID in its place is read
 use Prim.Native.Nat.{ℕ, zero, suc, _+_, _*_, _-_, _/_, _%_, _≤_, _<_}
-use mathlib.Core.Bool.{Bool, true, false}
+use mathlib.Core.Bool.{Bool, true, false, _&&_}
 use mathlib.Core.List.{List, [], _∷_, _++_, append-assoc}
 use mathlib.Core.Path.{_≡_, refl, ap, ap₂, sym, subst, _∙_}
 use native.Mathlib.Omega.{arith}
@@ -11,12 +11,12 @@ use lib.Dec.{eqb}
 use lib.ListN.{length, take, drop, getD, length-append, length-take, length-drop, take-append-drop}
 use lib.Seq.{length-take-le, drop-cons, getD-drop, getD-append-add, getD-append-seam, drop-drop}
 use Rattle.table.specs.Bits.{bitsOf, field, AllBytes}
-use Rattle.table.specs.Table.{Table, done, inside, number, bit, reserved, part, list, got, short, parse}
+use Rattle.table.specs.Table.{Table, done, inside, number, bit, reserved, part, list, got, short, parse, canonical}
 use Rattle.table.specs.declared.View.{View}
 use Rattle.table.proofs.Fields.{byte-field}
 use Rattle.table.proofs.Longer.{Blind}
-use Rattle.table.proofs.Steps.{reads-in, takes-in, reads-number, reads-part, takes-number, takes-part}
-use Rattle.table.proofs.Swaps.{forward, swap, EndsAt, ends-at, ends-inside, ends-pick, ends-list}
+use Rattle.table.proofs.Steps.{reads-in, takes-in, canonical-inside, reads-number, reads-part, takes-number, takes-part}
+use Rattle.table.proofs.Swaps.{forward, swap, swap-form, EndsAt, ends-at, ends-inside, ends-pick, ends-list}
 use Rattle.descriptor.proofs.Longer.{blind-delivery, blind-mode, blind-duration}
 use Rattle.descriptor.specs.Segmentation.{Fore, Moded, Head, deliveryRestrictions, component, blankComponent, mode, duration, writtenUpid, parts, front, head, insertFrom, subSegments, back}
 use Rattle.descriptor.specs.declared.segmentation.DeliveryRestrictionFlags.{DeliveryRestrictionFlags}
@@ -70,6 +70,26 @@ swapped : {X : Type 0} (t : Table X) → Blind t → (bs pre r other : List ℕ)
     → parse t (pre ++ other) at ≡ got x m
 swapped t b bs pre r other at x m e p h = swap t b pre r other at x m (subst (λ (l : List ℕ). parse t l at ≡ got x m) e p) h
 
+-- the canonical form of a table inside another that goes on alike
+forms-in : {X Y : Type 0} (t : Table Y) → Blind t → (q : X → Y) (k : Y → Table X) (bs pre r other : List ℕ) (at : ℕ) (y : Y) (m : ℕ) → bs ≡ pre ++ r → parse t bs at ≡ got y m
+    → m ≤ length pre → canonical (k y) (pre ++ other) m ≡ canonical (k y) bs m → canonical (inside t q k) (pre ++ other) at ≡ canonical (inside t q k) bs at
+forms-in t b q k bs pre r other at y m e p h f =
+    canonical-inside t q k (pre ++ other) at y m (swapped t b bs pre r other at y m e p h)
+    ∙ ap₂ (λ (x z : Bool). x && z)
+    (swap-form t b pre r other at y m (subst (λ (l : List ℕ). parse t l at ≡ got y m) e p) h ∙ ap (λ (l : List ℕ). canonical t l at) (sym e))
+    f
+    ∙ sym (canonical-inside t q k bs at y m p)
+
+-- the UPID has no reserved bits
+upid-form : (bs : List ℕ) (at : ℕ) → canonical writtenUpid bs at ≡ true
+unfolding writtenUpid number part
+upid-form bs at = refl
+
+upid-forms : {X : Type 0} (q : X → SegmentationUpid) (k : SegmentationUpid → Table X) (bs cs : List ℕ) (at : ℕ) (u v : SegmentationUpid) (m n : ℕ) → parse writtenUpid bs at ≡ got u m
+    → parse writtenUpid cs at ≡ got v n → canonical (k v) cs n ≡ canonical (k u) bs m → canonical (inside writtenUpid q k) cs at ≡ canonical (inside writtenUpid q k) bs at
+upid-forms q k bs cs at u v m n e f g =
+    canonical-inside writtenUpid q k cs at v n f ∙ ap₂ (λ (x z : Bool). x && z) (upid-form cs at ∙ sym (upid-form bs at)) g ∙ sym (canonical-inside writtenUpid q k bs at u m e)
+
 -- `make` is what was read before the UPID, which ends before bit `seam`
 pub record Split (bs : List ℕ) (at : ℕ) (f : Fore) (m : ℕ) : Type 0 where
   pub seam : ℕ
@@ -83,6 +103,9 @@ pub record Split (bs : List ℕ) (at : ℕ) (f : Fore) (m : ℕ) : Type 0 where
   pub keeps : (u v : SegmentationUpid) (b : _) → insertFrom (make u .front) v b ≡ insertFrom (f .front) v b
   pub again : (pre r other : List ℕ) → bs ≡ pre ++ r → seam ≤ length pre → (u : SegmentationUpid) (n : ℕ) → parse writtenUpid (pre ++ other) seam ≡ got u n
       → parse front (pre ++ other) at ≡ got (make u) n
+  pub beside : (u : SegmentationUpid) → make u .components ≡ f .components
+  pub form : (pre r other : List ℕ) → bs ≡ pre ++ r → seam ≤ length pre → (u : SegmentationUpid) (n : ℕ) → parse writtenUpid (pre ++ other) seam ≡ got u n
+      → canonical front (pre ++ other) at ≡ canonical front bs at
 
 abbrev made : Bool → Bool → Bool → DeliveryRestrictionFlags → Moded → SegmentationDuration → SegmentationUpid → Fore
 made program lasting free restrictions moded lasts upid =
@@ -147,6 +170,15 @@ split-front bs at f m e =
           ∙ takes-in (duration (r2 .inner)) _ _ (pre ++ other) (r5 .seam) (r6 .inner) (r6 .seam)
           (swapped (duration (r2 .inner)) (blind-duration (r2 .inner)) bs pre r other (r5 .seam) (r6 .inner) (r6 .seam) eq (r6 .front) (omega arith))
           ∙ takes-in writtenUpid _ _ (pre ++ other) (r6 .seam) u n w;
+      beside = λ u. ap (λ (x : Fore). x .components) (z .0);
+      form = λ pre r other eq h u n w.
+          forms-in bit blind-bit _ _ bs pre r other at (r1 .inner) (r1 .seam) eq (r1 .front) (omega arith)
+          (forms-in bit blind-bit _ _ bs pre r other (r1 .seam) (r2 .inner) (r2 .seam) eq (r2 .front) (omega arith)
+          (forms-in bit blind-bit _ _ bs pre r other (r2 .seam) (r3 .inner) (r3 .seam) eq (r3 .front) (omega arith)
+          (forms-in (deliveryRestrictions (r3 .inner)) (blind-delivery (r3 .inner)) _ _ bs pre r other (r3 .seam) (r4 .inner) (r4 .seam) eq (r4 .front) (omega arith)
+          (forms-in (mode (r1 .inner)) (blind-mode (r1 .inner)) _ _ bs pre r other (r4 .seam) (r5 .inner) (r5 .seam) eq (r5 .front) (omega arith)
+          (forms-in (duration (r2 .inner)) (blind-duration (r2 .inner)) _ _ bs pre r other (r5 .seam) (r6 .inner) (r6 .seam) eq (r6 .front) (omega arith)
+          (upid-forms _ _ bs (pre ++ other) (r6 .seam) (r7 .inner) u (r7 .seam) n (r7 .front) w refl))))));
     }
 
 -- ---- the UPID as bytes

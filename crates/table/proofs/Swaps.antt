@@ -1,9 +1,10 @@
 -- Tables over bytes of which a part is replaced.
 --     swap        a table that ended before the place reads the same whatever stands there
 --     shift       a table without views that starts after the place reads the same, moved
+--     swap-form, shift-form    and is canonical where it was
 --     ends-at     a table that takes whole bytes ends where a byte begins
 use Prim.Native.Nat.{ℕ, zero, suc, _+_, _*_, _-_, _/_, _%_, _≤_, _<_}
-use mathlib.Core.Bool.{Bool, true, false}
+use mathlib.Core.Bool.{Bool, true, false, _&&_}
 use mathlib.Core.List.{List, [], _∷_, _++_}
 use mathlib.Core.Path.{_≡_, refl, ap, ap₂, sym, _∙_}
 use native.Mathlib.Omega.{arith}
@@ -12,7 +13,7 @@ use lib.ListN.{length, take, drop, length-append, length-drop}
 use lib.Seq.{drop-append-le, take-append-le, drop-append-add}
 use borrow.Author.Tests.{leb-true, leb-false, le-leb, lt-leb}
 use Rattle.table.specs.Bits.{pick, bitsOf, num, field}
-use Rattle.table.specs.Table.{Table, done, uint, view, left, must, inside, list, Answer, got, short, parse}
+use Rattle.table.specs.Table.{Table, done, uint, view, left, must, inside, list, Answer, got, short, parse, canonical}
 use Rattle.table.proofs.Laws.{field-there, view-there}
 use Rattle.table.proofs.Longer.{Blind}
 
@@ -51,6 +52,18 @@ swap (view n p k) b pre r other at x m e h =
     ∙ swap (k (at / 8)) (b (at / 8)) pre r other (at + n * 8) x m (i .1) h
 swap (left p k) b pre r other at x m e h = absurd b
 swap (must c t) b pre r other at x m e h = swap t b pre r other at x m e h
+
+pub swap-form : {X : Type 0} (t : Table X) → Blind t → (pre r other : List ℕ) (at : ℕ) (x : X) (m : ℕ) → parse t (pre ++ r) at ≡ got x m → m ≤ length pre
+    → canonical t (pre ++ other) at ≡ canonical t (pre ++ r) at
+swap-form (done y) b pre r other at x m e h = refl
+swap-form (uint w p k) b pre r other at x m e h =
+    let i = field-there w p k (pre ++ r) at x m e in
+    let f : at + w ≤ m = got-forward (k (field (pre ++ r) at w)) (pre ++ r) (at + w) x m (i .1) in
+    ap (λ (v : ℕ). canonical (k v) (pre ++ other) (at + w)) (sym (field-same pre r other at w (omega arith)))
+    ∙ swap-form (k (field (pre ++ r) at w)) (b (field (pre ++ r) at w)) pre r other (at + w) x m (i .1) h
+swap-form (view n p k) b pre r other at x m e h = swap-form (k (at / 8)) (b (at / 8)) pre r other (at + n * 8) x m (view-there n p k (pre ++ r) at x m e .1) h
+swap-form (left p k) b pre r other at x m e h = absurd b
+swap-form (must c t) b pre r other at x m e h = ap (λ (d : Bool). c && d) (swap-form t b pre r other at x m e h)
 
 -- ---- what starts after the place
 
@@ -106,6 +119,16 @@ module _ (pre r : List ℕ) where
   shift (left p k) h at =
       ap (λ (n : ℕ). parse (k n) (pre ++ r) (length pre + at)) (left-there at) ∙ shift (k ((length r - at) / 8)) (h ((length r - at) / 8)) at
   shift (must b t) h at = shift t h at
+
+  pub shift-form : {X : Type 0} (t : Table X) → Sightless t → (at : ℕ) → canonical t (pre ++ r) (length pre + at) ≡ canonical t r at
+  shift-form (done y) h at = refl
+  shift-form (uint w p k) h at =
+      let z : length pre + at + w ≡ length pre + (at + w) = omega arith in
+      ap₂ (λ (v n : ℕ). canonical (k v) (pre ++ r) n) (field-there-too at w) z ∙ shift-form (k (field r at w)) (h (field r at w)) (at + w)
+  shift-form (view n p k) h at = absurd h
+  shift-form (left p k) h at =
+      ap (λ (n : ℕ). canonical (k n) (pre ++ r) (length pre + at)) (left-there at) ∙ shift-form (k ((length r - at) / 8)) (h ((length r - at) / 8)) at
+  shift-form (must b t) h at = ap (λ (c : Bool). b && c) (shift-form t h at)
 
 -- ---- where a byte begins
 
