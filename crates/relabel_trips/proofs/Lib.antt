@@ -1,0 +1,5 @@
+pub mod Upids
+pub mod Frames
+pub mod Loops
+pub mod Trips
+pub mod Theorems
