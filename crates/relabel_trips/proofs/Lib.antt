@@ -2,4 +2,5 @@ pub mod Upids
 pub mod Frames
 pub mod Loops
 pub mod Trips
+pub mod UpidCuts
 pub mod Theorems
