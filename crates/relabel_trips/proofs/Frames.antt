@@ -31,14 +31,14 @@ abbrev run : List ℕ → ℕ → ℕ → List ℕ
 run s at n = take n (drop at s)
 
 -- three bytes and the rest, as `bodyWith` has them
-abbrev bodyFrom : ℕ → ℕ → List ℕ → List ℕ
+abbrev pub bodyFrom : ℕ → ℕ → List ℕ → List ℕ
 bodyFrom a q rest = a ∷ ((q * 16 + (length rest + 4) / 256) ∷ ((length rest + 4) % 256 ∷ rest))
 
-body-as : (s loop : List ℕ) → bodyWith s loop ≡ bodyFrom (getD s 0 0) (getD s 1 0 / 16) (restWith s loop)
+pub body-as : (s loop : List ℕ) → bodyWith s loop ≡ bodyFrom (getD s 0 0) (getD s 1 0 / 16) (restWith s loop)
 unfolding bodyWith
 body-as s loop = refl
 
-closed : (s loop : List ℕ) → sectionWith s loop ≡ bodyWith s loop ++ crcBytesOf (bodyWith s loop)
+pub closed : (s loop : List ℕ) → sectionWith s loop ≡ bodyWith s loop ++ crcBytesOf (bodyWith s loop)
 unfolding sectionWith
 closed s loop = refl
 
@@ -57,7 +57,7 @@ module _ (s loop : List ℕ) (x : Section) (is : sectionOf s ≡ SectionRead.Is 
   command-same : commandLength (sectionWith s loop) ≡ commandLength s
   command-same = omega (arith, then .at)
 
-  loop-same : loopLength (sectionWith s loop) ≡ length loop
+  pub loop-same : loopLength (sectionWith s loop) ≡ length loop
   loop-same = sym (then .len)
 
   fore-size : length (foreOf s) ≡ 11 + commandLength s
@@ -156,7 +156,7 @@ two-of a b ha hb =
     let y : (a * 256 + b) / 1 % 256 ≡ b = omega arith in
     ap₂ (λ (u : ℕ) (l : List ℕ). u ∷ l) x (ap (λ (u : ℕ). u ∷ []) y)
 
-run-three : (s : List ℕ) → 3 ≤ length s → take 3 s ≡ getD s 0 0 ∷ (getD s 1 0 ∷ (getD s 2 0 ∷ []))
+pub run-three : (s : List ℕ) → 3 ≤ length s → take 3 s ≡ getD s 0 0 ∷ (getD s 1 0 ∷ (getD s 2 0 ∷ []))
 run-three [] h = absurd (omega arith)
 run-three (a ∷ []) h = absurd (omega arith)
 run-three (a ∷ (b ∷ [])) h = absurd (omega arith)
@@ -172,7 +172,7 @@ module _ (s : List ℕ) (x : Section) (is : sectionOf s ≡ SectionRead.Is x) (b
   abbrev l : ℕ
   l = loopLength s
 
-  loop-long : length (loopBytes s) ≡ loopLength s
+  pub loop-long : length (loopBytes s) ≡ loopLength s
   loop-long = loop-size s 0 bytes (mine .fits) (mine .short)
 
   counted : getD s (14 + c) 0 * 256 + getD s (14 + c + 1) 0 ≡ l
@@ -185,7 +185,7 @@ module _ (s : List ℕ) (x : Section) (is : sectionOf s ≡ SectionRead.Is x) (b
       ap (bigEndian 2) (loop-long ∙ sym counted) ∙ two-of (getD s (14 + c) 0) (getD s (14 + c + 1) 0) (bytes (14 + c)) (bytes (14 + c + 1))
       ∙ sym (run-two s (14 + c) (omega (arith, mine .fits)))
 
-  rest-is : restWith s (loopBytes s) ≡ run s 3 (length s - 7)
+  pub rest-is : restWith s (loopBytes s) ≡ run s 3 (length s - 7)
   rest-is =
       let w : ℕ = length s - 20 - c - l in
       let p : 3 + (11 + c) ≡ 14 + c = omega arith in
@@ -205,7 +205,7 @@ module _ (s : List ℕ) (x : Section) (is : sectionOf s ≡ SectionRead.Is x) (b
   unfolding sectionWith bodyWith
   own-size = length-append (bodyWith s (loopBytes s)) (crcBytesOf (bodyWith s (loopBytes s))) ∙ omega (arith, rest-size, mine .fits)
 
-  checked : crcOf s ≡ 0
+  pub checked : crcOf s ≡ 0
   checked = of (eqb (crcOf s) 0) refl (none-if-accepted s x is .1 .1 .1 .0)
     where
       of : (b : Bool) → eqb (crcOf s) 0 ≡ b → not b ≡ false → crcOf s ≡ 0

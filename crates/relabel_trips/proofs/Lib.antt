@@ -3,4 +3,5 @@ pub mod Frames
 pub mod Loops
 pub mod Trips
 pub mod UpidCuts
+pub mod Cuttings
 pub mod Theorems

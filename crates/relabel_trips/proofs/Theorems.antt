@@ -14,7 +14,9 @@ use Rattle.table.proofs.Bits.{bytes-all}
 use Rattle.table.specs.Writing.{made}
 use Rattle.transport_laws.proofs.Framing.{canonical-laid}
 use Rattle.transport_packet.specs.Sections.{Right}
+use Rattle.relabel_trips.specs.Cutting.{Cutting}
 use Rattle.relabel_trips.specs.Named.{Named, kindAt, identifierAt}
+use Rattle.relabel_trips.proofs.Cuttings as cuttings
 use Rattle.relabel_trips.proofs.Trips as trips
 
 -- ---- there and back
@@ -42,3 +44,11 @@ what-is-written-was-named = trips.was-named
 -- Every canonical section has it.
 pub canonical-is-right : (s : List ℕ) (x : Section) → ((j : ℕ) → getD s j 0 < 256) → sectionOf s ≡ SectionRead.Is x → canonicalSection s ≡ true → Right s
 canonical-is-right s x bytes e c = canonical-laid s x (bytes-all s bytes) e c .right
+
+-- ---- no other byte changes
+
+-- Every byte of the result is a byte of the old section in its order, a byte of the new identifier or of its head, a length that counts it, or the CRC. Nothing is
+-- asked of section_length, reserved bits, spare bytes or the other items.
+pub every-byte-is-accounted-for : (s : List ℕ) (offset part k : ℕ) (new r : List ℕ) → ((j : ℕ) → getD s j 0 < 256) → k < 256 → relabelMade s offset part k new ≡ made r
+    → Cutting s offset part k new r
+every-byte-is-accounted-for = cuttings.cutting

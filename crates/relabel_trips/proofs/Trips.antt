@@ -107,7 +107,7 @@ module _ (s : List ℕ) (offset part : ℕ) (bytes : (j : ℕ) → getD s j 0 < 
 -- ---- what is made
 
 module _ (s : List ℕ) (offset part k : ℕ) (new r : List ℕ) (bytes : (j : ℕ) → getD s j 0 < 256) (byte : k < 256) (e : relabelMade s offset part k new ≡ made r) where
-  t : Result s offset part k new r
+  pub t : Result s offset part k new r
   t = result s offset part k new r bytes byte e
 
   abbrev old : List ℕ
@@ -128,7 +128,7 @@ module _ (s : List ℕ) (offset part k : ℕ) (new r : List ℕ) (bytes : (j : �
   abbrev loopThen : List ℕ
   loopThen = withItem loop (listed loop offset) (segmentationItem payThen)
 
-  fits : length (sectionWith s loopThen) ≤ 4096
+  pub fits : length (sectionWith s loopThen) ≤ 4096
   fits = subst (λ (l : List ℕ). length l ≤ 4096) (t .is) (framing r _ (ap sectionOf (t .is) ∙ t .kept .section) .short)
 
   pub was-named : Named s offset part
