@@ -4,4 +4,5 @@ pub mod Loops
 pub mod Trips
 pub mod UpidCuts
 pub mod Cuttings
+pub mod Rows
 pub mod Theorems
