@@ -134,7 +134,7 @@ module _ (pay : List ℕ) (K : ℕ) (b : List ℕ) (fits : upidHead pay + 2 + si
   fore-long : length (foreIn pay) ≡ upidHead pay
   fore-long = length-take-le (upidHead pay) pay (omega arith)
 
-  head-then : upidHead then ≡ upidHead pay
+  pub head-then : upidHead then ≡ upidHead pay
   head-then = head-same pay (foreIn pay) (K ∷ (length b ∷ (b ++ postIn pay))) refl fore-long (omega (arith, fore-long))
 
   head-long : upidHead then ≡ length (foreIn pay)

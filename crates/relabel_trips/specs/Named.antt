@@ -1,0 +1,45 @@
+-- One identifier of a section, by its item's offset and its number in the item's UPID: whether it is there, its type as it is written, and its bytes.
+use Prim.Native.Nat.{ℕ, zero, suc, _<_}
+use mathlib.Core.Bool.{true}
+use mathlib.Core.List.{List}
+use mathlib.Core.Path.{_≡_}
+use lib.ListN.{length}
+use Rattle.relabel.specs.Relabel.{payloadIn}
+use Rattle.relabel_found.specs.Found.{found, kindIn, upidIn}
+use Rattle.relabel_upid.specs.Kept.{writtenKind}
+use Rattle.relabel_upid.specs.Relabel.{partAt}
+use Rattle.section.specs.Section.{loopBytes, sectionOf}
+use Rattle.section.specs.declared.Section.{Section}
+use Rattle.section.specs.declared.SectionRead.{SectionRead}
+use Rattle.upid.specs.Cover.{bytesOf}
+use Rattle.upid.specs.Upid.{upidOf, partsIn}
+
+-- ---- of a UPID: part 0 is the UPID itself, which is none where it is empty; part i + 1 is the i-th of its MID's parts
+
+abbrev pub Has : ℕ → List ℕ → ℕ → Type 0
+Has kind top zero = 0 < length top
+Has kind top (suc i) = i < length (partsIn (upidOf kind top))
+
+-- 5 and 6 told apart
+abbrev pub kindOf : ℕ → List ℕ → ℕ → ℕ
+kindOf kind top zero = kind
+kindOf kind top (suc i) = writtenKind top (partAt (partsIn (upidOf kind top)) i)
+
+abbrev pub identifierOf : ℕ → List ℕ → ℕ → List ℕ
+identifierOf kind top zero = top
+identifierOf kind top (suc i) = bytesOf top (partAt (partsIn (upidOf kind top)) i)
+
+-- ---- of a section
+
+-- it is accepted, the item at the offset is a segmentation descriptor that is not cancelled, and its UPID has that part
+pub record Named (s : List ℕ) (offset part : ℕ) : Type 0 where
+  pub old : Section
+  pub accepted : sectionOf s ≡ SectionRead.Is old
+  pub item : found (loopBytes s) offset ≡ true
+  pub has : Has (kindIn (payloadIn s offset)) (upidIn (payloadIn s offset)) part
+
+abbrev pub kindAt : List ℕ → ℕ → ℕ → ℕ
+kindAt s offset part = kindOf (kindIn (payloadIn s offset)) (upidIn (payloadIn s offset)) part
+
+abbrev pub identifierAt : List ℕ → ℕ → ℕ → List ℕ
+identifierAt s offset part = identifierOf (kindIn (payloadIn s offset)) (upidIn (payloadIn s offset)) part
