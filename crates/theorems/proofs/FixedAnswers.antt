@@ -114,14 +114,14 @@ use Rattle.section.proofs.read_section.Reads as read-section
 use Rattle.section.proofs.loop_of.Reads as loop-of
 use Rattle.section.proofs.private_bytes_of.Reads as private-bytes-of
 use Rattle.section.proofs.whole.read_whole_section.Reads as read-whole-section
-use Rattle.theorems.specs.FixedAnswers.{Answers, FixedIn}
+use Rattle.theorems.specs.FixedAnswers.{Answers}
 
 -- ---- what the lines say
 
 -- whatever has such a line has one answer: any two that its contract allows are seen to be the same
 pub answers-are-one : {K : Type 0} {A R E : K → Type 0} {asked : (κ : K) → A κ → Type 0} {learnt : (κ : K) → A κ → R κ → E κ → Type 0} {S : Type 0} {see : (κ : K) → R κ → E κ → S} {by : (κ : K) → A κ → S}
-    → Answers asked learnt see by → FixedIn asked learnt see
-answers-are-one h = record { takes-any = h .takes-any; seen = λ κ a x y e f p q. h .is κ a x e p ∙ sym (h .is κ a y f q) }
+    → Answers asked learnt see by → (κ : K) (a : A κ) (x y : R κ) (e f : E κ) → learnt κ a x e → learnt κ a y f → see κ x e ≡ see κ y f
+answers-are-one h κ a x y e f p q = h .is κ a x e p ∙ sym (h .is κ a y f q)
 
 -- ---- an answer is known by what it tells
 pub network-told : (x y : NetworkRead) → networkAnswer x ≡ networkAnswer y → x ≡ y

@@ -11,13 +11,3 @@ module _ {K : Type 0} {A R E : K → Type 0} (asked : (κ : K) → A κ → Type
   pub record Answers {S : Type 0} (see : (κ : K) → R κ → E κ → S) (by : (κ : K) → A κ → S) : Type 0 where
     pub takes-any : (κ : K) (a : A κ) → asked κ a
     pub is : (κ : K) (a : A κ) (r : R κ) (e : E κ) → learnt κ a r e → see κ r e ≡ by κ a
-
-  -- The same without a definition's name: what is seen is the same in any two answers that the contract allows
-  pub record FixedIn {S : Type 0} (see : (κ : K) → R κ → E κ → S) : Type 0 where
-    pub takes-any : (κ : K) (a : A κ) → asked κ a
-    pub seen : (κ : K) (a : A κ) (x y : R κ) (e f : E κ) → learnt κ a x e → learnt κ a y f → see κ x e ≡ see κ y f
-
-  -- of the answer itself
-  pub record Fixed : Type 0 where
-    pub takes-any : (κ : K) (a : A κ) → asked κ a
-    pub one-answer : (κ : K) (a : A κ) (x y : R κ) (e f : E κ) → learnt κ a x e → learnt κ a y f → x ≡ y

@@ -1,0 +1,5 @@
+pub mod Numbers
+pub mod Replaced
+pub mod Answered
+pub mod Contracts
+pub mod Theorems
