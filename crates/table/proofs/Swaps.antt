@@ -58,7 +58,7 @@ pub swap-form : {X : Type 0} (t : Table X) → Blind t → (pre r other : List �
 swap-form (done y) b pre r other at x m e h = refl
 swap-form (uint w p k) b pre r other at x m e h =
     let i = field-there w p k (pre ++ r) at x m e in
-    let f : at + w ≤ m = got-forward (k (field (pre ++ r) at w)) (pre ++ r) (at + w) x m (i .1) in
+    let f : at + w ≤ m = forward (k (field (pre ++ r) at w)) (pre ++ r) (at + w) x m (i .1) in
     ap (λ (v : ℕ). canonical (k v) (pre ++ other) (at + w)) (sym (field-same pre r other at w (omega arith)))
     ∙ swap-form (k (field (pre ++ r) at w)) (b (field (pre ++ r) at w)) pre r other (at + w) x m (i .1) h
 swap-form (view n p k) b pre r other at x m e h = swap-form (k (at / 8)) (b (at / 8)) pre r other (at + n * 8) x m (view-there n p k (pre ++ r) at x m e .1) h
