@@ -16,9 +16,10 @@ use Rattle.table.proofs.Bits.{bytes-all}
 use Rattle.table.specs.Writing.{made}
 use Rattle.transport_laws.proofs.Framing.{canonical-laid}
 use Rattle.transport_packet.specs.Sections.{Right}
-use Rattle.relabel_trips.specs.Cutting.{Cutting}
-use Rattle.relabel_trips.specs.Incident.{incident, relabelled, news, eight, other}
+use Rattle.relabel_trips.specs.Cutting.{CutAt, ByByte}
+use Rattle.relabel_trips.specs.Incident.{incident, incidentThen, newBytes, eightBytes, otherBytes}
 use Rattle.relabel_trips.specs.Named.{Named, kindAt, identifierAt}
+use Rattle.relabel_trips.proofs.ByByte as by-byte
 use Rattle.relabel_trips.proofs.Cuttings as cuttings
 use Rattle.relabel_trips.proofs.Rows as rows
 use Rattle.relabel_trips.proofs.Trips as trips
@@ -54,20 +55,25 @@ canonical-is-right s x bytes e c = canonical-laid s x (bytes-all s bytes) e c .r
 -- Every byte of the result is a byte of the old section in its order, a byte of the new identifier or of its head, a length that counts it, or the CRC. Nothing is
 -- asked of section_length, reserved bits, spare bytes or the other items.
 pub every-byte-is-accounted-for : (s : List ℕ) (offset part k : ℕ) (new r : List ℕ) → ((j : ℕ) → getD s j 0 < 256) → k < 256 → relabelMade s offset part k new ≡ made r
-    → Cutting s offset part k new r
+    → CutAt s offset part k new r
 every-byte-is-accounted-for = cuttings.cutting
+
+-- The same of the two sections themselves.
+pub every-byte-by-its-place : (s : List ℕ) (offset part k : ℕ) (new r : List ℕ) → ((j : ℕ) → getD s j 0 < 256) → k < 256 → relabelMade s offset part k new ≡ made r
+    → ByByte s offset part k new r
+every-byte-by-its-place s offset part k new r bytes byte e = by-byte.by-byte s offset part k new r (cuttings.cutting s offset part k new r bytes byte e)
 
 -- ---- the incident
 
 -- The incident's cue, whose MID has identifiers of 8 and of 12 bytes: the eight-byte part becomes twelve bytes long, every length around it and the CRC are mended,
 -- and the other's twelve bytes are untouched; relabelled back it is the same cue, whose section_length was right.
-pub the-incident : (relabelMade incident 0 1 3 news ≡ made relabelled)
-    × (take 12 (drop 47 incident) ≡ other) × (take 12 (drop 51 relabelled) ≡ other)
-    × (relabelMade relabelled 0 1 8 eight ≡ made incident) × Right incident
+pub the-incident : (relabelMade incident 0 1 3 newBytes ≡ made incidentThen)
+    × (take 12 (drop 47 incident) ≡ otherBytes) × (take 12 (drop 51 incidentThen) ≡ otherBytes)
+    × (relabelMade incidentThen 0 1 8 eightBytes ≡ made incident) × Right incident
 the-incident = (rows.becomes, rows.untouched .0, rows.untouched .1, rows.becomes-again, rows.incident-right)
 
 -- The lists of its identifiers: the same but for that one, and its type and bytes by the definitions above.
-pub the-incidents-identifiers : (identifiersIn incident ≡ record { level = 1; kind = 8; bytes = eight } ∷ (record { level = 1; kind = 3; bytes = other } ∷ []))
-    × (identifiersIn relabelled ≡ record { level = 1; kind = 3; bytes = news } ∷ (record { level = 1; kind = 3; bytes = other } ∷ []))
-    × (kindAt incident 0 1 ≡ 8) × (identifierAt incident 0 1 ≡ eight)
+pub the-incidents-identifiers : (identifiersIn incident ≡ record { level = 1; kind = 8; bytes = eightBytes } ∷ (record { level = 1; kind = 3; bytes = otherBytes } ∷ []))
+    × (identifiersIn incidentThen ≡ record { level = 1; kind = 3; bytes = newBytes } ∷ (record { level = 1; kind = 3; bytes = otherBytes } ∷ []))
+    × (kindAt incident 0 1 ≡ 8) × (identifierAt incident 0 1 ≡ eightBytes)
 the-incidents-identifiers = (rows.listed-before, rows.listed-after, rows.incident-named .0, rows.incident-named .1)

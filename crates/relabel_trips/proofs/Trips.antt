@@ -29,7 +29,7 @@ use Rattle.table.specs.Writing.{Made, made, refused}
 use Rattle.transport_packet.specs.Sections.{Right}
 use Rattle.upid.specs.Private.{Accepted}
 use Rattle.upid.specs.Upid.{checkOf}
-use Rattle.relabel_trips.specs.Named.{Has, Named, kindAt, identifierAt}
+use Rattle.relabel_trips.specs.Named.{HasPart, Named, kindAt, identifierAt}
 use Rattle.relabel_trips.proofs.Frames.{twice, set-right, own-size, own, new-loop-short}
 use Rattle.relabel_trips.proofs.Loops.{pay-short, own-item, pay-then, found-then, again, fore-then, kind-then, upid-then, post-then}
 use Rattle.relabel_trips.proofs.Upids.{was-there, same-upid, back-upid, kind-back, kind-same}
