@@ -326,9 +326,9 @@ module _ (s : List ℕ) (offset part k : ℕ) (new r : List ℕ) (bytes : (j : �
       subst (λ (l : List ℕ). Agree ls 0 F₁ (fronted l (foreOf s) (bigEndian 2 (length loop)) X (length (cuei ++ old)) named)) (sym three-is)
       (agree-append _ _ (agree-three (getD s 0 0) _ _ _ _ _) (let z : 0 + 3 ≡ 3 = omega arith in z)
       (agree-append _ _ (agree-same ls 3 (foreOf s)) (let z : 3 + length (foreOf s) ≡ 14 + c = omega (arith, fore-long) in z)
-      (agree-append _ _ (agree-two 0 _ (14 + c) (14 + c + 1) (14 + c) _ _ _ _ refl refl) (let z : 14 + c + 2 ≡ 16 + c = omega arith in z)
+      (agree-append _ _ (agree-two 0 _ _ _ (14 + c) _ _ _ _ refl refl) (let z : 14 + c + 2 ≡ 16 + c = omega arith in z)
       (agree-append _ _ (agree-same ls (16 + c) X) (let z : 16 + c + length X ≡ 16 + c + offset = omega (arith, X-long) in z)
-      (agree-item 0 _ (14 + c) (14 + c + 1) (16 + c + offset + 1) (16 + c + offset) 2 _ _ named refl)))))
+      (agree-item 0 _ _ _ _ (16 + c + offset) 2 _ _ named refl)))))
 
   agree-upid : Agree ls (upidPlace s offset) (u .fixed) (u .front)
   agree-upid =

@@ -104,6 +104,13 @@ module _ (s : List ℕ) (offset part : ℕ) (bytes : (j : ℕ) → getD s j 0 < 
   pub nothing-changes : Right s → relabelMade s offset part (kindAt s offset part) (identifierAt s offset part) ≡ made s
   nothing-changes right = mends ∙ ap made (own s (n .old) (n .accepted) bytes right)
 
+  pub only-then : relabelMade s offset part (kindAt s offset part) (identifierAt s offset part) ≡ made s → Right s
+  only-then e =
+      let same : made (sectionWith s (loopBytes s)) ≡ made s = sym mends ∙ e in
+      let is : sectionWith s (loopBytes s) ≡ s = cc in
+      subst Right is
+      (set-right s (loopBytes s) (n .old) (n .accepted) (omega (arith, own-size s (n .old) (n .accepted) bytes, framing s (n .old) (n .accepted) .short)))
+
 -- ---- what is made
 
 module _ (s : List ℕ) (offset part k : ℕ) (new r : List ℕ) (bytes : (j : ℕ) → getD s j 0 < 256) (byte : k < 256) (e : relabelMade s offset part k new ≡ made r) where

@@ -1,5 +1,5 @@
--- The section and the relabelled section, cut at the identifier: every byte of the result is a byte of the old section in its order, a byte of the new identifier
--- with its head, a length that counts it, or the CRC.
+-- The section and the relabelled section, cut at the identifier: every byte of the result is a byte of the old section in its order, a byte of the new
+-- identifier with its head, a length that counts it, or the CRC.
 use Prim.Native.Nat.{ℕ, zero, suc, _+_, _-_, _/_, _≤_, _<_}
 use mathlib.Core.List.{List, [], _∷_, _++_, map}
 use mathlib.Core.Path.{_≡_}
@@ -46,7 +46,8 @@ lengthsWithin kind top (suc i) = 1 ∷ lengthsAround (partAt (partsIn (upidOf ki
 -- the places of those of one byte: the item's, and these
 abbrev pub byteLengths : List ℕ → ℕ → ℕ → List ℕ
 byteLengths s offset part =
-    (16 + commandLength s + offset + 1) ∷ map (λ (j : ℕ). upidPlace s offset + j) (lengthsWithin (kindIn (payloadIn s offset)) (upidIn (payloadIn s offset)) part)
+    (16 + commandLength s + offset + 1)
+    ∷ map (λ (j : ℕ). upidPlace s offset + j) (lengthsWithin (kindIn (payloadIn s offset)) (upidIn (payloadIn s offset)) part)
 
 -- every byte that holds one: before them the two bytes of section_length, and the two of descriptor_loop_length
 abbrev pub lengthBytes : List ℕ → ℕ → ℕ → List ℕ
@@ -80,6 +81,10 @@ pub record CutAt (s : List ℕ) (offset part k : ℕ) (new r : List ℕ) : Type 
   pub loop : loopLength r ≡ loopLength s - length (identifierAt s offset part) + length new
   pub lengths : All (λ (at : ℕ). getD r at 0 ≡ getD s at 0 - length (identifierAt s offset part) + length new) (byteLengths s offset part)
 
+-- how many bytes stand after it, the CRC excluded
+abbrev pub afterSize : List ℕ → ℕ → ℕ → ℕ
+afterSize s offset part = length s - 4 - (headAt s offset part + 2 + length (identifierAt s offset part))
+
 -- The same of the two sections themselves: the place of the identifier's head is `headAt`, and it has two bytes.
 pub record ByByte (s : List ℕ) (offset part k : ℕ) (new r : List ℕ) : Type 0 where
   -- as many bytes as there are more or less of the identifier; what stands before, the identifier, what stands after, and the CRC are all
@@ -92,7 +97,7 @@ pub record ByByte (s : List ℕ) (offset part k : ℕ) (new r : List ℕ) : Type
   pub counted : getD r (headAt s offset part + 1) 0 ≡ length new
   pub run : take (length new) (drop (headAt s offset part + 2) r) ≡ new
   -- then all that stood after the old one, up to the CRC
-  pub after : take (length s - 4 - (headAt s offset part + 2 + length (identifierAt s offset part))) (drop (headAt s offset part + 2 + length new) r)
-      ≡ take (length s - 4 - (headAt s offset part + 2 + length (identifierAt s offset part))) (drop (headAt s offset part + 2 + length (identifierAt s offset part)) s)
+  pub after : take (afterSize s offset part) (drop (headAt s offset part + 2 + length new) r)
+      ≡ take (afterSize s offset part) (drop (headAt s offset part + 2 + length (identifierAt s offset part)) s)
   -- and the CRC of all that
   pub crc : drop (length r - 4) r ≡ crcBytesOf (take (length r - 4) r)
