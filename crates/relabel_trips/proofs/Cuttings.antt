@@ -27,7 +27,7 @@ use Rattle.table.specs.Writing.{made}
 use Rattle.upid.proofs.Laws.{by-cases}
 use Rattle.upid.proofs.Tree.{all-map}
 use Rattle.upid.specs.Cover.{All, none, more}
-use Rattle.relabel_trips.specs.Cutting.{upidPlace, lengthsOf, headAt, byteLengths, lengthBytes, NotIn, closed, Cutting}
+use Rattle.relabel_trips.specs.Cutting.{upidPlace, lengthsWithin, headAt, byteLengths, lengthBytes, NotIn, withCrc, CutAt}
 use Rattle.relabel_trips.specs.Named.{kindAt, identifierAt}
 use Rattle.relabel_trips.proofs.Frames as frames
 use Rattle.relabel_trips.proofs.Frames.{bodyFrom, body-as, run-three, rest-is, checked, loop-same, loop-long, high-same}
@@ -211,11 +211,11 @@ module _ (s : List ℕ) (offset part k : ℕ) (new r : List ℕ) (bytes : (j : �
       ∙ ap (λ (l : List ℕ). take 3 s ++ (foreOf s ++ (bigEndian 2 (length loop) ++ (l ++ spareOf s)))) item
       ∙ glue (take 3 s) (foreOf s) (bigEndian 2 (length loop)) X cuei (foreIn old) behind (spareOf s) (kindIn old ∷ (length (upidIn old) ∷ upidIn old)) (postIn old) (length (cuei ++ old))
 
-  old-is : s ≡ closed ((F₀ ++ u .front) ++ (kindAt s offset part ∷ (length b₀ ∷ (b₀ ++ after))))
+  old-is : s ≡ withCrc ((F₀ ++ u .front) ++ (kindAt s offset part ∷ (length b₀ ∷ (b₀ ++ after))))
   unfolding after
   old-is =
       crc-last s (length s - 4) (omega (arith, fr .fits)) bytes (checked s (t .old) (t .accepted) bytes)
-      ∙ ap closed (old-body ∙ ap (λ (l : List ℕ). F₀ ++ (l ++ (postIn old ++ (behind ++ spareOf s)))) (u .old)
+      ∙ ap withCrc (old-body ∙ ap (λ (l : List ℕ). F₀ ++ (l ++ (postIn old ++ (behind ++ spareOf s)))) (u .old)
       ∙ glue-cut F₀ (u .front) (kindAt s offset part) (length b₀) b₀ (u .rest) (postIn old ++ (behind ++ spareOf s)))
 
   new-body : bodyWith s loopThen ≡ F₁ ++ ((K ∷ (length (t .upid) ∷ t .upid)) ++ (postIn old ++ (behind ++ spareOf s)))
@@ -225,11 +225,11 @@ module _ (s : List ℕ) (offset part k : ℕ) (new r : List ℕ) (bytes : (j : �
       ∙ glue (getD s 0 0 ∷ ((getD s 1 0 / 16 * 16 + (length (restWith s loopThen) + 4) / 256) ∷ ((length (restWith s loopThen) + 4) % 256 ∷ []))) (foreOf s) (bigEndian 2 (length loopThen)) X cuei (foreIn old) behind (spareOf s)
       (K ∷ (length (t .upid) ∷ t .upid)) (postIn old) (length (cuei ++ payThen))
 
-  new-is : r ≡ closed ((F₁ ++ u .fixed) ++ (k ∷ (length new ∷ (new ++ after))))
+  new-is : r ≡ withCrc ((F₁ ++ u .fixed) ++ (k ∷ (length new ∷ (new ++ after))))
   unfolding after
   new-is =
       t .is ∙ frames.closed s loopThen
-      ∙ ap closed (new-body ∙ ap (λ (l : List ℕ). F₁ ++ (l ++ (postIn old ++ (behind ++ spareOf s)))) (u .then)
+      ∙ ap withCrc (new-body ∙ ap (λ (l : List ℕ). F₁ ++ (l ++ (postIn old ++ (behind ++ spareOf s)))) (u .then)
       ∙ glue-cut F₁ (u .fixed) k (length new) new (u .rest) (postIn old ++ (behind ++ spareOf s)))
 
   -- ---- lengths
@@ -326,9 +326,9 @@ module _ (s : List ℕ) (offset part k : ℕ) (new r : List ℕ) (bytes : (j : �
       subst (λ (l : List ℕ). Agree ls 0 F₁ (fronted l (foreOf s) (bigEndian 2 (length loop)) X (length (cuei ++ old)) named)) (sym three-is)
       (agree-append _ _ (agree-three (getD s 0 0) _ _ _ _ _) (let z : 0 + 3 ≡ 3 = omega arith in z)
       (agree-append _ _ (agree-same ls 3 (foreOf s)) (let z : 3 + length (foreOf s) ≡ 14 + c = omega (arith, fore-long) in z)
-      (agree-append _ _ (agree-two 0 _ (14 + c) (14 + c + 1) (14 + c) _ _ _ _ refl refl) (let z : 14 + c + 2 ≡ 16 + c = omega arith in z)
+      (agree-append _ _ (agree-two 0 _ _ _ (14 + c) _ _ _ _ refl refl) (let z : 14 + c + 2 ≡ 16 + c = omega arith in z)
       (agree-append _ _ (agree-same ls (16 + c) X) (let z : 16 + c + length X ≡ 16 + c + offset = omega (arith, X-long) in z)
-      (agree-item 0 _ (14 + c) (14 + c + 1) (16 + c + offset + 1) (16 + c + offset) 2 _ _ named refl)))))
+      (agree-item 0 _ _ _ _ (16 + c + offset) 2 _ _ named refl)))))
 
   agree-upid : Agree ls (upidPlace s offset) (u .fixed) (u .front)
   agree-upid =
@@ -336,7 +336,7 @@ module _ (s : List ℕ) (offset part k : ℕ) (new r : List ℕ) (bytes : (j : �
         size = u .size;
         same = λ j h. u .stays j
             (all-map (λ at g. λ z. g (ap (λ (i : ℕ). upidPlace s offset + i) z))
-            (all-unmap (λ (i : ℕ). upidPlace s offset + i) (lengthsOf (kindIn old) (upidIn old) part) (all-tail (all-tail (all-tail (all-tail (all-tail h)))))));
+            (all-unmap (λ (i : ℕ). upidPlace s offset + i) (lengthsWithin (kindIn old) (upidIn old) part) (all-tail (all-tail (all-tail (all-tail (all-tail h)))))));
       }
 
   agree-all : Agree ls 0 (F₁ ++ u .fixed) (F₀ ++ u .front)
@@ -379,7 +379,7 @@ module _ (s : List ℕ) (offset part k : ℕ) (new r : List ℕ) (bytes : (j : �
       ∙ h .1
       ∙ ap (λ (m : ℕ). m - length b₀ + length new) (sym (cut-byte s F₀ (u .front) old-rest (upidPlace s offset) j old-split (sym F₀-long) (h .0)))
 
-  pub cutting : Cutting s offset part k new r
+  pub cutting : CutAt s offset part k new r
   unfolding t
   cutting =
       record {
@@ -396,5 +396,5 @@ module _ (s : List ℕ) (offset part k : ℕ) (new r : List ℕ) (bytes : (j : �
         loop = loop-then;
         lengths =
             more {x = 16 + c + offset + 1} item-counts
-            (all-remap {P = Counts} (λ (j : ℕ). upidPlace s offset + j) (lengthsOf (kindIn old) (upidIn old) part) (all-map (λ j h. upid-counts j h) (u .lengths)));
+            (all-remap {P = Counts} (λ (j : ℕ). upidPlace s offset + j) (lengthsWithin (kindIn old) (upidIn old) part) (all-map (λ j h. upid-counts j h) (u .lengths)));
       }

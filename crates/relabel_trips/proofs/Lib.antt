@@ -4,5 +4,6 @@ pub mod Loops
 pub mod Trips
 pub mod UpidCuts
 pub mod Cuttings
+pub mod ByByte
 pub mod Rows
 pub mod Theorems

@@ -29,7 +29,7 @@ use Rattle.table.specs.Writing.{Made, made, refused}
 use Rattle.transport_packet.specs.Sections.{Right}
 use Rattle.upid.specs.Private.{Accepted}
 use Rattle.upid.specs.Upid.{checkOf}
-use Rattle.relabel_trips.specs.Named.{Has, Named, kindAt, identifierAt}
+use Rattle.relabel_trips.specs.Named.{HasPart, Named, kindAt, identifierAt}
 use Rattle.relabel_trips.proofs.Frames.{twice, set-right, own-size, own, new-loop-short}
 use Rattle.relabel_trips.proofs.Loops.{pay-short, own-item, pay-then, found-then, again, fore-then, kind-then, upid-then, post-then}
 use Rattle.relabel_trips.proofs.Upids.{was-there, same-upid, back-upid, kind-back, kind-same}
@@ -103,6 +103,13 @@ module _ (s : List ℕ) (offset part : ℕ) (bytes : (j : ℕ) → getD s j 0 < 
 
   pub nothing-changes : Right s → relabelMade s offset part (kindAt s offset part) (identifierAt s offset part) ≡ made s
   nothing-changes right = mends ∙ ap made (own s (n .old) (n .accepted) bytes right)
+
+  pub only-then : relabelMade s offset part (kindAt s offset part) (identifierAt s offset part) ≡ made s → Right s
+  only-then e =
+      let same : made (sectionWith s (loopBytes s)) ≡ made s = sym mends ∙ e in
+      let is : sectionWith s (loopBytes s) ≡ s = cc in
+      subst Right is
+      (set-right s (loopBytes s) (n .old) (n .accepted) (omega (arith, own-size s (n .old) (n .accepted) bytes, framing s (n .old) (n .accepted) .short)))
 
 -- ---- what is made
 

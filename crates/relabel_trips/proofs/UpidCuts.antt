@@ -24,8 +24,8 @@ use Rattle.upid.specs.Private.{Accepted}
 use Rattle.upid.specs.Upid.{checkOf, upidOf, partsIn}
 use Rattle.upid.specs.declared.Part.{Part}
 use Rattle.upid.specs.declared.PartList.{PartList}
-use Rattle.relabel_trips.specs.Cutting.{headOf, lengthsAround, lengthsOf, NotIn}
-use Rattle.relabel_trips.specs.Named.{Has, kindOf, identifierOf}
+use Rattle.relabel_trips.specs.Cutting.{headWithin, lengthsAround, lengthsWithin, NotIn}
+use Rattle.relabel_trips.specs.Named.{HasPart, kindWithin, identifierWithin}
 use Rattle.relabel_trips.proofs.Upids.{same-upid}
 
 -- ---- lists of places
@@ -93,14 +93,14 @@ pub record UpidCut (kind : ℕ) (top : List ℕ) (part k : ℕ) (new b : List �
   pub front : List ℕ
   pub fixed : List ℕ
   pub rest : List ℕ
-  pub old : kind ∷ (length top ∷ top) ≡ front ++ (kindOf kind top part ∷ (length (identifierOf kind top part) ∷ (identifierOf kind top part ++ rest)))
+  pub old : kind ∷ (length top ∷ top) ≡ front ++ (kindWithin kind top part ∷ (length (identifierWithin kind top part) ∷ (identifierWithin kind top part ++ rest)))
   pub then : kindThen part kind k ∷ (length b ∷ b) ≡ fixed ++ (k ∷ (length new ∷ (new ++ rest)))
-  pub place : length front ≡ headOf kind top part
+  pub place : length front ≡ headWithin kind top part
   pub size : length fixed ≡ length front
-  pub stays : (j : ℕ) → NotIn (lengthsOf kind top part) j → getD fixed j 0 ≡ getD front j 0
-  pub fits : length (identifierOf kind top part) ≤ length top
-  pub long : length b ≡ length top - length (identifierOf kind top part) + length new
-  pub lengths : All (λ (j : ℕ). (j < length front) × (getD fixed j 0 ≡ getD front j 0 - length (identifierOf kind top part) + length new)) (lengthsOf kind top part)
+  pub stays : (j : ℕ) → NotIn (lengthsWithin kind top part) j → getD fixed j 0 ≡ getD front j 0
+  pub fits : length (identifierWithin kind top part) ≤ length top
+  pub long : length b ≡ length top - length (identifierWithin kind top part) + length new
+  pub lengths : All (λ (j : ℕ). (j < length front) × (getD fixed j 0 ≡ getD front j 0 - length (identifierWithin kind top part) + length new)) (lengthsWithin kind top part)
 
 -- two bytes before a list
 two-before : (a b : ℕ) (s : List ℕ) (j : ℕ) → 1 ≤ j → getD (a ∷ (b ∷ s)) (j + 1) 0 ≡ getD s (j - 1) 0
@@ -131,10 +131,10 @@ module _ (kind : ℕ) (top : List ℕ) (i k : ℕ) (new b : List ℕ) (e : upidM
   qs = take i ps
 
   abbrev kd : ℕ
-  kd = kindOf kind top (suc i)
+  kd = kindWithin kind top (suc i)
 
   abbrev bs : List ℕ
-  bs = identifierOf kind top (suc i)
+  bs = identifierWithin kind top (suc i)
 
   abbrev F : List ℕ
   F = take (p .start - 2) top
@@ -212,12 +212,12 @@ module _ (kind : ℕ) (top : List ℕ) (i k : ℕ) (new b : List ℕ) (e : upidM
       all-map (λ q x. λ a f. x .0 a (let z : q .start + 1 ≡ suc (suc j) = omega (arith, x .1 .0, f) in z)) (all-both qs (all-around (λ (at : ℕ). at ≡ suc (suc j) → ⊥) p qs h) rooms) in
       mended-elsewhere p (length new) qs F j apart ∙ sym (mended-elsewhere p (length bs) qs F j apart)
 
-  part-stays : (j : ℕ) → NotIn (lengthsOf kind top (suc i)) j → getD new-front j 0 ≡ getD old-front j 0
+  part-stays : (j : ℕ) → NotIn (lengthsWithin kind top (suc i)) j → getD new-front j 0 ≡ getD old-front j 0
   part-stays zero h = refl
   part-stays (suc zero) (more h hs) = absurd (h refl)
   part-stays (suc (suc j)) (more h hs) = elsewhere j hs
 
-  part-lengths : All (λ (j : ℕ). (j < length old-front) × (getD new-front j 0 ≡ getD old-front j 0 - length bs + length new)) (lengthsOf kind top (suc i))
+  part-lengths : All (λ (j : ℕ). (j < length old-front) × (getD new-front j 0 ≡ getD old-front j 0 - length bs + length new)) (lengthsWithin kind top (suc i))
   unfolding Room
   part-lengths =
       more {x = 1} (omega (arith, front-long (length top) (length bs), begins), long-is)

@@ -19,7 +19,7 @@ use Rattle.table.specs.Writing.{Made, made, refused}
 use Rattle.upid.proofs.Walks.{check-short}
 use Rattle.upid.specs.Private.{Accepted}
 use Rattle.upid.specs.Upid.{readOf, checkOf, upidOf}
-use Rattle.relabel_trips.specs.Named.{Has, kindOf, identifierOf}
+use Rattle.relabel_trips.specs.Named.{HasPart, kindWithin, identifierWithin}
 
 -- ---- the UPID itself
 
@@ -45,27 +45,27 @@ module _ (kind : ℕ) (top : List ℕ) (k : ℕ) (new b : List ℕ) where
       go false et false eu m h = zero-one cc
       go false et true eu m h = (let z : length top ≡ 0 → ⊥ = eqb-false (length top) 0 et in omega arith, taken-accepted _ eu)
 
-pub was-there : (kind : ℕ) (top : List ℕ) (part k : ℕ) (new b : List ℕ) → upidMade kind top part k new ≡ made b → Has kind top part
+pub was-there : (kind : ℕ) (top : List ℕ) (part k : ℕ) (new b : List ℕ) → upidMade kind top part k new ≡ made b → HasPart kind top part
 was-there kind top zero k new b e = was-whole kind top k new b e .0
 was-there kind top (suc i) k new b e = made-able kind top i k new b e .0 .there
 
 -- ---- the identifier that is there
 
-pub same-upid : (kind : ℕ) (top : List ℕ) (part : ℕ) → Accepted (checkOf kind top) → Has kind top part
-    → upidMade kind top part (kindOf kind top part) (identifierOf kind top part) ≡ made top
+pub same-upid : (kind : ℕ) (top : List ℕ) (part : ℕ) → Accepted (checkOf kind top) → HasPart kind top part
+    → upidMade kind top part (kindWithin kind top part) (identifierWithin kind top part) ≡ made top
 unfolding upidOf
 same-upid kind top zero a h = whole-becomes kind top kind top a h a h
 same-upid kind top (suc i) a h = of-mid kind (has-parts kind top i h .0) a h
   where
-    of-mid : (kind : ℕ) → kind ≡ 13 → Accepted (checkOf kind top) → Has kind top (suc i) → upidMade kind top (suc i) (kindOf kind top (suc i)) (identifierOf kind top (suc i)) ≡ made top
+    of-mid : (kind : ℕ) → kind ≡ 13 → Accepted (checkOf kind top) → HasPart kind top (suc i) → upidMade kind top (suc i) (kindWithin kind top (suc i)) (identifierWithin kind top (suc i)) ≡ made top
     of-mid kind e a h =
-        subst (λ (t : ℕ). upidMade t top (suc i) (kindOf t top (suc i)) (identifierOf t top (suc i)) ≡ made top) (sym e)
-        (the-same-identifier-changes-nothing top i (subst (λ (t : ℕ). Accepted (checkOf t top)) e a) (subst (λ (t : ℕ). Has t top (suc i)) e h))
+        subst (λ (t : ℕ). upidMade t top (suc i) (kindWithin t top (suc i)) (identifierWithin t top (suc i)) ≡ made top) (sym e)
+        (the-same-identifier-changes-nothing top i (subst (λ (t : ℕ). Accepted (checkOf t top)) e a) (subst (λ (t : ℕ). HasPart t top (suc i)) e h))
 
 -- ---- what was there, put back
 
 pub back-upid : (kind : ℕ) (top : List ℕ) (part k : ℕ) (new b : List ℕ) → upidMade kind top part k new ≡ made b
-    → upidMade (kindThen part kind k) b part (kindOf kind top part) (identifierOf kind top part) ≡ made top
+    → upidMade (kindThen part kind k) b part (kindWithin kind top part) (identifierWithin kind top part) ≡ made top
 unfolding upidOf
 back-upid kind top zero k new b e =
     let x = was-whole kind top k new b e in
@@ -73,13 +73,13 @@ back-upid kind top zero k new b e =
     whole-becomes k b kind top (y .1) (y .2) (x .1) (x .0)
 back-upid kind top (suc i) k new b e =
     let x = every-other-identifier-stays kind top i k new b e in
-    subst (λ (t : ℕ). upidMade t b (suc i) (kindOf t top (suc i)) (identifierOf t top (suc i)) ≡ made top) (sym (x .0)) (x .1 .again)
+    subst (λ (t : ℕ). upidMade t b (suc i) (kindWithin t top (suc i)) (identifierWithin t top (suc i)) ≡ made top) (sym (x .0)) (x .1 .again)
 
 -- the type of the UPID is then the old one again
-pub kind-back : (kind : ℕ) (top : List ℕ) (part k : ℕ) → kindThen part (kindThen part kind k) (kindOf kind top part) ≡ kind
+pub kind-back : (kind : ℕ) (top : List ℕ) (part k : ℕ) → kindThen part (kindThen part kind k) (kindWithin kind top part) ≡ kind
 kind-back kind top zero k = refl
 kind-back kind top (suc i) k = refl
 
-pub kind-same : (kind : ℕ) (top : List ℕ) (part : ℕ) → kindThen part kind (kindOf kind top part) ≡ kind
+pub kind-same : (kind : ℕ) (top : List ℕ) (part : ℕ) → kindThen part kind (kindWithin kind top part) ≡ kind
 kind-same kind top zero = refl
 kind-same kind top (suc i) = refl

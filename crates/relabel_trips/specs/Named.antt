@@ -16,18 +16,18 @@ use Rattle.upid.specs.Upid.{upidOf, partsIn}
 
 -- ---- of a UPID: part 0 is the UPID itself, which is none where it is empty; part i + 1 is the i-th of its MID's parts
 
-abbrev pub Has : ℕ → List ℕ → ℕ → Type 0
-Has kind top zero = 0 < length top
-Has kind top (suc i) = i < length (partsIn (upidOf kind top))
+abbrev pub HasPart : ℕ → List ℕ → ℕ → Type 0
+HasPart kind top zero = 0 < length top
+HasPart kind top (suc i) = i < length (partsIn (upidOf kind top))
 
 -- 5 and 6 told apart
-abbrev pub kindOf : ℕ → List ℕ → ℕ → ℕ
-kindOf kind top zero = kind
-kindOf kind top (suc i) = writtenKind top (partAt (partsIn (upidOf kind top)) i)
+abbrev pub kindWithin : ℕ → List ℕ → ℕ → ℕ
+kindWithin kind top zero = kind
+kindWithin kind top (suc i) = writtenKind top (partAt (partsIn (upidOf kind top)) i)
 
-abbrev pub identifierOf : ℕ → List ℕ → ℕ → List ℕ
-identifierOf kind top zero = top
-identifierOf kind top (suc i) = bytesOf top (partAt (partsIn (upidOf kind top)) i)
+abbrev pub identifierWithin : ℕ → List ℕ → ℕ → List ℕ
+identifierWithin kind top zero = top
+identifierWithin kind top (suc i) = bytesOf top (partAt (partsIn (upidOf kind top)) i)
 
 -- ---- of a section
 
@@ -36,10 +36,10 @@ pub record Named (s : List ℕ) (offset part : ℕ) : Type 0 where
   pub old : Section
   pub accepted : sectionOf s ≡ SectionRead.Is old
   pub item : found (loopBytes s) offset ≡ true
-  pub has : Has (kindIn (payloadIn s offset)) (upidIn (payloadIn s offset)) part
+  pub has : HasPart (kindIn (payloadIn s offset)) (upidIn (payloadIn s offset)) part
 
 abbrev pub kindAt : List ℕ → ℕ → ℕ → ℕ
-kindAt s offset part = kindOf (kindIn (payloadIn s offset)) (upidIn (payloadIn s offset)) part
+kindAt s offset part = kindWithin (kindIn (payloadIn s offset)) (upidIn (payloadIn s offset)) part
 
 abbrev pub identifierAt : List ℕ → ℕ → ℕ → List ℕ
-identifierAt s offset part = identifierOf (kindIn (payloadIn s offset)) (upidIn (payloadIn s offset)) part
+identifierAt s offset part = identifierWithin (kindIn (payloadIn s offset)) (upidIn (payloadIn s offset)) part
