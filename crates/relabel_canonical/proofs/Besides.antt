@@ -1,7 +1,6 @@
 -- What stands beside the items of a relabelled section.
 --     old-besides, new-besides     the two lists
 use Prim.Native.Nat.{ℕ, zero, suc, _+_, _-_, _≤_, _<_}
-use mathlib.Core.Bool.{Bool, true, false}
 use mathlib.Core.List.{List, [], _∷_, _++_, map, map-append, append-assoc}
 use mathlib.Core.Path.{_≡_, refl, ap, ap₂, sym, subst, _∙_}
 use native.Mathlib.Omega.{arith}
@@ -12,7 +11,6 @@ use Rattle.descriptor.specs.declared.Descriptor.the-variants.{Avail, Dtmf, Segm
 use Rattle.descriptor.specs.declared.whole.Beside.{Beside}
 use Rattle.descriptor_loop.proofs.Lists.{Walked, stop, step, walked}
 use Rattle.descriptor_loop.specs.Items.{stepOf, besideItem, readingOf, Listed, listed, itemsOf}
-use Rattle.descriptor_loop.specs.Place.{movedDescriptor}
 use Rattle.descriptor_loop.specs.declared.Item.{Item}
 use Rattle.descriptor_loop.specs.declared.Item.the-variants.{End, Refused, Is}
 use Rattle.descriptor_loop.specs.declared.ItemRefusal.the-variants.{InvalidDescriptorLength, Other}

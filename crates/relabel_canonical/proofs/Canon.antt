@@ -1,41 +1,39 @@
 -- The item that is relabelled, and the whole section.
-use Prim.Native.Nat.{ℕ, suc, _+_, _-_, _≤_, _<_}
-use mathlib.Core.Bool.{Bool, true, _&&_}
+use Prim.Native.Nat.{ℕ, _+_, _-_, _≤_, _<_}
+use mathlib.Core.Bool.{true, _&&_}
 use mathlib.Core.List.{List, _∷_, _++_}
-use mathlib.Core.Path.{_≡_, refl, ap, ap₂, sym, subst, _∙_}
+use mathlib.Core.Path.{_≡_, refl, ap, sym, subst, _∙_}
 use native.Mathlib.Omega.{arith}
 use borrow.Author.Tests.{ltb-false, ne-eqb}
-use lib.ListN.{length, getD, take, drop, length-append, length-drop, take-append-drop, List·getD-append}
+use lib.ListN.{length, getD, take, drop, length-drop, take-append-drop, List·getD-append}
 use lib.Seq.{drop-drop, drop-append-le, take-append-le, getD-drop}
 use Rattle.command_canonical.specs.Canonical.{canonicalCommand}
 use Rattle.descriptor.specs.Descriptor.{cuei, isCuei}
 use Rattle.descriptor.specs.Segmentation.{segmentation}
-use Rattle.descriptor.specs.declared.segmentation.SegmentationInsert.{SegmentationInsert}
 use Rattle.descriptor_loop.specs.Items.{listed}
 use Rattle.descriptor_measure.specs.Canonical.{canonicalUpid, upidCanonical, canonicalSegmentation, canonicalPayload, canonicalLoop}
-use Rattle.descriptor_measure.specs.Writing.{accepts, framed}
+use Rattle.descriptor_measure.specs.Writing.{framed}
 use Rattle.descriptor_round_trips.proofs.Canon.{framed-canonical, canonical-framed}
 use Rattle.loop_round_trips.proofs.Pieces.{Canonical, At, said}
 use Rattle.relabel.proofs.Ats.{some-made}
 use Rattle.relabel.proofs.Cuts.{loop-there}
 use Rattle.relabel.proofs.Mades.{framing}
-use Rattle.relabel.specs.Relabel.{payloadIn, payloadThen, relabelMade}
+use Rattle.relabel.specs.Relabel.{payloadIn, payloadThen}
 use Rattle.relabel_found.proofs.Inserts.{Inserted, inserted, hole-at, byte-in, fore-in, kind-in, upid-in, post-in}
 use Rattle.relabel_found.specs.Found.{foreIn, kindIn, upidIn, postIn}
 use Rattle.relabel_joined.proofs.Theorems.{made-fine, made-byte}
 use Rattle.relabel_joined.specs.Relabel.{kindThen, itemThen}
 use Rattle.relabel_laws.specs.Result.{Result}
 use Rattle.relabel_loop.specs.Loop.{withItem}
-use Rattle.relabel_payload.specs.Payload.{payload, upidHead, Tabled, Holed}
+use Rattle.relabel_payload.specs.Payload.{payload, upidHead, Tabled}
 use Rattle.relabel_section.specs.Frame.{sectionWith}
 use Rattle.section.proofs.Acceptance.{none-if-accepted}
-use Rattle.section.specs.Section.{commandLength, commandType, commandBytes, loopLength, loopBytes, sectionOf, conditions, None}
+use Rattle.section.specs.Section.{commandLength, commandType, commandBytes, loopLength, loopBytes}
 use Rattle.section_writer.proofs.Theorems as written
 use Rattle.section_writer.specs.Canonical.{canonicalFrame, canonicalSection}
 use Rattle.table.proofs.Lists.{and-true}
 use Rattle.table.specs.Bits.{bitsOf}
 use Rattle.table.specs.Table.{parse, canonicalBy}
-use Rattle.table.specs.Writing.{made}
 use Rattle.upid.specs.Upid.{checkOf}
 use Rattle.upid.specs.declared.UpidRead.the-variants.{Fine}
 use Rattle.relabel_canonical.proofs.Frames.{frame-kept, command-kept}

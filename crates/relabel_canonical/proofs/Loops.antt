@@ -13,7 +13,7 @@ use Rattle.descriptor_measure.specs.Canonical.{canonicalLoop}
 use Rattle.loop_round_trips.proofs.Pieces.{Canonical, At, Items, end, item, items-cut, cut-canonical}
 use Rattle.loop_round_trips.proofs.Theorems.{cut}
 use Rattle.relabel_loop.specs.Loop.{withItem}
-use Rattle.upid.specs.Cover.{All, none, more}
+use Rattle.upid.specs.Cover.{All, more}
 
 joined-append : (us vs : List (List ℕ)) → joined (us ++ vs) ≡ joined us ++ joined vs
 unfolding joined

@@ -15,16 +15,16 @@ use Rattle.relabel_canonical.specs.Beside.{besides, besidesIn, besideThe
 use Rattle.relabel_canonical.proofs.Besides as beside
 use Rattle.relabel_canonical.proofs.Canon as canon
 
--- Canonical in, canonical out: of a canonical section whatever `relabel` writes is canonical. Nothing more is asked of the new identifier than that it is taken:
--- an empty UPID, or one that its reader refuses, is refused before.
+-- Canonical in, canonical out: of a canonical section whatever `relabel` writes is canonical. Nothing more is asked of the new identifier than that it is
+-- taken: an empty UPID, or one that its reader refuses, is refused before.
 pub canonical-in-canonical-out : (s : List ℕ) (offset part k : ℕ) (new r : List ℕ) → ((j : ℕ) → getD s j 0 < 256) → k < 256
     → canonicalSection s ≡ true → relabelMade s offset part k new ≡ made r → canonicalSection r ≡ true
 canonical-in-canonical-out s offset part k new r bytes byte c e =
     canon.section-kept s offset part k new r bytes byte (every-other-identifier-of-the-section-stays s offset part k new r bytes byte e) c
 
--- What stands beside the items (the components and the EIDR of each, as `read_item` answers them): the list is the old one with that of the item named replaced by
--- `besideThen`. So beside every other item stands what stood there; beside the item itself the same components, and the same EIDR unless the UPID itself was
--- replaced: then it is the EIDR of the new UPID, blank where that is none. The item is at the same offset as before.
+-- What stands beside the items (the components and the EIDR of each, as `read_item` answers them): the list is the old one with that of the item named
+-- replaced by `besideThen`. So beside every other item stands what stood there; beside the item itself the same components, and the same EIDR unless the UPID
+-- itself was replaced: then it is the EIDR of the new UPID, blank where that is none. The item is at the same offset as before.
 pub what-stands-beside-stays : (s : List ℕ) (offset part k : ℕ) (new r : List ℕ) → ((j : ℕ) → getD s j 0 < 256) → k < 256 → relabelMade s offset part k new ≡ made r
     → (x : Result s offset part k new r)
     × (besidesIn s ≡ besides (loopBytes s) (x .lead) ++ (readingOf (loopBytes s) offset .beside ∷ besides (loopBytes s) (x .tail)))

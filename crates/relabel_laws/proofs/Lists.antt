@@ -1,37 +1,29 @@
 -- The identifiers of a section, item by item.
-use Prim.Native.Nat.{ℕ, zero, suc, _+_, _*_, _-_, _/_, _%_, _≤_, _<_}
+use Prim.Native.Nat.{ℕ, _+_, _*_, _-_, _/_, _%_, _≤_, _<_}
 use mathlib.Core.Bool.{Bool, true, false, not}
-use mathlib.Core.List.{List, [], _∷_, _++_, map, append-assoc, append-nil}
+use mathlib.Core.List.{List, [], _∷_, _++_, map, append-assoc}
 use mathlib.Core.Path.{_≡_, refl, ap, ap₂, sym, subst, _∙_}
 use native.Mathlib.Omega.{arith}
-use borrow.Author.Tests.{ne-eqb, eq-eqb}
 use lib.Dec.{eqb}
-use lib.ListN.{length, take, drop, getD, length-append, length-take, length-drop, List·getD-append}
-use lib.Seq.{take-append-le, drop-append-le, drop-append-add, take-append-seam, take-at, drop-at, getD-append-seam, getD-append-add, getD-take, length-take-le, drop-drop}
-use Rattle.descriptor.specs.Descriptor.{cuei, reportedUpid}
-use Rattle.descriptor.specs.Segmentation.{cancelled, fieldsBefore, withUpid}
+use lib.ListN.{length, take, drop, getD, List·getD-append}
+use lib.Seq.{drop-append-add, take-append-seam, getD-append-seam, getD-append-add, getD-take, length-take-le}
+use Rattle.descriptor.specs.Segmentation.{cancelled, fieldsBefore}
 use Rattle.descriptor.specs.Views.{withUpids}
-use Rattle.descriptor.specs.declared.Descriptor.{Descriptor}
 use Rattle.descriptor.specs.declared.Descriptor.the-variants.{Avail, Dtmf, Segmentation, Time, Reserved}
-use Rattle.descriptor.specs.declared.segmentation.SegmentationDescriptor.{SegmentationDescriptor}
 use Rattle.descriptor.specs.declared.segmentation.SegmentationDetail.{SegmentationDetail}
 use Rattle.descriptor.specs.declared.segmentation.SegmentationDetail.the-variants.{Cancel, Insert}
-use Rattle.descriptor_loop.proofs.Lists.{Walked, stop, step, walked}
+use Rattle.descriptor_loop.proofs.Lists.{Walked, stop, step}
 use Rattle.descriptor_loop.proofs.Steps.{forward}
-use Rattle.descriptor_loop.specs.Items.{stepOf, Listed, listed, itemsOf}
-use Rattle.descriptor_loop.specs.Place.{movedDescriptor, movedUpid}
+use Rattle.descriptor_loop.specs.Items.{stepOf, Listed, listed}
+use Rattle.descriptor_loop.specs.Place.{movedUpid}
 use Rattle.descriptor_loop.specs.declared.Item.{Item}
 use Rattle.descriptor_loop.specs.declared.Item.the-variants.{End, Refused, Is}
 use Rattle.descriptor_loop.specs.declared.ItemRefusal.the-variants.{InvalidDescriptorLength, Other}
-use Rattle.descriptor_loop.specs.declared.Step.{Step}
-use Rattle.relabel_found.specs.Found.{inserts, foreIn, kindIn, sizeIn, upidIn, postIn}
-use Rattle.relabel_joined.specs.Relabel.{kindThen}
-use Rattle.relabel_loop.proofs.Pieces.{piece, step-of-whole}
+use Rattle.relabel_found.specs.Found.{inserts, foreIn, kindIn, sizeIn, postIn}
 use Rattle.relabel_loop.specs.Item.{segmentationItem}
-use Rattle.relabel_loop.specs.Loop.{movedItem, movedListed, behindItem, withItem, OthersStay}
+use Rattle.relabel_loop.specs.Loop.{movedItem, movedListed}
 use Rattle.relabel_payload.specs.Payload.{payload, upidHead}
 use Rattle.table.specs.Bits.{pick}
-use Rattle.upid.proofs.Laws.{by-cases}
 use Rattle.upid.specs.Cover.{All, none, more}
 use Rattle.relabel_upid.specs.Kept.{Identifier}
 use Rattle.relabel_laws.specs.Identifiers.{ofUpid, ofPayload, ofItem, each}

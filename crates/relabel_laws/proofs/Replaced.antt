@@ -1,23 +1,22 @@
 -- The list of a section's identifiers is the old list with one replaced.
-use Prim.Native.Nat.{ℕ, zero, suc, _+_, _-_, _≤_, _<_}
-use mathlib.Core.Bool.{Bool, true, false}
+use Prim.Native.Nat.{ℕ, zero, suc, _+_, _-_, _≤_}
+use mathlib.Core.Bool.{Bool, true}
 use mathlib.Core.List.{List, [], _∷_, _++_, map, append-assoc}
-use mathlib.Core.Path.{_≡_, refl, ap, ap₂, sym, subst, _∙_}
+use mathlib.Core.Path.{_≡_, ap, ap₂, sym, subst, _∙_}
 use native.Mathlib.Omega.{arith}
 use borrow.Author.Tests.{ne-eqb, eq-eqb}
-use lib.Dec.{eqb}
-use lib.ListN.{length, take, drop, getD, length-append, length-drop, take-append-drop}
+use lib.ListN.{length, take, drop, getD, length-append, take-append-drop}
 use lib.Seq.{length-take-le}
 use Rattle.descriptor_loop.proofs.Lists.{walked}
 use Rattle.descriptor_loop.specs.Items.{stepOf, Listed, listed, itemsOf}
 use Rattle.relabel.proofs.Ats.{some-made}
-use Rattle.relabel.specs.Relabel.{payloadIn, payloadThen, sectionThen}
+use Rattle.relabel.specs.Relabel.{payloadIn, payloadThen}
 use Rattle.relabel_found.proofs.Inserts.{Inserted, inserted}
-use Rattle.relabel_found.specs.Found.{begins, inserts, found, foreIn, kindIn, sizeIn, upidIn, postIn}
-use Rattle.relabel_joined.specs.Relabel.{kindThen, itemThen, relabelled, Kept}
-use Rattle.relabel_loop.specs.Loop.{movedListed, behindItem, withItem, OthersStay}
+use Rattle.relabel_found.specs.Found.{begins, inserts, found, foreIn, kindIn, upidIn, postIn}
+use Rattle.relabel_joined.specs.Relabel.{kindThen, itemThen}
+use Rattle.relabel_loop.specs.Loop.{movedListed, behindItem}
 use Rattle.relabel_upid.proofs.Theorems.{every-other-identifier-stays, the-upid-itself}
-use Rattle.relabel_upid.specs.Kept.{Identifier, identifiersOf, identifiersThen}
+use Rattle.relabel_upid.specs.Kept.{Identifier}
 use Rattle.relabel_upid.specs.Relabel.{upidMade}
 use Rattle.section.specs.Section.{loopBytes}
 use Rattle.table.proofs.Lists.{and-true}
