@@ -1,10 +1,12 @@
 -- What the private readers of an insert answer, and `insertRead`, which `read_insert` answers. No other public contract cites this.
 use Prim.Native.Nat.{ℕ, _/_}
 use mathlib.Core.List.{List, []}
+use mathlib.Core.Path.{_≡_}
 use Rattle.table.specs.Table.{Answer, got, short}
 use lib.Seq.{sets}
-use Rattle.command.specs.Command.{array}
+use Rattle.command.specs.Command.{array, countIn}
 use Rattle.command.specs.Insert.{WithComponents}
+use Rattle.command.specs.declared.CommandRead.{CommandRead}
 use Rattle.command.specs.declared.components.ComponentSplice.{ComponentSplice}
 use Rattle.command.specs.declared.components.ComponentRead.{ComponentRead}
 use Rattle.command.specs.declared.components.Skimmed.{Skimmed}
@@ -50,3 +52,13 @@ listIn (short expected actual) = []
 unfoldable pub filled : List ComponentSplice → ℕ → Answer (List ComponentSplice) → List ComponentSplice
 filled places i (got cs at) = sets places i cs
 filled places i (short expected actual) = array []
+
+-- a type whose command is not read at once: neither a null's nor a time signal's
+abbrev pub Apart : ℕ → Type 0
+Apart kind = (kind ≡ 0x00 → ⊥) × (kind ≡ 0x06 → ⊥)
+
+-- how many components a reading says that there are: none where it has no insert
+abbrev pub countRead : CommandRead → ℕ
+countRead (CommandRead.Is c) = countIn c
+countRead CommandRead.UnknownType = 0
+countRead CommandRead.Malformed = 0
