@@ -86,20 +86,20 @@ module _ (a : ℕ) (ls : List ℕ) where
       go (suc (suc zero)) (more h (more g gs)) = absurd (g refl)
       go (suc (suc (suc j))) h = refl
 
-  agree-two : (x y base b c d e : ℕ) → x ≡ base → y ≡ base + 1 → Agree (1 ∷ (2 ∷ (x ∷ (y ∷ ls)))) base (b ∷ (c ∷ [])) (d ∷ (e ∷ []))
-  agree-two x y base b c d e ex ey = record { size = refl; same = go }
+  agree-two : (base b c d e : ℕ) → (NotIn ls (base + 0) → ⊥) → (NotIn ls (base + 1) → ⊥) → Agree ls base (b ∷ (c ∷ [])) (d ∷ (e ∷ []))
+  agree-two base b c d e first second = record { size = refl; same = go }
     where
-      go : (j : ℕ) → NotIn (1 ∷ (2 ∷ (x ∷ (y ∷ ls)))) (base + j) → getD (b ∷ (c ∷ [])) j 0 ≡ getD (d ∷ (e ∷ [])) j 0
-      go zero h = absurd (all-head (all-tail (all-tail h)) (omega arith))
-      go (suc zero) h = absurd (all-head (all-tail (all-tail (all-tail h))) (omega arith))
+      go : (j : ℕ) → NotIn ls (base + j) → getD (b ∷ (c ∷ [])) j 0 ≡ getD (d ∷ (e ∷ [])) j 0
+      go zero h = absurd (first h)
+      go (suc zero) h = absurd (second h)
       go (suc (suc j)) h = refl
 
-  agree-item : (x y z base tag l m : ℕ) (rest : List ℕ) → z ≡ base + 1 → Agree (1 ∷ (2 ∷ (x ∷ (y ∷ (z ∷ ls))))) base (tag ∷ (l ∷ rest)) (tag ∷ (m ∷ rest))
-  agree-item x y z base tag l m rest ez = record { size = refl; same = go }
+  agree-item : (base l m : ℕ) (rest : List ℕ) → (NotIn ls (base + 1) → ⊥) → Agree ls base (a ∷ (l ∷ rest)) (a ∷ (m ∷ rest))
+  agree-item base l m rest second = record { size = refl; same = go }
     where
-      go : (j : ℕ) → NotIn (1 ∷ (2 ∷ (x ∷ (y ∷ (z ∷ ls))))) (base + j) → getD (tag ∷ (l ∷ rest)) j 0 ≡ getD (tag ∷ (m ∷ rest)) j 0
+      go : (j : ℕ) → NotIn ls (base + j) → getD (a ∷ (l ∷ rest)) j 0 ≡ getD (a ∷ (m ∷ rest)) j 0
       go zero h = refl
-      go (suc zero) h = absurd (all-head (all-tail (all-tail (all-tail (all-tail h)))) (omega arith))
+      go (suc zero) h = absurd (second h)
       go (suc (suc j)) h = refl
 
 -- ---- the pieces, put together
@@ -326,9 +326,9 @@ module _ (s : List ℕ) (offset part k : ℕ) (new r : List ℕ) (bytes : (j : �
       subst (λ (l : List ℕ). Agree ls 0 F₁ (fronted l (foreOf s) (bigEndian 2 (length loop)) X (length (cuei ++ old)) named)) (sym three-is)
       (agree-append _ _ (agree-three (getD s 0 0) _ _ _ _ _) (let z : 0 + 3 ≡ 3 = omega arith in z)
       (agree-append _ _ (agree-same ls 3 (foreOf s)) (let z : 3 + length (foreOf s) ≡ 14 + c = omega (arith, fore-long) in z)
-      (agree-append _ _ (agree-two 0 _ _ _ (14 + c) _ _ _ _ refl refl) (let z : 14 + c + 2 ≡ 16 + c = omega arith in z)
+      (agree-append _ _ (agree-two 0 ls (14 + c) _ _ _ _ (λ h. all-head (all-tail (all-tail h)) (omega arith)) (λ h. all-head (all-tail (all-tail (all-tail h))) (omega arith))) (let z : 14 + c + 2 ≡ 16 + c = omega arith in z)
       (agree-append _ _ (agree-same ls (16 + c) X) (let z : 16 + c + length X ≡ 16 + c + offset = omega (arith, X-long) in z)
-      (agree-item 0 _ _ _ _ (16 + c + offset) 2 _ _ named refl)))))
+      (agree-item 2 ls (16 + c + offset) _ _ named (λ h. all-head (all-tail (all-tail (all-tail (all-tail h)))) (omega arith)))))))
 
   agree-upid : Agree ls (upidPlace s offset) (u .fixed) (u .front)
   agree-upid =
