@@ -41,3 +41,8 @@ what-is-written-of-a-command-is-no-longer = commands.command-shorter
 pub a-section-that-is-read-is-written-in-no-more-bytes : (s : List ℕ) (x : Section) → AllBytes s → sectionOf s ≡ SectionRead.Is x
     → ((i : Insertion) → x .command ≡ SpliceCommand.SpliceInsert i → i .reserved ≡ 127) → All Readable (itemsOf (loopIn s x)) → WrittenShorter s x
 a-section-that-is-read-is-written-in-no-more-bytes s x a e = sections.section-shorter s x a e
+
+-- and no other section is: "refused" are those with a refused item, of which there is nothing to write, and those whose insert has other reserved bits
+pub no-other-section-is-written : (s : List ℕ) (x : Section) → WrittenShorter s x
+    → ((i : Insertion) → x .command ≡ SpliceCommand.SpliceInsert i → i .reserved ≡ 127) × All Readable (itemsOf (loopIn s x))
+no-other-section-is-written = sections.only-such
