@@ -34,7 +34,7 @@ use Rattle.c_descriptor_writer.proofs.Answered.{unseen-made}
 use Rattle.c_descriptor_writer.proofs.Back.{descriptor-back}
 use Rattle.c_descriptor_writer.proofs.Told.{mode-count}
 use Rattle.c_descriptor_writer.specs.ItemGiven.{descriptorGiven, identifierFrom, placeFrom, byteFrom, placesFrom, eidrFrom, besideFrom, ownItem, wordsRefusal, descriptorRefusal, descriptorWordsMade}
-use Rattle.c_descriptor_writer.specs.ItemWords.{itemWords, itemWidths, placesIn, eidrIn, placeWidths, placesWithin, besideWithin, itemSeen, besideThere}
+use Rattle.c_descriptor_writer.specs.ItemWords.{itemWords, itemWidths, placesIn, eidrIn, placeWidths, placesWithin, besideWithin, itemSeen, hasEidr, besideThere}
 use Rattle.c_descriptor_writer.proofs.Typed.{TypedSubs, TypedInsert, TypedDetail, Typed}
 use Rattle.c_items.specs.FlatItem.{flatRestrictions, flatSubSegments, wholeSegmentation, bareSegmentation, segmentationItem, flatDescriptor, flatItem, refusalIn, valuesIn, flatStep, flatComponent, flatBeside}
 use Rattle.c_command_writer.proofs.Words.{and-unit, places-length}
@@ -105,7 +105,7 @@ pairs-past (c ∷ cs) words (suc (suc n)) e = pairs-past cs words n (omega arith
 
 pairs-length : (cs : List ModeComponent) (words : List ℕ) → length (pairsWords (map flatComponent cs) ++ words) ≡ length cs * 2 + length words
 unfolding flatComponent
-pairs-length [] words = refl
+pairs-length [] words = omega arith
 pairs-length (c ∷ cs) words = omega (arith, pairs-length cs words)
 
 bytes-back : (n : ℕ) (s : List ℕ) → AllBytes s → length s ≡ n → placesOf byteFrom 1 n s ≡ s
@@ -401,10 +401,10 @@ module _ (number : ℕ) (id : List ℕ) (beside : Beside) (lent : List ℕ) (sma
     -- all words of the struct are there
     side-there : besideThere (countBeside d) words side ≡ true
     unfolding besideThere
-    side-there = le-leb _ (length side) (go _ (eqb (countBeside d) 0))
+    side-there = le-leb _ (length side) (go (hasEidr words) (eqb (countBeside d) 0))
       where
         all : length side ≡ 527
-        all = ap (λ (n : ℕ). 5 + n) (pairs-length (beside .components) (beside .eidr)) ∙ omega (arith, t .places, t .twelve)
+        all = omega (arith, pairs-length (beside .components) (beside .eidr), t .places, t .twelve)
 
         go : (e z : Bool) → pick e 527 (pick z 0 (5 + countBeside d * 2)) ≤ length side
         go true z = omega (arith, all)
@@ -448,7 +448,7 @@ module _ (number : ℕ) (id : List ℕ) (beside : Beside) (lent : List ℕ) (sma
         ∙ ap (λ (l : List ℕ). descriptorMade d l (besideFrom (countBeside d) side) lent) identifies ∙ ap (framedMade (tagOf d) (identifierOf d id)) beside-is
 
     words-taken : descriptorWordsMade words side lent ≡ descriptorMade d id beside lent
-    unfolding descriptorWordsMade descriptorMade
+    unfolding descriptorWordsMade descriptorMade noLess
     words-taken = ap₂ noLess refusal-is given-made ∙ go (itemSeen words lent) refl
       where
         -- a view outside: both are refused with 31
@@ -456,7 +456,6 @@ module _ (number : ℕ) (id : List ℕ) (beside : Beside) (lent : List ℕ) (sma
         outside s = sym given-made ∙ unseen-made words side lent given-own s
 
         go : (s : Bool) → itemSeen words lent ≡ s → noLess (seenFirst s (refusalOf fits own)) (descriptorMade d id beside lent) ≡ descriptorMade d id beside lent
-        unfolding noLess
         go true s = taken fits own (descriptorMade d id beside lent) are-own (λ e. framed-wide (tagOf d) (identifierOf d id) (payloadMade d id beside lent) (payload-wide e))
         go false s = rw (outside s)
 
