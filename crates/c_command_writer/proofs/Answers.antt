@@ -29,9 +29,9 @@ use Rattle.splice_time.specs.declared.SpliceTime.{SpliceTime}
 use Rattle.bit_stores.specs.Written.{bytesIn}
 use Rattle.table.proofs.Lists.{zero-one, and-true}
 use Rattle.table.specs.Writing.{Made, made, refused}
-use Rattle.c_command_writer.specs.CommandGiven.{commandGiven, componentFrom, componentsFrom, splicesWithin, ownComponent, ownSplices, commandRefusal, commandWordsMade}
+use Rattle.c_command_writer.specs.CommandGiven.{commandGiven, componentFrom, componentsFrom, splicesWithin, ownComponent, ownSplices, wordsRefusal, commandRefusal, commandWordsMade}
 use Rattle.c_command_writer.specs.CommandWords.{commandWords, commandWidths, splicesIn, componentWidths, placesGiven, CommandIs, commandSeen, commandFits, CommandAnswer, outside, over, nobodys, its}
-use Rattle.c_command_writer.specs.Words.{within, same, placesOf, eachPlace, refusalOf, lowest, noLess}
+use Rattle.c_command_writer.specs.Words.{within, same, placesOf, eachPlace, refusalOf, seenFirst, lowest, noLess}
 use Rattle.c_command_writer.proofs.Arrays.{array-take, array-there}
 use Rattle.c_command_writer.proofs.Fits.{over-or-fits, fit-within}
 use Rattle.c_command_writer.proofs.Given.{own-given, given-typed, places-tags, Small, given-small, places-fit, given-count, own-places, places-own, seenBy, given-seen, own-seen}
@@ -46,6 +46,10 @@ Late n (refused k) = n ≤ k
 pub late-lowest : (n : ℕ) (m : Made) → Late n m → lowest n m ≡ n
 late-lowest n (made b) h = refl
 late-lowest n (refused k) h = rw (le-ltb k n h)
+
+pub late-31 : (m : Made) → Late 32 m → Late 31 m
+late-31 (made b) h = tt
+late-31 (refused k) h = omega arith
 
 measured-late : (fits fair : Bool) (size : ℕ) (m : Made) → 0 < size → measured fits fair size ≡ measuredOf m → Late 32 m × (fits ≡ true → Late 33 m)
 unfolding bytesIn
@@ -113,11 +117,9 @@ module _ (places : List ComponentSplice) (lent : List ℕ) where
   unseen-made (SpliceCommand.PrivateCommand p) e = rw (private-fields p lent, e)
 
 -- ---- the words' own refusal beside that of the value
-pub refused-31 : (fits own : Bool) → noLess (refusalOf fits own) (refused 31) ≡ refused 31
+pub refused-31 : (m : Made) → Late 31 m → noLess 31 m ≡ refused 31
 unfolding noLess
-refused-31 true true = refl
-refused-31 true false = refl
-refused-31 false own = refl
+refused-31 m h = ap refused (late-lowest 31 m h)
 
 pub refused-32 : (fits own : Bool) (m : Made) → fits ≡ false → Late 32 m → noLess (refusalOf fits own) m ≡ refused 32
 unfolding noLess
@@ -147,9 +149,12 @@ module _ (words components lent : List ℕ) where
   abbrev pub own : Bool
   own = same (commandWords (flatCommand given)) words && ownSplices (countIn given) components
 
-  words-made : commandWordsMade words components lent ≡ noLess (refusalOf fits own) whole
-  unfolding commandWordsMade commandRefusal componentsFrom
+  words-made : commandWordsMade words components lent ≡ noLess (seenFirst (commandSeen words lent) (refusalOf fits own)) whole
+  unfolding commandWordsMade commandRefusal wordsRefusal componentsFrom
   words-made = refl
+
+  words-seen : commandSeen words lent ≡ true → commandWordsMade words components lent ≡ noLess (refusalOf fits own) whole
+  words-seen e = words-made ∙ rw e
 
   pub fits-are : commandFits words components ≡ fits
   unfolding commandFits splicesWithin
@@ -162,28 +167,35 @@ module _ (words components lent : List ℕ) where
   listed-length : length listed ≡ countIn given
   listed-length = places-length componentFrom 3 (countIn given) (splicesIn components)
 
-  pub given-late : commandSeen words lent ≡ true → Late 32 whole × (fits ≡ true → Late 33 whole)
+  value-late : seenBy given lent ≡ true → Late 32 whole × (fits ≡ true → Late 33 whole)
   unfolding splicesWithin
-  given-late e =
+  value-late e =
       let t : take (countIn given) (array listed) ≡ listed = array-take listed (countIn given) listed-length in
-      let l = command-late (array listed) lent given (given-typed words) (array-there listed (countIn given) listed-length) (rw t (places-tags (countIn given) (splicesIn components))) (sym (given-seen words lent) ∙ e) in
+      let l = command-late (array listed) lent given (given-typed words) (array-there listed (countIn given) listed-length) (rw t (places-tags (countIn given) (splicesIn components))) e in
       (l .0, λ f. let a = and-true (within commandWidths words) (splicesWithin (countIn given) components) f in l .1 (given-small words (a .0)) (rw t (places-fit (countIn given) (splicesIn components) (a .1))))
 
-  pub given-unseen : commandSeen words lent ≡ false → whole ≡ refused 31
-  given-unseen e = unseen-made (array listed) lent given (sym (given-seen words lent) ∙ e)
+  pub given-late : commandSeen words lent ≡ true → Late 32 whole × (fits ≡ true → Late 33 whole)
+  given-late e = value-late (given-seen words lent e)
+
+  any-late : Late 31 whole
+  any-late = go (seenBy given lent) refl
+    where
+      go : (s : Bool) → seenBy given lent ≡ s → Late 31 whole
+      go true e = late-31 whole (value-late e .0)
+      go false e = rw (unseen-made (array listed) lent given e) (omega arith)
 
   -- ---- by each case
   made-outside : commandSeen words lent ≡ false → commandWordsMade words components lent ≡ refused 31
-  made-outside e = words-made ∙ ap (noLess (refusalOf fits own)) (given-unseen e) ∙ refused-31 fits own
+  made-outside e = words-made ∙ rw e (refused-31 whole any-late)
 
   made-over : commandSeen words lent ≡ true → commandFits words components ≡ false → commandWordsMade words components lent ≡ refused 32
-  made-over e f = words-made ∙ refused-32 fits own whole (sym fits-are ∙ f) (given-late e .0)
+  made-over e f = words-seen e ∙ refused-32 fits own whole (sym fits-are ∙ f) (given-late e .0)
 
   made-other : commandSeen words lent ≡ true → commandFits words components ≡ true → own ≡ false → commandWordsMade words components lent ≡ refused 33
-  made-other e f g = words-made ∙ refused-33 fits own whole (sym fits-are ∙ f) g (given-late e .1 (sym fits-are ∙ f))
+  made-other e f g = words-seen e ∙ refused-33 fits own whole (sym fits-are ∙ f) g (given-late e .1 (sym fits-are ∙ f))
 
-  made-own : commandFits words components ≡ true → own ≡ true → commandWordsMade words components lent ≡ whole
-  made-own f g = words-made ∙ unrefused fits own whole (sym fits-are ∙ f) g
+  made-own : commandSeen words lent ≡ true → commandFits words components ≡ true → own ≡ true → commandWordsMade words components lent ≡ whole
+  made-own e f g = words-seen e ∙ unrefused fits own whole (sym fits-are ∙ f) g
 
   -- ---- their own value
   pub given-is : own ≡ true → CommandIs words components given listed
@@ -208,7 +220,7 @@ module _ (words components lent : List ℕ) where
       go false e f g o h = rw (made-outside e) (outside e)
       go true e false g o h = rw (made-over e g) (over e g)
       go true e true g false h = rw (made-other e g h) (nobodys e g (λ c cs i. let z = is-given c cs i g .2 in zero-one cc))
-      go true e true g true h = rw (made-own g h) (its given listed (given-is h))
+      go true e true g true h = rw (made-own e g h) (its given listed (given-is h))
 
   -- ---- a value whose words they are is refused with 31 and with 32 where they are
   pub is-unseen : (c : SpliceCommand) (cs : List ComponentSplice) → CommandIs words components c cs → commandSeen words lent ≡ false → commandMade c (array cs) lent ≡ refused 31
@@ -228,7 +240,7 @@ module _ (words components lent : List ℕ) where
         go true e false g = is-over c cs h e g ∙ sym (made-over e g)
         go true e true g =
             let i = is-given c cs h g in
-            ap₂ (λ (d : SpliceCommand) (l : List ComponentSplice). commandMade d (array l) lent) (sym (i .0)) (sym (i .1)) ∙ sym (made-own g (i .2))
+            ap₂ (λ (d : SpliceCommand) (l : List ComponentSplice). commandMade d (array l) lent) (sym (i .0)) (sym (i .1)) ∙ sym (made-own e g (i .2))
 
     -- so nothing else is an answer
     pub answer-is : (m : Made) → CommandAnswer words components lent m → m ≡ commandWordsMade words components lent

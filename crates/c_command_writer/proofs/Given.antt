@@ -8,7 +8,7 @@ use native.Mathlib.Omega.{arith}
 use lib.Dec.{eqb, ltb, leb, lit<}
 use lib.ListN.{length, getD, drop}
 use lib.Seq.{getD-drop, drop-drop}
-use borrow.Author.Tests.{ltb-true, lt-ltb, eqb-true, eqb-false, ne-eqb}
+use borrow.Author.Tests.{ltb-true, lt-ltb, le-leb, eqb-true, eqb-false, ne-eqb}
 use Rattle.command.specs.Command.{countIn, ofPrivate}
 use Rattle.command.specs.Insert as insert
 use Rattle.command.specs.Insert.{programTime}
@@ -293,20 +293,23 @@ places-own (suc n) words e =
 abbrev pub seenBy : SpliceCommand → List ℕ → Bool
 seenBy c lent = ofPrivate (λ p. leb (p .«private_bytes» .at + p .«private_bytes» .len) (length lent)) true c
 
-pub given-seen : (words lent : List ℕ) → commandSeen words lent ≡ seenBy (commandGiven words) lent
+pub given-seen : (words lent : List ℕ) → commandSeen words lent ≡ true → seenBy (commandGiven words) lent ≡ true
 unfolding commandSeen commandIn
-given-seen words lent =
-    from-kinds (λ c. commandSeen words lent ≡ seenBy c lent) (commandIn words) (λ e. rw e) (λ e. rw e) (λ e. rw e) (λ e. rw e) (λ a b. rw (ne-eqb (word words 1) 0xff b))
+given-seen words lent s = from-kinds (λ c. seenBy c lent ≡ true) (commandIn words) (λ e. refl) (λ e. refl) (λ e. refl) (λ e. s) (λ a b. refl)
 
 pub own-seen : (c : SpliceCommand) (words lent : List ℕ) → same (commandWords (flatCommand c)) words ≡ true → commandSeen words lent ≡ seenBy c lent
 unfolding commandSeen commandWords flatCommand noCommand
 own-seen c words lent e =
     let w : (i : ℕ) → i < 21 → word words i ≡ word (commandWords (flatCommand c)) i = same-at (commandWords (flatCommand c)) words e in
-    rw (w 1 (omega arith), w 19 (omega arith), w 20 (omega arith)) (go c)
+    rw (w 19 (omega arith), w 20 (omega arith)) (go c)
   where
-    go : (c : SpliceCommand) → pick (eqb (flatCommand c .«splice_command_type») 0xff) (leb (flatCommand c .«private_bytes» .at + flatCommand c .«private_bytes» .len) (length lent)) true ≡ seenBy c lent
-    go SpliceCommand.SpliceNull = refl
-    go (SpliceCommand.SpliceInsert x) = refl
-    go (SpliceCommand.TimeSignal t) = refl
-    go SpliceCommand.BandwidthReservation = refl
+    -- the blank lies in any bytes
+    blank : leb (0 + 0) (length lent) ≡ true
+    blank = le-leb (0 + 0) (length lent) (omega arith)
+
+    go : (c : SpliceCommand) → leb (flatCommand c .«private_bytes» .at + flatCommand c .«private_bytes» .len) (length lent) ≡ seenBy c lent
+    go SpliceCommand.SpliceNull = blank
+    go (SpliceCommand.SpliceInsert x) = blank
+    go (SpliceCommand.TimeSignal t) = blank
+    go SpliceCommand.BandwidthReservation = blank
     go (SpliceCommand.PrivateCommand p) = refl

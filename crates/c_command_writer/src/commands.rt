@@ -6,8 +6,8 @@ ghost use lib.ListN.{drop};
 ghost use Rattle.command.specs.Command.{array, countIn};
 ghost use Rattle.command_measure.specs.Made.{commandMade};
 ghost use Rattle.c_command_writer.specs.CommandGiven.{modeIn, breakIn, insertIn, commandIn, modeFrom, breakFrom, insertFrom, insertionFrom, commandFrom};
-ghost use Rattle.c_command_writer.specs.CommandWords.{commandWords, commandWidths};
-ghost use Rattle.c_command_writer.specs.CommandGiven.{componentsFrom, commandGiven, commandRefusal, commandWordsMade};
+ghost use Rattle.c_command_writer.specs.CommandWords.{commandWords, commandWidths, commandSeen};
+ghost use Rattle.c_command_writer.specs.CommandGiven.{componentsFrom, commandGiven, wordsRefusal, commandRefusal, commandWordsMade};
 ghost use Rattle.c_command_writer.specs.Words.{within, same, flatWritten, noLess};
 ghost use Rattle.bit_stores.specs.Written.{answerOf, laterOf};
 use crate::FlatWritten;
@@ -44,6 +44,7 @@ use command_writer::write_command;
 use names::flags::NetworkIndicator;
 use names::flags::ReturnMode;
 use table::View;
+use table::lent::lies_in;
 
 // ---- the struct that words are
 
@@ -333,8 +334,8 @@ fn is_flat_command(c: FlatCommand, words: &[u64]) -> bool
 }
 
 // Refusals 32 and 33 of the words themselves; 0 for none.
-pub fn command_refusal(c: SpliceCommand, words: &[u64], components: &[u64]) -> u64
-    ensures { λ r. ⌜ r ≡ commandRefusal c (now (words .entry)) (now (components .entry)) ⌝ }
+fn words_refusal(c: SpliceCommand, words: &[u64], components: &[u64]) -> u64
+    ensures { λ r. ⌜ r ≡ wordsRefusal c (now (words .entry)) (now (components .entry)) ⌝ }
 {
     let count = count_in_command(c) as usize;
     if !is_command_within(words) {
@@ -350,6 +351,29 @@ pub fn command_refusal(c: SpliceCommand, words: &[u64], components: &[u64]) -> u
         return 33;
     }
     0
+}
+
+// Refusal 31 of the words of a command: does their view, whatever the command's type, lie in the lent bytes?
+fn is_command_seen(words: &[u64], lent: &[u8]) -> bool
+    ensures { λ r. ⌜ r ≡ commandSeen (now (words .entry)) (now (lent .entry)) ⌝ }
+{
+    lies_in(
+        lent,
+        View {
+            at: word_at(words, 19) as usize,
+            len: word_at(words, 20) as usize,
+        },
+    )
+}
+
+// Refusals 31 to 33 of the words themselves, in their order; 0 for none.
+pub fn command_refusal(c: SpliceCommand, words: &[u64], components: &[u64], lent: &[u8]) -> u64
+    ensures { λ r. ⌜ r ≡ commandRefusal c (now (words .entry)) (now (components .entry)) (now (lent .entry)) ⌝ }
+{
+    if !is_command_seen(words, lent) {
+        return 31;
+    }
+    words_refusal(c, words, components)
 }
 
 // The payload of a command without components, whose words have a refusal of their own, or 0.
@@ -405,7 +429,7 @@ pub fn write_command_words(
     ensures bytes { λ _. ⌜ now (target .exit) ≡ laterOf (commandWordsMade (now (words .entry)) (now (components .entry)) (now (lent .entry))) (now (target .entry)) ⌝ }
 {
     let command = command_given(words);
-    let refusal = command_refusal(command, words, components);
+    let refusal = command_refusal(command, words, components, lent);
     if count_in_command(command) == 0 {
         return write_bare_words(refusal, command, lent, target);
     }

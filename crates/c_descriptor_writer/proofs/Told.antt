@@ -74,6 +74,18 @@ framed-told tag id s fit m (done {b}) true false view t = rw (← t refl) (go (l
     go true = refl
     go false = refl
 
+-- whatever it says, 31 of the words comes first
+pub framed-31 : (tag : ℕ) (id : List ℕ) {s fit : Bool} {m : Made} → Told s fit m → noLess 31 (framedMade tag id m) ≡ refused 31
+unfolding noLess framedMade
+framed-31 tag id unseen = refl
+framed-31 tag id wide = refl
+framed-31 tag id unfair = refl
+framed-31 tag id (done {b}) = go (leb (length b + 4) 254)
+  where
+    go : (c : Bool) → refused (lowest 31 (pick c (made (framed tag id b)) (refused 34))) ≡ refused 31
+    go true = refl
+    go false = refl
+
 pub framed-unseen : (tag : ℕ) (id : List ℕ) {s fit : Bool} {m : Made} → Told s fit m → s ≡ false → framedMade tag id m ≡ refused 31
 unfolding framedMade
 framed-unseen tag id unseen e = refl

@@ -33,12 +33,12 @@ use Rattle.c_items.specs.declared.segmentations.FlatRestrictions.{FlatRestricti
 use Rattle.c_items.specs.declared.segmentations.FlatSegmentation.{FlatSegmentation}
 use Rattle.c_items.specs.declared.segmentations.FlatSubSegments.{FlatSubSegments}
 use Rattle.c_command_writer.specs.CommandGiven.{viewFrom}
-use Rattle.c_command_writer.specs.Words.{word, within, same, placesOf, refusalOf, noLess}
+use Rattle.c_command_writer.specs.Words.{word, within, same, placesOf, refusalOf, seenFirst, noLess}
 use Rattle.names.specs.Segmentation.{segmentationOf}
 use Rattle.table.specs.Bits.{pick, bigEndian}
 use Rattle.table.specs.Writing.{Made}
 use Rattle.table.specs.declared.View.{View}
-use Rattle.c_descriptor_writer.specs.ItemWords.{itemWords, itemWidths, placesIn, eidrIn, besideWithin}
+use Rattle.c_descriptor_writer.specs.ItemWords.{itemWords, itemWidths, placesIn, eidrIn, besideWithin, itemSeen, besideThere}
 
 -- ---- struct scte35_step: of 33 words, with 0 for those past the end of the slice
 abbrev pub firstWord : List ℕ → ℕ
@@ -178,11 +178,16 @@ besideFrom n words = record { components = placesFrom n words; eidr = eidrFrom w
 unfoldable pub ownItem : Descriptor → List ℕ → Bool
 ownItem d words = same (itemWords (flatDescriptor d)) (drop 6 words)
 
--- the number of the words' own refusal, of a descriptor that they make
-unfoldable pub descriptorRefusal : Descriptor → List ℕ → List ℕ → ℕ
-descriptorRefusal d words beside = refusalOf (within itemWidths (drop 5 words) && besideWithin (countBeside d) beside) (ownItem d words)
+-- the number of the words' own refusal, of a descriptor that they make: 32 or 33
+unfoldable pub wordsRefusal : Descriptor → List ℕ → List ℕ → ℕ
+wordsRefusal d words beside =
+    refusalOf (within itemWidths (drop 5 words) && besideWithin (countBeside d) beside) (ownItem d words && besideThere (countBeside d) words beside)
+
+-- and 31 before them
+unfoldable pub descriptorRefusal : Descriptor → List ℕ → List ℕ → List ℕ → ℕ
+descriptorRefusal d words beside lent = seenFirst (itemSeen words lent) (wordsRefusal d words beside)
 
 -- ---- the descriptor, or the number of a refusal: 31 to 34
 unfoldable pub descriptorWordsMade : List ℕ → List ℕ → List ℕ → Made
 descriptorWordsMade words beside lent =
-    noLess (descriptorRefusal (descriptorGiven words) words beside) (descriptorMade (descriptorGiven words) (identifierFrom words) (besideFrom (countBeside (descriptorGiven words)) beside) lent)
+    noLess (descriptorRefusal (descriptorGiven words) words beside lent) (descriptorMade (descriptorGiven words) (identifierFrom words) (besideFrom (countBeside (descriptorGiven words)) beside) lent)

@@ -4,7 +4,8 @@ ghost use Prim.Native.Nat.{_≤_};
 ghost use Rattle.descriptor_measure.specs.Same.{countBeside};
 ghost use Rattle.descriptor_measure.specs.Writing.{descriptorMade};
 ghost use Rattle.descriptor_writer.specs.Stores.{Writes};
-ghost use Rattle.c_descriptor_writer.specs.ItemGiven.{paddedWords, besideFrom, ownItem, descriptorRefusal, descriptorWordsMade};
+ghost use Rattle.c_descriptor_writer.specs.ItemGiven.{paddedWords, besideFrom, ownItem, wordsRefusal, descriptorRefusal, descriptorWordsMade};
+ghost use Rattle.c_descriptor_writer.specs.ItemWords.{itemSeen, hasEidr, besideThere};
 ghost use Rattle.c_command_writer.specs.Words.{flatWritten};
 ghost use Rattle.bit_stores.specs.Written.{answerOf, laterOf};
 use crate::beside::beside_from;
@@ -27,6 +28,8 @@ use descriptor_loop::Item;
 use descriptor_loop::Step;
 use descriptor_writer::write_bare_descriptor;
 use descriptor_writer::write_descriptor;
+use table::View;
+use table::lent::lies_in;
 
 pub mod beside;
 pub mod values;
@@ -70,20 +73,70 @@ fn is_own_item(d: Descriptor, words: &[u64]) -> bool
     is_flat_item(item, words)
 }
 
-// Refusals 32 and 33 of the words themselves; 0 for none.
-pub fn descriptor_refusal(d: Descriptor, words: &[u64], beside: &[u64]) -> u64
-    ensures { λ r. ⌜ r ≡ descriptorRefusal d (now (words .entry)) (now (beside .entry)) ⌝ }
+fn has_eidr(words: &[u64]) -> bool
+    ensures { λ r. ⌜ r ≡ hasEidr (now (words .entry)) ⌝ }
 {
+    if word_at(words, 6) != 4 {
+        return false;
+    }
+    word_at(words, 20) == 0x0A
+}
+
+// Refusal 33: are the words beside the item there, where it has an EIDR or `count` components? They would count as 0.
+fn is_beside_there(count: usize, words: &[u64], beside: &[u64]) -> bool
+    requires { ⌜ count ≤ 255 ⌝ }
+    ensures { λ r. ⌜ r ≡ besideThere count (now (words .entry)) (now (beside .entry)) ⌝ }
+{
+    if has_eidr(words) {
+        return 527 <= beside.len();
+    }
+    if count == 0 {
+        return true;
+    }
+    5 + count * 2 <= beside.len()
+}
+
+// Refusals 32 and 33 of the words themselves; 0 for none.
+fn words_refusal(d: Descriptor, words: &[u64], beside: &[u64]) -> u64
+    ensures { λ r. ⌜ r ≡ wordsRefusal d (now (words .entry)) (now (beside .entry)) ⌝ }
+{
+    let count = count_in_descriptor(d) as usize;
     if !is_item_within(words) {
         return 32;
     }
-    if !beside_within(count_in_descriptor(d) as usize, beside) {
+    if !beside_within(count, beside) {
         return 32;
     }
     if !is_own_item(d, words) {
         return 33;
     }
+    if !is_beside_there(count, words, beside) {
+        return 33;
+    }
     0
+}
+
+// Refusal 31 of the words of an item: does their view, whatever the item's kind, lie in the lent bytes?
+fn is_item_seen(words: &[u64], lent: &[u8]) -> bool
+    ensures { λ r. ⌜ r ≡ itemSeen (now (words .entry)) (now (lent .entry)) ⌝ }
+{
+    lies_in(
+        lent,
+        View {
+            at: word_at(words, 31) as usize,
+            len: word_at(words, 32) as usize,
+        },
+    )
+}
+
+// Refusals 31 to 33 of the words themselves, in their order; 0 for none.
+pub fn descriptor_refusal(d: Descriptor, words: &[u64], beside: &[u64], lent: &[u8]) -> u64
+    ensures { λ r. ⌜ r ≡ descriptorRefusal d (now (words .entry)) (now (beside .entry)) (now (lent .entry)) ⌝ }
+{
+    if !is_item_seen(words, lent) {
+        return 31;
+    }
+    words_refusal(d, words, beside)
 }
 
 // A descriptor with the components and the EIDR that the words make. Where it has no components no array of them is made.
@@ -127,7 +180,7 @@ fn write_from_words(words: &[u64], beside: &[u64], lent: &[u8], target: &mut [u8
     let d = descriptor_given(words);
     let identifier = identifier_from(words);
     let count = count_in_descriptor(d) as usize;
-    let refusal = descriptor_refusal(d, words, beside);
+    let refusal = descriptor_refusal(d, words, beside, lent);
     if 0 < refusal {
         return lower_refusal(
             refusal,

@@ -18,9 +18,9 @@ use Rattle.c_section.specs.Flat.{flatHeader}
 use Rattle.c_command_writer.proofs.Answers as command
 use Rattle.c_command_writer.proofs.Answers.{Late, refused-31, refused-32, refused-33, unrefused}
 use Rattle.c_command_writer.proofs.Given.{same-at, within-at, within-same}
-use Rattle.c_command_writer.specs.CommandGiven.{commandRefusal, componentsFrom}
+use Rattle.c_command_writer.specs.CommandGiven.{wordsRefusal, commandRefusal, componentsFrom}
 use Rattle.c_command_writer.specs.CommandWords.{CommandIs, commandSeen, commandFits}
-use Rattle.c_command_writer.specs.Words.{word, within, same, refusalOf, noLess}
+use Rattle.c_command_writer.specs.Words.{word, within, same, refusalOf, seenFirst, noLess}
 use Rattle.header.specs.declared.header.SpliceInfoHeader.{SpliceInfoHeader}
 use Rattle.names.proofs.Algorithms.{algorithm-laws}
 use Rattle.bit_stores.specs.Written.{refusalIn, bytesIn}
@@ -36,14 +36,17 @@ use Rattle.c_section_writer.proofs.Back.{header-back}
 use Rattle.c_section_writer.proofs.Typed.{Typed}
 
 -- ---- of two structs of words the lower refusal is that of both together
-either-is : (a b c d : Bool) → either (refusalOf a b) (refusalOf c d) ≡ refusalOf (a && c) (b && d)
-either-is true true c d = refl
-either-is true false true true = refl
-either-is true false true false = refl
-either-is true false false d = refl
-either-is false b true true = refl
-either-is false b true false = refl
-either-is false b false d = refl
+either-is : (s a b c d : Bool) → either (refusalOf a b) (seenFirst s (refusalOf c d)) ≡ seenFirst s (refusalOf (a && c) (b && d))
+either-is true true true c d = refl
+either-is true true false true true = refl
+either-is true true false true false = refl
+either-is true true false false d = refl
+either-is true false b true true = refl
+either-is true false b true false = refl
+either-is true false b false d = refl
+either-is false true true c d = refl
+either-is false true false c d = refl
+either-is false false b c d = refl
 
 -- ---- a section is refused with n at the least where its command is
 first-late : (n : ℕ) (bs : List Bool) (b : List ℕ) → Late n (unless (first n bs) b)
@@ -71,6 +74,11 @@ module _ (h : SpliceInfoHeader) (m : Made) (kind : ℕ) (loop : List ℕ) where
   section-fits : Late 33 m → numbersFit h ≡ true → Late 33 (sectionMade h m kind loop)
   unfolding sectionMade
   section-fits l e = rw (late-ne 33 31 m (omega arith) (omega arith) l, late-ne 33 32 m (omega arith) (omega arith) l, e) (first-late 33 rest (frame h kind (bytesIn m) loop))
+
+  -- whatever it is of
+  any-late : Late 31 (sectionMade h m kind loop)
+  unfolding sectionMade
+  any-late = first-late 31 (eqb (refusalIn m) 31 ∷ (eqb (refusalIn m) 32 || not (numbersFit h)) ∷ rest) (frame h kind (bytesIn m) loop)
 
   section-31 : m ≡ refused 31 → sectionMade h m kind loop ≡ refused 31
   unfolding sectionMade
@@ -150,9 +158,12 @@ module _ (header words components lent loop : List ℕ) where
   abbrev own : Bool
   own = same (headerWords (flatHeader (headerFrom header))) header && command.own words components lent
 
-  words-made : sectionWordsMade header words components lent loop ≡ noLess (refusalOf fits own) whole
-  unfolding sectionWordsMade headerRefusal commandRefusal componentsFrom
-  words-made = ap (λ (n : ℕ). noLess n whole) (either-is (within headerWidths header) (same (headerWords (flatHeader (headerFrom header))) header) (command.fits words components lent) (command.own words components lent))
+  words-made : sectionWordsMade header words components lent loop ≡ noLess (seenFirst (commandSeen words lent) (refusalOf fits own)) whole
+  unfolding sectionWordsMade headerRefusal commandRefusal wordsRefusal componentsFrom
+  words-made = ap (λ (n : ℕ). noLess n whole) (either-is (commandSeen words lent) (within headerWidths header) (same (headerWords (flatHeader (headerFrom header))) header) (command.fits words components lent) (command.own words components lent))
+
+  words-seen : commandSeen words lent ≡ true → sectionWordsMade header words components lent loop ≡ noLess (refusalOf fits own) whole
+  words-seen e = words-made ∙ rw e
 
   fits-are : sectionFits header words components ≡ fits
   unfolding sectionFits
@@ -171,17 +182,16 @@ module _ (header words components lent loop : List ℕ) where
   answer = sectionWordsMade header words components lent loop
 
   pub made-outside : commandSeen words lent ≡ false → answer ≡ refused 31
-  made-outside e =
-      words-made ∙ ap (noLess (refusalOf fits own)) (section-31 (headerFrom header) (command.whole words components lent) (kindOf given) loop (command.given-unseen words components lent e)) ∙ refused-31 fits own
+  made-outside e = words-made ∙ rw e (refused-31 whole (any-late (headerFrom header) (command.whole words components lent) (kindOf given) loop))
 
   pub made-over : commandSeen words lent ≡ true → sectionFits header words components ≡ false → answer ≡ refused 32
-  made-over e f = words-made ∙ refused-32 fits own whole (sym fits-are ∙ f) (given-late e .0)
+  made-over e f = words-seen e ∙ refused-32 fits own whole (sym fits-are ∙ f) (given-late e .0)
 
   made-other : commandSeen words lent ≡ true → sectionFits header words components ≡ true → own ≡ false → answer ≡ refused 33
-  made-other e f g = words-made ∙ refused-33 fits own whole (sym fits-are ∙ f) g (given-late e .1 (sym fits-are ∙ f))
+  made-other e f g = words-seen e ∙ refused-33 fits own whole (sym fits-are ∙ f) g (given-late e .1 (sym fits-are ∙ f))
 
-  made-own : sectionFits header words components ≡ true → own ≡ true → answer ≡ whole
-  made-own f g = words-made ∙ unrefused fits own whole (sym fits-are ∙ f) g
+  made-own : commandSeen words lent ≡ true → sectionFits header words components ≡ true → own ≡ true → answer ≡ whole
+  made-own e f g = words-seen e ∙ unrefused fits own whole (sym fits-are ∙ f) g
 
   -- ---- their own values
   given-are : own ≡ true → HeaderIs header (headerFrom header) × CommandIs words components given (command.listed words components lent)
@@ -225,7 +235,7 @@ module _ (header words components lent loop : List ℕ) where
         go : (s : Bool) → commandSeen words lent ≡ s → (f : Bool) → sectionFits header words components ≡ f → section ≡ answer
         go false e f g = section-31 h m (kindOf c) loop (command.is-unseen words components lent c cs j e) ∙ sym (made-outside e)
         go true e false g = some e (within headerWidths header) refl (commandFits words components) refl g ∙ sym (made-over e g)
-        go true e true g = are-given g .0 ∙ sym (made-own g (are-given g .1))
+        go true e true g = are-given g .0 ∙ sym (made-own e g (are-given g .1))
 
   pub answered : SectionAnswer header words components lent loop answer
   answered = go (commandSeen words lent) refl (sectionFits header words components) refl own refl
@@ -234,7 +244,7 @@ module _ (header words components lent loop : List ℕ) where
       go false e f g o h = rw (made-outside e) (outside e)
       go true e false g o h = rw (made-over e g) (over e g)
       go true e true g false h = rw (made-other e g h) (nobodys e g (λ x c cs i j. let z = are-given x c cs i j g .1 in zero-one cc))
-      go true e true g true h = let r = given-are h in rw (made-own g h) (its (headerFrom header) given (command.listed words components lent) (r .0) (r .1))
+      go true e true g true h = let r = given-are h in rw (made-own e g h) (its (headerFrom header) given (command.listed words components lent) (r .0) (r .1))
 
   module _ (short : length lent < 2 ^ 64) where
     pub answer-is : (m : Made) → SectionAnswer header words components lent loop m → m ≡ answer

@@ -42,7 +42,7 @@ either m n = pick (eqb m 0) n (pick (eqb n 0) m (lowerOf m n))
 unfoldable pub sectionWordsMade : List ℕ → List ℕ → List ℕ → List ℕ → List ℕ → Made
 sectionWordsMade header command components lent loop =
     noLess
-    (either (headerRefusal header) (commandRefusal (commandGiven command) command components))
+    (either (headerRefusal header) (commandRefusal (commandGiven command) command components lent))
     (sectionMade (headerFrom header) (commandMade (commandGiven command) (componentsFrom (countIn (commandGiven command)) components) lent)
     (kindOf (commandGiven command))
     loop)

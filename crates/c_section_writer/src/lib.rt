@@ -156,7 +156,7 @@ pub fn write_section_words(
     let c = command_given(command);
     let refusal = either_refusal(
         header_refusal(header),
-        command_refusal(c, command, components),
+        command_refusal(c, command, components, lent),
     );
     if count_in_command(c) == 0 {
         return write_bare_words(refusal, h, c, lent, descriptors, target);

@@ -158,7 +158,7 @@ count-in-command-answers = record { takes-any = λ κ a. tt; is = λ κ a r e l.
 pub components-given-answers : Answers components-given.Asked components-given.Learnt (λ κ r e. r) (λ κ a. componentsFrom (countIn (a .0)) (now (a .1 .0)))
 components-given-answers = record { takes-any = λ κ a. tt; is = λ κ a r e l. l }
 
-pub command-refusal-answers : Answers command-refusal.Asked command-refusal.Learnt (λ κ r e. r) (λ κ a. commandRefusal (a .0) (now (a .1 .0)) (now (a .1 .1 .0)))
+pub command-refusal-answers : Answers command-refusal.Asked command-refusal.Learnt (λ κ r e. r) (λ κ a. commandRefusal (a .0) (now (a .1 .0)) (now (a .1 .1 .0)) (now (a .1 .1 .1 .0)))
 command-refusal-answers = record { takes-any = λ κ a. tt; is = λ κ a r e l. l }
 
 pub write-command-words-answers : Answers write-command-words.Asked write-command-words.Learnt (λ κ r e. r) (λ κ a. flatWritten (answerOf (commandWordsMade (now (a .0)) (now (a .1 .0)) (now (a .1 .1 .0))) (now (a .1 .1 .1 .0))))
@@ -167,7 +167,7 @@ write-command-words-answers = record { takes-any = λ κ a. tt; is = λ κ a r e
 pub write-command-words-leaves : Answers write-command-words.Asked write-command-words.Learnt (λ κ r e. now (e .1 .1 .1 .0)) (λ κ a. laterOf (commandWordsMade (now (a .0)) (now (a .1 .0)) (now (a .1 .1 .0))) (now (a .1 .1 .1 .0)))
 write-command-words-leaves = record { takes-any = λ κ a. tt; is = λ κ a r e l. l .1 }
 
-pub descriptor-refusal-answers : Answers descriptor-refusal.Asked descriptor-refusal.Learnt (λ κ r e. r) (λ κ a. descriptorRefusal (a .0) (now (a .1 .0)) (now (a .1 .1 .0)))
+pub descriptor-refusal-answers : Answers descriptor-refusal.Asked descriptor-refusal.Learnt (λ κ r e. r) (λ κ a. descriptorRefusal (a .0) (now (a .1 .0)) (now (a .1 .1 .0)) (now (a .1 .1 .1 .0)))
 descriptor-refusal-answers = record { takes-any = λ κ a. tt; is = λ κ a r e l. l }
 
 pub write-descriptor-words-answers : Answers write-descriptor-words.Asked write-descriptor-words.Learnt (λ κ r e. r) (λ κ a. flatWritten (answerOf (descriptorWordsMade (now (a .0)) (now (a .1 .0)) (now (a .1 .1 .0))) (now (a .1 .1 .1 .0))))

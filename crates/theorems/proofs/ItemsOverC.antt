@@ -6,10 +6,10 @@ use mathlib.Core.Logic.{_⊎_, inl, inr, ⊎-elim}
 use mathlib.Core.Path.{_≡_, refl, ap, ap₂, sym, _∙_}
 use native.Mathlib.Nat.{mod-eq-of-lt}
 use native.Mathlib.Omega.{arith}
-use lib.Dec.{ltb, leb}
+use lib.Dec.{eqb, ltb, leb}
 use lib.ListN.{length, take, drop, replicate}
 use lib.Seq.{take-all, take-at}
-use borrow.Author.Tests.{lt-ltb, ltb-true, ltb-false, leb-true}
+use borrow.Author.Tests.{lt-ltb, ltb-true, ltb-false, leb-true, le-leb}
 use Rattle.descriptor.specs.Plain.{dtmf, time, privateBytes}
 use Rattle.descriptor.specs.Segmentation.{blankComponent, countOf, frontOf, segmentation, ticks}
 use Rattle.descriptor.specs.Whole.{filled}
@@ -30,14 +30,15 @@ use Rattle.descriptor_measure.proofs.Refusals.{view-out, upid-long, numbers-ove
 use Rattle.descriptor_measure.specs.Private.{componentsFields, modeFields, durationFields, numbersFit}
 use Rattle.descriptor_measure.specs.Writing.{framedMade, segmentationMade, payloadMade, descriptorMade, tagOf, identifierOf, upidIn, upidSource, fairSegment, writtenDetail}
 use Rattle.descriptor_measure.specs.Same.{countBeside}
+use Rattle.c_descriptor_writer.proofs.Answered.{unseen-made}
 use Rattle.c_descriptor_writer.proofs.Back.{descriptor-back}
 use Rattle.c_descriptor_writer.proofs.Told.{mode-count}
-use Rattle.c_descriptor_writer.specs.ItemGiven.{descriptorGiven, identifierFrom, placeFrom, byteFrom, placesFrom, eidrFrom, besideFrom, ownItem, descriptorRefusal, descriptorWordsMade}
-use Rattle.c_descriptor_writer.specs.ItemWords.{itemWords, itemWidths, placesIn, eidrIn, placeWidths, placesWithin, besideWithin}
+use Rattle.c_descriptor_writer.specs.ItemGiven.{descriptorGiven, identifierFrom, placeFrom, byteFrom, placesFrom, eidrFrom, besideFrom, ownItem, wordsRefusal, descriptorRefusal, descriptorWordsMade}
+use Rattle.c_descriptor_writer.specs.ItemWords.{itemWords, itemWidths, placesIn, eidrIn, placeWidths, placesWithin, besideWithin, itemSeen, hasEidr, besideThere}
 use Rattle.c_descriptor_writer.proofs.Typed.{TypedSubs, TypedInsert, TypedDetail, Typed}
 use Rattle.c_items.specs.FlatItem.{flatRestrictions, flatSubSegments, wholeSegmentation, bareSegmentation, segmentationItem, flatDescriptor, flatItem, refusalIn, valuesIn, flatStep, flatComponent, flatBeside}
 use Rattle.c_command_writer.proofs.Words.{and-unit, places-length}
-use Rattle.c_command_writer.specs.Words.{within, same, placesOf, eachPlace, refusalOf, noLess}
+use Rattle.c_command_writer.specs.Words.{within, same, placesOf, eachPlace, refusalOf, seenFirst, noLess}
 use Rattle.descriptor_loop.specs.declared.Item.{Item}
 use Rattle.descriptor_loop.specs.declared.Step.{Step}
 use Rattle.names.specs.Flags.{restrictionsBits}
@@ -101,6 +102,11 @@ pairs-past [] words (suc n) e = absurd (omega arith)
 pairs-past (c ∷ cs) words zero e = absurd (omega arith)
 pairs-past (c ∷ cs) words (suc zero) e = absurd (omega arith)
 pairs-past (c ∷ cs) words (suc (suc n)) e = pairs-past cs words n (omega arith)
+
+pairs-length : (cs : List ModeComponent) (words : List ℕ) → length (pairsWords (map flatComponent cs) ++ words) ≡ length cs * 2 + length words
+unfolding flatComponent
+pairs-length [] words = omega arith
+pairs-length (c ∷ cs) words = omega (arith, pairs-length cs words)
 
 bytes-back : (n : ℕ) (s : List ℕ) → AllBytes s → length s ≡ n → placesOf byteFrom 1 n s ≡ s
 unfolding placesOf
@@ -386,11 +392,31 @@ module _ (number : ℕ) (id : List ℕ) (beside : Beside) (lent : List ℕ) (sma
     fits = within itemWidths (number ∷ itemWords (flatDescriptor d)) && besideWithin (countBeside d) side
 
     abbrev own : Bool
-    own = same (itemWords (flatDescriptor d)) (itemWords (flatDescriptor d))
+    own = same (itemWords (flatDescriptor d)) (itemWords (flatDescriptor d)) && besideThere (countBeside d) words side
 
-    refusal-is : descriptorRefusal (descriptorGiven words) words side ≡ refusalOf fits own
-    unfolding descriptorRefusal ownItem
-    refusal-is = ap (λ (e : Descriptor). descriptorRefusal e words side) (descriptor-back 0 0 0 0 next number d typed)
+    refusal-is : descriptorRefusal (descriptorGiven words) words side lent ≡ seenFirst (itemSeen words lent) (refusalOf fits own)
+    unfolding descriptorRefusal wordsRefusal ownItem
+    refusal-is = ap (λ (e : Descriptor). descriptorRefusal e words side lent) (descriptor-back 0 0 0 0 next number d typed)
+
+    -- all words of the struct are there
+    side-there : besideThere (countBeside d) words side ≡ true
+    unfolding besideThere
+    side-there = le-leb _ (length side) (go (hasEidr words) (eqb (countBeside d) 0))
+      where
+        all : length side ≡ 527
+        all = omega (arith, pairs-length (beside .components) (beside .eidr), t .places, t .twelve)
+
+        go : (e z : Bool) → pick e 527 (pick z 0 (5 + countBeside d * 2)) ≤ length side
+        go true z = omega (arith, all)
+        go false true = omega arith
+        go false false = omega (arith, all, count-there d typed)
+
+    are-own : own ≡ true
+    are-own = rw (same-self (itemWords (flatDescriptor d)), side-there)
+
+    given-own : ownItem (descriptorGiven words) words ≡ true
+    unfolding ownItem
+    given-own = ap (λ (e : Descriptor). ownItem e words) (descriptor-back 0 0 0 0 next number d typed) ∙ same-self (itemWords (flatDescriptor d))
 
     beside-fits : besideWithin (countBeside d) side ≡ writing.within (componentsFields (take (countBeside d) (beside .components)))
     unfolding besideWithin placesWithin
@@ -422,10 +448,16 @@ module _ (number : ℕ) (id : List ℕ) (beside : Beside) (lent : List ℕ) (sma
         ∙ ap (λ (l : List ℕ). descriptorMade d l (besideFrom (countBeside d) side) lent) identifies ∙ ap (framedMade (tagOf d) (identifierOf d id)) beside-is
 
     words-taken : descriptorWordsMade words side lent ≡ descriptorMade d id beside lent
-    unfolding descriptorWordsMade descriptorMade
-    words-taken =
-        ap₂ noLess refusal-is given-made
-        ∙ taken fits own (descriptorMade d id beside lent) (same-self (itemWords (flatDescriptor d))) (λ e. framed-wide (tagOf d) (identifierOf d id) (payloadMade d id beside lent) (payload-wide e))
+    unfolding descriptorWordsMade descriptorMade noLess
+    words-taken = ap₂ noLess refusal-is given-made ∙ go (itemSeen words lent) refl
+      where
+        -- a view outside: both are refused with 31
+        outside : itemSeen words lent ≡ false → descriptorMade d id beside lent ≡ refused 31
+        outside s = sym given-made ∙ unseen-made words side lent given-own s
+
+        go : (s : Bool) → itemSeen words lent ≡ s → noLess (seenFirst s (refusalOf fits own)) (descriptorMade d id beside lent) ≡ descriptorMade d id beside lent
+        go true s = taken fits own (descriptorMade d id beside lent) are-own (λ e. framed-wide (tagOf d) (identifierOf d id) (payloadMade d id beside lent) (payload-wide e))
+        go false s = rw (outside s)
 
 -- ---- the step
 pub descriptor-taken : (d : Descriptor) (next : ℕ) (id : List ℕ) (beside : Beside) (lent : List ℕ) → Typed d → TypedBeside id beside → length lent < 2 ^ 64

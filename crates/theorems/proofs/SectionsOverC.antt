@@ -25,7 +25,7 @@ use Rattle.c_section_writer.proofs.Answers as section
 use Rattle.c_section_writer.specs.SectionGiven.{sectionWordsMade}
 use Rattle.c_section_writer.specs.SectionWords.{headerWords, headerWidths, sectionFits}
 use Rattle.c_section.specs.declared.commands.FlatCommand.{FlatCommand}
-use Rattle.c_command_writer.specs.CommandGiven.{componentsFrom, splicesWithin, ownSplices, commandRefusal, commandGiven}
+use Rattle.c_command_writer.specs.CommandGiven.{componentsFrom, splicesWithin, ownSplices, wordsRefusal, commandRefusal, commandGiven}
 use Rattle.c_command_writer.specs.CommandWords.{commandWords, commandWidths, placesGiven, commandSeen, commandFits}
 use Rattle.c_command_writer.proofs.Fits.{own-count}
 use Rattle.c_command_writer.proofs.Given.{given-count}
@@ -151,7 +151,7 @@ and-false true = refl
 and-false false = refl
 
 uncounted-given : (header command v w lent loop : List ℕ) → countIn (commandGiven command) ≡ 0 → sectionWordsMade header command v lent loop ≡ sectionWordsMade header command w lent loop
-unfolding sectionWordsMade commandRefusal splicesWithin ownSplices componentsFrom eachPlace placesOf
+unfolding sectionWordsMade commandRefusal wordsRefusal splicesWithin ownSplices componentsFrom eachPlace placesOf
 uncounted-given header command v w lent loop e = rw e
 
 pub uncounted : (header command v w lent loop : List ℕ) → placesGiven command ≡ 0 → sectionWordsMade header command v lent loop ≡ sectionWordsMade header command w lent loop

@@ -5,8 +5,11 @@ use mathlib.Core.List.{List, [], _∷_}
 use mathlib.Core.Path.{_≡_, refl, ap, sym, _∙_}
 use native.Mathlib.Omega.{arith}
 use lib.Dec.{eqb, ltb}
-use lib.ListN.{length, take, drop, getD}
+use lib.ListN.{length, take, drop, getD, length-drop}
+use lib.Seq.{getD-drop}
 use borrow.Author.Tests.{eq-eqb, ne-eqb, lt-ltb, le-ltb, eqb-true}
+use Rattle.command.specs.Command.{numberOf}
+use Rattle.command.specs.declared.CommandRead.{CommandRead}
 use Rattle.descriptor.specs.Descriptor.{availOf, dtmfOf, timeOf, reservedOf, segmentationOf, insertOf, inserted, isCuei, cuei, descriptorOf, _andThen_, ifFine}
 use Rattle.descriptor.specs.Plain.{avail, dtmf, time}
 use Rattle.descriptor.specs.Segmentation.{head, front, back}
@@ -15,6 +18,7 @@ use Rattle.descriptor.specs.declared.segmentation.SegmentationDetail.{Segmentat
 use Rattle.descriptor.specs.declared.DescriptorRead.{DescriptorRead}
 use Rattle.descriptor.specs.declared.segmentation.SegmentationUpid.{SegmentationUpid}
 use Rattle.descriptor_loop.proofs.Steps.{step-long, step-end, step-few, step-over, step-full, step-small, step-whole}
+use Rattle.descriptor_loop.specs.Cover.{Ends}
 use Rattle.descriptor_loop.specs.Items.{bare, short, stepOf, wholeAt}
 use Rattle.descriptor_loop.specs.Items as items
 use Rattle.descriptor_loop.specs.declared.Item.{Item}
@@ -32,7 +36,7 @@ use Rattle.upid.specs.Upid as upid
 use Rattle.upid.specs.Upid.{checkOf, readOf, plainOf, lengthOf, isText, reportedOf}
 use Rattle.upid.specs.declared.Refusal.{Refusal}
 use Rattle.upid.specs.declared.UpidRead.{UpidRead}
-use Rattle.theorems_rows.specs.Refusals.{StepRefused, UpidRefused, kindOf, fixedLengths, texts, plainLengths}
+use Rattle.theorems_rows.specs.Refusals.{StepRefused, endNumber, endValues, UpidRefused, kindOf, fixedLengths, texts, plainLengths}
 
 -- ---- a step
 
@@ -248,3 +252,23 @@ module _ (b : List ℕ) where
     upid-above-14 k h = free k (λ z. omega arith) (λ z. omega arith)
         (rw (ne-eqb k 2 (λ z. omega arith), ne-eqb k 5 (λ z. omega arith), ne-eqb k 8 (λ z. omega arith), ne-eqb k 3 (λ z. omega arith), ne-eqb k 6 (λ z. omega arith), ne-eqb k 7 (λ z. omega arith), ne-eqb k 10 (λ z. omega arith), ne-eqb k 4 (λ z. omega arith)))
         (rw (ne-eqb k 5 (λ z. omega arith)))
+
+-- ---- 11 is of a malformed command alone
+pub malformed-only : (r : CommandRead) → eqb (numberOf r) 11 ≡ true → r ≡ CommandRead.Malformed
+malformed-only (CommandRead.Is c) e = zero-one cc
+malformed-only CommandRead.UnknownType e = zero-one cc
+malformed-only CommandRead.Malformed e = refl
+
+-- ---- where a loop ends
+pub ending : (loop : List ℕ) (offset : ℕ) → length loop ≤ 4076 → (e : Ends (drop offset loop)) → StepRefused (stepOf loop offset) (endNumber e) (endValues e) (length loop)
+ending loop offset fits (Ends.few a b) =
+    let n : length (drop offset loop) ≡ length loop - offset = length-drop offset loop in
+    few-left loop offset fits (omega (arith, n, a)) (omega (arith, n, b))
+ending loop offset fits (Ends.over a b) =
+    let n : length (drop offset loop) ≡ length loop - offset = length-drop offset loop in
+    let L : getD (drop offset loop) 1 0 ≡ getD loop (offset + 1) 0 = getD-drop offset loop 1 0 in
+    rw L (too-long-for-the-rest loop offset fits (omega (arith, n, a)) (omega (arith, n, b, L)))
+ending loop offset fits (Ends.full a b) =
+    let n : length (drop offset loop) ≡ length loop - offset = length-drop offset loop in
+    let L : getD (drop offset loop) 1 0 ≡ getD loop (offset + 1) 0 = getD-drop offset loop 1 0 in
+    length-255 loop offset fits (omega (arith, n, a, b)) (omega (arith, n, a, L)) (omega (arith, b, L))

@@ -10,14 +10,15 @@ use Rattle.descriptor.specs.declared.Descriptor.{Descriptor}
 use Rattle.descriptor_measure.specs.Writing.{descriptorMade}
 use Rattle.c_command_writer.specs.Words.{within, noLess}
 use Rattle.descriptor_measure.specs.Same.{countBeside}
-use Rattle.c_descriptor_writer.specs.ItemGiven.{descriptorGiven, identifierFrom, besideFrom, ownItem, descriptorRefusal, descriptorWordsMade}
-use Rattle.c_descriptor_writer.specs.ItemWords.{itemWidths, besideWithin}
+use Rattle.c_descriptor_writer.specs.ItemGiven.{descriptorGiven, identifierFrom, besideFrom, ownItem, wordsRefusal, descriptorRefusal, descriptorWordsMade}
+use Rattle.c_descriptor_writer.specs.ItemWords.{itemWidths, besideWithin, itemSeen, besideThere}
+use Rattle.c_command_writer.proofs.Refusals.{seen-small}
 use Rattle.c_command_writer.proofs.Words.{refusal-small, words-refused, words-taken, later-nil}
 use Rattle.c_descriptor_writer.proofs.write_from_words.Statement.{statement}
 use Rattle.c_descriptor_writer.proofs.write_from_words.Tie as tie
 
 parts : (words beside lent : List ℕ) (g : Descriptor) (identifier : List ℕ) (n : ℕ) (r : ℕ)
-    → g ≡ descriptorGiven words → identifier ≡ identifierFrom words → n ≡ countBeside g → r ≡ descriptorRefusal g words beside
+    → g ≡ descriptorGiven words → identifier ≡ identifierFrom words → n ≡ countBeside g → r ≡ descriptorRefusal g words beside lent
     → noLess r (descriptorMade g identifier (besideFrom n beside) lent) ≡ descriptorWordsMade words beside lent
 unfolding descriptorWordsMade
 parts words beside lent g identifier n r e f h j = rw (j, h, f, e)
@@ -31,11 +32,11 @@ made k =
     parts (a .words .now) (a .beside .now) (a .lent .now) _ _ _ _ (k .before .before .before .descriptor-given .ensures) (k .before .before .identifier-from .ensures) (k .before .count-in-descriptor .ensures) (k .descriptor-refusal .ensures)
 
 small : (k : tie.After-descriptor-refusal) → k .descriptor-refusal .result ≤ 36
-unfolding descriptorRefusal
+unfolding descriptorRefusal wordsRefusal
 small k =
     let a = k .before .before .before .before .before .before .before .before .args in
     let g = k .before .before .before .descriptor-given .result in
-    omega (arith, k .descriptor-refusal .ensures, refusal-small (within itemWidths (drop 5 (a .words .now)) && besideWithin (countBeside g) (a .beside .now)) (ownItem g (a .words .now)))
+    omega (arith, k .descriptor-refusal .ensures, seen-small (itemSeen (a .words .now) (a .lent .now)) _ (refusal-small (within itemWidths (drop 5 (a .words .now)) && besideWithin (countBeside g) (a .beside .now)) (ownItem g (a .words .now) && besideThere (countBeside g) (a .words .now) (a .beside .now))))
 
 descriptor-given-requires : tie.Need-descriptor-given-requires
 descriptor-given-requires c κs = search needs

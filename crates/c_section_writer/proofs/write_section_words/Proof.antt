@@ -22,7 +22,7 @@ use Rattle.c_section_writer.proofs.write_section_words.Statement.{state
 use Rattle.c_section_writer.proofs.write_section_words.Tie as tie
 
 parts : (header command components lent loop : List ℕ) (h : SpliceInfoHeader) (g : SpliceCommand) (p : List ComponentSplice) (m n r : ℕ)
-    → h ≡ headerFrom header → g ≡ commandGiven command → p ≡ componentsFrom (countIn g) components → m ≡ headerRefusal header → n ≡ commandRefusal g command components → r ≡ either m n
+    → h ≡ headerFrom header → g ≡ commandGiven command → p ≡ componentsFrom (countIn g) components → m ≡ headerRefusal header → n ≡ commandRefusal g command components lent → r ≡ either m n
     → noLess r (sectionMade h (commandMade g p lent) (kindOf g) loop) ≡ sectionWordsMade header command components lent loop
 unfolding sectionWordsMade
 parts header command components lent loop h g p m n r e f i j l o = rw (o, l, j, i, f, e)
@@ -43,7 +43,7 @@ small : (k : tie.After-either-refusal) → k .either-refusal .result ≤ 36
 small k =
     let a = k .before .before .before .before .before .before .before .before .before .before .before .args in
     let m : k .before .before .header-refusal .result ≤ 33 = omega (arith, k .before .before .header-refusal .ensures, header-small (a .header .now)) in
-    let n : k .before .command-refusal .result ≤ 33 = omega (arith, k .before .command-refusal .ensures, command-small (k .before .before .before .command-given .result) (a .command .now) (a .components .now)) in
+    let n : k .before .command-refusal .result ≤ 33 = omega (arith, k .before .command-refusal .ensures, command-small (k .before .before .before .command-given .result) (a .command .now) (a .components .now) (a .lent .now)) in
     omega (arith, k .either-refusal .ensures, either-small (k .before .before .header-refusal .result) (k .before .command-refusal .result) m n)
 
 header-from-requires : tie.Need-header-from-requires

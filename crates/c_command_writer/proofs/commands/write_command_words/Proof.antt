@@ -18,7 +18,7 @@ use Rattle.c_command_writer.proofs.commands.write_command_words.Stateme
 use Rattle.c_command_writer.proofs.commands.write_command_words.Tie as tie
 
 parts : (words components lent : List ℕ) (g : SpliceCommand) (p : List ComponentSplice) (r : ℕ)
-    → g ≡ commandGiven words → p ≡ componentsFrom (countIn g) components → r ≡ commandRefusal g words components
+    → g ≡ commandGiven words → p ≡ componentsFrom (countIn g) components → r ≡ commandRefusal g words components lent
     → noLess r (commandMade g p lent) ≡ commandWordsMade words components lent
 unfolding commandWordsMade
 parts words components lent g p r e h i = rw (i, h, e)
@@ -35,7 +35,7 @@ made k p e =
 small : (k : tie.After-command-refusal) → k .command-refusal .result ≤ 36
 small k =
     let a = k .before .before .before .before .before .before .args in
-    omega (arith, k .command-refusal .ensures, command-small (k .before .command-given .result) (a .words .now) (a .components .now))
+    omega (arith, k .command-refusal .ensures, command-small (k .before .command-given .result) (a .words .now) (a .components .now) (a .lent .now))
 
 command-given-requires : tie.Need-command-given-requires
 command-given-requires c κs = search needs
