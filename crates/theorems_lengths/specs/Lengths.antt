@@ -36,8 +36,8 @@ pub record ItemAs (loop : List ℕ) (y : Listed) (b : List ℕ) : Type 0 where
   pub form : canonicalDescriptor b ≡ true
   pub shorter : length b ≤ y .used
 
--- "each item's descriptor, joined in order as the loop, then the section": what is made of a section's reading x. It has the same header and command, it is canonical (`around`), its
--- items are the same, one by one, and it is no longer than the section
+-- "each item's descriptor, joined in order as the loop, then the section": what is made of a section's reading x. It is canonical and has the same header and
+-- command (`around`), its items are the same, one by one (`back`), and it is no longer than the section.
 pub record WrittenShorter (s : List ℕ) (x : Section) : Type 0 where
   pub pieces : List (List ℕ)
   pub items : Pairs (ItemAs (loopIn s x)) (itemsOf (loopIn s x)) pieces
