@@ -3,15 +3,17 @@ ghost use mathlib.Core.Path.{_≡_};
 ghost use Rattle.command.specs.Insert.{blank, component};
 ghost use mathlib.Core.List.{[]};
 ghost use Prim.Native.Nat.{_*_, _≤_};
-ghost use Rattle.command.specs.Command.{array, componentsOf};
+ghost use Rattle.command.specs.Command.{array, componentsOf, listedOf};
 ghost use Rattle.command.specs.Private.{componentRead, skimmedOf, listIn};
 ghost use Rattle.table.specs.Bits.{bitsOf};
 ghost use Rattle.table.specs.Table.{list, parse};
+use crate::CommandRead;
 use crate::insert::InsertRead;
 use crate::insert::SpliceInsert;
 use crate::insert::SpliceMode;
 use crate::insert::read_insert;
 use crate::insert::read_time_unless;
+use crate::read_command;
 use splice_time::SpliceTime;
 use splice_time::TimeRead;
 use table::cursor::Short;
@@ -20,6 +22,12 @@ use table::numbers::bits;
 pub struct ComponentSplice {
     pub component_tag: u8,
     pub splice_time: SpliceTime,
+}
+
+// A command as it was read, or its refusal, and its components: blank past their count.
+pub struct ListedCommand {
+    pub read: CommandRead,
+    pub components: [ComponentSplice; 255],
 }
 
 // A component and the place of the byte after it.
@@ -116,7 +124,7 @@ fn fill(s: &[u8], first: usize, count: usize, immediate: bool) -> [ComponentSpli
 }
 
 // The components of an insert's payload, blank past their count; none where the payload is malformed.
-pub fn read_components(payload: &[u8]) -> [ComponentSplice; 255]
+fn list_components(payload: &[u8]) -> [ComponentSplice; 255]
     ensures { λ r. ⌜ r ≡ componentsOf (now (payload .entry)) ⌝ }
 {
     let insertion = match read_insert(payload) {
@@ -134,4 +142,14 @@ pub fn read_components(payload: &[u8]) -> [ComponentSplice; 255]
         SpliceMode::Program(_) => return blanks(),
     };
     fill(payload, 7, count as usize, bits(payload, 5, 3, 1) == 1)
+}
+
+// An insert's payload read, with its components beside the reading: where it is refused (11), they are blank.
+pub fn read_components(payload: &[u8]) -> ListedCommand
+    ensures { λ r. ⌜ r ≡ listedOf (now (payload .entry)) ⌝ }
+{
+    ListedCommand {
+        read: read_command(0x05, payload),
+        components: list_components(payload),
+    }
 }
