@@ -14,6 +14,7 @@ use Rattle.command.specs.declared.CommandRead.{CommandRead}
 use Rattle.command.specs.declared.Private.{Private}
 use Rattle.command.specs.declared.SpliceCommand.{SpliceCommand}
 use Rattle.command.specs.declared.components.ComponentSplice.{ComponentSplice}
+use Rattle.command.specs.declared.components.ListedCommand.{ListedCommand}
 use Rattle.command.specs.declared.insert.Insertion.{Insertion}
 use Rattle.command.specs.declared.insert.SpliceInsert.{SpliceInsert}
 
@@ -106,3 +107,7 @@ componentsIn (short expected actual) = []
 
 unfoldable pub componentsOf : List ℕ → List ComponentSplice
 componentsOf payload = array (componentsIn (parse insert (bitsOf payload) 0))
+
+-- an insert's payload as it is read, or its refusal, and the components beside it
+unfoldable pub listedOf : List ℕ → ListedCommand
+listedOf payload = record { read = commandOf 0x05 payload; components = componentsOf payload }

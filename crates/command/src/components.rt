@@ -3,7 +3,7 @@ ghost use mathlib.Core.Path.{_≡_};
 ghost use Rattle.command.specs.Insert.{blank, component};
 ghost use mathlib.Core.List.{[]};
 ghost use Prim.Native.Nat.{_*_, _≤_};
-ghost use Rattle.command.specs.Command.{array, componentsOf};
+ghost use Rattle.command.specs.Command.{array, componentsOf, listedOf};
 ghost use Rattle.command.specs.Private.{componentRead, skimmedOf, listIn, countRead};
 ghost use Rattle.table.specs.Bits.{bitsOf};
 ghost use Rattle.table.specs.Table.{list, parse};
@@ -12,6 +12,7 @@ use crate::SpliceCommand;
 use crate::insert::SpliceInsert;
 use crate::insert::SpliceMode;
 use crate::insert::read_time_unless;
+use crate::read_command;
 use crate::read_other;
 use splice_time::SpliceTime;
 use splice_time::TimeRead;
@@ -21,6 +22,12 @@ use table::numbers::bits;
 pub struct ComponentSplice {
     pub component_tag: u8,
     pub splice_time: SpliceTime,
+}
+
+// A command as it was read, or its refusal, and its components: blank past their count.
+pub struct ListedCommand {
+    pub read: CommandRead,
+    pub components: [ComponentSplice; 255],
 }
 
 // A component and the place of the byte after it.
@@ -145,9 +152,19 @@ fn count_of(read: CommandRead) -> u8
 }
 
 // The components of an insert's payload, blank past their count; none where the payload is malformed.
-pub fn read_components(payload: &[u8]) -> [ComponentSplice; 255]
+fn list_components(payload: &[u8]) -> [ComponentSplice; 255]
     ensures { λ r. ⌜ r ≡ componentsOf (now (payload .entry)) ⌝ }
 {
     let count = count_of(read_other(5, payload));
     fill(payload, 7, count as usize, bits(payload, 5, 3, 1) == 1)
+}
+
+// An insert's payload read, with its components beside the reading: where it is refused (11), they are blank.
+pub fn read_components(payload: &[u8]) -> ListedCommand
+    ensures { λ r. ⌜ r ≡ listedOf (now (payload .entry)) ⌝ }
+{
+    ListedCommand {
+        read: read_command(0x05, payload),
+        components: list_components(payload),
+    }
 }

@@ -80,8 +80,9 @@ fn list_components(s: &[u8], from: usize, n: u8) -> [ModeComponent; 255]
     out
 }
 
-// What stands beside a segmentation descriptor; nothing where its payload lacks a field.
-pub fn read_beside(payload: &[u8]) -> Beside
+// What stands beside a segmentation descriptor; nothing where its payload lacks a field. A UPID that is refused is none of its tests, so only who has read the
+// descriptor calls it.
+fn read_beside(payload: &[u8]) -> Beside
     ensures { λ r. ⌜ r ≡ besideOf (now (payload .entry)) ⌝ }
 {
     let head = match read_head(payload) {

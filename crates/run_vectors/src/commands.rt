@@ -101,7 +101,8 @@ fn components(payload: &[u8], n: u8) {
     io::write_all(1, b" components");
     value(n as u64);
     let count = n as usize;
-    let list = read_components(payload);
+    let listed = read_components(payload);
+    let list = listed.components;
     let mut i: usize = 0;
     while i < 255 {
         if i < count {

@@ -14,7 +14,9 @@ use descriptor::segmentation::SegmentationInsert;
 use descriptor::segmentation::SegmentationMode;
 use descriptor::segmentation::SegmentationUpid;
 use descriptor::segmentation::SubSegments;
-use descriptor::whole::read_beside;
+use descriptor::segmentation::read_segmentation;
+use descriptor::whole::Beside;
+use descriptor::whole::beside_of;
 use descriptor_loop::Item;
 use descriptor_loop::ItemRefusal;
 use descriptor_loop::Step;
@@ -152,11 +154,15 @@ fn restrictions(flags: DeliveryRestrictionFlags) {
     }
 }
 
+fn beside_segmentation(payload: &[u8]) -> Beside {
+    beside_of(read_segmentation(payload), payload)
+}
+
 fn components(payload: &[u8], n: u8) {
     io::write_all(1, b" components");
     value(n as u64);
     let count = n as usize;
-    let beside = read_beside(payload);
+    let beside = beside_segmentation(payload);
     let list = beside.components;
     let mut i: usize = 0;
     while i < 255 {
@@ -175,7 +181,7 @@ fn component(c: ModeComponent) {
 // An EIDR is held by value; any other UPID is a part of what was lent.
 fn identifier(u: SegmentationUpid, part: &[u8], payload: &[u8]) {
     if u.kind == 10 {
-        let beside = read_beside(payload);
+        let beside = beside_segmentation(payload);
         let eidr = beside.eidr;
         contents(u.kind, &eidr);
         return;

@@ -135,8 +135,10 @@ pub extern "C" fn scte35_read_command(kind: u8, s: &[u8], at: usize) -> FlatComm
 pub extern "C" fn scte35_read_insert_components(s: &[u8], at: usize) -> FlatSplices
     ensures { λ r. ⌜ r ≡ flatSplices (commandOf 0x05 (drop at (now (s .entry)))) (componentsOf (drop at (now (s .entry)))) ⌝ }
 {
-    let payload = rest(s, at);
-    flat_splices(read_command(5, payload), read_components(payload))
+    let listed = read_components(rest(s, at));
+    let read = listed.read;
+    let components = listed.components;
+    flat_splices(read, components)
 }
 
 // The item at an offset of a loop.

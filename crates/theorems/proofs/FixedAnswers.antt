@@ -6,13 +6,13 @@ use denote.Ref.{now}
 use Prim.Native.Nat.{_%_, _*_, _+_, _-_, _/_, _^_}
 use lib.ListN.{getD, length}
 use mathlib.Core.List.{[], _∷_}
-use Rattle.command.specs.Command.{array, commandOf, componentsOf}
+use Rattle.command.specs.Command.{array, commandOf, listedOf}
 use Rattle.command.specs.Insert.{insert}
 use Rattle.command.specs.Private.{insertRead}
 use Rattle.crc.specs.Crc.{crcOf}
 use Rattle.crc_table.specs.Turns.{reversed, turns}
 use Rattle.descriptor.specs.Descriptor.{availOf, descriptorOf, dtmfOf, isCuei, reservedOf, segmentationOf as descriptorSegmentationOf, timeOf}
-use Rattle.descriptor.specs.Whole.{besideOf, besideRead, blankBeside, identifierRead, wholeOf}
+use Rattle.descriptor.specs.Whole.{besideRead, blankBeside, identifierRead, wholeOf}
 use Rattle.header.specs.Header.{headerOf}
 use Rattle.splice_time.specs.Time.{adjustedOf, spliceTime, timeRead}
 use Rattle.descriptor_loop.specs.Items.{countOf, readingOf, stepOf}
@@ -93,7 +93,6 @@ use Rattle.descriptor.proofs.plain.read_dtmf.Reads as read-dtmf
 use Rattle.descriptor.proofs.plain.read_time.Reads as read-time
 use Rattle.descriptor.proofs.plain.read_reserved.Reads as read-reserved
 use Rattle.descriptor.proofs.segmentation.read_segmentation.Reads as read-segmentation
-use Rattle.descriptor.proofs.whole.read_beside.Reads as read-beside
 use Rattle.descriptor.proofs.whole.read_whole.Reads as read-whole
 use Rattle.descriptor.proofs.whole.blank_beside.Reads as blank-beside
 use Rattle.descriptor.proofs.whole.beside_of.Reads as beside-of
@@ -325,9 +324,6 @@ read-reserved-answers = record { takes-any = λ κ a. tt; is = λ κ a r e l. l 
 pub read-segmentation-answers : Answers read-segmentation.Asked read-segmentation.Learnt (λ κ r e. r) (λ κ a. descriptorSegmentationOf (now (a .0)))
 read-segmentation-answers = record { takes-any = λ κ a. tt; is = λ κ a r e l. l }
 
-pub read-beside-answers : Answers read-beside.Asked read-beside.Learnt (λ κ r e. r) (λ κ a. besideOf (now (a .0)))
-read-beside-answers = record { takes-any = λ κ a. tt; is = λ κ a r e l. l }
-
 pub read-whole-answers : Answers read-whole.Asked read-whole.Learnt (λ κ r e. r) (λ κ a. wholeOf (a .0) (a .1 .0) (now (a .1 .1 .0)))
 read-whole-answers = record { takes-any = λ κ a. tt; is = λ κ a r e l. l }
 
@@ -368,7 +364,7 @@ read-command-answers = record { takes-any = λ κ a. tt; is = λ κ a r e l. l }
 pub read-insert-answers : Answers read-insert.Asked read-insert.Learnt (λ κ r e. r) (λ κ a. insertRead (parse insert (bitsOf (now (a .0))) 0))
 read-insert-answers = record { takes-any = λ κ a. tt; is = λ κ a r e l. l }
 
-pub read-components-answers : Answers read-components.Asked read-components.Learnt (λ κ r e. r) (λ κ a. componentsOf (now (a .0)))
+pub read-components-answers : Answers read-components.Asked read-components.Learnt (λ κ r e. r) (λ κ a. listedOf (now (a .0)))
 read-components-answers = record { takes-any = λ κ a. tt; is = λ κ a r e l. l }
 
 pub blank-components-answers : Answers blank-components.Asked blank-components.Learnt (λ κ r e. r) (λ κ a. array [])

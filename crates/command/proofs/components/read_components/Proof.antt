@@ -1,33 +1,18 @@
--- `command::components::read_components`: the components lie from byte 7 on, as many as the command says.
-use Rattle.command.proofs.Filling.{all-components}
+-- `command::components::read_components`: the reading, and the components beside it.
 use borrow.Author.Needs.{needs}
+use Rattle.command.specs.Command.{listedOf}
 use Rattle.command.proofs.components.read_components.Statement.{statement}
 use Rattle.command.proofs.components.read_components.Tie as tie
 
-read-other-requires : tie.Need-read-other-requires
-read-other-requires c κs = search needs
+read-command-requires : tie.Need-read-command-requires
+read-command-requires c κs = search needs
 
-count-of-requires : tie.Need-count-of-requires
-count-of-requires c κs = search needs
-
-cast-fill : tie.Need-cast-fill
-cast-fill c = search needs
-
-bits-requires : tie.Need-bits-requires
-bits-requires c κs = search needs
-
-fill-requires : tie.Need-fill-requires
-fill-requires c κs = search needs
+list-components-requires : tie.Need-list-components-requires
+list-components-requires c κs = search needs
 
 returns : tie.Need-returns
-returns c =
-    let v = c .before in
-    let n = v .before in
-    let r = n .before in
-    let a = r .before .before .args in
-    all-components (a .payload .now) _ _ _ _ (r .read-other .ensures) (n .count-of .ensures) (v .bits .ensures) (c .fill .ensures)
+unfolding listedOf
+returns c = rw (c .before .read-command .ensures, c .list-components .ensures)
 
 pub read-components-spec : {M : Type 1} → statement M
-read-components-spec =
-    tie.close
-    (tie.spec read-other-requires count-of-requires cast-fill bits-requires fill-requires returns)
+read-components-spec = tie.close (tie.spec read-command-requires list-components-requires returns)
