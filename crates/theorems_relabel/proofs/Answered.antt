@@ -20,7 +20,8 @@ use Rattle.relabel_found.proofs.Inserts.{Inserted, inserted, hole-at, byte-in, 
 use Rattle.relabel_found.specs.Found.{begins, inserts, found, kindIn, sizeIn, upidIn}
 use Rattle.relabel_laws.proofs.Results.{accepted-of}
 use Rattle.relabel_payload.specs.Payload.{Holed}
-use Rattle.relabel_upid.proofs.Answers.{Done, done, own-short, parts-of-mid, has-parts, taken-accepted, accepted-taken}
+use Rattle.relabel_upid.proofs.Answers.{Done, done, own-short, has-parts, taken-accepted, accepted-taken}
+use Rattle.upid.proofs.Answers.{parts-of-mid}
 use Rattle.relabel_upid.proofs.Turns.{fine-bytes}
 use Rattle.relabel_upid.specs.Relabel.{instead, partAt, replacedIn, taken, wholeMade, partMade, upidMade}
 use Rattle.section.specs.Section.{commandLength, loopLength, conditions, first, loopBytes, sectionOf, numberOf}

@@ -15,7 +15,8 @@ use Rattle.relabel_found.specs.Found.{kindIn, upidIn}
 use Rattle.relabel_laws.proofs.Theorems.{the-list-is-the-old-one-with-that-one-replaced}
 use Rattle.relabel_laws.specs.Identifiers.{ofUpid, ofPayload, each, identifiersIn, upidThen}
 use Rattle.relabel_laws.specs.Result.{Result}
-use Rattle.relabel_upid.proofs.Answers.{Able, made-able, parts-of-mid, has-parts, taken-accepted, whole-made-is, relabelled-made, same-again}
+use Rattle.relabel_upid.proofs.Answers.{Able, made-able, has-parts, taken-accepted, whole-made-is, relabelled-made, same-again}
+use Rattle.upid.proofs.Answers.{parts-of-mid}
 use Rattle.relabel_upid.proofs.Theorems.{the-old-list-in-the-same-words}
 use Rattle.relabel_upid.specs.Kept.{Identifier, identifiersOf, identifiersAt, identifiersThen, afterPart, writtenKind}
 use Rattle.relabel_upid.specs.Kept as kept
