@@ -30,7 +30,8 @@ use Rattle.descriptor_round_trips.proofs.Payloads.{payload-back}
 use Rattle.descriptor_round_trips.specs.Making.{viewIn}
 use Rattle.descriptor_round_trips.specs.Trips.{Handed}
 use Rattle.loop_round_trips.proofs.Places.{moved-values, moved-count, moved-view}
-use Rattle.section_writer.proofs.Numbers.{byte-in, bytes-take, bytes-drop}
+use Rattle.section_writer.proofs.Numbers.{byte-in}
+use Rattle.table.proofs.Structure.{bytes-take, bytes-drop}
 use Rattle.table.proofs.Lists.{zero-one}
 use Rattle.table.specs.Bits.{pick, bitsOf, AllBytes}
 use Rattle.table.specs.Lent.{viewed}
