@@ -117,10 +117,10 @@ read-as s offset base loop eidr u at eb el w =
       one = one-listed pay (u .kind) k;
     }
   where
-    thirteen : 13 ≡ 0 → ⊥
+    thirteen : _≡_ {A = ℕ} 13 0 → ⊥
     thirteen e = omega (arith, e)
 
-    thirteen-ten : 13 ≡ 10 → ⊥
+    thirteen-ten : _≡_ {A = ℕ} 13 10 → ⊥
     thirteen-ten e = omega (arith, e)
 
 -- ---- every item of the loop
@@ -150,10 +150,10 @@ found-there loop o b i = rw (b, i)
 -- what is listed of it is listed of its payload
 payload-of : (loop : List ℕ) (o : ℕ) → found loop o ≡ true → inserts (stepOf loop o .item) ≡ true → ofItem loop (listed loop o) ≡ ofPayload (payloadAt loop o)
 unfolding ofItem
-payload-of loop o f yes =
+payload-of loop o f is-so =
     let i = inserted loop o f in
     let z : stepOf loop o .next - o - 6 ≡ getD loop (o + 1) 0 - 4 = omega (arith, i .next, i .named) in
-    ap (λ (b : Bool). pick b (ofPayload (take (stepOf loop o .next - o - 6) (drop (o + 6) loop))) []) yes
+    ap (λ (b : Bool). pick b (ofPayload (take (stepOf loop o .next - o - 6) (drop (o + 6) loop))) []) is-so
     ∙ ap (λ (n : ℕ). ofPayload (take n (drop (o + 6) loop))) z
 
 not-listed : (loop : List ℕ) (o : ℕ) → inserts (stepOf loop o .item) ≡ false → ofItem loop (listed loop o) ≡ []
@@ -176,8 +176,8 @@ module _ (s : List ℕ) (x : Section) (e : sectionOf s ≡ SectionRead.Is x) (a 
 
     insert-as : (d : SegmentationDescriptor) (i : SegmentationInsert) → stepOf list o .item ≡ Item.Is (Descriptor.Segmentation d) → d .«descriptor_detail» ≡ SegmentationDetail.Insert i
         → inserts (stepOf list o .item) ≡ true → (ids ≡ ofPayload (payloadAt list o)) × ReadAs (payloadAt list o) list eidr (i .«segmentation_upid»)
-    insert-as d i st detail yes =
-        let f = found-there list o b yes in
+    insert-as d i st detail is-so =
+        let f = found-there list o b is-so in
         let fr = framing s x e in
         let bytes = all-at s a in
         let at = spotted s o bytes (fr .fits) (fr .short) f in
@@ -187,7 +187,7 @@ module _ (s : List ℕ) (x : Section) (e : sectionOf s ≡ SectionRead.Is x) (a 
         let w : WholeUpid s (upidAt s (x .descriptors .at + o + 6)) (x .descriptors .at) list eidr (i .«segmentation_upid») =
         subst (λ (l : List ℕ). stepOf l o .item ≡ Item.Is (Descriptor.Segmentation d) → WholeUpid s (upidAt s (x .descriptors .at + o + 6)) (x .descriptors .at) l (readingOf l o .beside .eidr) (i .«segmentation_upid»)) loop-here
         (λ z. demands.every-upid-of-the-section-is-whole s x e o d i z detail a) st in
-        (payload-of list o f yes, read-as s o (x .descriptors .at) list eidr (i .«segmentation_upid») at (fr .at) el w)
+        (payload-of list o f is-so, read-as s o (x .descriptors .at) list eidr (i .«segmentation_upid») at (fr .at) el w)
 
     detail-as : (d : SegmentationDescriptor) → stepOf list o .item ≡ Item.Is (Descriptor.Segmentation d) → (t : SegmentationDetail) → d .«descriptor_detail» ≡ t
         → DetailAs (payloadAt list o) list eidr ids t
