@@ -10,14 +10,22 @@ use Rattle.bit_stores.specs.Written.{answerOf, laterOf}
 use Rattle.bit_stores.specs.declared.Written.{Written}
 use Rattle.c_command_writer.specs.Words.{flatWritten}
 use Rattle.c_command_writer.specs.declared.FlatWritten.{FlatWritten}
+use Rattle.descriptor_loop.specs.Items.{itemsOf}
+use Rattle.relabel_laws.specs.Identifiers.{each, identifiersIn}
+use Rattle.section.specs.Section.{loopBytes, sectionOf}
+use Rattle.section.specs.declared.Section.{Section}
+use Rattle.section.specs.declared.SectionRead.{SectionRead}
 use Rattle.table.specs.Bits.{AllBytes}
 use Rattle.theorems.proofs.Theorems as demands
 use Rattle.theorems_relabel.specs.Answered.{answered}
+use Rattle.theorems_relabel.specs.Readings.{ListedAs}
 use Rattle.theorems_relabel.specs.Replaced.{Request, Relabelled}
 use Rattle.theorems_relabel.proofs.Answered as answered
 use Rattle.theorems_relabel.proofs.Contracts.{madeFor, Relabels, relabels-so, RelabelsC, relabels-c-so}
 use Rattle.theorems_relabel.proofs.Numbers.{all-at, Some, some-answered, length-of, refused-of}
+use Rattle.theorems_relabel.proofs.Readings as readings
 use Rattle.theorems_relabel.proofs.Replaced as replaced
+use Rattle.upid.specs.Cover.{All}
 
 -- ---- of `relabel`
 
@@ -54,3 +62,13 @@ a-relabelled-section-over-c-keeps-every-other-identifier q target answer later b
     let some : Some (answerOf (madeFor q) target) = subst Some (sym (answered.answers q target at)) (some-answered q (length target)) in
     let w = length-of (answerOf (madeFor q) target) some (ap (λ (v : FlatWritten). v .refusal) (sym (relabels-c-so d .0)) ∙ none) in
     replaced.written q target later (answer .«length») at byte (w ∙ ap (λ (v : FlatWritten). Written.Wrote (v .«length»)) (sym (relabels-c-so d .0))) (relabels-c-so d .1)
+
+-- ---- the list of identifiers
+
+-- The list that these statements speak of is, item by item, of the UPIDs that the readers hand out: of a UPID its type as it is written and its very bytes (an EIDR's by
+-- value), of a MID the parts that `read_upid` lists of the bytes handed out, MIDs among them left out, as their bytes are those of their own parts; and of any other item
+-- nothing. So it is, but for the fields of other kinds, the list `identifiersOf` of theorems, which has all of these (`the-list-of-identifiers-is-complete`).
+pub the-list-is-of-the-upids-that-are-read : (s : List ℕ) (x : Section) → sectionOf s ≡ SectionRead.Is x → AllBytes s
+    → (identifiersIn s ≡ each (loopBytes s) (itemsOf (loopBytes s))) × All (ListedAs (loopBytes s)) (itemsOf (loopBytes s))
+unfolding identifiersIn
+the-list-is-of-the-upids-that-are-read s x e a = (refl, readings.listed-as s x e a)
