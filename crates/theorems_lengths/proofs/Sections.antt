@@ -1,6 +1,7 @@
 -- A section that is read is written again, in no more bytes.
 --     section-shorter    if none of its items is refused, and its insert, if it is one, has 127 in its reserved bits
 --     only-such          and only then
+--     canonical-such     as of every canonical section
 use Prim.Native.Nat.{ℕ, _+_, _≤_}
 use mathlib.Core.Bool.{Bool, true, false}
 use mathlib.Core.List.{List, [], _∷_, _++_}
@@ -18,6 +19,7 @@ use Rattle.command.specs.declared.insert.Insertion.{Insertion}
 use Rattle.command_measure.specs.Made.{counted, timesFit, insertMade, commandMade}
 use Rattle.descriptor.specs.declared.Descriptor.{Descriptor}
 use Rattle.descriptor_loop.proofs.Lists.{walked}
+use Rattle.descriptor_loop.proofs.Places.{all-into}
 use Rattle.descriptor_loop.specs.Cover.{joined, Follow, done, follows}
 use Rattle.descriptor_loop.specs.Items.{readingOf, Listed, listed, itemsOf}
 use Rattle.descriptor_loop.specs.declared.Item.{Item}
@@ -29,6 +31,7 @@ use Rattle.section.specs.Section.{commandBytes, commandLength, loopBytes, loopL
 use Rattle.section.specs.declared.Section.{Section}
 use Rattle.section.specs.declared.SectionRead.{SectionRead}
 use Rattle.section_writer.proofs.Frames.{length-frame}
+use Rattle.section_writer.specs.Canonical.{canonicalSection}
 use Rattle.section_writer.specs.Frame.{sectionLength, frame}
 use Rattle.section_writer.specs.Writing.{sectionMade}
 use Rattle.table.proofs.Lists.{zero-one, and-true}
@@ -38,12 +41,14 @@ use Rattle.table.specs.Writing.{walk, Made, made, refused, make}
 use Rattle.table.specs.declared.View.{View}
 use Rattle.theorems.proofs.CommandsMade.{made-if-read}
 use Rattle.theorems.proofs.Framed.{laid}
-use Rattle.theorems.proofs.ItemsWritten.{all-viewed, items-read}
+use Rattle.theorems.proofs.ItemsWritten.{all-viewed, items-read, loop-written}
 use Rattle.theorems.proofs.Runs.{length-run}
+use Rattle.theorems.proofs.SectionsMade.{section-reads-as}
 use Rattle.theorems.proofs.Sections.{each-item, loop-run, loop-short, items-cover}
 use Rattle.theorems.proofs.Writable.{can-be-written}
-use Rattle.theorems.proofs.WritableInserts.{every-command-written}
+use Rattle.theorems.proofs.WritableInserts.{every-command-written, places-255, count-byte}
 use Rattle.theorems.proofs.WritableSections.{made-around, header-fits, header-fair, section-written}
+use Rattle.theorems.proofs.WrittenBack.{section-back}
 use Rattle.theorems.specs.Identifiers.{inSection, loopIn}
 use Rattle.theorems.specs.Making.{SectionBytes, CommandPayload}
 use Rattle.upid.specs.Cover.{All, none, more}
@@ -202,13 +207,20 @@ insert-fair i places lent p e = go (timesFit (counted i places .components)) e
         eqb-true (i .reserved) 127 (and-true (eqb (i .reserved) 127) (unmixed (counted i places .components)) (w .fit) .0)
     go false f = zero-one cc
 
-pub only-such : (s : List ℕ) (x : Section) → WrittenShorter s x → ((i : Insertion) → x .command ≡ SpliceCommand.SpliceInsert i → i .reserved ≡ 127) × All Readable (itemsOf (loopIn s x))
-only-such s x w = (λ i c. has-127 i c, all-readable (w .items))
-  where
-    places : List ComponentSplice
-    places = componentsOf (commandBytes s)
+-- a command of which a canonical payload is written
+has-127 : (c : SpliceCommand) (places : List ComponentSplice) (s p : List ℕ) → CommandPayload c places s p → (i : Insertion) → c ≡ SpliceCommand.SpliceInsert i → i .reserved ≡ 127
+has-127 c places s p q i e =
+    let r : CommandPayload (SpliceCommand.SpliceInsert i) places s p = subst (λ (d : SpliceCommand). CommandPayload d places s p) e q in
+    insert-fair i places s p (made-if-read (SpliceCommand.SpliceInsert i) places s p (le-leb 0 (length s) (omega arith)) r)
 
-    has-127 : (i : Insertion) → x .command ≡ SpliceCommand.SpliceInsert i → i .reserved ≡ 127
-    has-127 i c =
-        let q : CommandPayload (SpliceCommand.SpliceInsert i) places s (commandBytes (w .bytes)) = subst (λ (d : SpliceCommand). CommandPayload d places s (commandBytes (w .bytes))) c (w .around .command) in
-        insert-fair i places s (commandBytes (w .bytes)) (made-if-read (SpliceCommand.SpliceInsert i) places s (commandBytes (w .bytes)) (le-leb 0 (length s) (omega arith)) q)
+pub only-such : (s : List ℕ) (x : Section) → WrittenShorter s x → ((i : Insertion) → x .command ≡ SpliceCommand.SpliceInsert i → i .reserved ≡ 127) × All Readable (itemsOf (loopIn s x))
+only-such s x w = (has-127 (x .command) (componentsOf (commandBytes s)) s (commandBytes (w .bytes)) (w .around .command), all-readable (w .items))
+
+-- a canonical section is such
+pub canonical-such : (s : List ℕ) (x : Section) → AllBytes s → sectionOf s ≡ SectionRead.Is x → canonicalSection s ≡ true
+    → ((i : Insertion) → x .command ≡ SpliceCommand.SpliceInsert i → i .reserved ≡ 127) × All Readable (itemsOf (loopIn s x))
+canonical-such s x a e c =
+    let b = section-reads-as (x .header) (x .command) (componentsOf (commandBytes s)) s (loopIn s x) (places-255 (commandBytes s)) (count-byte s x a e) a (all-viewed s (x .descriptors) a) s (section-back s x a e c) in (
+      has-127 (x .command) (componentsOf (commandBytes s)) s (commandBytes s) (b .command),
+      all-into (λ y w. record { descriptor = w .descriptor; is = w .is }) (loop-written s x e a c .0),
+    )
