@@ -12,8 +12,8 @@ use Rattle.upid.specs.Cover.{Cut}
 use Rattle.upid.specs.Upid.{readOf, listOf, reportedOf}
 use Rattle.upid.specs.Private.{Accepted}
 use Rattle.upid.specs.declared.Part.{Part}
-use Rattle.upid.proofs.Answers.{then-all, anywhere}
 use Rattle.upid.proofs.Laws.{read-one, read-more, list-nil, list-more, list-plain, accepted-mid, then-both, by-cases}
+use Rattle.relabel_upid.proofs.Anywhere.{anywhere, accepted-headed}
 use Rattle.relabel_upid.specs.Hole.{Hole, here, inside, past, headed, filled}
 
 -- where the hole is: its level, and the place of its head in the top UPID
@@ -65,13 +65,6 @@ Fair (past d h) = Accepted (readOf (d .kind) 0 (d .payload)) × Fair h
 
 abbrev pub FairCut : Cut → Type 0
 FairCut c = Accepted (readOf (c .kind) 0 (c .payload))
-
--- a piece that is accepted, in front of what is accepted
-accepted-headed : (start : ℕ) (c : Cut) (rest : List ℕ) → Accepted (readOf (c .kind) 0 (c .payload)) → Accepted (readOf 13 0 rest) → Accepted (readOf 13 start (headed c rest))
-accepted-headed start c rest ha hb =
-    let n : length (c .payload) ≤ length (c .payload ++ rest) = omega (arith, length-append (c .payload) rest) in
-    rw (read-more, le-ltb _ _ n, take-append-seam, drop-append-seam)
-    (then-all _ _ (anywhere (c .kind) 0 (start + 2) (c .payload) ha) (anywhere 13 0 (start + (2 + length (c .payload))) rest hb))
 
 pub accepted-filled : (h : Hole) (c : Cut) (start : ℕ) → Fair h → FairCut c → Accepted (readOf 13 start (filled h c))
 unfolding filled

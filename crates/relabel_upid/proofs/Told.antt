@@ -14,7 +14,6 @@ use Rattle.upid.specs.Private.{Accepted}
 use Rattle.upid.specs.declared.Part.{Part}
 use Rattle.upid.proofs.Cutting.{after-head, after-part}
 use Rattle.upid.proofs.Laws.{read-one, read-more, list-nil, list-more, list-plain, list-mid, accepted-mid, by-cases}
-use Rattle.upid.proofs.Tree.{reported-mid}
 use Rattle.relabel_upid.specs.Hole.{Hole, here, inside, past, headed, filled}
 use Rattle.relabel_upid.specs.Kept.{Identifier, told, identifiersIn, identifiersAt}
 use Rattle.relabel_upid.proofs.Holes.{levelAt, startAt, recorded, inner, before, behind, Fair, FairCut, first, first-headed, both}
@@ -165,7 +164,12 @@ same-behind c d level start (past x h) top other rest more f e g =
 -- ---- what is told of the piece itself
 
 pub reported-other : (k : ℕ) → (k ≡ 13 → ⊥) → reportedOf k ≡ 13 → ⊥
-reported-other k other e = other (reported-mid k e)
+unfolding reportedOf
+reported-other k = go (eqb k 5)
+  where
+    go : (t : Bool) → (k ≡ 13 → ⊥) → cond t 6 k ≡ 13 → ⊥
+    go true ne e = omega arith
+    go false ne e = ne e
 
 pub reported-list : (k level start : ℕ) (s : List ℕ) → listOf (reportedOf k) level start s ≡ listOf k level start s
 unfolding reportedOf
