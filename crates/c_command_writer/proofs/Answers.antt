@@ -8,7 +8,7 @@ use native.Mathlib.Omega.{arith}
 use lib.Dec.{eqb, ltb}
 use lib.ListN.{length, take}
 use borrow.Author.Tests.{leb-true, le-ltb}
-use Rattle.command.specs.Command.{array, countIn}
+use Rattle.command.specs.Command.{array, countIn, Tags}
 use Rattle.command.specs.Insert as insert
 use Rattle.command.specs.Insert.{count, immediate, programTime, insertOf}
 use Rattle.command.specs.declared.SpliceCommand.{SpliceCommand}
@@ -22,7 +22,6 @@ use Rattle.command_measure.proofs.Surveys.{survey-fits}
 use Rattle.command_measure.specs.Fields.{immediateIn}
 use Rattle.command_measure.specs.Made.{timesFit, commandMade, measuredOf}
 use Rattle.command_measure.specs.Survey.{surveyed, modeBytes, breakBytes, measured, activeMeasured, timeBytes}
-use Rattle.command.specs.Command.{Tags}
 use Rattle.c_section.specs.FlatCommand.{flatCommand}
 use Rattle.splice_time.specs.Time.{ticks}
 use Rattle.splice_time.specs.declared.SpliceTime.{SpliceTime}
@@ -32,7 +31,7 @@ use Rattle.table.specs.Writing.{Made, made, refused}
 use Rattle.c_command_writer.specs.CommandGiven.{commandGiven, componentFrom, componentsFrom, splicesWithin, ownComponent, ownSplices, wordsRefusal, commandRefusal, commandWordsMade}
 use Rattle.c_command_writer.specs.CommandWords.{commandWords, commandWidths, splicesIn, componentWidths, placesGiven, CommandIs, commandSeen, commandFits, CommandAnswer, outside, over, nobodys, its}
 use Rattle.c_command_writer.specs.Words.{within, same, placesOf, eachPlace, refusalOf, seenFirst, lowest, noLess}
-use Rattle.c_command_writer.proofs.Arrays.{array-take, array-there}
+use Rattle.command.proofs.Arrays.{array-take, array-there}
 use Rattle.c_command_writer.proofs.Fits.{over-or-fits, fit-within}
 use Rattle.c_command_writer.proofs.Given.{own-given, given-typed, places-tags, Small, given-small, places-fit, given-count, own-places, places-own, seenBy, given-seen, own-seen}
 use Rattle.c_command_writer.proofs.Words.{places-length}

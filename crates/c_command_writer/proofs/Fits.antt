@@ -8,7 +8,7 @@ use native.Mathlib.Omega.{arith}
 use lib.Dec.{eqb, ltb}
 use lib.ListN.{length, drop}
 use borrow.Author.Tests.{ltb-true, lt-ltb, leb-true}
-use Rattle.command.specs.Command.{array, countIn}
+use Rattle.command.specs.Command.{array, countIn, Tags}
 use Rattle.command.specs.Fair.{fairInsert}
 use Rattle.command.specs.Insert as insert
 use Rattle.command.specs.Insert.{WithComponents, count, programTime, immediate, allImmediate, insertOf, byProgram, lasting, outOfNetwork}
@@ -24,7 +24,6 @@ use Rattle.command_measure.proofs.Ties.{insert-fields}
 use Rattle.command_measure.specs.Fields.{unlessFields, listFields, modeFields, breakFields, tailFields, endFields, immediateIn, insertFields}
 use Rattle.command_measure.specs.Made.{timesFit, insertMade, commandMade, measuredOf}
 use Rattle.command_measure.specs.Survey.{measured, timeBytes}
-use Rattle.command.specs.Command.{Tags}
 use Rattle.c_section.specs.Flat.{flatTime}
 use Rattle.c_section.specs.FlatCommand.{flatMode, flatBreak, wholeInsert, bareInsert, flatInsertion, noCommand, flatCommand, flatComponent}
 use Rattle.splice_time.specs.Time.{ticks}
@@ -39,7 +38,7 @@ use Rattle.table.specs.Writing as writing
 use Rattle.table.specs.Writing.{Field, walk, seen, Made, made, refused, makeOf}
 use Rattle.c_command_writer.specs.CommandWords.{commandWords, commandWidths, componentWords, componentWidths, placesWords, splicesIn, placesGiven, CommandIs, commandFits}
 use Rattle.c_command_writer.specs.Words.{word, within, same, eachPlace}
-use Rattle.c_command_writer.proofs.Arrays.{array-take}
+use Rattle.command.proofs.Arrays.{array-take}
 use Rattle.c_command_writer.proofs.Given.{same-at, same-append, within-same, SmallDetail, Small, seenBy}
 use Rattle.c_command_writer.proofs.Typed.{TypedMode, TypedDetail, Typed}
 

@@ -24,9 +24,8 @@ use Rattle.descriptor.specs.declared.segmentation.SegmentationInsert.{Segmentat
 use Rattle.descriptor.specs.declared.segmentation.SegmentationMode.{SegmentationMode}
 use Rattle.descriptor.specs.declared.segmentation.SubSegments.{SubSegments}
 use Rattle.descriptor.specs.declared.whole.Beside.{Beside}
-use Rattle.descriptor_measure.specs.Same.{countBeside}
+use Rattle.descriptor_measure.specs.Writing.{countBeside, alone, fairReserved, payloadMade, tagOf, identifierOf, descriptorMade}
 use Rattle.descriptor_measure.specs.Private.{componentsFields, numbersFit}
-use Rattle.descriptor_measure.specs.Writing.{alone, fairReserved, payloadMade, tagOf, identifierOf, descriptorMade}
 use Rattle.c_items.specs.FlatItem.{flatDescriptor, segmentationItem}
 use Rattle.c_items.specs.declared.segmentations.FlatSegmentation.{FlatSegmentation}
 use Rattle.c_command_writer.proofs.Words.{and-unit, places-length}

@@ -24,8 +24,7 @@ use Rattle.descriptor.specs.declared.segmentation.SegmentationUpid.{Segmentatio
 use Rattle.descriptor.specs.declared.segmentation.SubSegment.{SubSegment}
 use Rattle.descriptor.specs.declared.segmentation.SubSegments.{SubSegments}
 use Rattle.descriptor.specs.declared.whole.Beside.{Beside}
-use Rattle.descriptor_measure.specs.Same.{countBeside}
-use Rattle.descriptor_measure.specs.Writing.{descriptorMade}
+use Rattle.descriptor_measure.specs.Writing.{countBeside, descriptorMade}
 use Rattle.c_items.specs.FlatItem.{flatDescriptor}
 use Rattle.c_items.specs.declared.descriptors.FlatItem.{FlatItem}
 use Rattle.c_items.specs.declared.descriptors.FlatTimeDescriptor.{FlatTimeDescriptor}

@@ -1,8 +1,7 @@
 // The descriptor writer over the C boundary: an item from the words of its step, and of what stands beside it.
 ghost use mathlib.Core.Path.{_≡_};
 ghost use Prim.Native.Nat.{_≤_};
-ghost use Rattle.descriptor_measure.specs.Same.{countBeside};
-ghost use Rattle.descriptor_measure.specs.Writing.{descriptorMade};
+ghost use Rattle.descriptor_measure.specs.Writing.{countBeside, descriptorMade};
 ghost use Rattle.descriptor_writer.specs.Stores.{Writes};
 ghost use Rattle.c_descriptor_writer.specs.ItemGiven.{paddedWords, besideFrom, ownItem, wordsRefusal, descriptorRefusal, descriptorWordsMade};
 ghost use Rattle.c_descriptor_writer.specs.ItemWords.{itemSeen, hasEidr, besideThere};

@@ -13,7 +13,7 @@ use Rattle.command.specs.declared.SpliceCommand.{SpliceCommand}
 use Rattle.command.specs.declared.components.ComponentSplice.{ComponentSplice}
 use Rattle.command_measure.proofs.Making.{flag-within}
 use Rattle.command_measure.specs.Made.{commandMade}
-use Rattle.descriptor_measure.specs.Canonical.{canonicalLoop}
+use Rattle.canonical_form.specs.Descriptor.{canonicalLoop}
 use Rattle.c_section.specs.Flat.{flatHeader}
 use Rattle.c_command_writer.proofs.Answers as command
 use Rattle.c_command_writer.proofs.Answers.{Late, refused-31, refused-32, refused-33, unrefused}
@@ -24,9 +24,9 @@ use Rattle.c_command_writer.specs.Words.{word, within, same, refusalOf, seenFir
 use Rattle.header.specs.declared.header.SpliceInfoHeader.{SpliceInfoHeader}
 use Rattle.names.proofs.Algorithms.{algorithm-laws}
 use Rattle.bit_stores.specs.Written.{refusalIn, bytesIn}
-use Rattle.section.specs.Section.{first}
+use Rattle.section.specs.Section.{first, sectionLength}
 use Rattle.section_writer.proofs.Heads.{fitting, fits-within}
-use Rattle.section_writer.specs.Frame.{headed, head, body, frame, numbersFit, fairHead, sectionLength}
+use Rattle.section_writer.specs.Frame.{headed, head, body, frame, numbersFit, fairHead}
 use Rattle.section_writer.specs.Writing.{unless, sectionMade, kindOf}
 use Rattle.table.proofs.Lists.{zero-one, and-true}
 use Rattle.table.specs.Writing.{Made, made, refused}

@@ -14,7 +14,7 @@ use Rattle.splice_time.specs.Time.{spliceTime}
 use Rattle.table.specs.Bits.{bitsOf, field}
 use Rattle.table.specs.Table.{number, part, remaining, got, canonical, canonicalBy}
 use Rattle.table.proofs.Steps.{takes-number, takes-remaining, takes-part}
-use Rattle.command_canonical.specs.Canonical.{canonicalCommand}
+use Rattle.canonical_form.specs.Command.{canonicalCommand}
 use Rattle.command_canonical.specs.Private.{Stands, Fails}
 use Rattle.command_canonical.proofs.Walks.{lacks-number, by-table, not-by-table}
 

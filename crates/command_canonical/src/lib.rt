@@ -1,7 +1,7 @@
 // Whether a command's payload is canonical: by byte positions, as the tables have their fields.
 ghost use mathlib.Core.Path.{_≡_};
 ghost use lib.ListN.{length};
-ghost use Rattle.command_canonical.specs.Canonical.{canonicalCommand};
+ghost use Rattle.canonical_form.specs.Command.{canonicalCommand};
 ghost use Rattle.command_canonical.specs.Private.{Told, whole};
 ghost use Rattle.command.specs.Insert.{timeUnless, component, blank, moded, breakDuration, active, insert};
 ghost use Rattle.splice_time.specs.Time.{spliceTime};

@@ -13,55 +13,16 @@ use Rattle.table.specs.Table.{Table, done, inside, list, uimsbf, Answer, got, s
 use Rattle.table.proofs.Fields.{byte-field, field-in}
 use Rattle.table.proofs.Lists.{zero-one, and-true}
 use Rattle.upid.specs.Upid.{checkOf}
-use Rattle.descriptor.specs.Segmentation.{
-  deliveryRestrictions,
-  component,
-  blankComponent,
-  Moded,
-  mode,
-  duration,
-  writtenUpid,
-  Fore,
-  parts,
-  front,
-  subSegment,
-  subSegments,
-  back,
-  Head,
-  head,
-  blankUpid,
-  Segmentation,
-  segmentation,
-}
+use Rattle.descriptor.specs.Segmentation.{deliveryRestrictions, component, blankComponent, Moded, mode, duration, writtenUpid, Fore, parts, front, subSegment, subSegments, back, Head, head, blankUpid, Segmentation, segmentation}
 use Rattle.descriptor.specs.declared.segmentation.DeliveryRestrictionFlags.{DeliveryRestrictionFlags}
 use Rattle.descriptor.specs.declared.segmentation.ModeComponent.{ModeComponent}
 use Rattle.descriptor.specs.declared.segmentation.SegmentationDuration.{SegmentationDuration}
 use Rattle.descriptor.specs.declared.segmentation.SegmentationUpid.{SegmentationUpid}
 use Rattle.descriptor.specs.declared.segmentation.SubSegments.{SubSegments}
-use Rattle.descriptor_measure.specs.Canonical.{canonicalUpid, upidCanonical, canonicalSegmentation}
+use Rattle.canonical_form.specs.Descriptor.{canonicalUpid, upidCanonical, canonicalSegmentation}
 use Rattle.descriptor_measure.specs.Writing.{accepts, upidIn}
 use Rattle.descriptor_canonical.specs.Private.{flagsOnes, lastingBytes, componentsOnes, endsAt, upidAt, componentsAt, insertFits, segmentationFits}
-use Rattle.descriptor_canonical.proofs.Through.{
-  joined,
-  through,
-  through-in,
-  through-same,
-  through-must,
-  through-list,
-  through-none,
-  through-number,
-  through-flag,
-  through-ones,
-  through-part,
-  through-remaining,
-  implied,
-  guarded,
-  under,
-  over,
-  drops,
-  leb-bytes,
-  eqb-bytes,
-}
+use Rattle.descriptor_canonical.proofs.Through.{joined, through, through-in, through-same, through-must, through-list, through-none, through-number, through-flag, through-ones, through-part, through-remaining, implied, guarded, under, over, drops, leb-bytes, eqb-bytes}
 
 and-tt : (b : Bool) → b && true ≡ b
 and-tt true = refl

@@ -1,7 +1,7 @@
 // Whether the bytes of a descriptor and of a loop are canonical (document 01, "Canonical form and writer"): a walk by byte places that writes nothing.
 ghost use mathlib.Core.Path.{_≡_};
 ghost use Prim.Native.Nat.{_<_};
-ghost use Rattle.descriptor_measure.specs.Canonical.{canonicalPayload, canonicalDescriptor, canonicalLoop};
+ghost use Rattle.canonical_form.specs.Descriptor.{canonicalPayload, canonicalDescriptor, canonicalLoop};
 use crate::payload::is_canonical_dtmf;
 use crate::segment::is_canonical_segmentation;
 use descriptor::is_cuei;

@@ -2,7 +2,7 @@
 ghost use mathlib.Core.Path.{_≡_};
 ghost use Prim.Native.Nat.{_+_, _*_, _≤_};
 ghost use lib.ListN.{length};
-ghost use Rattle.descriptor_measure.specs.Canonical.{canonicalSegmentation};
+ghost use Rattle.canonical_form.specs.Descriptor.{canonicalSegmentation};
 ghost use Rattle.descriptor_measure.specs.Writing.{accepts};
 ghost use Rattle.upid.specs.Upid.{checkOf};
 ghost use Rattle.descriptor_canonical.specs.Private.{flagsOnes, lastingBytes, componentsOnes, endsAt, upidAt, componentsAt, insertFits};

@@ -128,3 +128,10 @@ refusal-views base (InvalidUpidLength kind expected actual) = refl
 pub item-views : (base : ℕ) (d : DescriptorRead) → viewsOf (itemAt base d) ≡ map (shifted base) (readViews d)
 item-views base (read.Is d) = descriptor-views base d
 item-views base (read.Refused r) = refusal-views base r
+
+pub kind-stays : (base : ℕ) (u : SegmentationUpid) → movedUpid base u .kind ≡ u .kind
+kind-stays base u = go (withoutView (u .kind))
+  where
+    go : (t : Bool) → (let there : SegmentationUpid = cond t u (record { kind = u .kind; bytes = shifted base (u .bytes) }) in there .kind) ≡ u .kind
+    go true = refl
+    go false = refl

@@ -18,7 +18,7 @@ use Rattle.descriptor.specs.Plain.{avail, dtmf, time, privateBytes}
 use Rattle.descriptor.specs.Segmentation as table
 use Rattle.descriptor.specs.Segmentation.{componentCount, agrees, detailUpid, fairDetail, segmentation}
 use Rattle.descriptor.specs.Views.{withUpids}
-use Rattle.descriptor.specs.Whole.{ofReserved}
+use Rattle.descriptor.specs.Whole.{ofReserved, ofSegmentation}
 use Rattle.descriptor.specs.declared.Descriptor.{Descriptor}
 use Rattle.descriptor.specs.declared.Descriptor.the-variants.{Avail, Dtmf, Segmentation, Time, Reserved}
 use Rattle.descriptor.specs.declared.segmentation.ModeComponent.{ModeComponent}
@@ -135,3 +135,7 @@ identifierOf d identifier = ofReserved identifier cuei d
 -- Refusals 31 to 34. 36, a short target, is `answerOf`'s and `laterOf`'s.
 unfoldable pub descriptorMade : Descriptor → List ℕ → Beside → List ℕ → Made
 descriptorMade d identifier beside lent = framedMade (tagOf d) (identifierOf d identifier) (payloadMade d identifier beside lent)
+
+-- how many components stand beside a descriptor
+abbrev pub countBeside : Descriptor → ℕ
+countBeside d = ofSegmentation componentCount 0 d

@@ -34,8 +34,8 @@ use Rattle.descriptor.specs.declared.segmentation.SegmentationInsert.{Segmentat
 use Rattle.descriptor.specs.declared.segmentation.SegmentationUpid.{SegmentationUpid}
 use Rattle.descriptor.specs.declared.whole.Beside.{Beside}
 use Rattle.descriptor_measure.specs.Private.{upidFields}
-use Rattle.descriptor_measure.specs.Same.{SameReading, withoutPlaces, bytesOfViews, countBeside, placelessUpid}
-use Rattle.descriptor_measure.specs.Writing.{framedMade, allZero, alone, fairReserved, accepts, fairUpid, fairSegment, segmentationMade, payloadMade, descriptorMade, tagOf, identifierOf, upidIn, upidSource, writtenDetail, writtenKind, writtenUpid}
+use Rattle.canonical_form.specs.Same.{SameReading, withoutPlaces, bytesOfViews, placelessUpid}
+use Rattle.descriptor_measure.specs.Writing.{countBeside, framedMade, allZero, alone, fairReserved, accepts, fairUpid, fairSegment, segmentationMade, payloadMade, descriptorMade, tagOf, identifierOf, upidIn, upidSource, writtenDetail, writtenKind, writtenUpid}
 use Rattle.descriptor_measure.proofs.Fields.{insert-fields}
 use Rattle.descriptor_measure.proofs.Making.{all-fair, by-table, counted, zero-view}
 use Rattle.descriptor_round_trips.specs.Making.{viewIn}

@@ -20,7 +20,7 @@ use Rattle.descriptor.specs.declared.plain.DTMFDescriptor.{DTMFDescriptor}
 use Rattle.descriptor.specs.declared.plain.TimeDescriptor.{TimeDescriptor}
 use Rattle.descriptor.specs.declared.whole.Beside.{Beside}
 use Rattle.descriptor.proofs.Structures.{availStructure, dtmfStructure, timeStructure, privateStructure}
-use Rattle.descriptor_measure.specs.Canonical.{canonicalSegmentation, canonicalPayload, canonicalDescriptor}
+use Rattle.canonical_form.specs.Descriptor.{canonicalSegmentation, canonicalPayload, canonicalDescriptor}
 use Rattle.descriptor_measure.specs.Writing.{cuei, framed, alone, fairReserved, payloadMade}
 use Rattle.table.specs.Table.{canonicalBy}
 use Rattle.descriptor_round_trips.proofs.PlainLaws.{table-write-read}

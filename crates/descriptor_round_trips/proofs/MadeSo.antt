@@ -32,9 +32,8 @@ use Rattle.descriptor.specs.declared.segmentation.SegmentationMode.{Segmentatio
 use Rattle.descriptor.specs.declared.segmentation.SegmentationUpid.{SegmentationUpid}
 use Rattle.descriptor.specs.declared.segmentation.SubSegments.{SubSegments}
 use Rattle.descriptor.specs.declared.whole.Beside.{Beside}
-use Rattle.descriptor_measure.specs.Same.{countBeside}
+use Rattle.descriptor_measure.specs.Writing.{countBeside, framed, framedMade, alone, fairReserved, fairSegment, segmentationMade, payloadMade, descriptorMade, tagOf, identifierOf, upidSource, written, writtenKind, writtenUpid}
 use Rattle.descriptor_measure.specs.Private.{deliveryFields, componentsFields, modeFields, durationFields, upidFields, subFields, backFields}
-use Rattle.descriptor_measure.specs.Writing.{framed, framedMade, alone, fairReserved, fairSegment, segmentationMade, payloadMade, descriptorMade, tagOf, identifierOf, upidSource, written, writtenKind, writtenUpid}
 use Rattle.descriptor_measure.proofs.Fields.{foreFields, insert-fields}
 use Rattle.descriptor_measure.proofs.Making as making
 use Rattle.descriptor_measure.proofs.Refusals.{within-append, flag-within, within-delivery, upid-seen}

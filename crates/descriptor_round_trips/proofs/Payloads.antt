@@ -20,9 +20,9 @@ use Rattle.descriptor.specs.declared.Descriptor.the-variants.{Avail, Dtmf, Segm
 use Rattle.descriptor.specs.declared.DescriptorRead.the-variants.{Is}
 use Rattle.descriptor.specs.declared.whole.Beside.{Beside}
 use Rattle.descriptor.specs.declared.whole.WholeDescriptor.{WholeDescriptor}
-use Rattle.descriptor_measure.specs.Canonical.{canonicalPayload}
-use Rattle.descriptor_measure.specs.Same.{SameReading, countBeside}
-use Rattle.descriptor_measure.specs.Writing.{alone, fairReserved, payloadMade, tagOf, identifierOf, upidIn, upidSource, written, writtenDetail}
+use Rattle.canonical_form.specs.Descriptor.{canonicalPayload}
+use Rattle.canonical_form.specs.Same.{SameReading}
+use Rattle.descriptor_measure.specs.Writing.{countBeside, alone, fairReserved, payloadMade, tagOf, identifierOf, upidIn, upidSource, written, writtenDetail}
 use Rattle.descriptor_measure.proofs.Making.{by-table}
 use Rattle.descriptor_round_trips.specs.Making.{viewIn, Payload}
 use Rattle.descriptor_round_trips.specs.Trips.{Handed}

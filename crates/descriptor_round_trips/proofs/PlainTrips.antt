@@ -23,7 +23,7 @@ use Rattle.descriptor.specs.declared.plain.DTMFDescriptor.{DTMFDescriptor}
 use Rattle.descriptor.specs.declared.plain.TimeDescriptor.{TimeDescriptor}
 use Rattle.descriptor.specs.declared.whole.Beside.{Beside}
 use Rattle.descriptor.proofs.Structures.{dtmfMoved}
-use Rattle.descriptor_measure.specs.Same.{SameReading}
+use Rattle.canonical_form.specs.Same.{SameReading}
 use Rattle.descriptor_measure.specs.Writing.{framed, framedMade, allZero, alone, fairReserved, payloadMade, tagOf, identifierOf}
 use Rattle.descriptor_round_trips.proofs.PlainLaws.{avail-write-read, time-write-read, dtmf-write-read, reserved-write-read}
 

@@ -12,21 +12,7 @@ use Rattle.table.specs.declared.View.{View}
 use Rattle.upid.specs.Upid.{checkOf, readOf, plainOf, lengthOf, isText, reportedOf}
 use Rattle.descriptor.specs.Descriptor.{isCuei}
 use Rattle.descriptor.specs.Plain.{avail, dtmf}
-use Rattle.descriptor.specs.Segmentation.{
-  deviceOf,
-  deliveryRestrictions,
-  mode,
-  duration,
-  writtenUpid,
-  parts,
-  front,
-  subSegments,
-  back,
-  head,
-  segmentation,
-  fairFront,
-  fairDetail,
-}
+use Rattle.descriptor.specs.Segmentation.{deviceOf, deliveryRestrictions, mode, duration, writtenUpid, parts, front, subSegments, back, head, segmentation, fairFront, fairDetail}
 use Rattle.descriptor.specs.Whole.{blankBeside}
 use Rattle.descriptor.specs.declared.Descriptor.{Descriptor}
 use Rattle.descriptor.specs.declared.Descriptor.the-variants.{Avail, Dtmf, Segmentation}

@@ -33,15 +33,15 @@ use Rattle.descriptor.specs.declared.segmentation.SegmentationInsert.{Segmentat
 use Rattle.descriptor.specs.declared.segmentation.SegmentationUpid.{SegmentationUpid}
 use Rattle.descriptor.specs.declared.whole.Beside.{Beside}
 use Rattle.descriptor.proofs.SegmentationLaws.{segmentationStructure, upidAt, upidPlace}
-use Rattle.descriptor_measure.specs.Canonical.{canonicalUpid, canonicalSegmentation, canonicalPayload}
-use Rattle.descriptor_measure.specs.Same.{SameReading, bytesOfViews}
+use Rattle.canonical_form.specs.Descriptor.{canonicalUpid, canonicalSegmentation, canonicalPayload}
+use Rattle.canonical_form.specs.Same.{SameReading, bytesOfViews}
 use Rattle.descriptor_measure.specs.Writing.{cuei, allZero, accepts, fairUpid, segmentationMade, payloadMade, upidSource, written, writtenKind, writtenUpid}
 use Rattle.descriptor_measure.proofs.Fields.{insert-fields}
 use Rattle.descriptor_measure.proofs.Making.{all-fair, by-table, counted, zero-view}
 use Rattle.descriptor_round_trips.proofs.PlainLaws.{viewed-at}
 use Rattle.descriptor_round_trips.proofs.PlainTrips.{ReadsBack, zeros}
 use Rattle.descriptor_round_trips.proofs.Remade.{withUpid, upid-found}
-use Rattle.descriptor_round_trips.proofs.Reported.{check-none, reports}
+use Rattle.upid.proofs.Reported.{check-none, reports}
 use Rattle.descriptor_round_trips.proofs.SegmentTrips.{segmentation-write-read}
 
 -- ---- views

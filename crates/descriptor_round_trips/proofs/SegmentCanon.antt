@@ -36,13 +36,13 @@ use Rattle.descriptor.specs.declared.segmentation.SegmentationInsert.{Segmentat
 use Rattle.descriptor.specs.declared.segmentation.SegmentationUpid.{SegmentationUpid}
 use Rattle.descriptor.specs.declared.whole.Beside.{Beside}
 use Rattle.descriptor.proofs.SegmentationLaws.{Counted}
-use Rattle.descriptor_measure.specs.Canonical.{canonicalUpid, canonicalSegmentation, upidCanonical}
+use Rattle.canonical_form.specs.Descriptor.{canonicalUpid, canonicalSegmentation, upidCanonical}
 use Rattle.descriptor_measure.specs.Private.{upidFields}
 use Rattle.descriptor_measure.specs.Writing.{allZero, accepts, fairUpid, fairSegment, segmentationMade, upidIn, upidSource, writtenKind, writtenUpid}
 use Rattle.descriptor_measure.proofs.Fields.{insert-fields}
 use Rattle.descriptor_round_trips.proofs.PlainLaws.{viewed-at}
 use Rattle.descriptor_round_trips.proofs.Remade.{withUpid, insert-makes, insert-seen}
-use Rattle.descriptor_round_trips.proofs.Reported.{check-none, reports, eidr-is-written}
+use Rattle.upid.proofs.Reported.{check-none, reports, eidr-is-written}
 use Rattle.descriptor_round_trips.proofs.SegmentBack.{viewed-length, viewed-none, counted-again}
 use Rattle.descriptor_round_trips.proofs.SegmentRead.{after, segmentation-read}
 use Rattle.descriptor_round_trips.proofs.SegmentTrips.{segmentation-read-write}

@@ -10,9 +10,9 @@ use Rattle.descriptor.specs.declared.Descriptor.{Descriptor}
 use Rattle.descriptor.specs.declared.DescriptorRead.the-variants.{Is}
 use Rattle.descriptor.specs.declared.whole.Beside.{Beside}
 use Rattle.descriptor.specs.declared.whole.WholeDescriptor.{WholeDescriptor}
-use Rattle.descriptor_measure.specs.Canonical.{canonicalDescriptor}
-use Rattle.descriptor_measure.specs.Same.{SameReading, countBeside}
-use Rattle.descriptor_measure.specs.Writing.{payloadMade, descriptorMade, tagOf, identifierOf}
+use Rattle.canonical_form.specs.Descriptor.{canonicalDescriptor}
+use Rattle.canonical_form.specs.Same.{SameReading}
+use Rattle.descriptor_measure.specs.Writing.{countBeside, payloadMade, descriptorMade, tagOf, identifierOf}
 use Rattle.descriptor_round_trips.specs.Making.{DescriptorMakes}
 use Rattle.descriptor_round_trips.specs.Trips.{wholeIn, Handed, ReadAs}
 use Rattle.descriptor_round_trips.proofs.Alike.{same-made}

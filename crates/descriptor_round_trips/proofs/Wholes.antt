@@ -22,9 +22,9 @@ use Rattle.descriptor.specs.declared.DescriptorRead.the-variants.{Is}
 use Rattle.descriptor.specs.declared.whole.Beside.{Beside}
 use Rattle.descriptor.specs.declared.whole.WholeDescriptor.{WholeDescriptor}
 use Rattle.descriptor.proofs.Tags.{is-foreign, is-avail, is-dtmf, is-segmentation, is-time, is-other}
-use Rattle.descriptor_measure.specs.Canonical.{canonicalSegmentation, canonicalPayload, canonicalDescriptor}
-use Rattle.descriptor_measure.specs.Same.{SameReading, countBeside}
-use Rattle.descriptor_measure.specs.Writing.{cuei, framed, framedMade, payloadMade, descriptorMade, tagOf, identifierOf}
+use Rattle.canonical_form.specs.Descriptor.{canonicalSegmentation, canonicalPayload, canonicalDescriptor}
+use Rattle.canonical_form.specs.Same.{SameReading}
+use Rattle.descriptor_measure.specs.Writing.{countBeside, cuei, framed, framedMade, payloadMade, descriptorMade, tagOf, identifierOf}
 use Rattle.table.specs.Table.{canonicalBy}
 use Rattle.table.proofs.Structure.{bytes-drop}
 use Rattle.descriptor_round_trips.specs.Making.{Payload}

@@ -21,8 +21,8 @@ use Rattle.descriptor.specs.declared.segmentation.ModeComponent.{ModeComponent}
 use Rattle.descriptor.specs.declared.segmentation.SegmentationDetail.{SegmentationDetail}
 use Rattle.descriptor.specs.declared.segmentation.SegmentationDetail.the-variants.{Cancel, Insert}
 use Rattle.descriptor.specs.declared.whole.Beside.{Beside}
-use Rattle.descriptor_measure.specs.Canonical.{canonicalPayload}
-use Rattle.descriptor_measure.specs.Same.{SameReading}
+use Rattle.canonical_form.specs.Descriptor.{canonicalPayload}
+use Rattle.canonical_form.specs.Same.{SameReading}
 use Rattle.descriptor_measure.specs.Writing.{framed}
 
 -- ---- 31: the view that is handed in, also where it should be blank

@@ -21,9 +21,9 @@ use Rattle.descriptor.specs.declared.DescriptorRead.{DescriptorRead}
 use Rattle.descriptor.specs.declared.whole.Beside.{Beside}
 use Rattle.descriptor.specs.declared.whole.WholeDescriptor.{WholeDescriptor}
 use Rattle.descriptor.proofs.Insides.{read-inside}
-use Rattle.descriptor_measure.specs.Canonical.{canonicalLoop}
-use Rattle.descriptor_measure.specs.Same.{bytesOfViews, countBeside}
-use Rattle.descriptor_measure.specs.Writing.{descriptorMade}
+use Rattle.canonical_form.specs.Descriptor.{canonicalLoop}
+use Rattle.canonical_form.specs.Same.{bytesOfViews, Given, ItemBack, Pairs, over, pair, SameItem}
+use Rattle.descriptor_measure.specs.Writing.{countBeside, descriptorMade}
 use Rattle.descriptor_round_trips.specs.Making.{viewIn}
 use Rattle.descriptor_round_trips.specs.Trips.{wholeIn, ReadAs, Handed}
 use Rattle.descriptor_round_trips.proofs.Alike.{SameView, NoneTold, made-told, alike-made, same-made}
@@ -35,7 +35,7 @@ use Rattle.descriptor_loop.specs.Place.{movedDescriptor}
 use Rattle.descriptor_loop.specs.declared.Item.{Item}
 use Rattle.descriptor_loop.specs.declared.Item.the-variants.{Is}
 use Rattle.descriptor_loop.specs.declared.reading.Reading.{Reading}
-use Rattle.loop_round_trips.specs.Loops.{WrittenAgain, Given, givenMade, ItemBack, Pairs, over, pair, SameItem}
+use Rattle.loop_round_trips.specs.Loops.{WrittenAgain, givenMade}
 use Rattle.loop_round_trips.proofs.Pieces.{Canonical, cut-canonical, At, Items, end, item, run-is, items-cut}
 use Rattle.loop_round_trips.proofs.Places.{moved-values, moved-count, moved-view, moved-bytes}
 

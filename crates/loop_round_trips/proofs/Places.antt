@@ -19,31 +19,17 @@ use Rattle.descriptor.specs.declared.DescriptorRead.the-variants as read
 use Rattle.descriptor.specs.declared.segmentation.SegmentationDetail.{SegmentationDetail}
 use Rattle.descriptor.specs.declared.segmentation.SegmentationDetail.the-variants.{Cancel, Insert}
 use Rattle.descriptor.specs.declared.segmentation.SegmentationUpid.{SegmentationUpid}
-use Rattle.descriptor_measure.specs.Same.{withoutPlaces, bytesOfViews, countBeside, placelessUpid}
+use Rattle.canonical_form.specs.Same.{withoutPlaces, bytesOfViews, placelessUpid}
+use Rattle.descriptor_measure.specs.Writing.{countBeside}
 use Rattle.descriptor_round_trips.specs.Making.{viewIn}
 use Rattle.descriptor_round_trips.proofs.Alike.{SameView, DetailTold, NoneTold, by-bytes, both-none, no-views, detailView}
 use Rattle.descriptor_round_trips.proofs.PlainLaws.{viewed-at}
 use Rattle.descriptor_loop.specs.Place.{movedUpid, movedDescriptor}
 use Rattle.descriptor_loop.proofs.Places.{item-views}
 use Rattle.descriptor_loop.specs.Private.{movedDetail}
-
-part-of-front : (a n m : ℕ) (l : List ℕ) → a + n ≤ m → take n (drop a (take m l)) ≡ take n (drop a l)
-part-of-front zero n m l h = take-take n m l (omega arith)
-part-of-front (suc a) n zero l h = absurd (omega arith)
-part-of-front (suc a) n (suc m) [] h = refl
-part-of-front (suc a) n (suc m) (x ∷ l) h = part-of-front a n m l (omega arith)
-
-pub run-of-run : (s : List ℕ) (b m a n : ℕ) → a + n ≤ m → take n (drop a (take m (drop b s))) ≡ take n (drop (b + a) s)
-run-of-run s b m a n h = part-of-front a n m (drop b s) h ∙ ap (take n) (drop-drop a b s)
+use Rattle.table.proofs.Lists.{run-of-run}
 
 -- ---- values and counts
-
-pub kind-stays : (base : ℕ) (u : SegmentationUpid) → movedUpid base u .kind ≡ u .kind
-kind-stays base u = go (withoutView (u .kind))
-  where
-    go : (t : Bool) → (let there : SegmentationUpid = cond t u (record { kind = u .kind; bytes = shifted base (u .bytes) }) in there .kind) ≡ u .kind
-    go true = refl
-    go false = refl
 
 upid-values : (base : ℕ) (u : SegmentationUpid) → placelessUpid (movedUpid base u) ≡ placelessUpid u
 upid-values base u = go (withoutView (u .kind))

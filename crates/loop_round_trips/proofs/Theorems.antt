@@ -7,12 +7,13 @@ use lib.ListN.{length}
 use Rattle.table.specs.Bits.{AllBytes}
 use Rattle.table.specs.Writing.{made}
 use Rattle.upid.specs.Cover.{All}
-use Rattle.descriptor_measure.specs.Canonical.{canonicalLoop}
+use Rattle.canonical_form.specs.Descriptor.{canonicalLoop}
 use Rattle.descriptor_loop.proofs.Theorems.{items-cover-the-loop}
 use Rattle.descriptor_loop.specs.Cover.{joined, runOf}
 use Rattle.descriptor_loop.specs.Items.{itemsOf}
 use Rattle.descriptor_round_trips.specs.Trips.{Handed}
-use Rattle.loop_round_trips.specs.Loops.{WrittenAgain, Given, givenMade, Pairs, ItemBack, SameItem}
+use Rattle.loop_round_trips.specs.Loops.{WrittenAgain, givenMade}
+use Rattle.canonical_form.specs.Same.{Given, Pairs, ItemBack, SameItem}
 use Rattle.loop_round_trips.proofs.Loops.{all-pieces, written-at, every-item, one-cut, given-back}
 use Rattle.loop_round_trips.proofs.Pieces.{Canonical, canonical-cut, items-cut}
 

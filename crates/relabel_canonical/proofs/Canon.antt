@@ -7,11 +7,11 @@ use native.Mathlib.Omega.{arith}
 use borrow.Author.Tests.{ltb-false, ne-eqb}
 use lib.ListN.{length, getD, take, drop, length-drop, take-append-drop, List·getD-append}
 use lib.Seq.{drop-drop, drop-append-le, take-append-le, getD-drop}
-use Rattle.command_canonical.specs.Canonical.{canonicalCommand}
+use Rattle.canonical_form.specs.Command.{canonicalCommand}
 use Rattle.descriptor.specs.Descriptor.{cuei, isCuei}
 use Rattle.descriptor.specs.Segmentation.{segmentation}
 use Rattle.descriptor_loop.specs.Items.{listed}
-use Rattle.descriptor_measure.specs.Canonical.{canonicalUpid, upidCanonical, canonicalSegmentation, canonicalPayload, canonicalLoop}
+use Rattle.canonical_form.specs.Descriptor.{canonicalUpid, upidCanonical, canonicalSegmentation, canonicalPayload, canonicalLoop}
 use Rattle.descriptor_measure.specs.Writing.{framed}
 use Rattle.descriptor_round_trips.proofs.Canon.{framed-canonical, canonical-framed}
 use Rattle.loop_round_trips.proofs.Pieces.{Canonical, At, said}
@@ -30,7 +30,7 @@ use Rattle.relabel_section.specs.Frame.{sectionWith}
 use Rattle.section.proofs.Acceptance.{none-if-accepted}
 use Rattle.section.specs.Section.{commandLength, commandType, commandBytes, loopLength, loopBytes}
 use Rattle.section_writer.proofs.Theorems as written
-use Rattle.section_writer.specs.Canonical.{canonicalFrame, canonicalSection}
+use Rattle.canonical_form.specs.Section.{canonicalFrame, canonicalSection}
 use Rattle.table.proofs.Lists.{and-true}
 use Rattle.table.specs.Bits.{bitsOf}
 use Rattle.table.specs.Table.{parse, canonicalBy}

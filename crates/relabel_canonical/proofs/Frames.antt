@@ -7,14 +7,13 @@ use native.Mathlib.Omega.{arith}
 use borrow.Author.Tests.{eqb-true, eq-eqb}
 use lib.Dec.{eqb}
 use lib.ListN.{length, getD, drop, length-take}
-use Rattle.command_canonical.specs.Canonical.{canonicalCommand}
+use Rattle.canonical_form.specs.Command.{canonicalCommand}
 use Rattle.relabel_section.proofs.Frames.{with-loop, size-with, command-with, loop-length-with, four-with, length-with}
 use Rattle.relabel_section.specs.Frame.{spareOf, sectionWith}
-use Rattle.section.specs.Section.{commandLength, commandType, commandBytes, loopLength, sectionOf, numberOf}
+use Rattle.section.specs.Section.{commandLength, commandType, commandBytes, loopLength, sectionOf, numberOf, sectionLength}
 use Rattle.section.specs.declared.Section.{Section}
 use Rattle.section.specs.declared.SectionRead.{SectionRead}
-use Rattle.section_writer.specs.Canonical.{canonicalFrame}
-use Rattle.section_writer.specs.Frame.{sectionLength}
+use Rattle.canonical_form.specs.Section.{canonicalFrame}
 use Rattle.table.proofs.Lists.{and-true}
 use Rattle.table.specs.Bits.{bitsOf, field}
 

@@ -9,7 +9,7 @@ use lib.Seq.{take-at, drop-at}
 use Rattle.descriptor_loop.specs.Cover.{joined}
 use Rattle.descriptor_loop.specs.Items.{stepOf, readingOf, Listed, listed, itemsOf}
 use Rattle.descriptor_loop.specs.declared.reading.Reading.{Reading}
-use Rattle.descriptor_measure.specs.Canonical.{canonicalLoop}
+use Rattle.canonical_form.specs.Descriptor.{canonicalLoop}
 use Rattle.loop_round_trips.proofs.Pieces.{Canonical, At, Items, end, item, items-cut, cut-canonical}
 use Rattle.loop_round_trips.proofs.Theorems.{cut}
 use Rattle.relabel_loop.specs.Loop.{withItem}

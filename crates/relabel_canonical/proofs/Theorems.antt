@@ -9,7 +9,7 @@ use Rattle.descriptor_loop.specs.Items.{readingOf}
 use Rattle.relabel_laws.proofs.Theorems.{every-other-identifier-of-the-section-stays}
 use Rattle.relabel_laws.specs.Result.{Result}
 use Rattle.section.specs.Section.{loopBytes}
-use Rattle.section_writer.specs.Canonical.{canonicalSection}
+use Rattle.canonical_form.specs.Section.{canonicalSection}
 use Rattle.table.specs.Writing.{made}
 use Rattle.relabel_canonical.specs.Beside.{besides, besidesIn, besideThen}
 use Rattle.relabel_canonical.proofs.Besides as beside

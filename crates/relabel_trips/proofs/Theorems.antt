@@ -11,7 +11,7 @@ use Rattle.relabel_laws.specs.Identifiers.{identifiersIn}
 use Rattle.section.specs.Section.{sectionOf}
 use Rattle.section.specs.declared.Section.{Section}
 use Rattle.section.specs.declared.SectionRead.{SectionRead}
-use Rattle.section_writer.specs.Canonical.{canonicalSection}
+use Rattle.canonical_form.specs.Section.{canonicalSection}
 use Rattle.table.proofs.Bits.{bytes-all}
 use Rattle.table.specs.Writing.{made}
 use Rattle.transport_laws.proofs.Framing.{canonical-laid}

@@ -14,18 +14,18 @@ use Rattle.command.specs.declared.SpliceCommand.{SpliceCommand}
 use Rattle.command.specs.declared.components.ComponentSplice.{ComponentSplice}
 use Rattle.command_measure.specs.Made.{commandMade, measuredOf}
 use Rattle.command_measure.specs.declared.Measured.{Measured}
-use Rattle.descriptor_measure.specs.Canonical.{canonicalLoop}
+use Rattle.canonical_form.specs.Descriptor.{canonicalLoop}
 use Rattle.header.specs.declared.header.SpliceInfoHeader.{SpliceInfoHeader}
 use Rattle.bit_stores.specs.Written.{answerOf, laterOf, refusalIn, bytesIn}
 use Rattle.bit_stores.specs.declared.Written.{Written}
 use Rattle.bit_stores.proofs.Writes.{refused-answer, short-answer, wrote-answer}
-use Rattle.section.specs.Section.{first}
+use Rattle.section.specs.Section.{first, sectionLength}
 use Rattle.table.specs.Bits.{pick}
 use Rattle.table.specs.Lent.{stored}
 use Rattle.table.specs.Writing.{Made, made, refused}
 use Rattle.table.proofs.Lists.{zero-one}
 use Rattle.table.proofs.Stores.{length-stored}
-use Rattle.section_writer.specs.Frame.{sectionLength, head, frame, numbersFit, fairHead}
+use Rattle.section_writer.specs.Frame.{head, frame, numbersFit, fairHead}
 use Rattle.section_writer.specs.Private.{tail, answerSection}
 use Rattle.section_writer.specs.Writing.{writerConditions, unless, sectionMade, kindOf}
 use Rattle.section_writer.proofs.Frames.{length-frame}

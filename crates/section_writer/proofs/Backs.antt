@@ -16,15 +16,15 @@ use Rattle.header.specs.declared.header.SpliceInfoHeader.{SpliceInfoHeader}
 use Rattle.header.proofs.Headers.{fairHeader, header-got, header-read-write}
 use Rattle.names.specs.Algorithm.{algorithmOf}
 use Rattle.names.specs.Command.{commandTypeOf}
-use Rattle.section.specs.Section.{commandLength, commandType, commandBytes, loopLength}
+use Rattle.section.specs.Section.{commandLength, commandType, commandBytes, loopLength, sectionLength}
 use Rattle.table.specs.Bits.{bitsOfNum, bitsOf, field, bytesN, bytesOf, bigEndian, AllBytes}
 use Rattle.table.specs.Table.{number, bit}
 use Rattle.table.specs.Writing.{walk, contents, print}
-use Rattle.table.proofs.Bits.{bits-join, bytes-num, length-bits}
+use Rattle.table.proofs.Bits.{bits-join, bytes-num, length-bits, byte-in}
 use Rattle.table.proofs.Fields.{field-add, field-byte}
 use Rattle.table.proofs.Structure.{wrote, bytes-take, bytes-drop}
-use Rattle.section_writer.specs.Frame.{headed, headerBytes, opening, sectionLength, head, withLength, body, frame}
-use Rattle.section_writer.proofs.Numbers.{number-bytes, byte-in, field-behind, field-front}
+use Rattle.section_writer.specs.Frame.{headed, headerBytes, opening, head, withLength, body, frame}
+use Rattle.section_writer.proofs.Numbers.{number-bytes, field-behind, field-front}
 
 -- ---- the first three bytes
 pub opening-is : (n : ℕ) → n - 3 < 2 ^ 12 → opening n ≡ 0xfc ∷ bigEndian 2 (0x3000 + (n - 3))

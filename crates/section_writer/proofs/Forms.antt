@@ -16,7 +16,7 @@ use Rattle.header.specs.declared.header.SpliceInfoHeader.{SpliceInfoHeader}
 use Rattle.header.proofs.Headers.{header-there}
 use Rattle.section.proofs.Acceptance.{number-some}
 use Rattle.section.proofs.Framing as frame
-use Rattle.section.specs.Section.{commandLength, loopLength, loopPlace, moved, frameOf, sectionOf, numberOf}
+use Rattle.section.specs.Section.{commandLength, loopLength, loopPlace, moved, frameOf, sectionOf, numberOf, sectionLength}
 use Rattle.section.specs.declared.Frame.{Frame}
 use Rattle.section.specs.declared.FrameRead.{FrameRead}
 use Rattle.section.specs.declared.Refusal.{Refusal}
@@ -26,9 +26,8 @@ use Rattle.table.specs.Bits.{bitsOf, field}
 use Rattle.table.specs.declared.View.{View}
 use Rattle.table.proofs.Lists.{and-true}
 use Rattle.table.proofs.Reading.{bits-are}
-use Rattle.section_writer.specs.Canonical.{canonicalFrame}
-use Rattle.section_writer.specs.Frame.{sectionLength}
-use Rattle.section_writer.proofs.Parts.{Parts, parts-of}
+use Rattle.canonical_form.specs.Section.{canonicalFrame}
+use Rattle.section.proofs.Parts.{Parts, parts-of}
 
 module _ (s : List ℕ) where
   pub not-accepted : (r : Refusal) → sectionOf s ≡ SectionRead.Refused r → false ≡ canonicalFrame s

@@ -24,7 +24,7 @@ use Rattle.header.proofs.Headers.{header-got, header-write-read}
 use Rattle.names.specs.Algorithm.{algorithmOf}
 use Rattle.names.specs.Command.{commandNumber, commandTypeOf}
 use Rattle.names.proofs.Commands.{command-laws}
-use Rattle.section.specs.Section.{commandLength, commandType, commandBytes, loopLength, loopPlace, frameIn, loopBytes, moved, sectionOf}
+use Rattle.section.specs.Section.{commandLength, commandType, commandBytes, loopLength, loopPlace, frameIn, loopBytes, moved, sectionOf, sectionLength}
 use Rattle.section.specs.declared.SectionRead.{SectionRead}
 use Rattle.section.proofs.Framing.{is-framed, has-parts, is-accepted, is-section}
 use Rattle.table.specs.Bits.{bitsOf, field, bytesOf, bigEndian, AllBytes}
@@ -32,14 +32,14 @@ use Rattle.table.specs.Lent.{viewed}
 use Rattle.table.specs.Table.{got, parse}
 use Rattle.table.specs.Writing.{walk, contents, print}
 use Rattle.table.specs.declared.View.{View}
-use Rattle.table.proofs.Bits.{all-bytesN}
+use Rattle.table.proofs.Bits.{all-bytesN, byte-in}
 use Rattle.table.proofs.Fields.{field-byte}
 use Rattle.table.proofs.Lists.{zero-one}
 use Rattle.table.proofs.Reading.{field-exact}
 use Rattle.table.proofs.Walks.{print-bits}
-use Rattle.section_writer.specs.Frame.{headed, headerBytes, opening, sectionLength, head, withLength, body, frame, numbersFit, fairHead}
+use Rattle.section_writer.specs.Frame.{headed, headerBytes, opening, head, withLength, body, frame, numbersFit, fairHead}
 use Rattle.section_writer.proofs.Heads.{Fitting, fitting, clear, header-is-made, length-header, length-opening, length-head}
-use Rattle.section_writer.proofs.Numbers.{number-at, byte-in, field-behind}
+use Rattle.section_writer.proofs.Numbers.{number-at, field-behind}
 
 header-bytes : (x : SpliceInfoHeader) → AllBytes (headerBytes x)
 unfolding headerBytes

@@ -21,7 +21,8 @@ use Rattle.table.specs.Table.{flagNumber, number, bit}
 use Rattle.table.specs.Writing.{walk, seen, within, contents, print, made, make}
 use Rattle.table.proofs.Bits.{length-bytesN}
 use Rattle.table.proofs.Lists.{and-true}
-use Rattle.section_writer.specs.Frame.{headed, headerBytes, opening, sectionLength, head, numbersFit, fairHead}
+use Rattle.section_writer.specs.Frame.{headed, headerBytes, opening, head, numbersFit, fairHead}
+use Rattle.section.specs.Section.{sectionLength}
 
 -- ---- what refusal 32 asks of a header
 pub record Fitting (h : SpliceInfoHeader) : Type 0 where

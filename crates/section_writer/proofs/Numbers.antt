@@ -23,11 +23,6 @@ number-at pre r q n v e h =
     ap (λ (l : List ℕ). field l (q * 8) (n * 8)) b ∙ field-num (bitsOf pre) (bitsOf r) (q * 8) (n * 8) v (length-bits pre ∙ ap (λ (k : ℕ). k * 8) e) h
 
 -- ---- bytes of bytes
-pub byte-in : (s : List ℕ) → AllBytes s → (k : ℕ) → getD s k 0 < 256
-byte-in [] a k = omega arith
-byte-in (b ∷ s) a zero = a .0
-byte-in (b ∷ s) a (suc k) = byte-in s (a .1) k
-
 -- the bits of the first n bytes
 take-bits : (n : ℕ) (s : List ℕ) → n ≤ length s → take (n * 8) (bitsOf s) ≡ bitsOf (take n s)
 take-bits n s h =

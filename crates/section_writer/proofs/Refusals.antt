@@ -5,8 +5,8 @@ use mathlib.Core.Path.{_≡_, refl, sym, _∙_}
 use native.Mathlib.Omega.{arith}
 use borrow.Author.Tests.{lt-ltb, le-ltb, ne-eqb}
 use Rattle.header.specs.declared.header.SpliceInfoHeader.{SpliceInfoHeader}
-use Rattle.section.specs.Section.{first}
-use Rattle.section_writer.specs.Frame.{sectionLength, numbersFit, fairHead}
+use Rattle.section.specs.Section.{first, sectionLength}
+use Rattle.section_writer.specs.Frame.{numbersFit, fairHead}
 use Rattle.section_writer.specs.Writing.{writerConditions}
 
 module _ (h : SpliceInfoHeader) (r size extent : ℕ) (canonical : Bool) where

@@ -4,7 +4,7 @@ use mathlib.Core.Bool.{Bool, true, false}
 use mathlib.Core.List.{List, [], _∷_}
 use mathlib.Core.Path.{_≡_, refl}
 use Rattle.crc.specs.Crc.{crcBit, crcBits, crcOf}
-use Rattle.descriptor_measure.specs.Canonical.{canonicalFrom, canonicalLoop}
+use Rattle.canonical_form.specs.Descriptor.{canonicalFrom, canonicalLoop}
 use Rattle.header.specs.Header.{spliceHeader}
 use Rattle.header.specs.declared.header.SpliceInfoHeader.{SpliceInfoHeader}
 use Rattle.names.specs.Algorithm.{fairAlgorithm}

@@ -22,7 +22,8 @@ use Rattle.table.specs.Writing.{walk, contents, print}
 use Rattle.table.proofs.Bits.{bits-join, bytes-num, bytes-append, length-num, length-bigEndian}
 use Rattle.table.proofs.Lists.{append-nil, zero-one}
 use Rattle.table.proofs.Stores.{stored-fits, stored-append}
-use Rattle.section_writer.specs.Frame.{headed, headerBytes, opening, sectionLength, head, withLength, body, frame, numbersFit, fairHead}
+use Rattle.section_writer.specs.Frame.{headed, headerBytes, opening, head, withLength, body, frame, numbersFit, fairHead}
+use Rattle.section.specs.Section.{sectionLength}
 use Rattle.section_writer.specs.Private.{frontNumber, backNumber, tail}
 use Rattle.section_writer.proofs.Backs.{opening-is}
 use Rattle.section_writer.proofs.Frames.{length-with-length}

@@ -9,11 +9,11 @@ use mathlib.Core.List.{List}
 use mathlib.Core.Path.{_≡_, refl, ap, sym, _∙_}
 use native.Mathlib.Omega.{arith}
 use lib.ListN.{length, drop}
-use Rattle.command_canonical.specs.Canonical.{canonicalCommand}
+use Rattle.canonical_form.specs.Command.{canonicalCommand}
 use Rattle.command.specs.Command as command
 use Rattle.command.specs.declared.CommandRead.{CommandRead}
 use Rattle.command.specs.declared.SpliceCommand.{SpliceCommand}
-use Rattle.descriptor_measure.specs.Canonical.{canonicalLoop}
+use Rattle.canonical_form.specs.Descriptor.{canonicalLoop}
 use Rattle.header.specs.Header.{headerOf}
 use Rattle.header.specs.declared.header.HeaderRead.{HeaderRead}
 use Rattle.header.specs.declared.header.SpliceInfoHeader.{SpliceInfoHeader}
@@ -26,12 +26,12 @@ use Rattle.table.specs.Bits.{AllBytes}
 use Rattle.table.specs.Writing.{Made, made}
 use Rattle.table.proofs.Lists.{and-true}
 use Rattle.table.proofs.Structure.{bytes-take, bytes-drop}
-use Rattle.section_writer.specs.Canonical.{canonicalFrame, canonicalSection}
+use Rattle.canonical_form.specs.Section.{canonicalFrame, canonicalSection}
 use Rattle.section_writer.specs.Frame.{headed, frame}
 use Rattle.section_writer.specs.Writing.{sectionMade}
 use Rattle.section_writer.proofs.Commands.{one-command}
 use Rattle.section_writer.proofs.Frames.{frame-command-type, frame-command-bytes}
-use Rattle.section_writer.proofs.Parts.{Parts, parts-of}
+use Rattle.section.proofs.Parts.{Parts, parts-of}
 use Rattle.section_writer.proofs.Trips.{Wrote, section-wrote, section-write-read, section-read-write, one-section}
 
 module _ (h : SpliceInfoHeader) (payload : List ℕ) (kind : ℕ) (loop b : List ℕ) (c : SpliceCommand) (byte : kind < 2 ^ 8)

@@ -16,13 +16,13 @@ use borrow.Author.Tests.{ltb-false, le-ltb, eqb-false, eq-eqb, ne-eqb, not-false
 use Rattle.command.specs.Command as command
 use Rattle.command.specs.declared.CommandRead.{CommandRead}
 use Rattle.command.specs.declared.SpliceCommand.{SpliceCommand}
-use Rattle.descriptor_measure.specs.Canonical.{canonicalLoop}
+use Rattle.canonical_form.specs.Descriptor.{canonicalLoop}
 use Rattle.header.specs.declared.header.HeaderRead.{HeaderRead}
 use Rattle.header.specs.declared.header.SpliceInfoHeader.{SpliceInfoHeader}
 use Rattle.names.specs.Algorithm.{algorithmNumber, algorithmOf}
 use Rattle.names.proofs.Algorithms.{algorithm-laws}
 use Rattle.bit_stores.specs.Written.{refusalIn, bytesIn}
-use Rattle.section.specs.Section.{first, commandLength, commandType, commandBytes, loopLength, loopPlace, loopBytes, moved, sectionOf, numberOf}
+use Rattle.section.specs.Section.{first, commandLength, commandType, commandBytes, loopLength, loopPlace, loopBytes, moved, sectionOf, numberOf, sectionLength}
 use Rattle.section.specs.declared.Section.{Section}
 use Rattle.section.specs.declared.SectionRead.{SectionRead}
 use Rattle.table.specs.Bits.{bitsOf, field, bigEndian, AllBytes}
@@ -32,15 +32,15 @@ use Rattle.table.proofs.Bits.{length-bits}
 use Rattle.table.proofs.Fields.{field-add}
 use Rattle.table.proofs.Lists.{zero-one}
 use Rattle.table.proofs.Reading.{field-lt}
-use Rattle.section_writer.specs.Canonical.{canonicalFrame}
-use Rattle.section_writer.specs.Frame.{headed, headerBytes, opening, sectionLength, head, withLength, body, frame, numbersFit, fairHead}
+use Rattle.canonical_form.specs.Section.{canonicalFrame}
+use Rattle.section_writer.specs.Frame.{headed, headerBytes, opening, head, withLength, body, frame, numbersFit, fairHead}
 use Rattle.section_writer.specs.Writing.{writerConditions, unless, sectionMade}
 use Rattle.section_writer.proofs.Backs.{opening-is, frame-again, own, own-is, headed-own}
 use Rattle.section_writer.proofs.Forms.{Framed, framed}
 use Rattle.section_writer.proofs.Frames.{crc, length-frame, behind-three, frame-loop, frame-accepted, frame-command-length, frame-loop-length}
 use Rattle.section_writer.proofs.Heads.{Fitting}
 use Rattle.section_writer.proofs.Numbers.{number-at, field-behind}
-use Rattle.section_writer.proofs.Parts.{Parts, parts-of}
+use Rattle.section.proofs.Parts.{Parts, parts-of}
 use Rattle.section_writer.proofs.Refusals.{no-refusal}
 use Rattle.section_writer.proofs.Stored.{is-fitting, is-clear}
 

@@ -6,7 +6,7 @@ use mathlib.Core.Bool.{Bool, true, false}
 use mathlib.Core.List.{List, [], _∷_, _++_}
 use mathlib.Core.Path.{_≡_, refl, ap, sym, _∙_}
 use native.Mathlib.Omega.{arith}
-use Rattle.command_canonical.specs.Canonical.{canonicalCommand}
+use Rattle.canonical_form.specs.Command.{canonicalCommand}
 use Rattle.command.specs.Command.{private, read, empty, commandOf}
 use Rattle.command.specs.Fair.{fairInsert}
 use Rattle.command.specs.Insert.{WithComponents, insert}

@@ -8,6 +8,7 @@ use Rattle.header.specs.Header.{spliceHeader}
 use Rattle.header.specs.declared.header.SpliceInfoHeader.{SpliceInfoHeader}
 use Rattle.names.specs.Algorithm.{fairAlgorithm}
 use Rattle.names.specs.Command.{commandTypeOf}
+use Rattle.section.specs.Section.{sectionLength}
 use Rattle.table.specs.Bits.{bitsOfNum, bytesOf, bigEndian}
 use Rattle.table.specs.Writing.{walk, contents, print, within}
 
@@ -31,10 +32,6 @@ headerBytes x = bytesOf (print (contents [] (walk spliceHeader x 0 .fields)))
 -- The first three bytes of a section of n: 0xFC; "second and third byte hold 0, 0, 1, 1 and the 12-bit length less 3".
 unfoldable pub opening : ℕ → List ℕ
 opening n = 0xfc ∷ bytesOf (0 ∷ 0 ∷ 1 ∷ 1 ∷ bitsOfNum 12 (n - 3))
-
--- how many bytes a section has whose command has `size` and whose loop has `extent`
-abbrev pub sectionLength : ℕ → ℕ → ℕ
-sectionLength size extent = 20 + size + extent
 
 -- all before the command
 unfoldable pub head : SpliceInfoHeader → ℕ → ℕ → ℕ → List ℕ

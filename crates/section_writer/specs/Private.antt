@@ -8,18 +8,18 @@ use Rattle.command.specs.Insert.{insert}
 use Rattle.command_writer.specs.Private.{answerMeasured}
 use Rattle.command_measure.specs.declared.Measured.{Measured}
 use Rattle.crc.specs.Crc.{crcBytesOf}
-use Rattle.descriptor_measure.specs.Canonical.{canonicalLoop}
+use Rattle.canonical_form.specs.Descriptor.{canonicalLoop}
 use Rattle.header.specs.Header.{headerOf}
 use Rattle.splice_time.specs.Time.{spliceTime}
 use Rattle.header.specs.declared.header.HeaderRead.{HeaderRead}
 use Rattle.header.specs.declared.header.SpliceInfoHeader.{SpliceInfoHeader}
 use Rattle.names.specs.Algorithm.{algorithmNumber}
 use Rattle.bit_stores.specs.declared.Written.{Written}
-use Rattle.section.specs.Section.{first, commandType, commandBytes}
+use Rattle.section.specs.Section.{first, commandType, commandBytes, sectionLength}
 use Rattle.table.specs.Bits.{bitsOf}
 use Rattle.table.specs.Table.{Table, Answer, got, short, parse}
 use Rattle.table.specs.Writing.{Same}
-use Rattle.section_writer.specs.Frame.{headed, withLength, sectionLength}
+use Rattle.section_writer.specs.Frame.{headed, withLength}
 use Rattle.section_writer.specs.Writing.{writerConditions}
 
 -- the numbers in the first six and in the last five bytes of a header that is not encrypted

@@ -12,7 +12,7 @@ use Rattle.header.specs.declared.header.SpliceInfoHeader.{SpliceInfoHeader}
 use Rattle.section.specs.Section.{loopBytes, moved, sectionOf}
 use Rattle.section.specs.declared.SectionRead.{SectionRead}
 use Rattle.table.specs.Writing.{made}
-use Rattle.section_writer.specs.Canonical.{canonicalSection}
+use Rattle.canonical_form.specs.Section.{canonicalSection}
 use Rattle.section_writer.specs.Frame.{headed}
 use Rattle.section_writer.specs.Writing.{kindOf}
 

@@ -6,12 +6,12 @@ use lib.Dec.{ltb, eqb}
 use lib.ListN.{length}
 -- "works out .. command type"
 pub use Rattle.command.specs.Command.{kindOf}
-use Rattle.descriptor_measure.specs.Canonical.{canonicalLoop}
+use Rattle.canonical_form.specs.Descriptor.{canonicalLoop}
 use Rattle.header.specs.declared.header.SpliceInfoHeader.{SpliceInfoHeader}
 use Rattle.bit_stores.specs.Written.{refusalIn, bytesIn}
-use Rattle.section.specs.Section.{first}
+use Rattle.section.specs.Section.{first, sectionLength}
 use Rattle.table.specs.Writing.{Made, made, refused}
-use Rattle.section_writer.specs.Frame.{sectionLength, frame, numbersFit, fairHead}
+use Rattle.section_writer.specs.Frame.{frame, numbersFit, fairHead}
 
 -- The conditions of refusals 31 to 35, in order: of a header, of a command that its own writer gives the refusal r (0 if none) or `size` bytes, and of a loop of
 -- `extent` bytes. 36, a short target, is `answerOf`'s and `laterOf`'s.

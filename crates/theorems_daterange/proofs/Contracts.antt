@@ -15,7 +15,7 @@ use Rattle.daterange_line.specs.Reading.{readOf, readLater}
 use Rattle.daterange_line.specs.declared.Cue.{Cue}
 use Rattle.daterange_line.specs.declared.Read.{Read}
 use Rattle.daterange_writer.specs.Writing.{lineMade}
-use Rattle.theorems.specs.Boards.{May}
+use Rattle.theorems_c.specs.Boards.{May}
 use Rattle.daterange.proofs.write_daterange.Reads as write-daterange
 use Rattle.daterange_line.proofs.read_line.Reads as read-line
 use Rattle.daterange_writer.proofs.write_line.Reads as write-line

@@ -31,7 +31,7 @@ use Rattle.table.proofs.Lists.{zero-one}
 use Rattle.table.specs.Bits.{pick, AllBytes}
 use Rattle.table.specs.Lent.{viewed}
 use Rattle.table.specs.Writing.{Made, made, refused}
-use Rattle.theorems.proofs.Theorems.{a-refused-write-changes-no-byte, an-accepted-write-changes-only-its-result}
+use Rattle.theorems_writer.proofs.Theorems.{a-refused-write-changes-no-byte, an-accepted-write-changes-only-its-result}
 use Rattle.upid.proofs.Laws.{by-cases}
 use Rattle.theorems_daterange.specs.Lines.{Cued, fixedSize, lineSize, lineAnswered, ReadsBack, ReadsBackC}
 

@@ -20,7 +20,8 @@ use Rattle.section.specs.declared.Section.{Section}
 use Rattle.section.specs.declared.SectionRead.{SectionRead}
 use Rattle.table.specs.Bits.{AllBytes}
 use Rattle.table.specs.Writing.{Made}
-use Rattle.theorems.proofs.Theorems as demands
+use Rattle.theorems_reader.proofs.Theorems as reading
+use Rattle.theorems_writer.proofs.Theorems as writing
 use Rattle.theorems_daterange.specs.Lines.{Cued, lineAnswered, ReadsBack, ReadsBackC}
 use Rattle.theorems_daterange.proofs.Contracts.{WritesLine, writes-line-so, WritesDaterange, writes-daterange-so, WritesDaterangeC, writes-daterange-c-so, ReadsLine, reads-line-so, ReadsDaterangeC, reads-daterange-c-so}
 use Rattle.theorems_daterange.proofs.Lines as lines
@@ -34,7 +35,7 @@ pub a-refused-section-has-no-line : (q : Cued) (r : Refusal) (target : List ℕ)
     → answer ≡ Written.Refused (first 1 (conditions (q .section)))
 unfolding answerOf
 a-refused-section-has-no-line q r target answer later d e =
-    writes-daterange-so d .0 ∙ ap (λ (m : Made). answerOf m target) (lines.of-refused q r e) ∙ ap Written.Refused (demands.refusals-1-to-11-in-order (q .section))
+    writes-daterange-so d .0 ∙ ap (λ (m : Made). answerOf m target) (lines.of-refused q r e) ∙ ap Written.Refused (reading.refusals-1-to-11-in-order (q .section))
 
 pub an-accepted-section-has-a-line : (q : Cued) (x : Section) (target : List ℕ) (answer : Written) (later : List ℕ) → WritesDaterange q target answer later → sectionOf (q .section) ≡ SectionRead.Is x
     → answer ≡ lineAnswered (cueFor (x .command)) q (length target)
@@ -80,16 +81,16 @@ the-line-of-a-section-over-c-is-read-back q target answer later bytes d none =
 -- ---- "A refused write leaves the target's bytes"; so does a refused reading
 
 pub a-refused-line-changes-no-byte : (cue : Cue) (q : Cued) (target later : List ℕ) (n : ℕ) → WritesLine cue q target (Written.Refused n) later → later ≡ target
-a-refused-line-changes-no-byte cue q target later n d = writes-line-so d .1 ∙ demands.a-refused-write-changes-no-byte _ target n (sym (writes-line-so d .0))
+a-refused-line-changes-no-byte cue q target later n d = writes-line-so d .1 ∙ writing.a-refused-write-changes-no-byte _ target n (sym (writes-line-so d .0))
 
 pub a-refused-daterange-changes-no-byte : (q : Cued) (target later : List ℕ) (n : ℕ) → WritesDaterange q target (Written.Refused n) later → later ≡ target
-a-refused-daterange-changes-no-byte q target later n d = writes-daterange-so d .1 ∙ demands.a-refused-write-changes-no-byte _ target n (sym (writes-daterange-so d .0))
+a-refused-daterange-changes-no-byte q target later n d = writes-daterange-so d .1 ∙ writing.a-refused-write-changes-no-byte _ target n (sym (writes-daterange-so d .0))
 
 pub a-refused-daterange-over-c-changes-no-byte : (q : Cued) (target : List ℕ) (answer : FlatWritten) (later : List ℕ) → WritesDaterangeC q target answer later → (answer .refusal ≡ 0 → ⊥) → later ≡ target
 a-refused-daterange-over-c-changes-no-byte q target answer later d some =
     let w = answerOf (daterangeMade (q .section) (q .id) (q .date)) target in
     let r = lines.refused-of w (λ e. some (ap (λ (v : FlatWritten). v .refusal) (writes-daterange-c-so d .0) ∙ e)) in
-    writes-daterange-c-so d .1 ∙ demands.a-refused-write-changes-no-byte _ target (r .0) (r .1)
+    writes-daterange-c-so d .1 ∙ writing.a-refused-write-changes-no-byte _ target (r .0) (r .1)
 
 pub a-line-that-is-refused-changes-no-byte : (line target later : List ℕ) (n : ℕ) → ReadsLine line target (Read.Refused n) later → later ≡ target
 a-line-that-is-refused-changes-no-byte line target later n d = reads-line-so d .1 ∙ lines.kept line target n (sym (reads-line-so d .0))

@@ -12,7 +12,8 @@ use Rattle.descriptor_loop.specs.Place.{viewOf}
 use Rattle.descriptor_loop.specs.declared.Item.{Item}
 use Rattle.descriptor_loop.specs.declared.Step.{Step}
 use Rattle.descriptor_loop.specs.declared.reading.Reading.{Reading}
-use Rattle.loop_round_trips.specs.Loops.{Given, givenMade}
+use Rattle.canonical_form.specs.Same.{Given}
+use Rattle.loop_round_trips.specs.Loops.{givenMade}
 use Rattle.bit_stores.specs.Written.{answerOf, laterOf}
 use Rattle.bit_stores.specs.declared.Written.{Written}
 use Rattle.section.specs.Section.{sectionOf, privateView}
@@ -20,11 +21,11 @@ use Rattle.section.specs.Whole.{wholeSectionOf}
 use Rattle.section.specs.declared.Section.{Section}
 use Rattle.section.specs.declared.SectionRead.{SectionRead}
 use Rattle.section.specs.declared.whole.WholeSection.{WholeSection}
-use Rattle.section_writer.specs.Canonical.{canonicalSection}
+use Rattle.canonical_form.specs.Section.{canonicalSection}
 use Rattle.section_writer.specs.Writing.{kindOf, sectionMade}
 use Rattle.table.specs.Lent.{viewed}
 use Rattle.table.specs.Writing.{Made}
-use Rattle.theorems.specs.Boards.{May}
+use Rattle.theorems_c.specs.Boards.{May}
 use Rattle.upid.specs.Upid.{upidOf, partView}
 use Rattle.upid.specs.declared.Part.{Part}
 use Rattle.upid.specs.declared.Upid.{Upid}

@@ -22,12 +22,12 @@ use Rattle.descriptor_loop.specs.declared.Item.{Item}
 use Rattle.descriptor_loop.specs.declared.ItemRefusal.{ItemRefusal}
 use Rattle.descriptor_loop.specs.declared.Step.{Step}
 use Rattle.descriptor_loop.specs.declared.reading.Reading.{Reading}
-use Rattle.loop_round_trips.specs.Loops.{Pairs}
-use Rattle.loop_round_trips.specs.Loops.Pairs.{over, pair}
+use Rattle.canonical_form.specs.Same.{Pairs}
+use Rattle.canonical_form.specs.Same.Pairs.{over, pair}
 use Rattle.table.specs.Bits.{bitsOf, field}
 use Rattle.table.specs.declared.View.{View}
-use Rattle.theorems.specs.Identifiers.{Identifier, inLent}
-use Rattle.theorems.specs.Whole.{Exactly, WholeUpid, WholeDetail, WholeRefusal, WholeItem}
+use Rattle.theorems_reader.specs.Identifiers.{Identifier, inLent}
+use Rattle.theorems_reader.specs.Whole.{Exactly, WholeUpid, WholeDetail, WholeRefusal, WholeItem}
 use Rattle.upid.specs.Upid as upid
 use Rattle.upid.specs.Upid.{upidOf, checkOf, eidrOf, listOf, listed, unlessRefused, partsIn}
 use Rattle.upid.specs.declared.Part.{Part}

@@ -23,8 +23,8 @@ use Rattle.section.specs.Section.{privateView, commandLength}
 use Rattle.table.specs.Bits.{pick}
 use Rattle.table.specs.Lent.{viewed, noView}
 use Rattle.table.specs.declared.View.{View}
-use Rattle.theorems.specs.Identifiers.{Identifier, inLent, inSection, partsRead, Announced, Unsplit}
-use Rattle.theorems.specs.Whole.{Exactly, WholeUpid, upidAt, WholeDetail, WholeItem, WholeCommand}
+use Rattle.theorems_reader.specs.Identifiers.{Identifier, inLent, inSection, partsRead, Announced, Unsplit}
+use Rattle.theorems_reader.specs.Whole.{Exactly, WholeUpid, upidAt, WholeDetail, WholeItem, WholeCommand}
 use Rattle.upid.specs.Cover.{All}
 use Rattle.upid.specs.Upid.{reportedOf, partView}
 use Rattle.upid.specs.declared.Part.{Part}

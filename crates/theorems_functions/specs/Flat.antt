@@ -10,7 +10,7 @@ use Rattle.c_items.specs.declared.steps.FlatStep.{FlatStep}
 use Rattle.c_items.specs.declared.upids.FlatPart.{FlatPart}
 use Rattle.c_command_writer.specs.declared.FlatWritten.{FlatWritten}
 use Rattle.table.specs.Bits.{pick, bitsOf, field}
-use Rattle.theorems.specs.Whole.{upidAt}
+use Rattle.theorems_reader.specs.Whole.{upidAt}
 use Rattle.upid.specs.Upid.{numberOf}
 use Rattle.upid.specs.declared.Part.{Part}
 use Rattle.upid.specs.declared.UpidRead.{UpidRead}

@@ -1,4 +1,4 @@
--- What it means that the slice which a function hands back is the whole identifier that the section's own bytes announce (`Whole`, theorems/specs/Whole.antt,
+-- What it means that the slice which a function hands back is the whole identifier that the section's own bytes announce (`Whole`, theorems_reader/specs/Whole.antt,
 -- says it of a reading's views).
 use Prim.Native.Nat.{ℕ, _+_, _-_, _/_, _%_, _≤_}
 use mathlib.Core.List.{List, [], _∷_}
@@ -13,7 +13,7 @@ use Rattle.descriptor_loop.specs.declared.ItemRefusal.{ItemRefusal}
 use Rattle.descriptor_loop.specs.declared.reading.Reading.{Reading}
 use Rattle.section.specs.Section.{commandLength}
 use Rattle.table.specs.Bits.{pick}
-use Rattle.theorems.specs.Whole.{Exactly, upidAt}
+use Rattle.theorems_reader.specs.Whole.{Exactly, upidAt}
 use Rattle.upid.specs.Cover.{All, Covered, Ascending, Owned, whole}
 use Rattle.upid.specs.declared.Part.{Part}
 use Rattle.upid.specs.declared.Refusal.{Refusal}

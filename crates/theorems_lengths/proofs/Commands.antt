@@ -39,9 +39,9 @@ use Rattle.table.proofs.Steps.{reads-in, reads-number, reads-flag, reads-ones, 
 use Rattle.table.specs.Bits.{pick, bitsOf, field}
 use Rattle.table.specs.Table.{Table, done, inside, uimsbf, ones, list, Answer, got, short, parse}
 use Rattle.table.specs.Writing.{Made, made, refused, make}
-use Rattle.theorems.proofs.Framed.{laid}
-use Rattle.theorems.proofs.InsertsRead.{insert-has, got-same}
-use Rattle.theorems.proofs.WrittenBack.{components-are, counted-is}
+use Rattle.theorems_reader.proofs.Framed.{laid}
+use Rattle.theorems_writer.proofs.InsertsRead.{insert-has, got-same}
+use Rattle.theorems_writer.proofs.WrittenBack.{components-are, counted-is}
 
 got-end : {X : Type 0} {x y : X} {m n : ℕ} → got x m ≡ got y n → m ≡ n
 got-end e = cc

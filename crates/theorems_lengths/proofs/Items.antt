@@ -23,14 +23,13 @@ use Rattle.descriptor_loop.specs.Items.{itemAt, readAt, wholeAt, stepOf, beside
 use Rattle.descriptor_loop.specs.Place.{movedDescriptor}
 use Rattle.descriptor_loop.specs.declared.Item.{Item}
 use Rattle.descriptor_loop.specs.declared.Step.{Step}
-use Rattle.descriptor_measure.specs.Same.{countBeside}
-use Rattle.descriptor_measure.specs.Writing.{framed, framedMade, payloadMade, descriptorMade, tagOf, identifierOf}
+use Rattle.descriptor_measure.specs.Writing.{countBeside, framed, framedMade, payloadMade, descriptorMade, tagOf, identifierOf}
 use Rattle.descriptor_round_trips.proofs.Alike.{SameView, alike-made, made-told}
 use Rattle.descriptor_round_trips.proofs.Payloads.{payload-back}
 use Rattle.descriptor_round_trips.specs.Making.{viewIn}
 use Rattle.descriptor_round_trips.specs.Trips.{Handed}
 use Rattle.loop_round_trips.proofs.Places.{moved-values, moved-count, moved-view}
-use Rattle.section_writer.proofs.Numbers.{byte-in}
+use Rattle.table.proofs.Bits.{byte-in}
 use Rattle.table.proofs.Structure.{bytes-take, bytes-drop}
 use Rattle.table.proofs.Lists.{zero-one}
 use Rattle.table.specs.Bits.{pick, bitsOf, AllBytes}
@@ -38,7 +37,7 @@ use Rattle.table.specs.Lent.{viewed}
 use Rattle.table.specs.Table.{Answer, got, short, parse}
 use Rattle.table.specs.Writing.{Made, made, refused}
 use Rattle.table.specs.declared.View.{View}
-use Rattle.theorems.proofs.WritablePayloads.{Ready, ready, written-of}
+use Rattle.theorems_writer.proofs.WritablePayloads.{Ready, ready, written-of}
 use Rattle.upid.specs.Upid.{checkOf}
 use Rattle.upid.specs.declared.UpidRead.{UpidRead}
 

@@ -23,34 +23,35 @@ use Rattle.descriptor_loop.proofs.Places.{all-into}
 use Rattle.descriptor_loop.specs.Cover.{joined, Follow, done, follows}
 use Rattle.descriptor_loop.specs.Items.{readingOf, Listed, listed, itemsOf}
 use Rattle.descriptor_loop.specs.declared.Item.{Item}
-use Rattle.descriptor_measure.specs.Canonical.{canonicalLoop}
+use Rattle.canonical_form.specs.Descriptor.{canonicalLoop}
 use Rattle.descriptor_round_trips.specs.Trips.{Handed}
 use Rattle.loop_round_trips.proofs.Theorems.{descriptors-written-in-order-are-the-items-of-a-canonical-loop}
-use Rattle.loop_round_trips.specs.Loops.{Given, givenMade, Pairs, over, pair, ItemBack, SameItem}
-use Rattle.section.specs.Section.{commandBytes, commandLength, loopBytes, loopLength, loopPlace, sectionOf}
+use Rattle.canonical_form.specs.Same.{Given, Pairs, over, pair, ItemBack, SameItem}
+use Rattle.loop_round_trips.specs.Loops.{givenMade}
+use Rattle.section.specs.Section.{commandBytes, commandLength, loopBytes, loopLength, loopPlace, sectionOf, sectionLength, loopIn}
 use Rattle.section.specs.declared.Section.{Section}
 use Rattle.section.specs.declared.SectionRead.{SectionRead}
 use Rattle.section_writer.proofs.Frames.{length-frame}
-use Rattle.section_writer.specs.Canonical.{canonicalSection}
-use Rattle.section_writer.specs.Frame.{sectionLength, frame}
+use Rattle.canonical_form.specs.Section.{canonicalSection}
+use Rattle.section_writer.specs.Frame.{frame}
 use Rattle.section_writer.specs.Writing.{sectionMade}
 use Rattle.table.proofs.Lists.{zero-one, and-true}
 use Rattle.table.proofs.Structure.{wrote}
 use Rattle.table.specs.Bits.{pick, AllBytes}
 use Rattle.table.specs.Writing.{walk, Made, made, refused, make}
 use Rattle.table.specs.declared.View.{View}
-use Rattle.theorems.proofs.CommandsMade.{made-if-read}
-use Rattle.theorems.proofs.Framed.{laid}
-use Rattle.theorems.proofs.ItemsWritten.{all-viewed, items-read, loop-written}
-use Rattle.theorems.proofs.Runs.{length-run}
-use Rattle.theorems.proofs.SectionsMade.{section-reads-as}
-use Rattle.theorems.proofs.Sections.{each-item, loop-run, loop-short, items-cover}
-use Rattle.theorems.proofs.Writable.{can-be-written}
-use Rattle.theorems.proofs.WritableInserts.{every-command-written, places-255, count-byte}
-use Rattle.theorems.proofs.WritableSections.{made-around, header-fits, header-fair, section-written}
-use Rattle.theorems.proofs.WrittenBack.{section-back}
-use Rattle.theorems.specs.Identifiers.{inSection, loopIn}
-use Rattle.theorems.specs.Making.{SectionBytes, CommandPayload}
+use Rattle.theorems_writer.proofs.CommandsMade.{made-if-read}
+use Rattle.theorems_reader.proofs.Framed.{laid}
+use Rattle.theorems_writer.proofs.ItemsWritten.{all-viewed, items-read, loop-written}
+use Rattle.theorems_reader.proofs.Runs.{length-run}
+use Rattle.theorems_writer.proofs.SectionsMade.{section-reads-as}
+use Rattle.theorems_reader.proofs.Sections.{each-item, loop-run, loop-short, items-cover}
+use Rattle.theorems_writer.proofs.Writable.{can-be-written}
+use Rattle.theorems_writer.proofs.WritableInserts.{every-command-written, places-255, count-byte}
+use Rattle.theorems_writer.proofs.WritableSections.{made-around, header-fits, header-fair, section-written}
+use Rattle.theorems_writer.proofs.WrittenBack.{section-back}
+use Rattle.theorems_reader.specs.Identifiers.{inSection}
+use Rattle.theorems_writer.specs.Making.{SectionBytes, CommandPayload}
 use Rattle.upid.specs.Cover.{All, none, more}
 use Rattle.theorems_lengths.specs.Lengths.{Readable, givenOf, ItemAs, WrittenShorter}
 use Rattle.theorems_lengths.proofs.Commands.{command-shorter}

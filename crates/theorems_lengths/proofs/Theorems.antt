@@ -12,14 +12,13 @@ use Rattle.descriptor.specs.declared.Descriptor.{Descriptor}
 use Rattle.descriptor_loop.specs.Items.{stepOf, listed, itemsOf}
 use Rattle.descriptor_loop.specs.declared.Item.{Item}
 use Rattle.loop_round_trips.specs.Loops.{givenMade}
-use Rattle.section.specs.Section.{commandBytes, commandLength, sectionOf}
+use Rattle.section.specs.Section.{commandBytes, commandLength, sectionOf, loopIn}
 use Rattle.section.specs.declared.Section.{Section}
 use Rattle.section.specs.declared.SectionRead.{SectionRead}
-use Rattle.section_writer.specs.Canonical.{canonicalSection}
+use Rattle.canonical_form.specs.Section.{canonicalSection}
 use Rattle.table.specs.Bits.{AllBytes}
 use Rattle.table.specs.Writing.{made}
-use Rattle.theorems.proofs.ItemsWritten.{all-viewed}
-use Rattle.theorems.specs.Identifiers.{loopIn}
+use Rattle.theorems_writer.proofs.ItemsWritten.{all-viewed}
 use Rattle.upid.specs.Cover.{All}
 use Rattle.theorems_lengths.specs.Lengths.{Readable, givenOf, WrittenShorter}
 use Rattle.theorems_lengths.proofs.Commands as commands

@@ -10,14 +10,14 @@ use Rattle.descriptor.specs.declared.Descriptor.{Descriptor}
 use Rattle.descriptor_loop.specs.Cover.{joined}
 use Rattle.descriptor_loop.specs.Items.{readingOf, Listed, itemsOf}
 use Rattle.descriptor_loop.specs.declared.Item.{Item}
-use Rattle.descriptor_measure.specs.Canonical.{canonicalDescriptor}
-use Rattle.loop_round_trips.specs.Loops.{Given, givenMade, Pairs, SameItem}
-use Rattle.section.specs.Section.{commandBytes, loopBytes}
+use Rattle.canonical_form.specs.Descriptor.{canonicalDescriptor}
+use Rattle.canonical_form.specs.Same.{Given, Pairs, SameItem}
+use Rattle.loop_round_trips.specs.Loops.{givenMade}
+use Rattle.section.specs.Section.{commandBytes, loopBytes, loopIn}
 use Rattle.section.specs.declared.Section.{Section}
 use Rattle.section_writer.specs.Writing.{sectionMade}
 use Rattle.table.specs.Writing.{made}
-use Rattle.theorems.specs.Identifiers.{loopIn}
-use Rattle.theorems.specs.Making.{SectionBytes}
+use Rattle.theorems_writer.specs.Making.{SectionBytes}
 
 -- an item that is read, and not refused
 pub record Readable (y : Listed) : Type 0 where

@@ -29,8 +29,8 @@ use Rattle.section.specs.declared.Section.{Section}
 use Rattle.section.specs.declared.SectionRead.{SectionRead}
 use Rattle.table.specs.Bits.{pick}
 use Rattle.table.specs.Writing.{Made, made, refused}
-use Rattle.theorems.proofs.Sections.{each-item}
-use Rattle.theorems.proofs.Theorems.{refusals-1-to-11-in-order}
+use Rattle.theorems_reader.proofs.Sections.{each-item}
+use Rattle.theorems_reader.proofs.Theorems.{refusals-1-to-11-in-order}
 use Rattle.upid.proofs.Laws.{by-cases}
 use Rattle.upid.proofs.Walks.{check-mid}
 use Rattle.upid.specs.Cover.{All, bytesOf}

@@ -9,7 +9,7 @@ use Rattle.c_command_writer.specs.Words.{flatWritten}
 use Rattle.c_command_writer.specs.declared.FlatWritten.{FlatWritten}
 use Rattle.relabel.specs.Relabel.{relabelMade}
 use Rattle.table.specs.Writing.{Made}
-use Rattle.theorems.specs.Boards.{May}
+use Rattle.theorems_c.specs.Boards.{May}
 use Rattle.relabel.proofs.relabel.Reads as relabel
 use Rattle.scte35.proofs.relabelling.scte35_relabel.Reads as scte35-relabel
 use Rattle.theorems_relabel.specs.Replaced.{Request}

@@ -25,17 +25,17 @@ use Rattle.relabel_found.specs.Found.{begins, inserts, found, payloadAt, kindIn
 use Rattle.relabel_laws.specs.Identifiers.{ofUpid, ofPayload, ofItem}
 use Rattle.relabel_payload.specs.Payload.{upidHead}
 use Rattle.relabel_upid.specs.Kept.{Identifier, identifiersOf, identifiersIn}
-use Rattle.section.specs.Section.{commandLength, loopLength, loopBytes, sectionOf}
+use Rattle.section.specs.Section.{commandLength, loopLength, loopBytes, sectionOf, loopIn}
 use Rattle.section.specs.declared.Section.{Section}
 use Rattle.section.specs.declared.SectionRead.{SectionRead}
 use Rattle.table.specs.Bits.{pick, AllBytes}
 use Rattle.table.specs.Lent.{viewed}
-use Rattle.theorems.proofs.Framed.{laid}
-use Rattle.theorems.proofs.Sections.{each-item, loop-short}
-use Rattle.theorems.proofs.Theorems as demands
-use Rattle.theorems.specs.Identifiers as readers
-use Rattle.theorems.specs.Identifiers.{inLent, loopIn, partsRead}
-use Rattle.theorems.specs.Whole.{WholeUpid, upidAt}
+use Rattle.theorems_reader.proofs.Framed.{laid}
+use Rattle.theorems_reader.proofs.Sections.{each-item, loop-short}
+use Rattle.theorems_reader.proofs.Theorems as demands
+use Rattle.theorems_reader.specs.Identifiers as readers
+use Rattle.theorems_reader.specs.Identifiers.{inLent, partsRead}
+use Rattle.theorems_reader.specs.Whole.{WholeUpid, upidAt}
 use Rattle.upid.specs.Cover.{All}
 use Rattle.upid.specs.Cover.All.{none, more}
 use Rattle.theorems_relabel.specs.Readings.{ReadAs, DetailAs, ItemAs, ListedAs}

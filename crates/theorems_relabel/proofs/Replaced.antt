@@ -27,7 +27,7 @@ use Rattle.section.specs.declared.SectionRead.{SectionRead}
 use Rattle.table.proofs.Lists.{zero-one}
 use Rattle.table.specs.Bits.{pick}
 use Rattle.table.specs.Writing.{Made, made, refused}
-use Rattle.theorems.proofs.Theorems.{an-accepted-write-changes-only-its-result}
+use Rattle.theorems_writer.proofs.Theorems.{an-accepted-write-changes-only-its-result}
 use Rattle.upid.specs.Cover.{bytesOf}
 use Rattle.upid.specs.Private.{Accepted}
 use Rattle.upid.specs.Upid.{checkOf, readOf, upidOf, partsIn, listOf}

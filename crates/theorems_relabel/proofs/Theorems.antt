@@ -16,7 +16,7 @@ use Rattle.section.specs.Section.{loopBytes, sectionOf}
 use Rattle.section.specs.declared.Section.{Section}
 use Rattle.section.specs.declared.SectionRead.{SectionRead}
 use Rattle.table.specs.Bits.{AllBytes}
-use Rattle.theorems.proofs.Theorems as demands
+use Rattle.theorems_writer.proofs.Theorems as demands
 use Rattle.theorems_relabel.specs.Answered.{answered}
 use Rattle.theorems_relabel.specs.Readings.{ListedAs}
 use Rattle.theorems_relabel.specs.Replaced.{Request, Relabelled}

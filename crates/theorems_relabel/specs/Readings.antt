@@ -1,5 +1,5 @@
 -- The list of identifiers that relabelling speaks of (`identifiersIn`, relabel_laws) finds each UPID by the section's bytes; the readers hand out the UPIDs and parts that
--- `identifiersOf` (theorems/specs/Identifiers.antt) lists. What ties the two, of one item: `pay` is its payload, u the UPID that is read of it, and `eidr` what stands
+-- `identifiersOf` (theorems_reader/specs/Identifiers.antt) lists. What ties the two, of one item: `pay` is its payload, u the UPID that is read of it, and `eidr` what stands
 -- beside it in the reading.
 use Prim.Native.Nat.{ℕ}
 use mathlib.Core.List.{List, [], _∷_}
@@ -16,7 +16,7 @@ use Rattle.relabel_laws.specs.Identifiers.{ofPayload, ofItem}
 use Rattle.relabel_upid.specs.Kept.{Identifier, identifiersIn}
 use Rattle.table.specs.Bits.{pick}
 use Rattle.table.specs.Lent.{viewed}
-use Rattle.theorems.specs.Identifiers.{partsRead}
+use Rattle.theorems_reader.specs.Identifiers.{partsRead}
 
 pub record ReadAs (pay loop eidr : List ℕ) (u : SegmentationUpid) : Type 0 where
   -- its type is the one that is written there: 5 is told as 6, and an empty one is None

@@ -19,7 +19,6 @@ use Rattle.descriptor.specs.Descriptor.{availOf, timeOf, reservedOf, cuei, desc
 use Rattle.descriptor.specs.declared.Descriptor.{Descriptor}
 use Rattle.descriptor.specs.declared.DescriptorRead.{DescriptorRead}
 use Rattle.header.proofs.Headers.{header-refused, header-there}
-use Rattle.header.specs.Header as header
 use Rattle.header.specs.Header.{headerOf}
 use Rattle.header.specs.declared.header.HeaderRead.{HeaderRead}
 use Rattle.header.specs.declared.header.SpliceInfoHeader.{SpliceInfoHeader}
@@ -27,16 +26,16 @@ use Rattle.descriptor_loop.specs.Cover.{Ends}
 use Rattle.descriptor_loop.specs.Items.{stepOf, wholeAt}
 use Rattle.descriptor_loop.specs.declared.Item.{Item}
 use Rattle.names.specs.Flags.{Answer, networkOf, returnOf, restrictionsOf}
-use Rattle.section.specs.Section.{commandType, commandBytes, malformedCommand, sectionOf}
+use Rattle.section.specs.Section.{commandType, commandBytes, malformedCommand, sectionOf, loopLength, numberOf}
 use Rattle.section.specs.declared.Section.{Section}
 use Rattle.section.specs.declared.SectionRead.{SectionRead}
-use Rattle.section_writer.specs.Canonical.{canonicalSection}
+use Rattle.canonical_form.specs.Section.{canonicalSection}
 use Rattle.splice_time.specs.Time.{spliceTime}
 use Rattle.splice_time.specs.declared.SpliceTime.{SpliceTime}
-use Rattle.table.specs.Bits.{bitsOf, field}
+use Rattle.table.specs.Bits.{bitsOf, field, AllBytes}
 use Rattle.table.specs.Table.{got, short, parse}
-use Rattle.theorems.specs.Same.{SameSections}
-use Rattle.theorems.specs.Sections.{EmptyCommand, Identified}
+use Rattle.canonical_form.specs.Same.{SameSections}
+use Rattle.theorems_rows.specs.Examples.{EmptyCommand, Identified, spliceNull, eight, twelve, both, eightAndTwelve}
 use Rattle.upid.specs.Cover.{All}
 use Rattle.upid.specs.Text.{textOf}
 use Rattle.upid.specs.Upid.{checkOf}
@@ -44,8 +43,12 @@ use Rattle.upid.specs.declared.Refusal.{Refusal}
 use Rattle.upid.specs.declared.UpidRead.{UpidRead}
 use Rattle.theorems_rows.specs.Refusals.{StepRefused, endNumber, endValues, UpidRefused, kindOf, fixedLengths, texts, plainLengths}
 use Rattle.theorems_rows.specs.Sections.{eighteen, nineteen, insertSection, otherInsertSection, everyIdentifier, everyDescriptor, everyCommand}
+use Rattle.theorems_rows.specs.Rows.{Holds, rows}
+use Rattle.header.specs.Header as header
 use Rattle.theorems_rows.proofs.Refusals as refusals
 use Rattle.theorems_rows.proofs.Worked as worked
+use Rattle.theorems_rows.proofs.RowsHold as rows-hold
+use Rattle.theorems_rows.proofs.Examples as examples
 
 -- ---- worked sections
 
@@ -216,3 +219,33 @@ untested-types-take-any-bytes = refusals.upid-untested
 
 pub types-above-14-take-any-bytes : (b : List ℕ) → 1 ≤ length b → length b ≤ 255 → (k : ℕ) → 15 ≤ k → checkOf k b ≡ UpidRead.Fine k
 types-above-14-take-any-bytes = refusals.upid-above-14
+
+-- ---- the worked rows
+
+-- 01: "Rows a to n are proved together, one table under one theorem over the definitions."
+pub rows-a-to-n-hold : All Holds rows
+rows-a-to-n-hold = rows-hold.every-row
+
+-- "Sections with right CRC and command length 0: 18 and 19 bytes give 8;"
+pub sections-of-18-and-19-bytes-give-8 : (s : List ℕ) → EmptyCommand s → 18 ≤ length s → length s ≤ 19 → numberOf (sectionOf s) ≡ 8
+sections-of-18-and-19-bytes-give-8 = examples.no-loop-length
+
+-- "20 with loop length 0 and command type 0 is accepted."
+pub sections-of-20-bytes-are-accepted : (s : List ℕ) → EmptyCommand s → length s ≡ 20 → loopLength s ≡ 0 → commandType s ≡ 0 → (x : Section) × (sectionOf s ≡ SectionRead.Is x)
+sections-of-20-bytes-are-accepted = examples.empty-accepted
+
+-- there is one
+pub a-null-is-such-a-section : EmptyCommand spliceNull × (length spliceNull ≡ 20) × (loopLength spliceNull ≡ 0) × (commandType spliceNull ≡ 0)
+a-null-is-such-a-section = examples.null-is-one
+
+-- The incident, worked out (`no-mid-that-is-read-is-split`, `writing-back-splits-no-mid` say it of every section): a section whose MID has a part of 8 bytes and one of 12 is read as these two, whole
+pub eight-and-twelve-bytes-are-read-whole : Identified eightAndTwelve (
+    record { start = 35; len = 24; bytes = both }
+    ∷ record { start = 37; len = 8; bytes = eight }
+    ∷ record { start = 47; len = 12; bytes = twelve }
+    ∷ [])
+eight-and-twelve-bytes-are-read-whole = examples.both-whole
+
+-- and it is canonical, so it is what is written of its items, and its MID is kept whole
+pub the-section-with-eight-and-twelve-is-canonical : AllBytes eightAndTwelve × (canonicalSection eightAndTwelve ≡ true)
+the-section-with-eight-and-twelve-is-canonical = examples.both-canonical

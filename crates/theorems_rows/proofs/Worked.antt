@@ -12,10 +12,10 @@ use Rattle.command.specs.declared.insert.SpliceInsert.{SpliceInsert}
 use Rattle.command.specs.declared.insert.SpliceMode.{SpliceMode}
 use Rattle.command.specs.declared.insert.Break.{Break}
 use Rattle.names.specs.declared.flags.NetworkIndicator.{NetworkIndicator}
-use Rattle.command_canonical.specs.Canonical.{canonicalCommand}
+use Rattle.canonical_form.specs.Command.{canonicalCommand}
 use Rattle.descriptor.specs.Segmentation as segment
-use Rattle.descriptor_measure.specs.Canonical.{canonicalUpid, canonicalSegmentation, canonicalPayload, canonicalDescriptor, canonicalFrom, canonicalLoop}
-use Rattle.section_writer.specs.Canonical.{canonicalFrame, canonicalSection}
+use Rattle.canonical_form.specs.Descriptor.{canonicalUpid, canonicalSegmentation, canonicalPayload, canonicalDescriptor, canonicalFrom, canonicalLoop}
+use Rattle.canonical_form.specs.Section.{canonicalFrame, canonicalSection}
 use Rattle.crc.specs.Crc.{crcOf, crcBits, crcBit}
 use Rattle.descriptor.specs.Descriptor.{descriptorOf, isCuei, segmentationOf, insertOf, inserted, dtmfOf, reservedOf}
 use Rattle.descriptor.specs.Plain.{avail, dtmf, time, privateBytes}
@@ -24,7 +24,7 @@ use Rattle.descriptor.specs.Whole.{besideOf, besideIn, filled}
 use Rattle.header.specs.Header.{headerOf, headerRead, spliceHeader}
 use Rattle.splice_time.specs.Time.{spliceTime}
 use Rattle.descriptor_loop.specs.Items.{readAt, wholeAt, stepOf, itemsFrom, itemsOf}
-use Rattle.loop_round_trips.specs.Loops.Pairs.{over}
+use Rattle.canonical_form.specs.Same.Pairs.{over}
 use Rattle.names.specs.Algorithm.{algorithmOf}
 use Rattle.names.specs.Command as names
 use Rattle.section.specs.Section.{commandLength, commandType, commandBytes, roomAfter, loopLength, loopPlace, frameIn, moved, movedRead, accepted, frameOf, sectionOf, numberOf}
@@ -32,9 +32,9 @@ use Rattle.section.specs.declared.Section.{Section}
 use Rattle.section.specs.declared.SectionRead.{SectionRead}
 use Rattle.table.specs.Lent.{viewed}
 use Rattle.table.specs.Table.{number, bit, reserved, part, remaining, list, canonicalBy}
-use Rattle.theorems.specs.Identifiers.{identifiersOf}
-use Rattle.theorems.specs.Same.{SameSections}
-use Rattle.theorems.specs.Sections.{EmptyCommand, Identified}
+use Rattle.theorems_reader.specs.Identifiers.{identifiersOf}
+use Rattle.canonical_form.specs.Same.{SameSections}
+use Rattle.theorems_rows.specs.Examples.{EmptyCommand, Identified}
 use Rattle.upid.specs.Cover.{All, none, more}
 use Rattle.upid.specs.Text.{textOf, done, step, within}
 use Rattle.upid.specs.Upid.{upidOf, checkOf, readOf, walkOf, _then_, plainOf, lengthOf, isText, reportedOf, listOf, partsOf, listed, unlessRefused, eidrOf}

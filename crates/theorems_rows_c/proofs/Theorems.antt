@@ -1,5 +1,5 @@
 -- A row for each refusal number over C: what is handed in, and the words that come back, by computation. The answers are the definitions that the lines of the
--- `scte35_..` functions name in theorems/proofs/FixedAtBoundary.antt.
+-- `scte35_..` functions name in theorems_fixed/proofs/FixedAtBoundary.antt.
 use Prim.Native.Nat.{ℕ, _^_}
 use mathlib.Core.List.{List, [], _∷_, _++_}
 use mathlib.Core.Path.{_≡_, refl}
@@ -27,7 +27,7 @@ use Rattle.descriptor.specs.Segmentation.{fairFront, fairDetail, deviceOf, comp
 use Rattle.descriptor.specs.Whole.{filled}
 use Rattle.descriptor_loop.specs.Items as items
 use Rattle.descriptor_loop.specs.Items.{readAt, wholeAt, stepOf}
-use Rattle.descriptor_measure.specs.Canonical.{canonicalDescriptor, canonicalFrom, canonicalLoop}
+use Rattle.canonical_form.specs.Descriptor.{canonicalDescriptor, canonicalFrom, canonicalLoop}
 use Rattle.descriptor_measure.specs.Writing as writing
 use Rattle.descriptor_measure.specs.Writing.{framed, framedMade, allZero, alone, fairReserved, writtenKind, upidSource, fairUpid, fairSegment, segmentationMade, payloadMade, descriptorMade}
 use Rattle.header.specs.Header.{headerOf, headerRead, spliceHeader}

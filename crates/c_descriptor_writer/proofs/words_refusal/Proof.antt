@@ -8,7 +8,7 @@ use lib.ListN.{drop}
 use borrow.Author.Tests.{not-true, not-false}
 use Rattle.c_command_writer.specs.Words.{within}
 use Rattle.descriptor.specs.declared.Descriptor.{Descriptor}
-use Rattle.descriptor_measure.specs.Same.{countBeside}
+use Rattle.descriptor_measure.specs.Writing.{countBeside}
 use Rattle.c_descriptor_writer.specs.ItemGiven.{ownItem, wordsRefusal}
 use Rattle.c_descriptor_writer.specs.ItemWords.{itemWidths, besideWithin, besideThere}
 use Rattle.c_command_writer.proofs.Words.{first-wide, second-wide, first-other, second-other, no-refusal}

@@ -7,9 +7,8 @@ use mathlib.Core.Path.{_≡_, ap, _∙_}
 use native.Mathlib.Omega.{arith}
 use lib.ListN.{drop}
 use Rattle.descriptor.specs.declared.Descriptor.{Descriptor}
-use Rattle.descriptor_measure.specs.Writing.{descriptorMade}
+use Rattle.descriptor_measure.specs.Writing.{descriptorMade, countBeside}
 use Rattle.c_command_writer.specs.Words.{within, noLess}
-use Rattle.descriptor_measure.specs.Same.{countBeside}
 use Rattle.c_descriptor_writer.specs.ItemGiven.{descriptorGiven, identifierFrom, besideFrom, ownItem, wordsRefusal, descriptorRefusal, descriptorWordsMade}
 use Rattle.c_descriptor_writer.specs.ItemWords.{itemWidths, besideWithin, itemSeen, besideThere}
 use Rattle.c_command_writer.proofs.Refusals.{seen-small}
