@@ -13,9 +13,9 @@ use Rattle.command.specs.Insert as insert
 use Rattle.command.specs.Insert.{count, immediate, programTime, insertOf}
 use Rattle.command.specs.declared.SpliceCommand.{SpliceCommand}
 use Rattle.command.specs.declared.components.ComponentSplice.{ComponentSplice}
-use Rattle.command.specs.declared.insert.Insert.{Insert}
-use Rattle.command.specs.declared.insert.Insertion.{Insertion}
+use Rattle.command.specs.declared.insert.InsertDetail.{InsertDetail}
 use Rattle.command.specs.declared.insert.SpliceInsert.{SpliceInsert}
+use Rattle.command.specs.declared.insert.SpliceDetail.{SpliceDetail}
 use Rattle.command.specs.declared.insert.SpliceMode.{SpliceMode}
 use Rattle.command_measure.proofs.Making.{measured-time, measured-parts, private-fields, private-inside, insert-cancelled, insert-active, command-insert, command-time, command-private}
 use Rattle.command_measure.proofs.Surveys.{survey-fits}
@@ -50,15 +50,15 @@ pub late-31 : (m : Made) → Late 32 m → Late 31 m
 late-31 (made b) h = tt
 late-31 (refused k) h = omega arith
 
-measured-late : (fits fair : Bool) (size : ℕ) (m : Made) → 0 < size → measured fits fair size ≡ measuredOf m → Late 32 m × (fits ≡ true → Late 33 m)
+measured-late : (fits writable : Bool) (size : ℕ) (m : Made) → 0 < size → measured fits writable size ≡ measuredOf m → Late 32 m × (fits ≡ true → Late 33 m)
 unfolding bytesIn
-measured-late fits fair size (made b) h e = (tt, λ t. tt)
-measured-late fits fair size (refused k) h e = go fits fair (measured-parts (measured fits fair size) (refused k) e)
+measured-late fits writable size (made b) h e = (tt, λ t. tt)
+measured-late fits writable size (refused k) h e = go fits writable (measured-parts (measured fits writable size) (refused k) e)
   where
-    go : (fits fair : Bool) → (measured fits fair size .refusal ≡ k) × (measured fits fair size .size ≡ 0) → (32 ≤ k) × (fits ≡ true → 33 ≤ k)
+    go : (fits writable : Bool) → (measured fits writable size .refusal ≡ k) × (measured fits writable size .size ≡ 0) → (32 ≤ k) × (fits ≡ true → 33 ≤ k)
     go true true p = absurd (omega (arith, p .1))
     go true false p = (omega (arith, p .0), λ t. omega (arith, p .0))
-    go false fair p = (omega (arith, p .0), λ t. zero-one cc)
+    go false writable p = (omega (arith, p .0), λ t. zero-one cc)
 
 -- ---- a command whose view, if it has one, lies in the lent bytes is not refused with 31; nor with 32, if its numbers fit
 time-bytes : (t : SpliceTime) → 0 < timeBytes false t
@@ -74,16 +74,16 @@ module _ (places : List ComponentSplice) (lent : List ℕ) where
   abbrev Last : SpliceCommand → Type 0
   Last c = Late 32 (commandMade c places lent) × (Small c → timesFit (take (countIn c) places) ≡ true → Late 33 (commandMade c places lent))
 
-  insert-late : (event kept : ℕ) (d : SpliceInsert) → event < 2 ^ 32 → TypedDetail d → count (insertOf d .«splice_mode») ≤ length places → Tags (take (count (insertOf d .«splice_mode»)) places)
+  insert-late : (event kept : ℕ) (d : SpliceDetail) → event < 2 ^ 32 → TypedDetail d → count (insertOf d .«splice_mode») ≤ length places → Tags (take (count (insertOf d .«splice_mode»)) places)
       → Last (SpliceCommand.SpliceInsert (record { «splice_event_id» = event; reserved = kept; «splice_detail» = d }))
   unfolding activeMeasured
-  insert-late event kept SpliceInsert.Cancel v h there tags =
-      let i : Insertion = record { «splice_event_id» = event; reserved = kept; «splice_detail» = SpliceInsert.Cancel } in
+  insert-late event kept SpliceDetail.Cancel v h there tags =
+      let i : SpliceInsert = record { «splice_event_id» = event; reserved = kept; «splice_detail» = SpliceDetail.Cancel } in
       let c = SpliceCommand.SpliceInsert i in
       let m = measured-late (ltb kept 128) (eqb kept 127) 5 (commandMade c places lent) (omega arith) (insert-cancelled i places refl v ∙ command-insert c places lent i refl) in
       (m .0, λ s t. m .1 (s .0))
-  insert-late event kept (SpliceInsert.Insert x) v h there tags =
-      let i : Insertion = record { «splice_event_id» = event; reserved = kept; «splice_detail» = SpliceInsert.Insert x } in
+  insert-late event kept (SpliceDetail.Insert x) v h there tags =
+      let i : SpliceInsert = record { «splice_event_id» = event; reserved = kept; «splice_detail» = SpliceDetail.Insert x } in
       let c = SpliceCommand.SpliceInsert i in
       let cs = take (count (x .«splice_mode»)) places in
       let size = 10 + modeBytes (x .«splice_mode») (surveyed (immediateIn x cs) cs .bytes) + breakBytes (x .duration) in

@@ -11,10 +11,10 @@ use Rattle.command.specs.declared.SpliceCommand.the-variants as command
 use Rattle.command.specs.declared.components.ComponentSplice.{ComponentSplice}
 use Rattle.command.specs.declared.insert.Break.{Break}
 use Rattle.command.specs.declared.insert.Break.the-variants.{Absent, Lasts}
-use Rattle.command.specs.declared.insert.Insert.{Insert}
-use Rattle.command.specs.declared.insert.Insertion.{Insertion}
+use Rattle.command.specs.declared.insert.InsertDetail.{InsertDetail}
 use Rattle.command.specs.declared.insert.SpliceInsert.{SpliceInsert}
-use Rattle.command.specs.declared.insert.SpliceInsert.the-variants as insert
+use Rattle.command.specs.declared.insert.SpliceDetail.{SpliceDetail}
+use Rattle.command.specs.declared.insert.SpliceDetail.the-variants as insert
 use Rattle.command.specs.declared.insert.SpliceMode.{SpliceMode}
 use Rattle.command.specs.declared.insert.SpliceMode.the-variants.{Program, Components}
 use Rattle.command_measure.specs.Made.{commandMade}
@@ -88,7 +88,7 @@ breakFrom b =
     (Lasts (record { «return_mode» = pick (eqb (b .«auto_return») 1) ReturnMode.Automatic ReturnMode.Manual; duration = b .duration }))
     Absent
 
-unfoldable pub insertFrom : FlatInsert → Insert
+unfoldable pub insertFrom : FlatInsert → InsertDetail
 insertFrom i =
     record {
       «network_indicator» = pick (eqb (i .«out_of_network_indicator») 1) NetworkIndicator.Out NetworkIndicator.In;
@@ -99,7 +99,7 @@ insertFrom i =
       «avails_expected» = i .«avails_expected» % 256;
     }
 
-unfoldable pub insertionFrom : FlatInsert → Insertion
+unfoldable pub insertionFrom : FlatInsert → SpliceInsert
 insertionFrom i =
     record {
       «splice_event_id» = i .«splice_event_id» % 2 ^ 32;

@@ -34,13 +34,13 @@ use command::Private;
 use command::SpliceCommand;
 use command::components::ComponentSplice;
 use command::insert::Break;
-use command::insert::Insert;
-use command::insert::Insertion;
+use command::insert::InsertDetail;
+use command::insert::SpliceDetail;
 use command::insert::SpliceDuration;
 use command::insert::SpliceInsert;
 use command::insert::SpliceMode;
-use command_writer::write_bare_command;
 use command_writer::write_command;
+use command_writer::write_command_without_components;
 use names::flags::NetworkIndicator;
 use names::flags::ReturnMode;
 use table::View;
@@ -135,7 +135,7 @@ fn break_from(b: FlatBreak) -> Break
     Break::Absent
 }
 
-fn insert_from(i: FlatInsert) -> Insert
+fn insert_from(i: FlatInsert) -> InsertDetail
     ensures { λ r. ⌜ r ≡ insertFrom i ⌝ }
 {
     let mode = i.mode;
@@ -145,7 +145,7 @@ fn insert_from(i: FlatInsert) -> Insert
     } else {
         NetworkIndicator::In
     };
-    Insert {
+    InsertDetail {
         network_indicator,
         splice_mode: mode_from(mode),
         duration: break_from(lasts),
@@ -155,15 +155,15 @@ fn insert_from(i: FlatInsert) -> Insert
     }
 }
 
-fn insertion_from(i: FlatInsert) -> Insertion
+fn insertion_from(i: FlatInsert) -> SpliceInsert
     ensures { λ r. ⌜ r ≡ insertionFrom i ⌝ }
 {
     let splice_detail = if i.splice_event_cancel_indicator == 1 {
-        SpliceInsert::Cancel
+        SpliceDetail::Cancel
     } else {
-        SpliceInsert::Insert(insert_from(i))
+        SpliceDetail::Insert(insert_from(i))
     };
-    Insertion {
+    SpliceInsert {
         splice_event_id: (i.splice_event_id % 0x1_0000_0000) as u32,
         reserved: (i.reserved % 256) as u8,
         splice_detail,
@@ -173,8 +173,8 @@ fn insertion_from(i: FlatInsert) -> Insertion
 pub(crate) fn command_from(c: FlatCommand) -> SpliceCommand
     ensures { λ r. ⌜ r ≡ commandFrom c ⌝ }
 {
-    let kind = c.splice_command_type;
-    match kind {
+    let command_type = c.splice_command_type;
+    match command_type {
         0x05 => {
             let insert = c.insert;
             SpliceCommand::SpliceInsert(insertion_from(insert))
@@ -211,8 +211,8 @@ pub fn count_in_command(c: SpliceCommand) -> u8
     };
     let detail = insertion.splice_detail;
     let insert = match detail {
-        SpliceInsert::Insert(i) => i,
-        SpliceInsert::Cancel => return 0,
+        SpliceDetail::Insert(i) => i,
+        SpliceDetail::Cancel => return 0,
     };
     let mode = insert.splice_mode;
     match mode {
@@ -377,7 +377,7 @@ pub fn command_refusal(c: SpliceCommand, words: &[u64], components: &[u64], lent
 }
 
 // The payload of a command without components, whose words have a refusal of their own, or 0.
-fn write_bare_words(
+fn write_words_without_components(
     refusal: u64,
     command: SpliceCommand,
     lent: &[u8],
@@ -388,11 +388,11 @@ fn write_bare_words(
     ensures bytes { λ _. ⌜ now (target .exit) ≡ laterOf (noLess refusal (commandMade command (array []) (now (lent .entry)))) (now (target .entry)) ⌝ }
 {
     if refusal == 0 {
-        return flat_written(write_bare_command(command, lent, target));
+        return flat_written(write_command_without_components(command, lent, target));
     }
     lower_refusal(
         refusal,
-        write_bare_command(command, lent, &mut target[0..0]),
+        write_command_without_components(command, lent, &mut target[0..0]),
     )
 }
 
@@ -431,7 +431,7 @@ pub fn write_command_words(
     let command = command_given(words);
     let refusal = command_refusal(command, words, components, lent);
     if count_in_command(command) == 0 {
-        return write_bare_words(refusal, command, lent, target);
+        return write_words_without_components(refusal, command, lent, target);
     }
     write_listed_words(refusal, command, components, lent, target)
 }

@@ -11,20 +11,20 @@ use lib.Seq.{take-at, getD-drop}
 use borrow.Author.Tests.{eqb-true, eqb-false, lt-ltb, le-leb}
 use Rattle.descriptor.specs.Plain as plain
 use Rattle.descriptor.specs.Plain.{privateBytes}
-use Rattle.descriptor.specs.Segmentation.{blankComponent, byProgram, countOf, lasting, unrestricted, fairDetail, ticks}
+use Rattle.descriptor.specs.Segmentation.{blankComponent, byProgram, countOf, lasting, unrestricted, writableDetail, ticks}
 use Rattle.descriptor.specs.Whole.{filled, ofSegmentation}
 use Rattle.descriptor.specs.declared.Descriptor.{Descriptor}
 use Rattle.descriptor.specs.declared.plain.TimeDescriptor.{TimeDescriptor}
 use Rattle.descriptor.specs.declared.segmentation.DeliveryRestrictionFlags.{DeliveryRestrictionFlags}
 use Rattle.descriptor.specs.declared.segmentation.ModeComponent.{ModeComponent}
 use Rattle.descriptor.specs.declared.segmentation.SegmentationDescriptor.{SegmentationDescriptor}
-use Rattle.descriptor.specs.declared.segmentation.SegmentationDetail.{SegmentationDetail}
+use Rattle.descriptor.specs.declared.segmentation.DescriptorDetail.{DescriptorDetail}
 use Rattle.descriptor.specs.declared.segmentation.SegmentationDuration.{SegmentationDuration}
-use Rattle.descriptor.specs.declared.segmentation.SegmentationInsert.{SegmentationInsert}
+use Rattle.descriptor.specs.declared.segmentation.SegmentationDetail.{SegmentationDetail}
 use Rattle.descriptor.specs.declared.segmentation.SegmentationMode.{SegmentationMode}
 use Rattle.descriptor.specs.declared.segmentation.SubSegments.{SubSegments}
 use Rattle.descriptor.specs.declared.whole.Beside.{Beside}
-use Rattle.descriptor_measure.specs.Writing.{countBeside, alone, fairReserved, payloadMade, tagOf, identifierOf, descriptorMade}
+use Rattle.descriptor_measure.specs.Writing.{countBeside, alone, writableReserved, payloadMade, tagOf, identifierOf, descriptorMade}
 use Rattle.descriptor_measure.specs.Private.{componentsFields, numbersFit}
 use Rattle.c_items.specs.FlatItem.{flatDescriptor, segmentationItem}
 use Rattle.c_items.specs.declared.segmentations.FlatSegmentation.{FlatSegmentation}
@@ -43,7 +43,7 @@ use Rattle.c_descriptor_writer.specs.ItemGiven.{segmentationIn, itemIn, 
 use Rattle.c_descriptor_writer.specs.ItemWords.{itemWords, itemWidths, placesIn, eidrIn, placeWidths, placesWithin, besideWithin, itemSeen, viewFits, placesGiven, itemFits, besideThere, DescriptorIs, DescriptorAnswer, outside, over, nobodys, its}
 use Rattle.c_descriptor_writer.proofs.Typed.{TypedMode, TypedSubs, TypedInsert}
 use Rattle.c_descriptor_writer.proofs.Own.{step-small, given-is, places-are, places-own, places-fit, bytes-are, bytes-own, filled-length}
-use Rattle.c_descriptor_writer.proofs.Told.{Told, make-told, framed-told, framed-31, framed-unseen, told-as, mode-count, fair-insert, insert-fit, insert-told, cancel-told}
+use Rattle.c_descriptor_writer.proofs.Told.{Told, make-told, framed-told, framed-31, framed-unseen, told-as, mode-count, writable-insert, insert-fit, insert-told, cancel-told}
 
 -- ---- the descriptor that words make, by its kind
 data Kind (k : ℕ) : Type 0 where
@@ -78,7 +78,7 @@ from-typed s v =
       program-flag = program (eqb (s .«program_segmentation_flag») 1);
       duration-flag = lasts (eqb (s .«segmentation_duration_flag») 1);
       free-flag = free (eqb (s .«delivery_not_restricted_flag») 1);
-      type-fair = segmentation-laws .is-fair (s .«segmentation_type_id» % 256);
+      type-writable = segmentation-laws .is-writable (s .«segmentation_type_id» % 256);
     }
   where
     modes : (b : Bool) → TypedMode (pick b SegmentationMode.Program (SegmentationMode.Component (s .«component_count» % 256)))
@@ -106,10 +106,10 @@ abbrev kindSeen : List ℕ → List ℕ → Bool
 kindSeen words lent =
     pick (eqb (getD words 6 0) 2 || (eqb (getD words 6 0) 4 || eqb (getD words 6 0) 6)) (leb (getD words 31 0 + getD words 32 0) (length lent)) true
 
--- how many components it has, that its flags are fair, and what its writer says of its view and its numbers
+-- how many components it has, that its flags are writable, and what its writer says of its view and its numbers
 record Facts (words id : List ℕ) (b : Beside) (lent : List ℕ) (d : Descriptor) : Type 0 where
   count : within itemWidths (drop 5 words) ≡ true → countBeside d ≡ placesGiven words
-  fair : ofSegmentation (λ x. fairDetail (x .«descriptor_detail»)) true d ≡ true
+  writable : ofSegmentation (λ x. writableDetail (x .«descriptor_detail»)) true d ≡ true
   fit : Bool
   told : Told (kindSeen words lent) fit (payloadMade d id b lent)
   tight : within itemWidths (drop 5 words) ≡ true → writing.within (componentsFields (take (countBeside d) (b .components))) ≡ true → fit ≡ viewFits words
@@ -118,7 +118,7 @@ module _ (words : List ℕ) where
   abbrev viewGiven : View
   viewGiven = record { at = getD words 31 0; len = getD words 32 0 }
 
-  abbrev insertGiven : SegmentationInsert
+  abbrev insertGiven : SegmentationDetail
   insertGiven = insertFrom (segmentationIn words) viewGiven
 
   abbrev eventGiven : ℕ
@@ -134,7 +134,7 @@ module _ (words : List ℕ) where
     dtmf-facts id b lent =
         record {
           count = λ w. rw e;
-          fair = refl;
+          writable = refl;
           fit = ltb (getD words 32 0) 8;
           told =
               told-as (make-told (alone id (b .eidr)) lent (walk plain.dtmf (record { preroll = getD words 8 0 % 256; «dtmf_chars» = viewGiven }) 0 .fields))
@@ -144,23 +144,23 @@ module _ (words : List ℕ) where
         }
 
   module _ (e : getD words 6 0 ≡ 3) where
-    is-cancel : descriptorGiven words ≡ Descriptor.Segmentation (record { «segmentation_event_id» = eventGiven; «descriptor_detail» = SegmentationDetail.Cancel })
+    is-cancel : descriptorGiven words ≡ Descriptor.Segmentation (record { «segmentation_event_id» = eventGiven; «descriptor_detail» = DescriptorDetail.Cancel })
     unfolding descriptorFrom itemIn segmentationIn
     is-cancel = rw e
 
-    cancel-facts : (id : List ℕ) (b : Beside) (lent : List ℕ) → Facts words id b lent (Descriptor.Segmentation (record { «segmentation_event_id» = eventGiven; «descriptor_detail» = SegmentationDetail.Cancel }))
-    unfolding payloadMade fairDetail itemWidths
+    cancel-facts : (id : List ℕ) (b : Beside) (lent : List ℕ) → Facts words id b lent (Descriptor.Segmentation (record { «segmentation_event_id» = eventGiven; «descriptor_detail» = DescriptorDetail.Cancel }))
+    unfolding payloadMade writableDetail itemWidths
     cancel-facts id b lent =
         record {
           count = λ w. rw e;
-          fair = refl;
+          writable = refl;
           fit = true;
           told = rw e (cancel-told eventGiven id b lent (mod-lt (getD words 9 0) (lit< tt)));
           tight = λ w p. rw e (sym (lt-ltb (getD words 32 0) (2 ^ 64) (step-small words w 27 (lit< tt))));
         }
 
   module _ (e : getD words 6 0 ≡ 4) where
-    is-whole : descriptorGiven words ≡ Descriptor.Segmentation (record { «segmentation_event_id» = eventGiven; «descriptor_detail» = SegmentationDetail.Insert insertGiven })
+    is-whole : descriptorGiven words ≡ Descriptor.Segmentation (record { «segmentation_event_id» = eventGiven; «descriptor_detail» = DescriptorDetail.Active insertGiven })
     unfolding descriptorFrom itemIn segmentationIn
     is-whole = rw e
 
@@ -183,7 +183,7 @@ module _ (words : List ℕ) where
         go false = lit< tt
 
     whole-facts : (id : List ℕ) (b : Beside) (lent : List ℕ) → length (b .components) ≡ 255 → length (b .eidr) ≡ 12
-        → Facts words id b lent (Descriptor.Segmentation (record { «segmentation_event_id» = eventGiven; «descriptor_detail» = SegmentationDetail.Insert insertGiven }))
+        → Facts words id b lent (Descriptor.Segmentation (record { «segmentation_event_id» = eventGiven; «descriptor_detail» = DescriptorDetail.Active insertGiven }))
     unfolding payloadMade insertFrom
     whole-facts id b lent many twelve =
         let i = insertGiven in
@@ -191,7 +191,7 @@ module _ (words : List ℕ) where
         let ev : eventGiven < 2 ^ 32 = mod-lt (getD words 9 0) (lit< tt) in
         record {
           count = whole-count;
-          fair = fair-insert i t;
+          writable = writable-insert i t;
           fit = ltb (getD words 32 0) 256 && numbersFit i (take (countOf (i .«segmentation_mode»)) (b .components));
           told = rw e (insert-told eventGiven i id b lent many twelve ev t);
           tight = λ w p. rw (e, insert-fit eventGiven i id b lent many twelve ev t (whole-ticks w) p) (sym (and-unit (ltb (getD words 32 0) 256)));
@@ -210,7 +210,7 @@ module _ (words : List ℕ) where
     time-facts id b lent =
         record {
           count = λ w. rw e;
-          fair = refl;
+          writable = refl;
           fit = ltb (getD words 27 0) (2 ^ 48);
           told =
               told-as (make-told (alone id (b .eidr)) lent (walk plain.time timeGiven 0 .fields)) (rw e)
@@ -228,10 +228,10 @@ module _ (words : List ℕ) where
     private-facts id b lent =
         record {
           count = λ w. rw e;
-          fair = refl;
+          writable = refl;
           fit = true;
           told =
-              told-as (make-told (fairReserved (getD words 30 0 % 256) id (b .eidr)) lent (walk privateBytes viewGiven 0 .fields))
+              told-as (make-told (writableReserved (getD words 30 0 % 256) id (b .eidr)) lent (walk privateBytes viewGiven 0 .fields))
               (rw e (sym (and-unit (leb (getD words 31 0 + getD words 32 0) (length lent))))) refl;
           tight = λ w p. rw e (sym (lt-ltb (getD words 32 0) (2 ^ 64) (step-small words w 27 (lit< tt))));
         }
@@ -246,7 +246,7 @@ module _ (words : List ℕ) where
     avail-facts id b lent =
         record {
           count = λ w. rw h₄;
-          fair = refl;
+          writable = refl;
           fit = true;
           told =
               told-as (make-told (alone id (b .eidr)) lent (walk plain.avail (record { «provider_avail_id» = getD words 7 0 % 2 ^ 32 }) 0 .fields)) (rw (h₂, h₄, h₆))
@@ -381,7 +381,7 @@ module _ (words beside lent : List ℕ) where
       let a = and-true (ownItem D words) (besideThere (countBeside D) words beside) o in
       record {
         item = a .0;
-        fair = facts .fair;
+        writable = facts .writable;
         identifies = refl;
         there = a .1;
         listed = places-given;
@@ -396,7 +396,7 @@ module _ (words beside lent : List ℕ) where
   unfolding identifierFrom besideFrom placesFrom eidrFrom
   only d id b f is =
       let p = parts-fit f in
-      let e : D ≡ d = given-is words d (p .0) (is .item) (is .fair) in
+      let e : D ≡ d = given-is words d (p .0) (is .item) (is .writable) in
       let n : countBeside D ≡ length (is .listed) = ap countBeside e ∙ sym (is .count) in
       let cs : places-given ≡ is .listed = rw n (places-are (is .listed) (placesIn beside) (is .places) (rw n at (p .1))) in
       let eidr : placesOf byteFrom 1 12 (eidrIn beside) ≡ b .eidr = bytes-are 12 (b .eidr) (eidrIn beside) (is .twelve) (is .eidr) (p .2) in

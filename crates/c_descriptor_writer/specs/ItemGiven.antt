@@ -16,9 +16,9 @@ use Rattle.descriptor.specs.declared.segmentation.DeliveryRestrictionFlags.{Del
 use Rattle.descriptor.specs.declared.segmentation.DeliveryRestrictions.{DeliveryRestrictions}
 use Rattle.descriptor.specs.declared.segmentation.ModeComponent.{ModeComponent}
 use Rattle.descriptor.specs.declared.segmentation.SegmentationDescriptor.{SegmentationDescriptor}
-use Rattle.descriptor.specs.declared.segmentation.SegmentationDetail.{SegmentationDetail}
+use Rattle.descriptor.specs.declared.segmentation.DescriptorDetail.{DescriptorDetail}
 use Rattle.descriptor.specs.declared.segmentation.SegmentationDuration.{SegmentationDuration}
-use Rattle.descriptor.specs.declared.segmentation.SegmentationInsert.{SegmentationInsert}
+use Rattle.descriptor.specs.declared.segmentation.SegmentationDetail.{SegmentationDetail}
 use Rattle.descriptor.specs.declared.segmentation.SegmentationMode.{SegmentationMode}
 use Rattle.descriptor.specs.declared.segmentation.SegmentationUpid.{SegmentationUpid}
 use Rattle.descriptor.specs.declared.segmentation.SubSegment.{SubSegment}
@@ -116,7 +116,7 @@ subSegmentsFrom s =
     SubSegments.Absent
 
 -- a view, which is that of the item, is the UPID's
-unfoldable pub insertFrom : FlatSegmentation → View → SegmentationInsert
+unfoldable pub insertFrom : FlatSegmentation → View → SegmentationDetail
 insertFrom s bytes =
     record {
       «program_segmentation_flag» = eqb (s .«program_segmentation_flag») 1;
@@ -125,22 +125,22 @@ insertFrom s bytes =
       «delivery_restrictions» = deliveryFrom s;
       «segmentation_mode» = modeFrom s;
       «segmentation_duration» = durationFrom s;
-      «segmentation_upid» = record { kind = s .«segmentation_upid_type» % 256; bytes = bytes };
+      «segmentation_upid» = record { «upid_type» = s .«segmentation_upid_type» % 256; bytes = bytes };
       «segmentation_type_id» = segmentationOf (s .«segmentation_type_id» % 256);
       «segment_num» = s .«segment_num» % 256;
       «segments_expected» = s .«segments_expected» % 256;
       «sub_segments» = subSegmentsFrom (s .«sub_segments»);
     }
 
-abbrev pub segmentationWith : ℕ → SegmentationDetail → Descriptor
+abbrev pub segmentationWith : ℕ → DescriptorDetail → Descriptor
 segmentationWith event detail = Segmentation (record { «segmentation_event_id» = event % 2 ^ 32; «descriptor_detail» = detail })
 
 unfoldable pub descriptorFrom : FlatItem → Descriptor
 descriptorFrom i =
     pick (eqb (i .kind) 2) (Dtmf (record { preroll = i .preroll % 256; «dtmf_chars» = viewFrom (i .bytes) }))
-    (pick (eqb (i .kind) 3) (segmentationWith (i .segmentation .«segmentation_event_id») SegmentationDetail.Cancel)
+    (pick (eqb (i .kind) 3) (segmentationWith (i .segmentation .«segmentation_event_id») DescriptorDetail.Cancel)
     (pick (eqb (i .kind) 4)
-    (segmentationWith (i .segmentation .«segmentation_event_id») (SegmentationDetail.Insert (insertFrom (i .segmentation) (viewFrom (i .bytes)))))
+    (segmentationWith (i .segmentation .«segmentation_event_id») (DescriptorDetail.Active (insertFrom (i .segmentation) (viewFrom (i .bytes)))))
     (pick (eqb (i .kind) 5)
     (Time (record {
       «tai_seconds» = i .time .«tai_seconds»;

@@ -6,7 +6,7 @@ use mathlib.Core.List.{List, [], _∷_}
 use mathlib.Core.Path.{_≡_}
 use lib.Dec.{eqb, ltb, leb}
 use lib.ListN.{length, drop, replicate}
-use Rattle.descriptor.specs.Segmentation.{fairDetail}
+use Rattle.descriptor.specs.Segmentation.{writableDetail}
 use Rattle.descriptor.specs.Whole.{filled, ofSegmentation}
 use Rattle.descriptor.specs.declared.Descriptor.{Descriptor}
 use Rattle.descriptor.specs.declared.segmentation.ModeComponent.{ModeComponent}
@@ -111,7 +111,7 @@ besideThere n words beside = leb (pick (hasEidr words) 527 (pick (eqb n 0) 0 (5 
 pub record DescriptorIs (words beside : List ℕ) (d : Descriptor) (identifier : List ℕ) (b : Beside) : Type 0 where
   pub item : same (itemWords (flatDescriptor d)) (drop 6 words) ≡ true
   -- of the values with these words, the one whose flags say what their parts say, and whose type number, if reserved, has no name
-  pub fair : ofSegmentation (λ x. fairDetail (x .«descriptor_detail»)) true d ≡ true
+  pub writable : ofSegmentation (λ x. writableDetail (x .«descriptor_detail»)) true d ≡ true
   pub identifies : identifier ≡ bigEndian 4 (word words 5)
   -- "a descriptor put without its components or EIDR" is no descriptor's
   pub there : besideThere (countBeside d) words beside ≡ true

@@ -21,12 +21,12 @@ use c_command_writer::lower_refusal;
 use c_command_writer::word_at;
 use c_items::steps::flat_step;
 use descriptor::Descriptor;
-use descriptor::segmentation::SegmentationDetail;
+use descriptor::segmentation::DescriptorDetail;
 use descriptor::segmentation::SegmentationMode;
 use descriptor_loop::Item;
 use descriptor_loop::Step;
-use descriptor_writer::write_bare_descriptor;
 use descriptor_writer::write_descriptor;
+use descriptor_writer::write_descriptor_without_components;
 use table::View;
 use table::lent::lies_in;
 
@@ -49,8 +49,8 @@ fn count_in_descriptor(d: Descriptor) -> u8
     };
     let detail = segmentation.descriptor_detail;
     let insert = match detail {
-        SegmentationDetail::Cancel => return 0,
-        SegmentationDetail::Insert(i) => i,
+        DescriptorDetail::Cancel => return 0,
+        DescriptorDetail::Active(i) => i,
     };
     let mode = insert.segmentation_mode;
     match mode {
@@ -152,7 +152,7 @@ fn write_given(
 {
     if count == 0 {
         let eidr = eidr_from(beside);
-        return write_bare_descriptor(d, identifier, eidr, lent, target);
+        return write_descriptor_without_components(d, identifier, eidr, lent, target);
     }
     let aside = beside_from(count, beside);
     write_descriptor(d, identifier, aside, lent, target)

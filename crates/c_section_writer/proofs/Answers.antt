@@ -26,8 +26,8 @@ use Rattle.names.proofs.Algorithms.{algorithm-laws}
 use Rattle.bit_stores.specs.Written.{refusalIn, bytesIn}
 use Rattle.section.specs.Section.{first, sectionLength}
 use Rattle.section_writer.proofs.Heads.{fitting, fits-within}
-use Rattle.section_writer.specs.Frame.{headed, head, body, frame, numbersFit, fairHead}
-use Rattle.section_writer.specs.Writing.{unless, sectionMade, kindOf}
+use Rattle.section_writer.specs.Frame.{headed, head, body, frame, numbersFit, writableHead}
+use Rattle.section_writer.specs.Writing.{unless, sectionMade, typeOf}
 use Rattle.table.proofs.Lists.{zero-one, and-true}
 use Rattle.table.specs.Writing.{Made, made, refused}
 use Rattle.c_section_writer.specs.SectionGiven.{headerFrom, headerRefusal, either, sectionWordsMade}
@@ -63,42 +63,42 @@ late-ne : (n k : ℕ) (m : Made) → 0 < k → k < n → Late n m → eqb (refus
 late-ne n k (made b) z h l = ne-eqb 0 k (λ e. omega arith)
 late-ne n k (refused j) z h l = ne-eqb j k (λ e. omega arith)
 
-module _ (h : SpliceInfoHeader) (m : Made) (kind : ℕ) (loop : List ℕ) where
+module _ (h : SpliceInfoHeader) (m : Made) (command-type : ℕ) (loop : List ℕ) where
   abbrev rest : List Bool
-  rest = (eqb (refusalIn m) 33 || not (fairHead h)) ∷ ltb 4096 (sectionLength (length (bytesIn m)) (length loop)) ∷ not (canonicalLoop loop) ∷ []
+  rest = (eqb (refusalIn m) 33 || not (writableHead h)) ∷ ltb 4096 (sectionLength (length (bytesIn m)) (length loop)) ∷ not (canonicalLoop loop) ∷ []
 
-  section-late : Late 32 m → Late 32 (sectionMade h m kind loop)
+  section-late : Late 32 m → Late 32 (sectionMade h m command-type loop)
   unfolding sectionMade
-  section-late l = rw (late-ne 32 31 m (omega arith) (omega arith) l) (first-late 32 ((eqb (refusalIn m) 32 || not (numbersFit h)) ∷ rest) (frame h kind (bytesIn m) loop))
+  section-late l = rw (late-ne 32 31 m (omega arith) (omega arith) l) (first-late 32 ((eqb (refusalIn m) 32 || not (numbersFit h)) ∷ rest) (frame h command-type (bytesIn m) loop))
 
-  section-fits : Late 33 m → numbersFit h ≡ true → Late 33 (sectionMade h m kind loop)
+  section-fits : Late 33 m → numbersFit h ≡ true → Late 33 (sectionMade h m command-type loop)
   unfolding sectionMade
-  section-fits l e = rw (late-ne 33 31 m (omega arith) (omega arith) l, late-ne 33 32 m (omega arith) (omega arith) l, e) (first-late 33 rest (frame h kind (bytesIn m) loop))
+  section-fits l e = rw (late-ne 33 31 m (omega arith) (omega arith) l, late-ne 33 32 m (omega arith) (omega arith) l, e) (first-late 33 rest (frame h command-type (bytesIn m) loop))
 
   -- whatever it is of
-  any-late : Late 31 (sectionMade h m kind loop)
+  any-late : Late 31 (sectionMade h m command-type loop)
   unfolding sectionMade
-  any-late = first-late 31 (eqb (refusalIn m) 31 ∷ (eqb (refusalIn m) 32 || not (numbersFit h)) ∷ rest) (frame h kind (bytesIn m) loop)
+  any-late = first-late 31 (eqb (refusalIn m) 31 ∷ (eqb (refusalIn m) 32 || not (numbersFit h)) ∷ rest) (frame h command-type (bytesIn m) loop)
 
-  section-31 : m ≡ refused 31 → sectionMade h m kind loop ≡ refused 31
+  section-31 : m ≡ refused 31 → sectionMade h m command-type loop ≡ refused 31
   unfolding sectionMade
   section-31 e = rw e
 
-  section-32 : m ≡ refused 32 → sectionMade h m kind loop ≡ refused 32
+  section-32 : m ≡ refused 32 → sectionMade h m command-type loop ≡ refused 32
   unfolding sectionMade
   section-32 e = rw e
 
-  section-over : Late 32 m → numbersFit h ≡ false → sectionMade h m kind loop ≡ refused 32
+  section-over : Late 32 m → numbersFit h ≡ false → sectionMade h m command-type loop ≡ refused 32
   unfolding sectionMade
   section-over l e = rw (late-ne 32 31 m (omega arith) (omega arith) l, e) (go (eqb (refusalIn m) 32))
     where
-      go : (b : Bool) → unless (first 32 ((b || true) ∷ rest)) (frame h kind (bytesIn m) loop) ≡ refused 32
+      go : (b : Bool) → unless (first 32 ((b || true) ∷ rest)) (frame h command-type (bytesIn m) loop) ≡ refused 32
       go true = refl
       go false = refl
 
   -- the command's length and type, which a header says, are not looked at
-  headless : sectionMade (headed h 0 0) m kind loop ≡ sectionMade h m kind loop
-  unfolding sectionMade frame body head headed numbersFit fairHead
+  headless : sectionMade (headed h 0 0) m command-type loop ≡ sectionMade h m command-type loop
+  unfolding sectionMade frame body head headed numbersFit writableHead
   headless = refl
 
 -- ---- the header that words make
@@ -143,14 +143,14 @@ header-given words h i e =
       omega (arith, s 5 (omega arith), w 5 (omega arith)),
       omega (arith, s 6 (omega arith), w 6 (omega arith)),
     ) in
-    rw (s 1 (omega arith), s 2 (omega arith), s 3 (omega arith), s 4 (omega arith), s 5 (omega arith), s 6 (omega arith)) (header-back h typed (i .fair))
+    rw (s 1 (omega arith), s 2 (omega arith), s 3 (omega arith), s 4 (omega arith), s 5 (omega arith), s 6 (omega arith)) (header-back h typed (i .writable))
 
 module _ (header words components lent loop : List ℕ) where
   abbrev given : SpliceCommand
   given = command.given words components lent
 
   abbrev whole : Made
-  whole = sectionMade (headerFrom header) (command.whole words components lent) (kindOf given) loop
+  whole = sectionMade (headerFrom header) (command.whole words components lent) (typeOf given) loop
 
   abbrev fits : Bool
   fits = within headerWidths header && command.fits words components lent
@@ -173,8 +173,8 @@ module _ (header words components lent loop : List ℕ) where
   given-late e =
       let l = command.given-late words components lent e in
       let m = command.whole words components lent in (
-        section-late (headerFrom header) m (kindOf given) loop (l .0),
-        λ f. let a = and-true (within headerWidths header) (command.fits words components lent) f in section-fits (headerFrom header) m (kindOf given) loop (l .1 (a .1)) (header-fits header (a .0)),
+        section-late (headerFrom header) m (typeOf given) loop (l .0),
+        λ f. let a = and-true (within headerWidths header) (command.fits words components lent) f in section-fits (headerFrom header) m (typeOf given) loop (l .1 (a .1)) (header-fits header (a .0)),
       )
 
   -- ---- by each case
@@ -182,7 +182,7 @@ module _ (header words components lent loop : List ℕ) where
   answer = sectionWordsMade header words components lent loop
 
   pub made-outside : commandSeen words lent ≡ false → answer ≡ refused 31
-  made-outside e = words-made ∙ rw e (refused-31 whole (any-late (headerFrom header) (command.whole words components lent) (kindOf given) loop))
+  made-outside e = words-made ∙ rw e (refused-31 whole (any-late (headerFrom header) (command.whole words components lent) (typeOf given) loop))
 
   pub made-over : commandSeen words lent ≡ true → sectionFits header words components ≡ false → answer ≡ refused 32
   made-over e f = words-seen e ∙ refused-32 fits own whole (sym fits-are ∙ f) (given-late e .0)
@@ -198,11 +198,11 @@ module _ (header words components lent loop : List ℕ) where
   unfolding headerFrom
   given-are e =
       let a = and-true (same (headerWords (flatHeader (headerFrom header))) header) (command.own words components lent) e in
-      (record { own = a .0; fair = algorithm-laws .is-fair (word header 3 % 256) }, command.given-is words components lent (a .1))
+      (record { own = a .0; writable = algorithm-laws .is-writable (word header 3 % 256) }, command.given-is words components lent (a .1))
 
   module _ (h : SpliceInfoHeader) (c : SpliceCommand) (cs : List ComponentSplice) (i : HeaderIs header h) (j : CommandIs words components c cs) where
     abbrev section : Made
-    section = sectionMade h (commandMade c (array cs) lent) (kindOf c) loop
+    section = sectionMade h (commandMade c (array cs) lent) (typeOf c) loop
 
     are-given : sectionFits header words components ≡ true → (section ≡ whole) × (own ≡ true)
     unfolding headerWords flatHeader headed
@@ -210,9 +210,9 @@ module _ (header words components lent loop : List ℕ) where
         let a = and-true (within headerWidths header) (command.fits words components lent) (sym fits-are ∙ f) in
         let g = command.is-given words components lent c cs j (command.fits-are words components lent ∙ a .1) in
         let e : headerFrom header ≡ headed h 0 0 = header-given header h i (a .0) in (
-          sym (headless h (commandMade c (array cs) lent) (kindOf c) loop)
-              ∙ ap₂ (λ (d : SpliceCommand) (l : List ComponentSplice). sectionMade (headed h 0 0) (commandMade d (array l) lent) (kindOf d) loop) (sym (g .0)) (sym (g .1))
-              ∙ ap (λ (x : SpliceInfoHeader). sectionMade x (command.whole words components lent) (kindOf given) loop) (sym e),
+          sym (headless h (commandMade c (array cs) lent) (typeOf c) loop)
+              ∙ ap₂ (λ (d : SpliceCommand) (l : List ComponentSplice). sectionMade (headed h 0 0) (commandMade d (array l) lent) (typeOf d) loop) (sym (g .0)) (sym (g .1))
+              ∙ ap (λ (x : SpliceInfoHeader). sectionMade x (command.whole words components lent) (typeOf given) loop) (sym e),
           ap₂ (λ (a b : Bool). a && b) (ap (λ (x : SpliceInfoHeader). same (headerWords (flatHeader x)) header) e ∙ i .own) (g .2),
         )
 
@@ -225,15 +225,15 @@ module _ (header words components lent loop : List ℕ) where
 
         -- the command's words or the header's are over their widths
         some : commandSeen words lent ≡ true → (a : Bool) → within headerWidths header ≡ a → (b : Bool) → commandFits words components ≡ b → a && b ≡ false → section ≡ refused 32
-        some e a f false g z = section-32 h m (kindOf c) loop (command.is-over words components lent short c cs j e g)
+        some e a f false g z = section-32 h m (typeOf c) loop (command.is-over words components lent short c cs j e g)
         some e true f true g z = zero-one cc
         some e false f true g z =
             let k = command.is-given words components lent c cs j g in
             let l : Late 32 m = rw (← k .0, ← k .1) (command.given-late words components lent e .0) in
-            section-over h m (kindOf c) loop l (header-unfit header h (i .own) f)
+            section-over h m (typeOf c) loop l (header-unfit header h (i .own) f)
 
         go : (s : Bool) → commandSeen words lent ≡ s → (f : Bool) → sectionFits header words components ≡ f → section ≡ answer
-        go false e f g = section-31 h m (kindOf c) loop (command.is-unseen words components lent c cs j e) ∙ sym (made-outside e)
+        go false e f g = section-31 h m (typeOf c) loop (command.is-unseen words components lent c cs j e) ∙ sym (made-outside e)
         go true e false g = some e (within headerWidths header) refl (commandFits words components) refl g ∙ sym (made-over e g)
         go true e true g = are-given g .0 ∙ sym (made-own e g (are-given g .1))
 

@@ -11,7 +11,7 @@ use Rattle.c_command_writer.specs.Words.{word, within, same, refusalOf, lowerOf
 use Rattle.header.specs.declared.header.SpliceInfoHeader.{SpliceInfoHeader}
 use Rattle.names.specs.Algorithm.{algorithmOf}
 use Rattle.names.specs.declared.command.SpliceCommandType.{SpliceCommandType}
-use Rattle.section_writer.specs.Writing.{sectionMade, kindOf}
+use Rattle.section_writer.specs.Writing.{sectionMade, typeOf}
 use Rattle.table.specs.Bits.{pick}
 use Rattle.table.specs.Writing.{Made}
 use Rattle.c_section_writer.specs.SectionWords.{headerWords, headerWidths}
@@ -44,5 +44,5 @@ sectionWordsMade header command components lent loop =
     noLess
     (either (headerRefusal header) (commandRefusal (commandGiven command) command components lent))
     (sectionMade (headerFrom header) (commandMade (commandGiven command) (componentsFrom (countIn (commandGiven command)) components) lent)
-    (kindOf (commandGiven command))
+    (typeOf (commandGiven command))
     loop)

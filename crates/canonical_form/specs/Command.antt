@@ -11,5 +11,5 @@ use Rattle.table.specs.Table.{canonicalBy}
 
 -- Of a command, by its type: "every reserved bit 1; no spare byte in command". That "an insert by components with count 0 has immediate 0" is in its table.
 unfoldable pub canonicalCommand : ℕ → List ℕ → Bool
-canonicalCommand kind payload =
-    byType kind (eqb (length payload) 0) (canonicalBy insert payload) (canonicalBy spliceTime payload) (eqb (length payload) 0) (canonicalBy private payload) false
+canonicalCommand command-type payload =
+    byType command-type (eqb (length payload) 0) (canonicalBy insert payload) (canonicalBy spliceTime payload) (eqb (length payload) 0) (canonicalBy private payload) false

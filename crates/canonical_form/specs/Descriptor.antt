@@ -17,7 +17,7 @@ use Rattle.descriptor_measure.specs.Writing.{accepts, upidIn}
 
 -- a UPID as written, of a payload s: one that its reader takes, of type 0 where it is empty
 unfoldable pub canonicalUpid : List ℕ → SegmentationUpid → Bool
-canonicalUpid s u = accepts (checkOf (u .kind) (viewed s (u .bytes))) && pick (eqb (u .bytes .len) 0) (eqb (u .kind) 0) true
+canonicalUpid s u = accepts (checkOf (u .«upid_type») (viewed s (u .bytes))) && pick (eqb (u .bytes .len) 0) (eqb (u .«upid_type») 0) true
 
 abbrev pub upidCanonical : List ℕ → Answer Segmentation → Bool
 upidCanonical s (got x at) = canonicalUpid s (upidIn (x .descriptor))

@@ -23,7 +23,7 @@ use Rattle.descriptor_measure.specs.Writing.{countBeside}
 
 -- a UPID without its view's place, and a descriptor without its views' places: how many bytes a view has is a value, of a UPID that is held by value too
 abbrev pub placelessUpid : SegmentationUpid → SegmentationUpid
-placelessUpid u = record { kind = u .kind; bytes = placeless (u .bytes) }
+placelessUpid u = record { «upid_type» = u .«upid_type»; bytes = placeless (u .bytes) }
 
 abbrev pub withoutPlaces : Descriptor → Descriptor
 withoutPlaces d = withViews placelessUpid placeless d

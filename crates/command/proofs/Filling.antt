@@ -23,9 +23,9 @@ use Rattle.command.specs.declared.SpliceCommand.{SpliceCommand}
 use Rattle.command.specs.declared.components.Component.{Component}
 use Rattle.command.specs.declared.components.ComponentRead.{ComponentRead}
 use Rattle.command.specs.declared.components.ComponentSplice.{ComponentSplice}
-use Rattle.command.specs.declared.insert.Insert.{Insert}
-use Rattle.command.specs.declared.insert.Insertion.{Insertion}
+use Rattle.command.specs.declared.insert.InsertDetail.{InsertDetail}
 use Rattle.command.specs.declared.insert.SpliceInsert.{SpliceInsert}
+use Rattle.command.specs.declared.insert.SpliceDetail.{SpliceDetail}
 use Rattle.command.specs.declared.insert.SpliceMode.{SpliceMode}
 use Rattle.command.proofs.Answers.{lacks-component}
 use Rattle.command.proofs.Walking.{component-there}
@@ -92,9 +92,9 @@ abbrev modeFor : SpliceMode → (ℕ → List ComponentSplice) → List Componen
 modeFor (SpliceMode.Program t) f = []
 modeFor (SpliceMode.Components n) f = f n
 
-abbrev pub detailFor : SpliceInsert → (ℕ → List ComponentSplice) → List ComponentSplice
-detailFor SpliceInsert.Cancel f = []
-detailFor (SpliceInsert.Insert i) f = modeFor (i .«splice_mode») f
+abbrev pub detailFor : SpliceDetail → (ℕ → List ComponentSplice) → List ComponentSplice
+detailFor SpliceDetail.Cancel f = []
+detailFor (SpliceDetail.Insert i) f = modeFor (i .«splice_mode») f
 
 -- the first n components from byte 7 on
 abbrev pub listed : List ℕ → Bool → ℕ → List ComponentSplice
@@ -111,7 +111,7 @@ mode-keeps s false b m e h =
     subst (λ (x : Mode). x .components ≡ modeFor (x .value) (listed s b)) (same-reading _ m _ e (r .back)) (sym (ap listIn (r .front)))
 
 -- what follows the mode leaves it as it is
-ending-keeps : (s : List ℕ) (at : ℕ) (o : Bool) (m : Mode) (d : Bool) (a : WithComponents Insert) (e : ℕ) → parse (ending o m d) (bitsOf s) at ≡ got a e → modeOf a ≡ m
+ending-keeps : (s : List ℕ) (at : ℕ) (o : Bool) (m : Mode) (d : Bool) (a : WithComponents InsertDetail) (e : ℕ) → parse (ending o m d) (bitsOf s) at ≡ got a e → modeOf a ≡ m
 unfolding ending
 ending-keeps s at o m d a e h =
     let r = reads-in (breakDuration d) _ _ (bitsOf s) at a e h in
@@ -123,7 +123,7 @@ ending-keeps s at o m d a e h =
 abbrev pub immediateBit : List ℕ → Bool
 immediateBit s = eqb (field (bitsOf s) 43 1) 1
 
-active-keeps : (s : List ℕ) (a : WithComponents Insert) (e : ℕ) → parse active (bitsOf s) 40 ≡ got a e → a .components ≡ modeFor (a .value .«splice_mode») (listed s (immediateBit s))
+active-keeps : (s : List ℕ) (a : WithComponents InsertDetail) (e : ℕ) → parse active (bitsOf s) 40 ≡ got a e → a .components ≡ modeFor (a .value .«splice_mode») (listed s (immediateBit s))
 unfolding active
 active-keeps s a e h =
     let h₁ = reads-flag s 40 _ _ a e h .1 in
@@ -135,7 +135,7 @@ active-keeps s a e h =
     subst (λ (m : Mode). m .components ≡ modeFor (m .value) (listed s (immediateBit s))) (sym (ending-keeps s (r .seam) _ (r .inner) _ a e (r .back)))
     (mode-keeps s _ _ (r .inner) (r .seam) (r .front))
 
-insert-keeps : (s : List ℕ) (x : WithComponents Insertion) (e : ℕ) → parse insert (bitsOf s) 0 ≡ got x e → x .components ≡ detailFor (x .value .«splice_detail») (listed s (immediateBit s))
+insert-keeps : (s : List ℕ) (x : WithComponents SpliceInsert) (e : ℕ) → parse insert (bitsOf s) 0 ≡ got x e → x .components ≡ detailFor (x .value .«splice_detail») (listed s (immediateBit s))
 unfolding insert
 insert-keeps s x e h =
     let h₁ = reads-number s 0 32 _ _ x e h .1 in
@@ -144,19 +144,19 @@ insert-keeps s x e h =
   where
     go : (c : Bool) → parse (pick c
         (done (record {
-          value = record { «splice_event_id» = field (bitsOf s) 0 32; reserved = field (bitsOf s) 33 7; «splice_detail» = SpliceInsert.Cancel };
+          value = record { «splice_event_id» = field (bitsOf s) 0 32; reserved = field (bitsOf s) 33 7; «splice_detail» = SpliceDetail.Cancel };
           components = [];
         }))
         (inside active activeOf λ a.
         done (record {
-          value = record { «splice_event_id» = field (bitsOf s) 0 32; reserved = field (bitsOf s) 33 7; «splice_detail» = SpliceInsert.Insert (a .value) };
+          value = record { «splice_event_id» = field (bitsOf s) 0 32; reserved = field (bitsOf s) 33 7; «splice_detail» = SpliceDetail.Insert (a .value) };
           components = a .components;
         }))) (bitsOf s) 40 ≡ got x e
         → x .components ≡ detailFor (x .value .«splice_detail») (listed s (immediateBit s))
-    go true f = subst (λ (y : WithComponents Insertion). y .components ≡ detailFor (y .value .«splice_detail») (listed s (immediateBit s))) (same-reading _ x _ e f) refl
+    go true f = subst (λ (y : WithComponents SpliceInsert). y .components ≡ detailFor (y .value .«splice_detail») (listed s (immediateBit s))) (same-reading _ x _ e f) refl
     go false f =
         let r = reads-in active activeOf _ (bitsOf s) 40 x e f in
-        subst (λ (y : WithComponents Insertion). y .components ≡ detailFor (y .value .«splice_detail») (listed s (immediateBit s))) (same-reading _ x _ e (r .back))
+        subst (λ (y : WithComponents SpliceInsert). y .components ≡ detailFor (y .value .«splice_detail») (listed s (immediateBit s))) (same-reading _ x _ e (r .back))
         (active-keeps s (r .inner) (r .seam) (r .front))
 
 -- ---- what the reader on demand answers
@@ -168,13 +168,13 @@ mode-counts : (s : List ℕ) (b : Bool) (m : SpliceMode) → listed s b (count m
 mode-counts s b (SpliceMode.Program t) = none-listed s b
 mode-counts s b (SpliceMode.Components n) = refl
 
-detail-counts : (s : List ℕ) (b : Bool) (d : SpliceInsert) → listed s b (insertCount d) ≡ detailFor d (listed s b)
-detail-counts s b SpliceInsert.Cancel = none-listed s b
-detail-counts s b (SpliceInsert.Insert i) = mode-counts s b (i .«splice_mode»)
+detail-counts : (s : List ℕ) (b : Bool) (d : SpliceDetail) → listed s b (insertCount d) ≡ detailFor d (listed s b)
+detail-counts s b SpliceDetail.Cancel = none-listed s b
+detail-counts s b (SpliceDetail.Insert i) = mode-counts s b (i .«splice_mode»)
 
 -- the count of an insert that was read
-pub counted : (r : CommandRead) (c : SpliceCommand) (i : Insertion) (x : Insert) (m : SpliceMode) → r ≡ CommandRead.Is c → c ≡ SpliceCommand.SpliceInsert i
-    → i .«splice_detail» ≡ SpliceInsert.Insert x → x .«splice_mode» ≡ m → count m ≡ countRead r
+pub counted : (r : CommandRead) (c : SpliceCommand) (i : SpliceInsert) (x : InsertDetail) (m : SpliceMode) → r ≡ CommandRead.Is c → c ≡ SpliceCommand.SpliceInsert i
+    → i .«splice_detail» ≡ SpliceDetail.Insert x → x .«splice_mode» ≡ m → count m ≡ countRead r
 counted r c i x m e₁ e₂ e₃ e₄ = rw (e₁, e₂, e₃, e₄)
 
 -- as many as the insert of a payload says are all that it has
@@ -183,7 +183,7 @@ module _ (s : List ℕ) where
   unfolding componentsOf commandOf
   as-counted b z = go (parse insert (bitsOf s) 0) refl
     where
-      go : (r : Answer (WithComponents Insertion)) → parse insert (bitsOf s) 0 ≡ r
+      go : (r : Answer (WithComponents SpliceInsert)) → parse insert (bitsOf s) 0 ≡ r
           → array (listed s b (countRead (read (λ x. SpliceCommand.SpliceInsert (x .value)) r))) ≡ array (componentsIn r)
       go (got x m) p = ap array (detail-counts s b (x .value .«splice_detail») ∙ rw z (sym (insert-keeps s x m p)))
       go (short e a) p = ap array (none-listed s b)

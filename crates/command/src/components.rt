@@ -9,7 +9,7 @@ ghost use Rattle.table.specs.Bits.{bitsOf};
 ghost use Rattle.table.specs.Table.{list, parse};
 use crate::CommandRead;
 use crate::SpliceCommand;
-use crate::insert::SpliceInsert;
+use crate::insert::SpliceDetail;
 use crate::insert::SpliceMode;
 use crate::insert::read_time_unless;
 use crate::read_command;
@@ -141,8 +141,8 @@ fn count_of(read: CommandRead) -> u8
     };
     let detail = insertion.splice_detail;
     let insert = match detail {
-        SpliceInsert::Insert(i) => i,
-        SpliceInsert::Cancel => return 0,
+        SpliceDetail::Insert(i) => i,
+        SpliceDetail::Cancel => return 0,
     };
     let mode = insert.splice_mode;
     match mode {

@@ -168,10 +168,10 @@ fn is_canonical_insert(s: &[u8]) -> bool
 // ---- a command, by its type
 
 // Is the payload of a command of this type canonical?
-pub fn is_canonical_command(kind: u8, payload: &[u8]) -> bool
-    ensures { λ r. ⌜ r ≡ canonicalCommand kind (now (payload .entry)) ⌝ }
+pub fn is_canonical_command(command_type: u8, payload: &[u8]) -> bool
+    ensures { λ r. ⌜ r ≡ canonicalCommand «command_type» (now (payload .entry)) ⌝ }
 {
-    match kind {
+    match command_type {
         0x00 => payload.len() == 0,
         0x05 => is_canonical_insert(payload),
         0x06 => is_canonical_time(payload),

@@ -113,7 +113,7 @@ place f = 6 + (modeSize (f .front .«segmentation_mode») + durationSize (f .fro
 
 -- its type and its length stand there, and its bytes behind them
 abbrev pub upidIn : List ℕ → ℕ → SegmentationUpid
-upidIn s q = record { kind = getD s q 0; bytes = record { at = q + 2; len = getD s (q + 1) 0 } }
+upidIn s q = record { «upid_type» = getD s q 0; bytes = record { at = q + 2; len = getD s (q + 1) 0 } }
 
 module _ (s : List ℕ) (bytes : (k : ℕ) → getD s k 0 < 256) where
   upid-told : (q : ℕ) (u : SegmentationUpid) (m : ℕ) → parse writtenUpid (bitsOf s) (q * 8) ≡ got u m → (u ≡ upidIn s q) × (q + 2 + getD s (q + 1) 0 ≤ length s)
@@ -126,7 +126,7 @@ module _ (s : List ℕ) (bytes : (k : ℕ) → getD s k 0 < 256) where
       let a : q * 8 + 8 ≡ (q + 1) * 8 = omega arith in
       let l : field (bitsOf s) (q * 8 + 8) 8 ≡ getD s (q + 1) 0 = ap (λ (x : ℕ). field (bitsOf s) x 8) a ∙ byte-field s (q + 1) (omega (arith, i₂ .0)) (bytes (q + 1)) in
       let p : (q * 8 + 8 + 8) / 8 ≡ q + 2 = omega arith in
-      let z : u ≡ record { kind = field (bitsOf s) (q * 8) 8; bytes = record { at = (q * 8 + 8 + 8) / 8; len = field (bitsOf s) (q * 8 + 8) 8 } } = cc (j .1) in
+      let z : u ≡ record { «upid_type» = field (bitsOf s) (q * 8) 8; bytes = record { at = (q * 8 + 8 + 8) / 8; len = field (bitsOf s) (q * 8 + 8) 8 } } = cc (j .1) in
       (z ∙ cc, omega (arith, j .0, l))
 
   upid-at : (q at : ℕ) → at ≡ q * 8 → (u : SegmentationUpid) (m : ℕ) → parse writtenUpid (bitsOf s) at ≡ got u m → (u ≡ upidIn s q) × (q + 2 + getD s (q + 1) 0 ≤ length s)

@@ -114,11 +114,11 @@ backRead (BackRead.Lacks e) r = r ≡ short (e .expected) (e .actual)
 
 -- a UPID that is checked
 abbrev pub upidAnswer : UpidRead → View → UpidChecked
-upidAnswer (UpidRead.Fine kind) bytes = UpidChecked.Is (reportedUpid kind bytes)
+upidAnswer (UpidRead.Fine upid-type) bytes = UpidChecked.Is (reportedUpid upid-type bytes)
 upidAnswer (UpidRead.Refused r) bytes = UpidChecked.Refused (movedRefusal (bytes .at) r)
 
 unfoldable pub upidChecked : List ℕ → SegmentationUpid → UpidChecked
-upidChecked s u = upidAnswer (checkOf (u .kind) (viewed s (u .bytes))) (u .bytes)
+upidChecked s u = upidAnswer (checkOf (u .«upid_type») (viewed s (u .bytes))) (u .bytes)
 
 -- components stored in an array from place i on; the blank array where they are not all there
 unfoldable pub filling : List ModeComponent → ℕ → Answer (List ModeComponent) → List ModeComponent

@@ -247,7 +247,7 @@ fn read_written_upid(s: &[u8], at: usize) -> WrittenRead
     }
     WrittenRead::Got(Written {
         upid: SegmentationUpid {
-            kind: s[at],
+            upid_type: s[at],
             bytes: View { at: start, len },
         },
         next: start + len,

@@ -103,7 +103,7 @@ fn read_beside(payload: &[u8]) -> Beside
     let written = fields.upid;
     let bytes = written.bytes;
     let part = view(payload, bytes);
-    let eidr = eidr(written.kind, part);
+    let eidr = eidr(written.upid_type, part);
     let mode = fields.mode;
     match mode {
         SegmentationMode::Program => Beside {

@@ -2,7 +2,7 @@
 ghost use mathlib.Core.Path.{_≡_};
 ghost use Prim.Native.Nat.{_+_, _≤_, _<_};
 ghost use lib.ListN.{length};
-ghost use Rattle.descriptor_loop.specs.Items.{bare, short, wholeAt, stepOf, countOf};
+ghost use Rattle.descriptor_loop.specs.Items.{withoutIdentifier, short, wholeAt, stepOf, countOf};
 use crate::Item;
 use crate::ItemRefusal;
 use crate::MAX_LOOP;
@@ -17,7 +17,7 @@ use upid::Refusal;
 
 // An item without an identifier.
 fn plain(item: Item, next: usize) -> Step
-    ensures { λ r. ⌜ r ≡ bare item next ⌝ }
+    ensures { λ r. ⌜ r ≡ withoutIdentifier item next ⌝ }
 {
     Step {
         item,

@@ -16,8 +16,8 @@ use Rattle.descriptor_loop.specs.declared.Item.the-variants.{End, Refused, Is}
 use Rattle.descriptor_loop.specs.declared.ItemRefusal.the-variants.{InvalidDescriptorLength, Other}
 use Rattle.relabel.specs.Relabel.{payloadIn, payloadThen}
 use Rattle.relabel_found.proofs.Inserts.{Inserted, inserted}
-use Rattle.relabel_found.specs.Found.{foreIn, kindIn, upidIn, postIn}
-use Rattle.relabel_joined.specs.Relabel.{kindThen, itemThen}
+use Rattle.relabel_found.specs.Found.{foreIn, typeIn, upidIn, postIn}
+use Rattle.relabel_joined.specs.Relabel.{typeThen, itemThen}
 use Rattle.relabel_laws.proofs.Items.{ofListed, moved-listed, front-listed, own-listed, at-listed}
 use Rattle.relabel_laws.proofs.Lists.{lead-within}
 use Rattle.relabel_laws.specs.Result.{Result}
@@ -88,12 +88,12 @@ mid-eidr : (u v : List ℕ) → eidrOf 13 u ≡ eidrOf 13 v
 unfolding eidrOf
 mid-eidr u v = refl
 
-eidr-then : (kind : ℕ) (top : List ℕ) (part k : ℕ) (new u : List ℕ) (b : Beside) → upidMade kind top part k new ≡ made u → b .eidr ≡ eidrOf kind top
-    → _≡_ {A = Beside} (record { components = b .components; eidr = eidrOf (kindThen part kind k) u }) (besideThen part k new b)
+eidr-then : (upid-type : ℕ) (top : List ℕ) (part k : ℕ) (new u : List ℕ) (b : Beside) → upidMade upid-type top part k new ≡ made u → b .eidr ≡ eidrOf upid-type top
+    → _≡_ {A = Beside} (record { components = b .components; eidr = eidrOf (typeThen part upid-type k) u }) (besideThen part k new b)
 unfolding besideThen
-eidr-then kind top zero k new u b e old = ap (λ (l : List ℕ). record { components = b .components; eidr = eidrOf k l }) (the-upid-itself kind top k new u e .0)
-eidr-then kind top (suc i) k new u b e old =
-    let m : kind ≡ 13 = every-other-identifier-stays kind top i k new u e .0 in
+eidr-then upid-type top zero k new u b e old = ap (λ (l : List ℕ). record { components = b .components; eidr = eidrOf k l }) (the-upid-itself upid-type top k new u e .0)
+eidr-then upid-type top (suc i) k new u b e old =
+    let m : upid-type ≡ 13 = every-other-identifier-stays upid-type top i k new u e .0 in
     ap (λ (l : List ℕ). record { components = b .components; eidr = l })
     (ap (λ (n : ℕ). eidrOf n u) m ∙ mid-eidr u top ∙ ap (λ (n : ℕ). eidrOf n top) (sym m) ∙ sym old)
 
@@ -107,7 +107,7 @@ module _ (s : List ℕ) (offset part k : ℕ) (new r : List ℕ) (bytes : (j : �
   pay = payloadIn s offset
 
   abbrev K : ℕ
-  K = kindThen part (kindIn pay) k
+  K = typeThen part (typeIn pay) k
 
   abbrev d : List ℕ
   d = itemThen (foreIn pay) (postIn pay) K (x .upid)
@@ -153,7 +153,7 @@ module _ (s : List ℕ) (offset part k : ℕ) (new r : List ℕ) (bytes : (j : �
   old-is : old ≡ besideOf pay
   old-is = told loop offset ∙ at-listed besideItem loop offset (x .there) ∙ ap (λ (y : Item). besideItem y pay) (i .item)
 
-  old-eidr : old .eidr ≡ eidrOf (kindIn pay) (upidIn pay)
+  old-eidr : old .eidr ≡ eidrOf (typeIn pay) (upidIn pay)
   old-eidr =
       ap (λ (b : Beside). b .eidr) (old-is ∙ ap besideOf (x .cut) ∙ tabled-now s offset part k new r bytes byte x .beside)
 
@@ -164,7 +164,7 @@ module _ (s : List ℕ) (offset part k : ℕ) (new r : List ℕ) (bytes : (j : �
       ∙ ap (λ (y : Item). besideItem y (payloadThen s offset part k (x .upid))) (x .kept .own)
       ∙ tabled-then s offset part k new r bytes byte x .beside
       ∙ ap (λ (b : Beside). record { components = b .components; eidr = eidrOf K (x .upid) }) (sym old-is)
-      ∙ eidr-then (kindIn pay) (upidIn pay) part k new (x .upid) old (x .made-of) old-eidr
+      ∙ eidr-then (typeIn pay) (upidIn pay) part k new (x .upid) old (x .made-of) old-eidr
 
   -- ---- the others
 

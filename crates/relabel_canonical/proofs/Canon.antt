@@ -19,10 +19,10 @@ use Rattle.relabel.proofs.Ats.{some-made}
 use Rattle.relabel.proofs.Cuts.{loop-there}
 use Rattle.relabel.proofs.Mades.{framing}
 use Rattle.relabel.specs.Relabel.{payloadIn, payloadThen}
-use Rattle.relabel_found.proofs.Inserts.{Inserted, inserted, hole-at, byte-in, fore-in, kind-in, upid-in, post-in}
-use Rattle.relabel_found.specs.Found.{foreIn, kindIn, upidIn, postIn}
+use Rattle.relabel_found.proofs.Inserts.{Inserted, inserted, hole-at, byte-in, fore-in, type-in, upid-in, post-in}
+use Rattle.relabel_found.specs.Found.{foreIn, typeIn, upidIn, postIn}
 use Rattle.relabel_joined.proofs.Theorems.{made-fine, made-byte}
-use Rattle.relabel_joined.specs.Relabel.{kindThen, itemThen}
+use Rattle.relabel_joined.specs.Relabel.{typeThen, itemThen}
 use Rattle.relabel_laws.specs.Result.{Result}
 use Rattle.relabel_loop.specs.Loop.{withItem}
 use Rattle.relabel_payload.specs.Payload.{payload, upidHead, Tabled}
@@ -70,7 +70,7 @@ module _ (s : List ℕ) (offset part k : ℕ) (new r : List ℕ) (bytes : (j : �
   pay = payloadIn s offset
 
   abbrev K : ℕ
-  K = kindThen part (kindIn pay) k
+  K = typeThen part (typeIn pay) k
 
   abbrev d : List ℕ
   d = itemThen (foreIn pay) (postIn pay) K (x .upid)
@@ -85,16 +85,16 @@ module _ (s : List ℕ) (offset part k : ℕ) (new r : List ℕ) (bytes : (j : �
   pub tabled-then : Tabled pay (foreIn pay) (postIn pay) K (x .upid)
   tabled-then =
       let h = hole-at loop offset loop-byte i in
-      let f = made-fine (kindIn pay) (upidIn pay) part k new (x .upid) (x .made-of) in
-      let t = h .tabled K (x .upid) (f .0) (made-byte (kindIn pay) (upidIn pay) part k new (x .upid) byte (x .made-of)) (f .1) in
+      let f = made-fine (typeIn pay) (upidIn pay) part k new (x .upid) (x .made-of) in
+      let t = h .tabled K (x .upid) (f .0) (made-byte (typeIn pay) (upidIn pay) part k new (x .upid) byte (x .made-of)) (f .1) in
       rw (← fore-in pay _ _ h, ← post-in pay _ _ h) t
 
   -- and what it reads now
-  pub tabled-now : Tabled pay (foreIn pay) (postIn pay) (kindIn pay) (upidIn pay)
+  pub tabled-now : Tabled pay (foreIn pay) (postIn pay) (typeIn pay) (upidIn pay)
   tabled-now =
       let h = hole-at loop offset loop-byte i in
-      let kind : h .kind < 256 = omega (arith, kind-in pay _ _ h, byte-in loop (offset + 6) (getD loop (offset + 1) 0 - 4) loop-byte (upidHead pay)) in
-      four (fore-in pay _ _ h) (post-in pay _ _ h) (kind-in pay _ _ h) (upid-in pay _ _ h) (h .tabled (h .kind) (h .bytes) (h .reported) kind (h .fine))
+      let upid-type : h .«upid_type» < 256 = omega (arith, type-in pay _ _ h, byte-in loop (offset + 6) (getD loop (offset + 1) 0 - 4) loop-byte (upidHead pay)) in
+      four (fore-in pay _ _ h) (post-in pay _ _ h) (type-in pay _ _ h) (upid-in pay _ _ h) (h .tabled (h .«upid_type») (h .bytes) (h .reported) upid-type (h .fine))
     where
       four : {a b c d u v : List ℕ} {m n : ℕ} → a ≡ b → c ≡ d → m ≡ n → u ≡ v → Tabled pay a c m u → Tabled pay b d n v
       four e f g h t = rw (← e, ← f, ← g, ← h) t
@@ -128,8 +128,8 @@ module _ (s : List ℕ) (offset part k : ℕ) (new r : List ℕ) (bytes : (j : �
 
     new-payload : canonicalSegmentation (payloadThen s offset part k (x .upid)) ≡ true
     new-payload =
-        let f = made-fine (kindIn pay) (upidIn pay) part k new (x .upid) (x .made-of) in
-        segmentation-kept pay (foreIn pay) (postIn pay) K (x .upid) (f .0) tabled-then (f .1) (some-made (kindIn pay) (upidIn pay) part k new (x .upid) (x .made-of)) old-payload
+        let f = made-fine (typeIn pay) (upidIn pay) part k new (x .upid) (x .made-of) in
+        segmentation-kept pay (foreIn pay) (postIn pay) K (x .upid) (f .0) tabled-then (f .1) (some-made (typeIn pay) (upidIn pay) part k new (x .upid) (x .made-of)) old-payload
 
     new-loop : canonicalLoop (withItem loop (listed loop offset) d) ≡ true
     new-loop = with-canonical loop (i .stands .fits) offset (x .lead) (x .tail) (x .items) (parts .loop) d (item-canonical (payloadThen s offset part k (x .upid)) (x .short) new-payload)

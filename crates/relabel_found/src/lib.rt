@@ -8,7 +8,7 @@ ghost use Rattle.descriptor_loop.specs.Items.{stepOf, itemsOf};
 ghost use Rattle.relabel_found.specs.Found.{begins, inserts, found};
 ghost use Rattle.relabel_payload.specs.Payload.{upidHead};
 use descriptor::Descriptor;
-use descriptor::segmentation::SegmentationDetail;
+use descriptor::segmentation::DescriptorDetail;
 use descriptor_loop::Item;
 use descriptor_loop::MAX_LOOP;
 use descriptor_loop::iteration::step;
@@ -63,8 +63,8 @@ fn is_insert(item: Item) -> bool
             Descriptor::Segmentation(x) => {
                 let detail = x.descriptor_detail;
                 match detail {
-                    SegmentationDetail::Cancel => false,
-                    SegmentationDetail::Insert(_) => true,
+                    DescriptorDetail::Cancel => false,
+                    DescriptorDetail::Active(_) => true,
                 }
             }
             Descriptor::Time(_) => false,

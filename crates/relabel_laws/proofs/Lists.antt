@@ -10,8 +10,8 @@ use lib.Seq.{drop-append-add, take-append-seam, getD-append-seam, getD-append-ad
 use Rattle.descriptor.specs.Segmentation.{cancelled, fieldsBefore}
 use Rattle.descriptor.specs.Views.{withUpids}
 use Rattle.descriptor.specs.declared.Descriptor.the-variants.{Avail, Dtmf, Segmentation, Time, Reserved}
-use Rattle.descriptor.specs.declared.segmentation.SegmentationDetail.{SegmentationDetail}
-use Rattle.descriptor.specs.declared.segmentation.SegmentationDetail.the-variants.{Cancel, Insert}
+use Rattle.descriptor.specs.declared.segmentation.DescriptorDetail.{DescriptorDetail}
+use Rattle.descriptor.specs.declared.segmentation.DescriptorDetail.the-variants.{Cancel, Active}
 use Rattle.descriptor_loop.proofs.Lists.{Walked, stop, step}
 use Rattle.descriptor_loop.proofs.Steps.{forward}
 use Rattle.descriptor_loop.specs.Items.{stepOf, Listed, listed}
@@ -19,7 +19,7 @@ use Rattle.descriptor_loop.specs.Place.{movedUpid}
 use Rattle.descriptor_loop.specs.declared.Item.{Item}
 use Rattle.descriptor_loop.specs.declared.Item.the-variants.{End, Refused, Is}
 use Rattle.descriptor_loop.specs.declared.ItemRefusal.the-variants.{InvalidDescriptorLength, Other}
-use Rattle.relabel_found.specs.Found.{inserts, foreIn, kindIn, sizeIn, postIn}
+use Rattle.relabel_found.specs.Found.{inserts, foreIn, typeIn, sizeIn, postIn}
 use Rattle.relabel_loop.specs.Item.{segmentationItem}
 use Rattle.relabel_loop.specs.Loop.{movedItem, movedListed}
 use Rattle.relabel_payload.specs.Payload.{payload, upidHead}
@@ -37,9 +37,9 @@ each-append loop (x ∷ xs) ys = ap (λ (l : List Identifier). ofItem loop x ++ 
 
 -- ---- the same item in a loop that has more bytes before it
 
-same-detail : (n : ℕ) (d : SegmentationDetail) → cancelled (withUpids (movedUpid n) d) ≡ cancelled d
+same-detail : (n : ℕ) (d : DescriptorDetail) → cancelled (withUpids (movedUpid n) d) ≡ cancelled d
 same-detail n Cancel = refl
-same-detail n (Insert i) = refl
+same-detail n (Active i) = refl
 
 same-inserts : (n : ℕ) (i : Item) → inserts (movedItem n i) ≡ inserts i
 same-inserts n End = refl
@@ -134,7 +134,7 @@ module _ (pay : List ℕ) (K : ℕ) (b : List ℕ) (fits : upidHead pay + 2 + si
 
   pub payload-then : ofPayload then ≡ ofUpid K b
   payload-then =
-      let k : kindIn then ≡ K = ap (λ (i : ℕ). getD then i 0) head-long ∙ getD-append-seam (foreIn pay) K (length b ∷ (b ++ postIn pay)) 0 in
+      let k : typeIn then ≡ K = ap (λ (i : ℕ). getD then i 0) head-long ∙ getD-append-seam (foreIn pay) K (length b ∷ (b ++ postIn pay)) 0 in
       let n : sizeIn then ≡ length b = ap (λ (i : ℕ). getD then (i + 1) 0) head-long ∙ getD-append-add (foreIn pay) (K ∷ (length b ∷ (b ++ postIn pay))) 1 0 in
       let d : drop (upidHead then + 2) then ≡ b ++ postIn pay = ap (λ (i : ℕ). drop (i + 2) then) head-long ∙ drop-append-add (foreIn pay) (K ∷ (length b ∷ (b ++ postIn pay))) 2 in
       ap₂ ofUpid k (ap₂ take n d ∙ take-append-seam b (postIn pay))

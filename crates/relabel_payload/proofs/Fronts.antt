@@ -184,12 +184,12 @@ split-front bs at f m e =
 -- ---- the UPID as bytes
 
 pub record Written (s : List ℕ) (q : ℕ) (w : SegmentationUpid) (m : ℕ) : Type 0 where
-  pub kind : ℕ
+  pub «upid_type» : ℕ
   pub bytes : List ℕ
   pub post : List ℕ
-  pub is : s ≡ payload (take q s) post kind bytes
+  pub is : s ≡ payload (take q s) post «upid_type» bytes
   pub inside : q ≤ length s
-  pub upid : w ≡ record { kind = kind; bytes = record { at = q + 2; len = length bytes } }
+  pub upid : w ≡ record { «upid_type» = «upid_type»; bytes = record { at = q + 2; len = length bytes } }
   pub end : m ≡ (q + 2 + length bytes) * 8
 
 two-bytes : (s : List ℕ) (q : ℕ) → q + 2 ≤ length s → s ≡ take q s ++ (getD s q 0 ∷ (getD s (q + 1) 0 ∷ drop (q + 2) s))
@@ -215,20 +215,20 @@ written-is s q w m bytes e =
     let fits : n ≤ length rest = omega (arith, r3 .0, length-drop (q + 2) s) in
     let size : length (take n rest) ≡ n = length-take-le n rest fits in
     let place : (q * 8 + 8 + 8) / 8 ≡ q + 2 = omega arith in
-    let z = got-is (record { kind = field (bitsOf s) (q * 8) 8; bytes = record { at = (q * 8 + 8 + 8) / 8; len = n } }) w (q * 8 + 8 + 8 + n * 8) m (r3 .1) in
+    let z = got-is (record { «upid_type» = field (bitsOf s) (q * 8) 8; bytes = record { at = (q * 8 + 8 + 8) / 8; len = n } }) w (q * 8 + 8 + 8 + n * 8) m (r3 .1) in
     let tail : getD s (q + 1) 0 ∷ rest ≡ length (take n rest) ∷ (take n rest ++ drop n rest) = ap₂ (λ (x : ℕ) (y : List ℕ). x ∷ y) (sym l ∙ sym size) (sym (take-append-drop n rest)) in
     record {
-      kind = getD s q 0;
+      «upid_type» = getD s q 0;
       bytes = take n rest;
       post = drop n rest;
       is = two-bytes s q (omega (arith, r2 .0)) ∙ ap (λ (t : List ℕ). take q s ++ (getD s q 0 ∷ t)) tail;
       inside = omega (arith, r2 .0);
-      upid = sym (z .0) ∙ ap₂ (λ (a : ℕ) (v : View). record { kind = a; bytes = v }) k (ap₂ (λ (a b : ℕ). record { at = a; len = b }) place (sym size));
+      upid = sym (z .0) ∙ ap₂ (λ (a : ℕ) (v : View). record { «upid_type» = a; bytes = v }) k (ap₂ (λ (a b : ℕ). record { at = a; len = b }) place (sym size));
       end = sym (z .1) ∙ omega (arith, size);
     }
 
 pub written-puts : (fore post : List ℕ) (k : ℕ) (u : List ℕ) → k < 256 → length u < 256
-    → parse writtenUpid (bitsOf (payload fore post k u)) (length fore * 8) ≡ got (record { kind = k; bytes = record { at = length fore + 2; len = length u } }) ((length fore + 2 + length u) * 8)
+    → parse writtenUpid (bitsOf (payload fore post k u)) (length fore * 8) ≡ got (record { «upid_type» = k; bytes = record { at = length fore + 2; len = length u } }) ((length fore + 2 + length u) * 8)
 unfolding writtenUpid
 written-puts fore post k u hk hu =
     let s : List ℕ = payload fore post k u in
@@ -244,4 +244,4 @@ written-puts fore post k u hk hu =
     takes-number s (q * 8) 8 k _ _ (omega (arith, size)) e0
     ∙ takes-number s (q * 8 + 8) 8 (length u) _ _ (omega (arith, size)) e1
     ∙ takes-part s (q * 8 + 8 + 8) (length u) _ _ (omega (arith, size))
-    ∙ ap₂ (λ (a m : ℕ). got (record { kind = k; bytes = record { at = a; len = length u } }) m) place end
+    ∙ ap₂ (λ (a m : ℕ). got (record { «upid_type» = k; bytes = record { at = a; len = length u } }) m) place end

@@ -28,9 +28,9 @@ use Rattle.descriptor.specs.declared.Descriptor.the-variants.{Segmentation}
 use Rattle.descriptor.specs.declared.DescriptorRead.{DescriptorRead}
 use Rattle.descriptor.specs.declared.DescriptorRead.the-variants.{Is, Refused}
 use Rattle.descriptor.specs.declared.segmentation.SegmentationDescriptor.{SegmentationDescriptor}
+use Rattle.descriptor.specs.declared.segmentation.DescriptorDetail.{DescriptorDetail}
+use Rattle.descriptor.specs.declared.segmentation.DescriptorDetail.the-variants.{Cancel, Active}
 use Rattle.descriptor.specs.declared.segmentation.SegmentationDetail.{SegmentationDetail}
-use Rattle.descriptor.specs.declared.segmentation.SegmentationDetail.the-variants.{Cancel, Insert}
-use Rattle.descriptor.specs.declared.segmentation.SegmentationInsert.{SegmentationInsert}
 use Rattle.descriptor.specs.declared.segmentation.ModeComponent.{ModeComponent}
 use Rattle.descriptor.specs.declared.segmentation.SegmentationUpid.{SegmentationUpid}
 use Rattle.descriptor.specs.declared.whole.Beside.{Beside}
@@ -53,7 +53,7 @@ head-at s bytes h a eh x m e =
 
 -- ---- an insert that was read, field by field
 
-record Parsed (s : List ℕ) (event : ℕ) (i : SegmentationInsert) : Type 0 where
+record Parsed (s : List ℕ) (event : ℕ) (i : SegmentationDetail) : Type 0 where
   h : Head
   a : ℕ
   head-is : parse head (bitsOf s) 0 ≡ got h a
@@ -63,23 +63,23 @@ record Parsed (s : List ℕ) (event : ℕ) (i : SegmentationInsert) : Type 0 whe
   m : ℕ
   front-is : parse front (bitsOf s) a ≡ got f m
   q : ℕ
-  fine : checkOf (f .front .«segmentation_upid» .kind) (viewed s (f .front .«segmentation_upid» .bytes)) ≡ UpidRead.Fine q
+  fine : checkOf (f .front .«segmentation_upid» .«upid_type») (viewed s (f .front .«segmentation_upid» .bytes)) ≡ UpidRead.Fine q
   b : Of back
   n : ℕ
   back-is : parse back (bitsOf s) m ≡ got b n
   is : insertFrom (f .front) (reportedUpid q (f .front .«segmentation_upid» .bytes)) b ≡ i
 
-module _ (s : List ℕ) (x : SegmentationDescriptor) (i : SegmentationInsert) (detail : x .«descriptor_detail» ≡ Insert i) where
+module _ (s : List ℕ) (x : SegmentationDescriptor) (i : SegmentationDetail) (detail : x .«descriptor_detail» ≡ Active i) where
   module _ (h : Head) (a : ℕ) (eh : parse head (bitsOf s) 0 ≡ got h a) (stays : h .cancel ≡ false) (f : Fore) (m : ℕ) (ef : parse front (bitsOf s) a ≡ got f m) where
     abbrev upid₀ : SegmentationUpid
     upid₀ = f .front .«segmentation_upid»
 
-    of-back : (q : ℕ) → checkOf (upid₀ .kind) (viewed s (upid₀ .bytes)) ≡ UpidRead.Fine q → (r : Answer (Of back)) → parse back (bitsOf s) m ≡ r
+    of-back : (q : ℕ) → checkOf (upid₀ .«upid_type») (viewed s (upid₀ .bytes)) ≡ UpidRead.Fine q → (r : Answer (Of back)) → parse back (bitsOf s) m ≡ r
         → (r andThen λ b n. inserted (h .event) (f .front) (reportedUpid q (upid₀ .bytes)) b) ≡ Is (Segmentation x) → Parsed s (x .«segmentation_event_id») i
     unfolding inserted
     of-back q fine (got b n) eb e =
-        let z : _≡_ {A = SegmentationDescriptor} (record { «segmentation_event_id» = h .event; «descriptor_detail» = Insert (insertFrom (f .front) (reportedUpid q (upid₀ .bytes)) b) }) x = cc in
-        let y : Insert (insertFrom (f .front) (reportedUpid q (upid₀ .bytes)) b) ≡ Insert i = ap (λ (d : SegmentationDescriptor). d .«descriptor_detail») z ∙ detail in
+        let z : _≡_ {A = SegmentationDescriptor} (record { «segmentation_event_id» = h .event; «descriptor_detail» = Active (insertFrom (f .front) (reportedUpid q (upid₀ .bytes)) b) }) x = cc in
+        let y : Active (insertFrom (f .front) (reportedUpid q (upid₀ .bytes)) b) ≡ Active i = ap (λ (d : SegmentationDescriptor). d .«descriptor_detail») z ∙ detail in
         record {
           h = h;
           a = a;
@@ -98,16 +98,16 @@ module _ (s : List ℕ) (x : SegmentationDescriptor) (i : SegmentationInsert) (d
         }
     of-back q fine (short expected actual) eb e = zero-one cc
 
-    of-check : (r : UpidRead) → checkOf (upid₀ .kind) (viewed s (upid₀ .bytes)) ≡ r
+    of-check : (r : UpidRead) → checkOf (upid₀ .«upid_type») (viewed s (upid₀ .bytes)) ≡ r
         → (ifFine r (upid₀ .bytes) λ upid. parse back (bitsOf s) m andThen λ b n. inserted (h .event) (f .front) upid b) ≡ Is (Segmentation x) → Parsed s (x .«segmentation_event_id») i
     of-check (UpidRead.Fine q) ec e = of-back q ec (parse back (bitsOf s) m) refl e
     of-check (UpidRead.Refused r) ec e = zero-one cc
 
   module _ (h : Head) (a : ℕ) (eh : parse head (bitsOf s) 0 ≡ got h a) where
     of-front : h .cancel ≡ false → (r : Answer Fore) → parse front (bitsOf s) a ≡ r
-        → (r andThen λ f m. ifFine (checkOf (f .front .«segmentation_upid» .kind) (viewed s (f .front .«segmentation_upid» .bytes))) (f .front .«segmentation_upid» .bytes) λ upid.
+        → (r andThen λ f m. ifFine (checkOf (f .front .«segmentation_upid» .«upid_type») (viewed s (f .front .«segmentation_upid» .bytes))) (f .front .«segmentation_upid» .bytes) λ upid.
         parse back (bitsOf s) m andThen λ b n. inserted (h .event) (f .front) upid b) ≡ Is (Segmentation x) → Parsed s (x .«segmentation_event_id») i
-    of-front stays (got f m) ef e = of-check h a eh stays f m ef (checkOf (f .front .«segmentation_upid» .kind) (viewed s (f .front .«segmentation_upid» .bytes))) refl e
+    of-front stays (got f m) ef e = of-check h a eh stays f m ef (checkOf (f .front .«segmentation_upid» .«upid_type») (viewed s (f .front .«segmentation_upid» .bytes))) refl e
     of-front stays (short expected actual) ef e = zero-one cc
 
     of-cancel : (t : Bool) → h .cancel ≡ t
@@ -116,7 +116,7 @@ module _ (s : List ℕ) (x : SegmentationDescriptor) (i : SegmentationInsert) (d
     unfolding insertOf
     of-cancel true ec e =
         let z : _≡_ {A = SegmentationDescriptor} (record { «segmentation_event_id» = h .event; «descriptor_detail» = Cancel }) x = cc in
-        let y : _≡_ {A = SegmentationDetail} Cancel (Insert i) = ap (λ (d : SegmentationDescriptor). d .«descriptor_detail») z ∙ detail in
+        let y : _≡_ {A = DescriptorDetail} Cancel (Active i) = ap (λ (d : SegmentationDescriptor). d .«descriptor_detail») z ∙ detail in
         zero-one cc
     of-cancel false ec e = of-front ec (parse front (bitsOf s) a) refl e
 
@@ -132,8 +132,8 @@ module _ (s : List ℕ) (x : SegmentationDescriptor) (i : SegmentationInsert) (d
 
 -- and the other way round
 assemble : (s : List ℕ) (h : Head) (a : ℕ) (f : Fore) (m q : ℕ) (b : Of back) (n : ℕ) → parse head (bitsOf s) 0 ≡ got h a → h .cancel ≡ false → parse front (bitsOf s) a ≡ got f m
-    → checkOf (f .front .«segmentation_upid» .kind) (viewed s (f .front .«segmentation_upid» .bytes)) ≡ UpidRead.Fine q → parse back (bitsOf s) m ≡ got b n
-    → segmentationOf s ≡ Is (Segmentation (record { «segmentation_event_id» = h .event; «descriptor_detail» = Insert (insertFrom (f .front) (reportedUpid q (f .front .«segmentation_upid» .bytes)) b) }))
+    → checkOf (f .front .«segmentation_upid» .«upid_type») (viewed s (f .front .«segmentation_upid» .bytes)) ≡ UpidRead.Fine q → parse back (bitsOf s) m ≡ got b n
+    → segmentationOf s ≡ Is (Segmentation (record { «segmentation_event_id» = h .event; «descriptor_detail» = Active (insertFrom (f .front) (reportedUpid q (f .front .«segmentation_upid» .bytes)) b) }))
 unfolding segmentationOf insertOf inserted
 assemble s h a f m q b n eh stays ef ec eb = rw (eh, stays, ef, ec, eb)
 
@@ -144,7 +144,7 @@ module _ (s : List ℕ) (h : Head) (a : ℕ) (f : Fore) (m : ℕ) (b : Of back) 
     (eb : parse back (bitsOf s) m ≡ got b n) where
   abbrev whole : table.Segmentation
   whole = record {
-    descriptor = record { «segmentation_event_id» = h .event; «descriptor_detail» = Insert (insertFrom (f .front) (f .front .«segmentation_upid») b) };
+    descriptor = record { «segmentation_event_id» = h .event; «descriptor_detail» = Active (insertFrom (f .front) (f .front .«segmentation_upid») b) };
     components = f .components;
   }
 
@@ -163,7 +163,7 @@ module _ (s : List ℕ) (h : Head) (a : ℕ) (f : Fore) (m : ℕ) (b : Of back) 
   unfolding canonicalBy
   table-by = ap₂ (λ (r : Answer table.Segmentation) (x : Bool). takesAll r s && x) table-reads table-form
 
-  table-beside : besideOf s ≡ record { components = filled (f .components); eidr = eidrOf (f .front .«segmentation_upid» .kind) (viewed s (f .front .«segmentation_upid» .bytes)) }
+  table-beside : besideOf s ≡ record { components = filled (f .components); eidr = eidrOf (f .front .«segmentation_upid» .«upid_type») (viewed s (f .front .«segmentation_upid» .bytes)) }
   unfolding besideOf besideIn
   table-beside = ap (besideIn s) table-reads
 
@@ -175,7 +175,7 @@ sightless-sub = λ m. sightless-pick (eqb m 0) _ _ tt (λ n of. tt)
 
 sightless-back : Sightless back
 unfolding back number
-sightless-back = λ kind n of. sightless-inside subSegments _ _ sightless-sub λ y. tt
+sightless-back = λ type-id n of. sightless-inside subSegments _ _ sightless-sub λ y. tt
 
 later-got : {X : Type 0} (k : ℕ) (r : Answer X) (x : X) (n : ℕ) → later k r ≡ got x n → (m : ℕ) × (r ≡ got x m) × (k + m ≡ n)
 later-got k (got y m) x n e =
@@ -246,7 +246,7 @@ back-forms fore post k u c v = of c v ∙ sym (of k u)
     of : (c : ℕ) (v : List ℕ) → canonical back (bitsOf (payload fore post c v)) ((length fore + 2 + length v) * 8) ≡ canonical back (bitsOf post) 0
     of c v = ap₂ (λ (s : List ℕ) (l : ℕ). canonical back (bitsOf s) (l * 8)) (payload-lead fore post c v) (sym (lead-size fore c v)) ∙ back-form (lead fore c v) post
 
-module _ (s : List ℕ) (event : ℕ) (i : SegmentationInsert) (bytes : (k : ℕ) → getD s k 0 < 256) (p : Parsed s event i) where
+module _ (s : List ℕ) (event : ℕ) (i : SegmentationDetail) (bytes : (k : ℕ) → getD s k 0 < 256) (p : Parsed s event i) where
   split : Split (bitsOf s) (p .a) (p .f) (p .m)
   split = split-front (bitsOf s) (p .a) (p .f) (p .m) (p .front-is)
 
@@ -270,9 +270,9 @@ module _ (s : List ℕ) (event : ℕ) (i : SegmentationInsert) (bytes : (k : ℕ
   fore-size = length-take-le q s (written .inside)
 
   rest : List ℕ
-  rest = written .kind ∷ (length (written .bytes) ∷ (written .bytes ++ written .post))
+  rest = written .«upid_type» ∷ (length (written .bytes) ∷ (written .bytes ++ written .post))
 
-  is-holed : s ≡ payload fore (written .post) (written .kind) (written .bytes)
+  is-holed : s ≡ payload fore (written .post) (written .«upid_type») (written .bytes)
   unfolding fore
   is-holed = written .is
 
@@ -280,22 +280,22 @@ module _ (s : List ℕ) (event : ℕ) (i : SegmentationInsert) (bytes : (k : ℕ
   unfolding rest
   cut = ap bitsOf is-holed ∙ bits-append fore rest
 
-  upid-is : p .f .front .«segmentation_upid» ≡ record { kind = written .kind; bytes = record { at = length fore + 2; len = length (written .bytes) } }
+  upid-is : p .f .front .«segmentation_upid» ≡ record { «upid_type» = written .«upid_type»; bytes = record { at = length fore + 2; len = length (written .bytes) } }
   upid-is =
       ap (λ (x : Fore). x .front .«segmentation_upid») (sym (split .is)) ∙ split .has (split .upid) ∙ written .upid
-      ∙ ap (λ (n : ℕ). record { kind = written .kind; bytes = record { at = n + 2; len = length (written .bytes) } }) (sym fore-size)
+      ∙ ap (λ (n : ℕ). record { «upid_type» = written .«upid_type»; bytes = record { at = n + 2; len = length (written .bytes) } }) (sym fore-size)
 
   place-is : length fore ≡ upidHead s
   place-is = omega (arith, ap (λ (u : SegmentationUpid). u .bytes .at) upid-is, head-at s bytes (p .h) (p .a) (p .head-is) (p .f) (p .m) (p .front-is))
 
-  fine-is : checkOf (written .kind) (written .bytes) ≡ UpidRead.Fine (p .q)
+  fine-is : checkOf (written .«upid_type») (written .bytes) ≡ UpidRead.Fine (p .q)
   fine-is =
-      sym (ap (λ (u : SegmentationUpid). checkOf (u .kind) (viewed s (u .bytes))) upid-is
-      ∙ ap (λ (l : List ℕ). checkOf (written .kind) (viewed l (record { at = length fore + 2; len = length (written .bytes) }))) is-holed
-      ∙ ap (checkOf (written .kind)) (viewed-payload fore (written .post) (written .kind) (written .bytes)))
+      sym (ap (λ (u : SegmentationUpid). checkOf (u .«upid_type») (viewed s (u .bytes))) upid-is
+      ∙ ap (λ (l : List ℕ). checkOf (written .«upid_type») (viewed l (record { at = length fore + 2; len = length (written .bytes) }))) is-holed
+      ∙ ap (checkOf (written .«upid_type»)) (viewed-payload fore (written .post) (written .«upid_type») (written .bytes)))
       ∙ p .fine
 
-  old-back : parse back (bitsOf (payload fore (written .post) (written .kind) (written .bytes))) ((length fore + 2 + length (written .bytes)) * 8) ≡ got (p .b) (p .n)
+  old-back : parse back (bitsOf (payload fore (written .post) (written .«upid_type») (written .bytes))) ((length fore + 2 + length (written .bytes)) * 8) ≡ got (p .b) (p .n)
   old-back =
       ap₂ (λ (l : List ℕ) (n : ℕ). parse back (bitsOf l) ((n + 2 + length (written .bytes)) * 8)) (sym is-holed) fore-size
       ∙ ap (parse back (bitsOf s)) (sym (written .end)) ∙ p .back-is
@@ -318,7 +318,7 @@ module _ (s : List ℕ) (event : ℕ) (i : SegmentationInsert) (bytes : (k : ℕ
     short-enough = let a : Accepted (checkOf k u) = rw ec tt in omega (arith, check-short k u a)
 
     place : SegmentationUpid
-    place = record { kind = k; bytes = record { at = length fore + 2; len = length u } }
+    place = record { «upid_type» = k; bytes = record { at = length fore + 2; len = length u } }
 
     new-head : parse head (bitsOf new) 0 ≡ got (p .h) (p .a)
     new-head =
@@ -341,16 +341,16 @@ module _ (s : List ℕ) (event : ℕ) (i : SegmentationInsert) (bytes : (k : ℕ
     unfolding new
     new-bytes = viewed-payload fore (written .post) k u
 
-    new-fine : checkOf (split .make place .front .«segmentation_upid» .kind) (viewed new (split .make place .front .«segmentation_upid» .bytes)) ≡ UpidRead.Fine r
+    new-fine : checkOf (split .make place .front .«segmentation_upid» .«upid_type») (viewed new (split .make place .front .«segmentation_upid» .bytes)) ≡ UpidRead.Fine r
     unfolding new place
     new-fine =
-        ap (λ (x : SegmentationUpid). checkOf (x .kind) (viewed new (x .bytes))) (split .has place)
+        ap (λ (x : SegmentationUpid). checkOf (x .«upid_type») (viewed new (x .bytes))) (split .has place)
         ∙ ap (checkOf k) new-bytes ∙ ec
 
     new-back : (n : ℕ) × (parse back (bitsOf new) ((length fore + 2 + length u) * 8) ≡ got (p .b) ((length fore + 2 + length u) * 8 + n))
         × ((length fore + 2 + length (written .bytes)) * 8 + n ≡ p .n)
     unfolding new
-    new-back = back-refilled fore (written .post) (written .kind) (written .bytes) k u (p .b) (p .n) old-back
+    new-back = back-refilled fore (written .post) (written .«upid_type») (written .bytes) k u (p .b) (p .n) old-back
 
     same-insert : insertFrom (split .make place .front) (reportedUpid r (split .make place .front .«segmentation_upid» .bytes)) (p .b)
         ≡ withUpid i (reportedUpid r (record { at = length fore + 2; len = length u }))
@@ -358,12 +358,12 @@ module _ (s : List ℕ) (event : ℕ) (i : SegmentationInsert) (bytes : (k : ℕ
     same-insert =
         ap (λ (x : SegmentationUpid). insertFrom (split .make place .front) (reportedUpid r (x .bytes)) (p .b)) (split .has place)
         ∙ split .keeps place (reportedUpid r (record { at = length fore + 2; len = length u })) (p .b)
-        ∙ ap (λ (j : SegmentationInsert). withUpid j (reportedUpid r (record { at = length fore + 2; len = length u }))) (p .is)
+        ∙ ap (λ (j : SegmentationDetail). withUpid j (reportedUpid r (record { at = length fore + 2; len = length u }))) (p .is)
 
-    new-reads : segmentationOf new ≡ Is (Segmentation (record { «segmentation_event_id» = event; «descriptor_detail» = Insert (withUpid i (reportedUpid r (record { at = length fore + 2; len = length u }))) }))
+    new-reads : segmentationOf new ≡ Is (Segmentation (record { «segmentation_event_id» = event; «descriptor_detail» = Active (withUpid i (reportedUpid r (record { at = length fore + 2; len = length u }))) }))
     new-reads =
         assemble new (p .h) (p .a) (split .make place) ((length fore + 2 + length u) * 8) r (p .b) ((length fore + 2 + length u) * 8 + new-back .0) new-head (p .stays) new-front new-fine (new-back .1)
-        ∙ ap₂ (λ (e : ℕ) (j : SegmentationInsert). Is (Segmentation (record { «segmentation_event_id» = e; «descriptor_detail» = Insert j }))) (p .event-is) same-insert
+        ∙ ap₂ (λ (e : ℕ) (j : SegmentationDetail). Is (Segmentation (record { «segmentation_event_id» = e; «descriptor_detail» = Active j }))) (p .event-is) same-insert
 
     -- ---- the same by its table
 
@@ -403,7 +403,7 @@ module _ (s : List ℕ) (event : ℕ) (i : SegmentationInsert) (bytes : (k : ℕ
     behind-form : canonical back (bitsOf new) ((length fore + 2 + length u) * 8) ≡ canonical back (bitsOf s) (p .m)
     unfolding new
     behind-form =
-        back-forms fore (written .post) (written .kind) (written .bytes) k u
+        back-forms fore (written .post) (written .«upid_type») (written .bytes) k u
         ∙ ap₂ (λ (l : List ℕ) (n : ℕ). canonical back (bitsOf l) ((n + 2 + length (written .bytes)) * 8)) (sym is-holed) fore-size
         ∙ ap (canonical back (bitsOf s)) (sym (written .end))
 
@@ -423,7 +423,7 @@ module _ (s : List ℕ) (event : ℕ) (i : SegmentationInsert) (bytes : (k : ℕ
         ∙ ap₂ (λ (cs : List ModeComponent) (l : List ℕ). record { components = cs; eidr = l })
         (ap filled (split .beside place)
         ∙ sym (ap (λ (x : Beside). x .components) (table-beside s (p .h) (p .a) (p .f) (p .m) (p .b) (p .n) (p .head-is) (p .stays) (p .front-is) (p .back-is))))
-        (ap (λ (x : SegmentationUpid). eidrOf (x .kind) (viewed new (x .bytes))) (split .has place) ∙ ap (eidrOf k) new-bytes)
+        (ap (λ (x : SegmentationUpid). eidrOf (x .«upid_type») (viewed new (x .bytes))) (split .has place) ∙ ap (eidrOf k) new-bytes)
 
     new-tabled : Tabled s fore (written .post) k u
     unfolding new place
@@ -443,18 +443,18 @@ module _ (s : List ℕ) (event : ℕ) (i : SegmentationInsert) (bytes : (k : ℕ
   holed-parsed =
       record {
         fore = fore;
-        kind = written .kind;
+        «upid_type» = written .«upid_type»;
         bytes = written .bytes;
         post = written .post;
         is = is-holed;
         place = place-is;
         reported = p .q;
         fine = fine-is;
-        upid = ap (λ (j : SegmentationInsert). j .«segmentation_upid») (sym (p .is)) ∙ ap (λ (w : SegmentationUpid). reportedUpid (p .q) (w .bytes)) upid-is;
+        upid = ap (λ (j : SegmentationDetail). j .«segmentation_upid») (sym (p .is)) ∙ ap (λ (w : SegmentationUpid). reportedUpid (p .q) (w .bytes)) upid-is;
         refilled = new-reads;
         tabled = new-tabled;
       }
 
-pub holed : (s : List ℕ) (x : SegmentationDescriptor) (i : SegmentationInsert) → ((k : ℕ) → getD s k 0 < 256) → segmentationOf s ≡ Is (Segmentation x) → x .«descriptor_detail» ≡ Insert i
+pub holed : (s : List ℕ) (x : SegmentationDescriptor) (i : SegmentationDetail) → ((k : ℕ) → getD s k 0 < 256) → segmentationOf s ≡ Is (Segmentation x) → x .«descriptor_detail» ≡ Active i
     → Holed s (x .«segmentation_event_id») i
 holed s x i bytes e d = holed-parsed s (x .«segmentation_event_id») i bytes (parsed s x i d e)

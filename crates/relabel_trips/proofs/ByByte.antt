@@ -8,7 +8,7 @@ use lib.ListN.{length, take, drop, getD, length-append, List·getD-append}
 use lib.Seq.{take-at, drop-at, getD-append-seam, getD-append-add, drop-append-add, take-append-seam}
 use Rattle.crc.specs.Crc.{crcBytesOf}
 use Rattle.relabel_trips.specs.Cutting.{headAt, lengthBytes, NotIn, withCrc, CutAt, ByByte}
-use Rattle.relabel_trips.specs.Named.{kindAt, identifierAt}
+use Rattle.relabel_trips.specs.Named.{typeAt, identifierAt}
 
 -- ---- a head of two bytes, an identifier, what stands after it, and the CRC, behind what stands before
 
@@ -34,8 +34,8 @@ module _ (F : List ℕ) (k : ℕ) (b after : List ℕ) where
   pub front-byte : (j : ℕ) → j < length F → getD (withCrc body) j 0 ≡ getD F j 0
   front-byte j h = ap (λ (l : List ℕ). getD l j 0) all-is ∙ List·getD-append F (k ∷ (length b ∷ (b ++ (after ++ crc)))) 0 j h
 
-  pub kind-byte : getD (withCrc body) (length F) 0 ≡ k
-  kind-byte = ap (λ (l : List ℕ). getD l (length F) 0) all-is ∙ getD-append-seam F k (length b ∷ (b ++ (after ++ crc))) 0
+  pub type-is-byte : getD (withCrc body) (length F) 0 ≡ k
+  type-is-byte = ap (λ (l : List ℕ). getD l (length F) 0) all-is ∙ getD-append-seam F k (length b ∷ (b ++ (after ++ crc))) 0
 
   pub length-byte : getD (withCrc body) (length F + 1) 0 ≡ length b
   length-byte = ap (λ (l : List ℕ). getD l (length F + 1) 0) all-is ∙ getD-append-add F (k ∷ (length b ∷ (b ++ (after ++ crc)))) 1 0
@@ -64,7 +64,7 @@ by-byte s offset part k new r c =
     let F : List ℕ = c .before in
     let G : List ℕ = c .mended in
     let b : List ℕ = identifierAt s offset part in
-    let k₀ : ℕ = kindAt s offset part in
+    let k₀ : ℕ = typeAt s offset part in
     let at : ℕ = headAt s offset part in
     let after : List ℕ = c .after in
     let n : length s ≡ at + 2 + length b + length after + 4 = ap length (c .old) ∙ all-size F k₀ b after ∙ ap (λ (m : ℕ). m + 2 + length b + length after + 4) (c .place) in
@@ -76,7 +76,7 @@ by-byte s offset part k new r c =
           λ j h g.
           ap (λ (l : List ℕ). getD l j 0) (c .then) ∙ front-byte G k new after j (omega (arith, c .size)) ∙ c .stays j g
           ∙ sym (ap (λ (l : List ℕ). getD l j 0) (c .old) ∙ front-byte F k₀ b after j (omega (arith, c .place)));
-      kind = ap₂ (λ (l : List ℕ) (i : ℕ). getD l i 0) (c .then) (sym (c .size)) ∙ kind-byte G k new after;
+      «upid_type» = ap₂ (λ (l : List ℕ) (i : ℕ). getD l i 0) (c .then) (sym (c .size)) ∙ type-is-byte G k new after;
       counted = ap₂ (λ (l : List ℕ) (i : ℕ). getD l (i + 1) 0) (c .then) (sym (c .size)) ∙ length-byte G k new after;
       run = ap₂ (λ (l : List ℕ) (i : ℕ). take (length new) (drop (i + 2) l)) (c .then) (sym (c .size)) ∙ run-is G k new after;
       after =

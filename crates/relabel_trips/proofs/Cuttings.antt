@@ -13,8 +13,8 @@ use Rattle.descriptor.specs.Descriptor.{cuei}
 use Rattle.descriptor_loop.specs.Items.{listed}
 use Rattle.relabel.proofs.Mades.{Framing, framing}
 use Rattle.relabel.specs.Relabel.{payloadIn, relabelMade}
-use Rattle.relabel_found.specs.Found.{foreIn, kindIn, sizeIn, upidIn, postIn}
-use Rattle.relabel_joined.specs.Relabel.{kindThen}
+use Rattle.relabel_found.specs.Found.{foreIn, typeIn, sizeIn, upidIn, postIn}
+use Rattle.relabel_joined.specs.Relabel.{typeThen}
 use Rattle.relabel_laws.specs.Result.{Result}
 use Rattle.relabel_loop.specs.Item.{segmentationItem}
 use Rattle.relabel_loop.specs.Loop.{behindItem, withItem}
@@ -28,7 +28,7 @@ use Rattle.upid.proofs.Laws.{by-cases}
 use Rattle.upid.proofs.Tree.{all-map}
 use Rattle.upid.specs.Cover.{All, none, more}
 use Rattle.relabel_trips.specs.Cutting.{upidPlace, lengthsWithin, headAt, byteLengths, lengthBytes, NotIn, withCrc, CutAt}
-use Rattle.relabel_trips.specs.Named.{kindAt, identifierAt}
+use Rattle.relabel_trips.specs.Named.{typeAt, identifierAt}
 use Rattle.relabel_trips.proofs.Frames as frames
 use Rattle.relabel_trips.proofs.Frames.{bodyFrom, body-as, run-three, rest-is, checked, loop-same, loop-long, high-same}
 use Rattle.relabel_trips.proofs.Loops.{A-long, own-item}
@@ -154,14 +154,14 @@ module _ (s : List ℕ) (offset part k : ℕ) (new r : List ℕ) (bytes : (j : �
   abbrev c : ℕ
   c = commandLength s
 
-  u : UpidCut (kindIn old) (upidIn old) part k new (t .upid)
-  u = upid-cut (kindIn old) (upidIn old) part k new (t .upid) (t .made-of)
+  u : UpidCut (typeIn old) (upidIn old) part k new (t .upid)
+  u = upid-cut (typeIn old) (upidIn old) part k new (t .upid) (t .made-of)
 
   abbrev b₀ : List ℕ
   b₀ = identifierAt s offset part
 
   abbrev K : ℕ
-  K = kindThen part (kindIn old) k
+  K = typeThen part (typeIn old) k
 
   abbrev payThen : List ℕ
   payThen = payload (foreIn old) (postIn old) K (t .upid)
@@ -200,23 +200,23 @@ module _ (s : List ℕ) (offset part k : ℕ) (new r : List ℕ) (bytes : (j : �
 
   -- ---- the sections
 
-  old-body : take (length s - 4) s ≡ F₀ ++ ((kindIn old ∷ (length (upidIn old) ∷ upidIn old)) ++ (postIn old ++ (behind ++ spareOf s)))
+  old-body : take (length s - 4) s ≡ F₀ ++ ((typeIn old ∷ (length (upidIn old) ∷ upidIn old)) ++ (postIn old ++ (behind ++ spareOf s)))
   unfolding F₀ named
   old-body =
       let all : length s - 4 ≡ 3 + (length s - 7) = omega (arith, fr .fits) in
-      let item : loop ≡ X ++ ((2 ∷ (length (cuei ++ old) ∷ (cuei ++ (foreIn old ++ ((kindIn old ∷ (length (upidIn old) ∷ upidIn old)) ++ postIn old))))) ++ behind) =
+      let item : loop ≡ X ++ ((2 ∷ (length (cuei ++ old) ∷ (cuei ++ (foreIn old ++ ((typeIn old ∷ (length (upidIn old) ∷ upidIn old)) ++ postIn old))))) ++ behind) =
       sym (own-item loop offset (t .there)) ∙ ap (λ (l : List ℕ). X ++ ((2 ∷ (length (cuei ++ old) ∷ (cuei ++ l))) ++ behind)) (t .cut) in
       ap (λ (m : ℕ). take m s) all ∙ take-add 3 (length s - 7) s
       ∙ ap (λ (l : List ℕ). take 3 s ++ l) (sym (rest-is s (t .old) (t .accepted) bytes))
       ∙ ap (λ (l : List ℕ). take 3 s ++ (foreOf s ++ (bigEndian 2 (length loop) ++ (l ++ spareOf s)))) item
-      ∙ glue (take 3 s) (foreOf s) (bigEndian 2 (length loop)) X cuei (foreIn old) behind (spareOf s) (kindIn old ∷ (length (upidIn old) ∷ upidIn old)) (postIn old) (length (cuei ++ old))
+      ∙ glue (take 3 s) (foreOf s) (bigEndian 2 (length loop)) X cuei (foreIn old) behind (spareOf s) (typeIn old ∷ (length (upidIn old) ∷ upidIn old)) (postIn old) (length (cuei ++ old))
 
-  old-is : s ≡ withCrc ((F₀ ++ u .front) ++ (kindAt s offset part ∷ (length b₀ ∷ (b₀ ++ after))))
+  old-is : s ≡ withCrc ((F₀ ++ u .front) ++ (typeAt s offset part ∷ (length b₀ ∷ (b₀ ++ after))))
   unfolding after
   old-is =
       crc-last s (length s - 4) (omega (arith, fr .fits)) bytes (checked s (t .old) (t .accepted) bytes)
       ∙ ap withCrc (old-body ∙ ap (λ (l : List ℕ). F₀ ++ (l ++ (postIn old ++ (behind ++ spareOf s)))) (u .old)
-      ∙ glue-cut F₀ (u .front) (kindAt s offset part) (length b₀) b₀ (u .rest) (postIn old ++ (behind ++ spareOf s)))
+      ∙ glue-cut F₀ (u .front) (typeAt s offset part) (length b₀) b₀ (u .rest) (postIn old ++ (behind ++ spareOf s)))
 
   new-body : bodyWith s loopThen ≡ F₁ ++ ((K ∷ (length (t .upid) ∷ t .upid)) ++ (postIn old ++ (behind ++ spareOf s)))
   unfolding F₁ three n named
@@ -280,7 +280,7 @@ module _ (s : List ℕ) (offset part k : ℕ) (new r : List ℕ) (bytes : (j : �
         length-append cuei old,
         ap length (t .cut),
         length-append (foreIn old) (K ∷ (length (t .upid) ∷ (t .upid ++ postIn old))),
-        length-append (foreIn old) (kindIn old ∷ (length (upidIn old) ∷ (upidIn old ++ postIn old))),
+        length-append (foreIn old) (typeIn old ∷ (length (upidIn old) ∷ (upidIn old ++ postIn old))),
         length-append (t .upid) (postIn old),
         length-append (upidIn old) (postIn old),
         u .fits,
@@ -310,7 +310,7 @@ module _ (s : List ℕ) (offset part k : ℕ) (new r : List ℕ) (bytes : (j : �
             arith,
             length-append cuei old,
             ap length (t .cut),
-            length-append (foreIn old) (kindIn old ∷ (length (upidIn old) ∷ (upidIn old ++ postIn old))),
+            length-append (foreIn old) (typeIn old ∷ (length (upidIn old) ∷ (upidIn old ++ postIn old))),
             length-append (upidIn old) (postIn old),
             u .fits,
           )
@@ -336,7 +336,7 @@ module _ (s : List ℕ) (offset part k : ℕ) (new r : List ℕ) (bytes : (j : �
         size = u .size;
         same = λ j h. u .stays j
             (all-map (λ at g. λ z. g (ap (λ (i : ℕ). upidPlace s offset + i) z))
-            (all-unmap (λ (i : ℕ). upidPlace s offset + i) (lengthsWithin (kindIn old) (upidIn old) part) (all-tail (all-tail (all-tail (all-tail (all-tail h)))))));
+            (all-unmap (λ (i : ℕ). upidPlace s offset + i) (lengthsWithin (typeIn old) (upidIn old) part) (all-tail (all-tail (all-tail (all-tail (all-tail h)))))));
       }
 
   agree-all : Agree ls 0 (F₁ ++ u .fixed) (F₀ ++ u .front)
@@ -347,14 +347,14 @@ module _ (s : List ℕ) (offset part k : ℕ) (new r : List ℕ) (bytes : (j : �
 
   -- the rest of either section, behind what stands before the identifier
   old-rest : List ℕ
-  old-rest = (kindAt s offset part ∷ (length b₀ ∷ (b₀ ++ after))) ++ crcBytesOf ((F₀ ++ u .front) ++ (kindAt s offset part ∷ (length b₀ ∷ (b₀ ++ after))))
+  old-rest = (typeAt s offset part ∷ (length b₀ ∷ (b₀ ++ after))) ++ crcBytesOf ((F₀ ++ u .front) ++ (typeAt s offset part ∷ (length b₀ ∷ (b₀ ++ after))))
 
   new-rest : List ℕ
   new-rest = (k ∷ (length new ∷ (new ++ after))) ++ crcBytesOf ((F₁ ++ u .fixed) ++ (k ∷ (length new ∷ (new ++ after))))
 
   old-split : s ≡ (F₀ ++ u .front) ++ old-rest
   unfolding old-rest
-  old-split = old-is ∙ append-assoc (F₀ ++ u .front) (kindAt s offset part ∷ (length b₀ ∷ (b₀ ++ after))) (crcBytesOf ((F₀ ++ u .front) ++ (kindAt s offset part ∷ (length b₀ ∷ (b₀ ++ after)))))
+  old-split = old-is ∙ append-assoc (F₀ ++ u .front) (typeAt s offset part ∷ (length b₀ ∷ (b₀ ++ after))) (crcBytesOf ((F₀ ++ u .front) ++ (typeAt s offset part ∷ (length b₀ ∷ (b₀ ++ after)))))
 
   new-split : r ≡ (F₁ ++ u .fixed) ++ new-rest
   unfolding new-rest
@@ -396,5 +396,5 @@ module _ (s : List ℕ) (offset part k : ℕ) (new r : List ℕ) (bytes : (j : �
         loop = loop-then;
         lengths =
             more {x = 16 + c + offset + 1} item-counts
-            (all-remap {P = Counts} (λ (j : ℕ). upidPlace s offset + j) (lengthsWithin (kindIn old) (upidIn old) part) (all-map (λ j h. upid-counts j h) (u .lengths)));
+            (all-remap {P = Counts} (λ (j : ℕ). upidPlace s offset + j) (lengthsWithin (typeIn old) (upidIn old) part) (all-map (λ j h. upid-counts j h) (u .lengths)));
       }

@@ -16,7 +16,7 @@ use Rattle.descriptor_loop.specs.Items.{stepOf, Listed, listed, itemsOf}
 use Rattle.descriptor_loop.specs.declared.Item.{Item}
 use Rattle.descriptor_loop.specs.declared.Step.{Step}
 use Rattle.relabel_found.proofs.Inserts.{Inserted, inserted}
-use Rattle.relabel_found.specs.Found.{begins, inserts, found, payloadAt, foreIn, kindIn, sizeIn, upidIn, postIn}
+use Rattle.relabel_found.specs.Found.{begins, inserts, found, payloadAt, foreIn, typeIn, sizeIn, upidIn, postIn}
 use Rattle.relabel_laws.proofs.Lists.{head-then}
 use Rattle.relabel_loop.proofs.Moves.{step-moved}
 use Rattle.relabel_loop.proofs.Pieces.{step-piece}
@@ -154,8 +154,8 @@ module _ (pay : List ℕ) (K : ℕ) (b : List ℕ) (fits : upidHead pay + 2 + si
   pub fore-then : foreIn new ≡ foreIn pay
   fore-then = ap (λ (k : ℕ). take k new) head-is ∙ take-at (foreIn pay) tail (length (foreIn pay)) refl
 
-  pub kind-then : kindIn new ≡ K
-  kind-then = ap (λ (k : ℕ). getD new k 0) head-is ∙ getD-append-seam (foreIn pay) K (length b ∷ (b ++ postIn pay)) 0
+  pub type-then : typeIn new ≡ K
+  type-then = ap (λ (k : ℕ). getD new k 0) head-is ∙ getD-append-seam (foreIn pay) K (length b ∷ (b ++ postIn pay)) 0
 
   pub size-then : sizeIn new ≡ length b
   size-then = ap (λ (k : ℕ). getD new (k + 1) 0) head-is ∙ getD-append-add (foreIn pay) tail 1 0

@@ -31,7 +31,7 @@ use Rattle.transport_packet.specs.Sections.{Right}
 use Rattle.upid.specs.Text.{textOf, done, step, within}
 use Rattle.upid.specs.Upid.{upidOf, checkOf, readOf, walkOf, _then_, plainOf, lengthOf, isText, reportedOf, listOf, partsOf, listed, unlessRefused}
 use Rattle.relabel_trips.specs.Incident.{incident, incidentThen, newBytes, eightBytes, otherBytes}
-use Rattle.relabel_trips.specs.Named.{kindAt, identifierAt}
+use Rattle.relabel_trips.specs.Named.{typeAt, identifierAt}
 use Rattle.relabel_trips.proofs.Trips.{back-again}
 
 -- the eight-byte part becomes twelve bytes long
@@ -40,11 +40,11 @@ unfolding incident incidentThen relabelMade loopMade fitting found begins upidHe
 becomes = refl
 
 -- every identifier of either
-pub listed-before : identifiersIn incident ≡ record { level = 1; kind = 8; bytes = eightBytes } ∷ (record { level = 1; kind = 3; bytes = otherBytes } ∷ [])
+pub listed-before : identifiersIn incident ≡ record { level = 1; «upid_type» = 8; bytes = eightBytes } ∷ (record { level = 1; «upid_type» = 3; bytes = otherBytes } ∷ [])
 unfolding incident identifiersIn ofItem ofUpid identifiersAt kept.identifiersIn found upidHead commandLength loopLength loopPlace itemsOf itemsFrom stepOf wholeAt readAt descriptorOf isCuei segmentationOf insertOf inserted head front parts deliveryRestrictions mode duration writtenUpid back subSegments segmentation number bit reserved part remaining list viewed upidOf checkOf readOf walkOf _then_ plainOf lengthOf isText reportedOf listOf partsOf listed unlessRefused textOf done step within
 listed-before = refl
 
-pub listed-after : identifiersIn incidentThen ≡ record { level = 1; kind = 3; bytes = newBytes } ∷ (record { level = 1; kind = 3; bytes = otherBytes } ∷ [])
+pub listed-after : identifiersIn incidentThen ≡ record { level = 1; «upid_type» = 3; bytes = newBytes } ∷ (record { level = 1; «upid_type» = 3; bytes = otherBytes } ∷ [])
 unfolding incidentThen identifiersIn ofItem ofUpid identifiersAt kept.identifiersIn found upidHead commandLength loopLength loopPlace itemsOf itemsFrom stepOf wholeAt readAt descriptorOf isCuei segmentationOf insertOf inserted head front parts deliveryRestrictions mode duration writtenUpid back subSegments segmentation number bit reserved part remaining list viewed upidOf checkOf readOf walkOf _then_ plainOf lengthOf isText reportedOf listOf partsOf listed unlessRefused textOf done step within
 listed-after = refl
 
@@ -58,7 +58,7 @@ pub incident-right : Right incident
 unfolding incident
 incident-right = record { size = refl; short = omega arith }
 
-pub incident-named : (kindAt incident 0 1 ≡ 8) × (identifierAt incident 0 1 ≡ eightBytes)
+pub incident-named : (typeAt incident 0 1 ≡ 8) × (identifierAt incident 0 1 ≡ eightBytes)
 unfolding incident commandLength loopLength loopPlace viewed upidHead upidOf checkOf readOf walkOf _then_ plainOf lengthOf isText reportedOf listOf partsOf listed unlessRefused textOf done step within
 incident-named = (refl, refl)
 

@@ -18,7 +18,7 @@ use Rattle.transport_laws.proofs.Framing.{canonical-laid}
 use Rattle.transport_packet.specs.Sections.{Right}
 use Rattle.relabel_trips.specs.Cutting.{CutAt, ByByte}
 use Rattle.relabel_trips.specs.Incident.{incident, incidentThen, newBytes, eightBytes, otherBytes}
-use Rattle.relabel_trips.specs.Named.{Named, kindAt, identifierAt}
+use Rattle.relabel_trips.specs.Named.{Named, typeAt, identifierAt}
 use Rattle.relabel_trips.proofs.ByByte as by-byte
 use Rattle.relabel_trips.proofs.Cuttings as cuttings
 use Rattle.relabel_trips.proofs.Rows as rows
@@ -28,18 +28,18 @@ use Rattle.relabel_trips.proofs.Trips as trips
 
 -- Relabelling with the identifier that is there, its type as it is written, changes nothing: of a section whose section_length is right.
 pub the-same-identifier-changes-nothing-of-the-section : (s : List ℕ) (offset part : ℕ) → ((j : ℕ) → getD s j 0 < 256) → Right s → Named s offset part
-    → relabelMade s offset part (kindAt s offset part) (identifierAt s offset part) ≡ made s
+    → relabelMade s offset part (typeAt s offset part) (identifierAt s offset part) ≡ made s
 the-same-identifier-changes-nothing-of-the-section s offset part bytes right n = trips.nothing-changes s offset part bytes n right
 
 -- Relabelling and then relabelling back, with the identifier that was there, gives the old section: of one whose section_length was right.
 pub relabelled-back-is-the-old-section : (s : List ℕ) (offset part k : ℕ) (new r : List ℕ) → ((j : ℕ) → getD s j 0 < 256) → k < 256 → Right s
-    → relabelMade s offset part k new ≡ made r → relabelMade r offset part (kindAt s offset part) (identifierAt s offset part) ≡ made s
+    → relabelMade s offset part k new ≡ made r → relabelMade r offset part (typeAt s offset part) (identifierAt s offset part) ≡ made s
 relabelled-back-is-the-old-section s offset part k new r bytes byte right e = trips.back-again s offset part k new r bytes byte e right
 
 -- ---- and exactly then
 
 pub only-where-section-length-was-right : (s : List ℕ) (offset part : ℕ) → ((j : ℕ) → getD s j 0 < 256) → Named s offset part
-    → relabelMade s offset part (kindAt s offset part) (identifierAt s offset part) ≡ made s → Right s
+    → relabelMade s offset part (typeAt s offset part) (identifierAt s offset part) ≡ made s → Right s
 only-where-section-length-was-right s offset part bytes n e = trips.only-then s offset part bytes n e
 
 -- Of whatever `relabel` writes section_length is right.
@@ -48,7 +48,7 @@ what-is-written-is-right = trips.is-right
 
 -- Whatever it was, nothing else stands in the way: section_length is mended, the CRC with it, and there and back comes to the same.
 pub whatever-section-length-was : (s : List ℕ) (offset part k : ℕ) (new r : List ℕ) → ((j : ℕ) → getD s j 0 < 256) → k < 256 → relabelMade s offset part k new ≡ made r
-    → relabelMade r offset part (kindAt s offset part) (identifierAt s offset part) ≡ relabelMade s offset part (kindAt s offset part) (identifierAt s offset part)
+    → relabelMade r offset part (typeAt s offset part) (identifierAt s offset part) ≡ relabelMade s offset part (typeAt s offset part) (identifierAt s offset part)
 whatever-section-length-was s offset part k new r bytes byte e =
     trips.mends-back s offset part k new r bytes byte e ∙ sym (trips.mends s offset part bytes (trips.was-named s offset part k new r bytes byte e))
 
@@ -83,7 +83,7 @@ pub the-incident : (relabelMade incident 0 1 3 newBytes ≡ made incidentThen)
 the-incident = (rows.becomes, rows.untouched .0, rows.untouched .1, rows.becomes-again, rows.incident-right)
 
 -- The lists of its identifiers: the same but for that one, and its type and bytes by the definitions above.
-pub the-incidents-identifiers : (identifiersIn incident ≡ record { level = 1; kind = 8; bytes = eightBytes } ∷ (record { level = 1; kind = 3; bytes = otherBytes } ∷ []))
-    × (identifiersIn incidentThen ≡ record { level = 1; kind = 3; bytes = newBytes } ∷ (record { level = 1; kind = 3; bytes = otherBytes } ∷ []))
-    × (kindAt incident 0 1 ≡ 8) × (identifierAt incident 0 1 ≡ eightBytes)
+pub the-incidents-identifiers : (identifiersIn incident ≡ record { level = 1; «upid_type» = 8; bytes = eightBytes } ∷ (record { level = 1; «upid_type» = 3; bytes = otherBytes } ∷ []))
+    × (identifiersIn incidentThen ≡ record { level = 1; «upid_type» = 3; bytes = newBytes } ∷ (record { level = 1; «upid_type» = 3; bytes = otherBytes } ∷ []))
+    × (typeAt incident 0 1 ≡ 8) × (identifierAt incident 0 1 ≡ eightBytes)
 the-incidents-identifiers = (rows.listed-before, rows.listed-after, rows.incident-named .0, rows.incident-named .1)

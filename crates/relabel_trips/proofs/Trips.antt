@@ -11,9 +11,9 @@ use Rattle.descriptor_loop.specs.Items.{listed, itemsOf}
 use Rattle.relabel.proofs.Cuts.{loop-there}
 use Rattle.relabel.proofs.Mades.{Framing, framing, section-accepted}
 use Rattle.relabel.specs.Relabel.{payloadIn, payloadThen, sectionThen, fitting, loopMade, relabelMade}
-use Rattle.relabel_found.proofs.Inserts.{Inserted, inserted, hole-at, byte-in, fore-in, kind-in, upid-in, post-in, size-all}
-use Rattle.relabel_found.specs.Found.{inserts, found, payloadAt, foreIn, kindIn, sizeIn, upidIn, postIn}
-use Rattle.relabel_joined.specs.Relabel.{kindThen, itemThen}
+use Rattle.relabel_found.proofs.Inserts.{Inserted, inserted, hole-at, byte-in, fore-in, type-in, upid-in, post-in, size-all}
+use Rattle.relabel_found.specs.Found.{inserts, found, payloadAt, foreIn, typeIn, sizeIn, upidIn, postIn}
+use Rattle.relabel_joined.specs.Relabel.{typeThen, itemThen}
 use Rattle.relabel_laws.proofs.Results.{result}
 use Rattle.relabel_laws.specs.Result.{Result}
 use Rattle.relabel_loop.specs.Item.{segmentationItem}
@@ -29,15 +29,15 @@ use Rattle.table.specs.Writing.{Made, made, refused}
 use Rattle.transport_packet.specs.Sections.{Right}
 use Rattle.upid.specs.Private.{Accepted}
 use Rattle.upid.specs.Upid.{checkOf}
-use Rattle.relabel_trips.specs.Named.{HasPart, Named, kindAt, identifierAt}
+use Rattle.relabel_trips.specs.Named.{HasPart, Named, typeAt, identifierAt}
 use Rattle.relabel_trips.proofs.Frames.{twice, set-right, own-size, own, new-loop-short}
-use Rattle.relabel_trips.proofs.Loops.{pay-short, own-item, pay-then, found-then, again, fore-then, kind-then, upid-then, post-then}
-use Rattle.relabel_trips.proofs.Upids.{was-there, same-upid, back-upid, kind-back, kind-same}
+use Rattle.relabel_trips.proofs.Loops.{pay-short, own-item, pay-then, found-then, again, fore-then, type-then, upid-then, post-then}
+use Rattle.relabel_trips.proofs.Upids.{was-there, same-upid, back-upid, type-back, type-same}
 
 -- ---- what is made, where all tests are met
 
 made-when : (s : List ℕ) (offset part k : ℕ) (new : List ℕ) (x : Section) (b : List ℕ) → sectionOf s ≡ SectionRead.Is x → found (loopBytes s) offset ≡ true
-    → upidMade (kindIn (payloadIn s offset)) (upidIn (payloadIn s offset)) part k new ≡ made b
+    → upidMade (typeIn (payloadIn s offset)) (upidIn (payloadIn s offset)) part k new ≡ made b
     → length (payloadThen s offset part k b) ≤ 250 → length (sectionThen s offset part k b) ≤ 4096
     → relabelMade s offset part k new ≡ made (sectionThen s offset part k b)
 unfolding loopMade fitting
@@ -61,20 +61,20 @@ module _ (s : List ℕ) (offset : ℕ) (x : Section) (is : sectionOf s ≡ Secti
   h = hole-at (loopBytes s) offset loop-byte i
 
   -- its payload, cut
-  pub cut : payload (foreIn pay) (postIn pay) (kindIn pay) (upidIn pay) ≡ pay
-  cut = sym (h .is ∙ cc (fore-in pay _ _ h, post-in pay _ _ h, kind-in pay _ _ h, upid-in pay _ _ h))
+  pub cut : payload (foreIn pay) (postIn pay) (typeIn pay) (upidIn pay) ≡ pay
+  cut = sym (h .is ∙ cc (fore-in pay _ _ h, post-in pay _ _ h, type-in pay _ _ h, upid-in pay _ _ h))
 
   pub whole : upidHead pay + 2 + sizeIn pay ≤ length pay
   whole = omega (arith, size-all pay _ _ h)
 
   -- its UPID is accepted
-  pub fine : Accepted (checkOf (kindIn pay) (upidIn pay))
+  pub fine : Accepted (checkOf (typeIn pay) (upidIn pay))
   fine =
-      let e : checkOf (kindIn pay) (upidIn pay) ≡ _ = ap₂ checkOf (sym (kind-in pay _ _ h)) (sym (upid-in pay _ _ h)) ∙ h .fine in
+      let e : checkOf (typeIn pay) (upidIn pay) ≡ _ = ap₂ checkOf (sym (type-in pay _ _ h)) (sym (upid-in pay _ _ h)) ∙ h .fine in
       rw e tt
 
   -- the section with it
-  pub own-then : (k : ℕ) → k ≡ kindIn pay → sectionWith s (withItem (loopBytes s) (listed (loopBytes s) offset) (itemThen (foreIn pay) (postIn pay) k (upidIn pay))) ≡ sectionWith s (loopBytes s)
+  pub own-then : (k : ℕ) → k ≡ typeIn pay → sectionWith s (withItem (loopBytes s) (listed (loopBytes s) offset) (itemThen (foreIn pay) (postIn pay) k (upidIn pay))) ≡ sectionWith s (loopBytes s)
   own-then k e =
       ap (sectionWith s)
       (ap (λ (t : ℕ). withItem (loopBytes s) (listed (loopBytes s) offset) (itemThen (foreIn pay) (postIn pay) t (upidIn pay))) e
@@ -87,24 +87,24 @@ module _ (s : List ℕ) (offset part : ℕ) (bytes : (j : ℕ) → getD s j 0 < 
   its = payloadIn s offset
 
   -- whatever its section_length was
-  pub mends : relabelMade s offset part (kindAt s offset part) (identifierAt s offset part) ≡ made (sectionWith s (loopBytes s))
+  pub mends : relabelMade s offset part (typeAt s offset part) (identifierAt s offset part) ≡ made (sectionWith s (loopBytes s))
   mends =
       let x : Section = n .old in
-      let same : kindThen part (kindIn its) (kindAt s offset part) ≡ kindIn its = kind-same (kindIn its) (upidIn its) part in
-      let e : sectionThen s offset part (kindAt s offset part) (upidIn its) ≡ sectionWith s (loopBytes s) = own-then s offset x (n .accepted) (n .item) bytes _ same in
-      let p : payloadThen s offset part (kindAt s offset part) (upidIn its) ≡ its =
+      let same : typeThen part (typeIn its) (typeAt s offset part) ≡ typeIn its = type-same (typeIn its) (upidIn its) part in
+      let e : sectionThen s offset part (typeAt s offset part) (upidIn its) ≡ sectionWith s (loopBytes s) = own-then s offset x (n .accepted) (n .item) bytes _ same in
+      let p : payloadThen s offset part (typeAt s offset part) (upidIn its) ≡ its =
       ap (λ (t : ℕ). payload (foreIn its) (postIn its) t (upidIn its)) same ∙ cut s offset x (n .accepted) (n .item) bytes in
-      let short : length (payloadThen s offset part (kindAt s offset part) (upidIn its)) ≤ 250 = subst (λ (l : List ℕ). length l ≤ 250) (sym p) (pay-short (loopBytes s) offset (n .item)) in
-      let fits : length (sectionThen s offset part (kindAt s offset part) (upidIn its)) ≤ 4096 =
+      let short : length (payloadThen s offset part (typeAt s offset part) (upidIn its)) ≤ 250 = subst (λ (l : List ℕ). length l ≤ 250) (sym p) (pay-short (loopBytes s) offset (n .item)) in
+      let fits : length (sectionThen s offset part (typeAt s offset part) (upidIn its)) ≤ 4096 =
       subst (λ (l : List ℕ). length l ≤ 4096) (sym e) (omega (arith, own-size s x (n .accepted) bytes, framing s x (n .accepted) .short)) in
-      made-when s offset part (kindAt s offset part) (identifierAt s offset part) x (upidIn its) (n .accepted) (n .item)
-      (same-upid (kindIn its) (upidIn its) part (fine s offset x (n .accepted) (n .item) bytes) (n .has)) short fits
+      made-when s offset part (typeAt s offset part) (identifierAt s offset part) x (upidIn its) (n .accepted) (n .item)
+      (same-upid (typeIn its) (upidIn its) part (fine s offset x (n .accepted) (n .item) bytes) (n .has)) short fits
       ∙ ap made e
 
-  pub nothing-changes : Right s → relabelMade s offset part (kindAt s offset part) (identifierAt s offset part) ≡ made s
+  pub nothing-changes : Right s → relabelMade s offset part (typeAt s offset part) (identifierAt s offset part) ≡ made s
   nothing-changes right = mends ∙ ap made (own s (n .old) (n .accepted) bytes right)
 
-  pub only-then : relabelMade s offset part (kindAt s offset part) (identifierAt s offset part) ≡ made s → Right s
+  pub only-then : relabelMade s offset part (typeAt s offset part) (identifierAt s offset part) ≡ made s → Right s
   only-then e =
       let same : made (sectionWith s (loopBytes s)) ≡ made s = sym mends ∙ e in
       let is : sectionWith s (loopBytes s) ≡ s = cc in
@@ -121,7 +121,7 @@ module _ (s : List ℕ) (offset part k : ℕ) (new r : List ℕ) (bytes : (j : �
   old = payloadIn s offset
 
   abbrev K : ℕ
-  K = kindThen part (kindIn old) k
+  K = typeThen part (typeIn old) k
 
   abbrev b : List ℕ
   b = t .upid
@@ -139,7 +139,7 @@ module _ (s : List ℕ) (offset part k : ℕ) (new r : List ℕ) (bytes : (j : �
   fits = subst (λ (l : List ℕ). length l ≤ 4096) (t .is) (framing r _ (ap sectionOf (t .is) ∙ t .kept .section) .short)
 
   pub was-named : Named s offset part
-  was-named = record { old = t .old; accepted = t .accepted; item = t .there; has = was-there (kindIn old) (upidIn old) part k new b (t .made-of) }
+  was-named = record { old = t .old; accepted = t .accepted; item = t .there; has = was-there (typeIn old) (upidIn old) part k new b (t .made-of) }
 
   pub is-right : Right r
   is-right = subst Right (sym (t .is)) (set-right s loopThen (t .old) (t .accepted) fits)
@@ -159,40 +159,40 @@ module _ (s : List ℕ) (offset part k : ℕ) (new r : List ℕ) (bytes : (j : �
   abbrev then : List ℕ
   then = payloadIn r offset
 
-  upid-is : upidMade (kindIn then) (upidIn then) part (kindAt s offset part) (identifierAt s offset part) ≡ made (upidIn old)
+  upid-is : upidMade (typeIn then) (upidIn then) part (typeAt s offset part) (identifierAt s offset part) ≡ made (upidIn old)
   upid-is =
-      ap₂ (λ (j : ℕ) (u : List ℕ). upidMade j u part (kindAt s offset part) (identifierAt s offset part))
-      (ap kindIn pay-is ∙ kind-then old K b (t .whole)) (ap upidIn pay-is ∙ upid-then old K b (t .whole))
-      ∙ back-upid (kindIn old) (upidIn old) part k new b (t .made-of)
+      ap₂ (λ (j : ℕ) (u : List ℕ). upidMade j u part (typeAt s offset part) (identifierAt s offset part))
+      (ap typeIn pay-is ∙ type-then old K b (t .whole)) (ap upidIn pay-is ∙ upid-then old K b (t .whole))
+      ∙ back-upid (typeIn old) (upidIn old) part k new b (t .made-of)
 
   -- the payload and the section then
-  kind-again : kindThen part (kindIn then) (kindAt s offset part) ≡ kindIn old
-  kind-again = ap (λ (j : ℕ). kindThen part j (kindAt s offset part)) (ap kindIn pay-is ∙ kind-then old K b (t .whole)) ∙ kind-back (kindIn old) (upidIn old) part k
+  type-again : typeThen part (typeIn then) (typeAt s offset part) ≡ typeIn old
+  type-again = ap (λ (j : ℕ). typeThen part j (typeAt s offset part)) (ap typeIn pay-is ∙ type-then old K b (t .whole)) ∙ type-back (typeIn old) (upidIn old) part k
 
-  pay-again : payloadThen r offset part (kindAt s offset part) (upidIn old) ≡ payload (foreIn old) (postIn old) (kindIn old) (upidIn old)
+  pay-again : payloadThen r offset part (typeAt s offset part) (upidIn old) ≡ payload (foreIn old) (postIn old) (typeIn old) (upidIn old)
   pay-again =
-      ap₂ (λ (f p : List ℕ). payload f p (kindThen part (kindIn then) (kindAt s offset part)) (upidIn old)) (ap foreIn pay-is ∙ fore-then old K b (t .whole)) (ap postIn pay-is ∙ post-then old K b (t .whole))
-      ∙ ap (λ (j : ℕ). payload (foreIn old) (postIn old) j (upidIn old)) kind-again
+      ap₂ (λ (f p : List ℕ). payload f p (typeThen part (typeIn then) (typeAt s offset part)) (upidIn old)) (ap foreIn pay-is ∙ fore-then old K b (t .whole)) (ap postIn pay-is ∙ post-then old K b (t .whole))
+      ∙ ap (λ (j : ℕ). payload (foreIn old) (postIn old) j (upidIn old)) type-again
 
-  section-again : sectionThen r offset part (kindAt s offset part) (upidIn old) ≡ sectionWith s loop
+  section-again : sectionThen r offset part (typeAt s offset part) (upidIn old) ≡ sectionWith s loop
   section-again =
-      let own₁ : List ℕ = payload (foreIn old) (postIn old) (kindIn old) (upidIn old) in
+      let own₁ : List ℕ = payload (foreIn old) (postIn old) (typeIn old) (upidIn old) in
       ap (λ (l : List ℕ). sectionWith r (withItem (loopBytes r) (listed (loopBytes r) offset) (segmentationItem l))) pay-again
       ∙ ap₂ (λ (a l : List ℕ). sectionWith a (withItem l (listed l offset) (segmentationItem own₁))) (t .is) loop-is
       ∙ ap (sectionWith (sectionWith s loopThen)) (again loop offset (t .there) payThen found-there (segmentationItem own₁))
       ∙ twice s loopThen (t .old) (t .accepted) fits (withItem loop (listed loop offset) (segmentationItem own₁))
-      ∙ own-then s offset (t .old) (t .accepted) (t .there) bytes (kindIn old) refl
+      ∙ own-then s offset (t .old) (t .accepted) (t .there) bytes (typeIn old) refl
 
   -- whatever its section_length was
-  pub mends-back : relabelMade r offset part (kindAt s offset part) (identifierAt s offset part) ≡ made (sectionWith s loop)
+  pub mends-back : relabelMade r offset part (typeAt s offset part) (identifierAt s offset part) ≡ made (sectionWith s loop)
   mends-back =
-      let p : payloadThen r offset part (kindAt s offset part) (upidIn old) ≡ old = pay-again ∙ cut s offset (t .old) (t .accepted) (t .there) bytes in
-      let short : length (payloadThen r offset part (kindAt s offset part) (upidIn old)) ≤ 250 = subst (λ (l : List ℕ). length l ≤ 250) (sym p) (pay-short loop offset (t .there)) in
-      let size : length (sectionThen r offset part (kindAt s offset part) (upidIn old)) ≤ 4096 =
+      let p : payloadThen r offset part (typeAt s offset part) (upidIn old) ≡ old = pay-again ∙ cut s offset (t .old) (t .accepted) (t .there) bytes in
+      let short : length (payloadThen r offset part (typeAt s offset part) (upidIn old)) ≤ 250 = subst (λ (l : List ℕ). length l ≤ 250) (sym p) (pay-short loop offset (t .there)) in
+      let size : length (sectionThen r offset part (typeAt s offset part) (upidIn old)) ≤ 4096 =
       subst (λ (l : List ℕ). length l ≤ 4096) (sym section-again) (omega (arith, own-size s (t .old) (t .accepted) bytes, framing s (t .old) (t .accepted) .short)) in
-      made-when r offset part (kindAt s offset part) (identifierAt s offset part) _ (upidIn old) (ap sectionOf (t .is) ∙ t .kept .section)
+      made-when r offset part (typeAt s offset part) (identifierAt s offset part) _ (upidIn old) (ap sectionOf (t .is) ∙ t .kept .section)
       (ap (λ (l : List ℕ). found l offset) loop-is ∙ found-there) upid-is short size
       ∙ ap made section-again
 
-  pub back-again : Right s → relabelMade r offset part (kindAt s offset part) (identifierAt s offset part) ≡ made s
+  pub back-again : Right s → relabelMade r offset part (typeAt s offset part) (identifierAt s offset part) ≡ made s
   back-again right = mends-back ∙ ap made (own s (t .old) (t .accepted) bytes right)

@@ -8,7 +8,7 @@ use mathlib.Core.Path.{_≡_, refl, ap, ap₂, sym, subst, _∙_}
 use native.Mathlib.Omega.{arith}
 use lib.ListN.{length, take, drop, getD, set, length-append, length-set, length-take, length-drop}
 use lib.Seq.{length-take-le, getD-set-same}
-use Rattle.relabel_joined.specs.Relabel.{kindThen}
+use Rattle.relabel_joined.specs.Relabel.{typeThen}
 use Rattle.relabel_upid.proofs.Answers.{has-parts, made-able}
 use Rattle.relabel_upid.proofs.Stores as stores
 use Rattle.relabel_upid.proofs.Theorems.{the-upid-itself}
@@ -89,18 +89,18 @@ value-all p n (q ∷ qs) s (before later rest) (more h hs) = more {x = q} (λ e.
 
 -- ---- the cutting
 
-pub record UpidCut (kind : ℕ) (top : List ℕ) (part k : ℕ) (new b : List ℕ) : Type 0 where
+pub record UpidCut (upid-type : ℕ) (top : List ℕ) (part k : ℕ) (new b : List ℕ) : Type 0 where
   pub front : List ℕ
   pub fixed : List ℕ
   pub rest : List ℕ
-  pub old : kind ∷ (length top ∷ top) ≡ front ++ (kindWithin kind top part ∷ (length (identifierWithin kind top part) ∷ (identifierWithin kind top part ++ rest)))
-  pub then : kindThen part kind k ∷ (length b ∷ b) ≡ fixed ++ (k ∷ (length new ∷ (new ++ rest)))
-  pub place : length front ≡ headWithin kind top part
+  pub old : upid-type ∷ (length top ∷ top) ≡ front ++ (kindWithin upid-type top part ∷ (length (identifierWithin upid-type top part) ∷ (identifierWithin upid-type top part ++ rest)))
+  pub then : typeThen part upid-type k ∷ (length b ∷ b) ≡ fixed ++ (k ∷ (length new ∷ (new ++ rest)))
+  pub place : length front ≡ headWithin upid-type top part
   pub size : length fixed ≡ length front
-  pub stays : (j : ℕ) → NotIn (lengthsWithin kind top part) j → getD fixed j 0 ≡ getD front j 0
-  pub fits : length (identifierWithin kind top part) ≤ length top
-  pub long : length b ≡ length top - length (identifierWithin kind top part) + length new
-  pub lengths : All (λ (j : ℕ). (j < length front) × (getD fixed j 0 ≡ getD front j 0 - length (identifierWithin kind top part) + length new)) (lengthsWithin kind top part)
+  pub stays : (j : ℕ) → NotIn (lengthsWithin upid-type top part) j → getD fixed j 0 ≡ getD front j 0
+  pub fits : length (identifierWithin upid-type top part) ≤ length top
+  pub long : length b ≡ length top - length (identifierWithin upid-type top part) + length new
+  pub lengths : All (λ (j : ℕ). (j < length front) × (getD fixed j 0 ≡ getD front j 0 - length (identifierWithin upid-type top part) + length new)) (lengthsWithin upid-type top part)
 
 -- two bytes before a list
 two-before : (a b : ℕ) (s : List ℕ) (j : ℕ) → 1 ≤ j → getD (a ∷ (b ∷ s)) (j + 1) 0 ≡ getD s (j - 1) 0
@@ -120,9 +120,9 @@ ascending-take (suc n) (p ∷ ps) (before h hs) = before (all-take n ps h) (asce
     all-take (suc n) [] a = none
     all-take (suc n) (x ∷ xs) (more h hs) = more h (all-take n xs hs)
 
-module _ (kind : ℕ) (top : List ℕ) (i k : ℕ) (new b : List ℕ) (e : upidMade kind top (suc i) k new ≡ made b) where
+module _ (upid-type : ℕ) (top : List ℕ) (i k : ℕ) (new b : List ℕ) (e : upidMade upid-type top (suc i) k new ≡ made b) where
   abbrev ps : List Part
-  ps = partsIn (upidOf kind top)
+  ps = partsIn (upidOf upid-type top)
 
   abbrev p : Part
   p = partAt ps i
@@ -131,10 +131,10 @@ module _ (kind : ℕ) (top : List ℕ) (i k : ℕ) (new b : List ℕ) (e : upidM
   qs = take i ps
 
   abbrev kd : ℕ
-  kd = kindWithin kind top (suc i)
+  kd = kindWithin upid-type top (suc i)
 
   abbrev bs : List ℕ
-  bs = identifierWithin kind top (suc i)
+  bs = identifierWithin upid-type top (suc i)
 
   abbrev F : List ℕ
   F = take (p .start - 2) top
@@ -143,25 +143,25 @@ module _ (kind : ℕ) (top : List ℕ) (i k : ℕ) (new b : List ℕ) (e : upidM
   R = drop (p .start + p .len) top
 
   there : i < length ps
-  there = made-able kind top i k new b e .0 .there
+  there = made-able upid-type top i k new b e .0 .there
 
-  accepted : Accepted (checkOf kind top)
-  accepted = has-parts kind top i there .1
+  accepted : Accepted (checkOf upid-type top)
+  accepted = has-parts upid-type top i there .1
 
-  counted : i < upidOf kind top .list .count
-  counted = by-cases i (upidOf kind top .list .count) (λ h. h) (λ h. absurd (omega (arith, stores.not-there kind top i (upidOf kind top .list) refl h, there)))
+  counted : i < upidOf upid-type top .list .count
+  counted = by-cases i (upidOf upid-type top .list .count) (λ h. h) (λ h. absurd (omega (arith, stores.not-there upid-type top i (upidOf upid-type top .list) refl h, there)))
 
   in-order : Ascending qs
-  in-order = ascending-take i ps (ordered kind (has-parts kind top i there .0) accepted)
+  in-order = ascending-take i ps (ordered upid-type (has-parts upid-type top i there .0) accepted)
     where
       ordered : (j : ℕ) → j ≡ 13 → Accepted (checkOf j top) → Ascending (partsIn (upidOf j top))
       ordered j z a = subst (λ (j : ℕ). Ascending (partsIn (upidOf j top))) (sym z) (in-byte-order top (subst (λ (j : ℕ). Accepted (checkOf j top)) z a))
 
   begins : 2 ≤ p .start
-  begins = stores.placed-here kind top i (upidOf kind top .list) refl counted p (sym (stores.part-same kind top i (upidOf kind top .list) refl counted)) .0
+  begins = stores.placed-here upid-type top i (upidOf upid-type top .list) refl counted p (sym (stores.part-same upid-type top i (upidOf upid-type top .list) refl counted)) .0
 
   within : p .start + p .len ≤ length top
-  within = stores.placed-here kind top i (upidOf kind top .list) refl counted p (sym (stores.part-same kind top i (upidOf kind top .list) refl counted)) .1
+  within = stores.placed-here upid-type top i (upidOf upid-type top .list) refl counted p (sym (stores.part-same upid-type top i (upidOf upid-type top .list) refl counted)) .1
 
   F-long : length F ≡ p .start - 2
   F-long = length-take-le (p .start - 2) top (omega (arith, within))
@@ -169,26 +169,26 @@ module _ (kind : ℕ) (top : List ℕ) (i k : ℕ) (new b : List ℕ) (e : upidM
   rooms : All (Room F) qs
   unfolding Room
   rooms =
-      subst (λ (rs : List Part). All (λ (q : Part). (2 ≤ q .start) × (q .start ≤ length F)) rs) (stores.take-same kind top i (upidOf kind top .list) refl counted)
+      subst (λ (rs : List Part). All (λ (q : Part). (2 ≤ q .start) × (q .start ≤ length F)) rs) (stores.take-same upid-type top i (upidOf upid-type top .list) refl counted)
       (all-map (λ q x. (x .0, omega (arith, x .1, F-long)))
-      (stores.placed-here kind top i (upidOf kind top .list) refl counted p (sym (stores.part-same kind top i (upidOf kind top .list) refl counted)) .2))
+      (stores.placed-here upid-type top i (upidOf upid-type top .list) refl counted p (sym (stores.part-same upid-type top i (upidOf upid-type top .list) refl counted)) .2))
 
   -- either is the same cut
   top-is : top ≡ mended p (length bs) qs F ++ (kd ∷ (length bs ∷ (bs ++ R)))
   unfolding spliced
-  top-is = made-able kind top i kd bs top (same-upid kind top (suc i) accepted there) .1
+  top-is = made-able upid-type top i kd bs top (same-upid upid-type top (suc i) accepted there) .1
 
   then-is : b ≡ mended p (length new) qs F ++ (k ∷ (length new ∷ (new ++ R)))
   unfolding spliced
-  then-is = made-able kind top i k new b e .1
+  then-is = made-able upid-type top i k new b e .1
 
   abbrev old-front : List ℕ
-  old-front = kind ∷ (length top ∷ mended p (length bs) qs F)
+  old-front = upid-type ∷ (length top ∷ mended p (length bs) qs F)
 
   abbrev new-front : List ℕ
-  new-front = kind ∷ (length b ∷ mended p (length new) qs F)
+  new-front = upid-type ∷ (length b ∷ mended p (length new) qs F)
 
-  front-long : (x n : ℕ) → length (kind ∷ (x ∷ mended p n qs F)) ≡ p .start
+  front-long : (x n : ℕ) → length (upid-type ∷ (x ∷ mended p n qs F)) ≡ p .start
   front-long x n = omega (arith, mended-length p n qs F, F-long, begins)
 
   long-is : length b ≡ length top - length bs + length new
@@ -212,34 +212,34 @@ module _ (kind : ℕ) (top : List ℕ) (i k : ℕ) (new b : List ℕ) (e : upidM
       all-map (λ q x. λ a f. x .0 a (let z : q .start + 1 ≡ suc (suc j) = omega (arith, x .1 .0, f) in z)) (all-both qs (all-around (λ (at : ℕ). at ≡ suc (suc j) → ⊥) p qs h) rooms) in
       mended-elsewhere p (length new) qs F j apart ∙ sym (mended-elsewhere p (length bs) qs F j apart)
 
-  part-stays : (j : ℕ) → NotIn (lengthsWithin kind top (suc i)) j → getD new-front j 0 ≡ getD old-front j 0
+  part-stays : (j : ℕ) → NotIn (lengthsWithin upid-type top (suc i)) j → getD new-front j 0 ≡ getD old-front j 0
   part-stays zero h = refl
   part-stays (suc zero) (more h hs) = absurd (h refl)
   part-stays (suc (suc j)) (more h hs) = elsewhere j hs
 
-  part-lengths : All (λ (j : ℕ). (j < length old-front) × (getD new-front j 0 ≡ getD old-front j 0 - length bs + length new)) (lengthsWithin kind top (suc i))
+  part-lengths : All (λ (j : ℕ). (j < length old-front) × (getD new-front j 0 ≡ getD old-front j 0 - length bs + length new)) (lengthsWithin upid-type top (suc i))
   unfolding Room
   part-lengths =
       more {x = 1} (omega (arith, front-long (length top) (length bs), begins), long-is)
       (around-all (λ (j : ℕ). (j < length old-front) × (getD new-front j 0 ≡ getD old-front j 0 - length bs + length new)) p qs
       (all-map
       (λ q x. λ a.
-      let v : getD new-front (q .start + 1) 0 ≡ q .len - p .len + length new = two-before kind (length b) (mended p (length new) qs F) (q .start) (omega (arith, x .0 .0)) ∙ x .1 .0 a in
-      let w : getD old-front (q .start + 1) 0 ≡ q .len - p .len + length bs = two-before kind (length top) (mended p (length bs) qs F) (q .start) (omega (arith, x .0 .0)) ∙ x .1 .1 a in
+      let v : getD new-front (q .start + 1) 0 ≡ q .len - p .len + length new = two-before upid-type (length b) (mended p (length new) qs F) (q .start) (omega (arith, x .0 .0)) ∙ x .1 .0 a in
+      let w : getD old-front (q .start + 1) 0 ≡ q .len - p .len + length bs = two-before upid-type (length top) (mended p (length bs) qs F) (q .start) (omega (arith, x .0 .0)) ∙ x .1 .1 a in
       (omega (arith, front-long (length top) (length bs), x .0 .1, F-long, begins), v ∙ counts (q .len - p .len) (length bs) (length new) _ w))
       (all-both qs rooms (all-both qs (value-all p (length new) qs F in-order rooms) (value-all p (length bs) qs F in-order rooms)))))
     where
       counts : (x m n y : ℕ) → y ≡ x + m → x + n ≡ y - m + n
       counts x m n y z = omega arith
 
-  pub part-cut : UpidCut kind top (suc i) k new b
+  pub part-cut : UpidCut upid-type top (suc i) k new b
   part-cut =
       record {
         front = old-front;
         fixed = new-front;
         rest = R;
-        old = ap (λ (l : List ℕ). kind ∷ (length top ∷ l)) top-is;
-        then = ap (λ (l : List ℕ). kind ∷ (length b ∷ l)) then-is;
+        old = ap (λ (l : List ℕ). upid-type ∷ (length top ∷ l)) top-is;
+        then = ap (λ (l : List ℕ). upid-type ∷ (length b ∷ l)) then-is;
         place = front-long (length top) (length bs);
         size = front-long (length b) (length new) ∙ sym (front-long (length top) (length bs));
         stays = part-stays;
@@ -248,14 +248,14 @@ module _ (kind : ℕ) (top : List ℕ) (i k : ℕ) (new b : List ℕ) (e : upidM
         lengths = part-lengths;
       }
 
-pub upid-cut : (kind : ℕ) (top : List ℕ) (part k : ℕ) (new b : List ℕ) → upidMade kind top part k new ≡ made b → UpidCut kind top part k new b
-upid-cut kind top zero k new b e =
-    let x = the-upid-itself kind top k new b e in
+pub upid-cut : (upid-type : ℕ) (top : List ℕ) (part k : ℕ) (new b : List ℕ) → upidMade upid-type top part k new ≡ made b → UpidCut upid-type top part k new b
+upid-cut upid-type top zero k new b e =
+    let x = the-upid-itself upid-type top k new b e in
     record {
       front = [];
       fixed = [];
       rest = [];
-      old = ap (λ (l : List ℕ). kind ∷ (length top ∷ l)) (sym (append-nil top));
+      old = ap (λ (l : List ℕ). upid-type ∷ (length top ∷ l)) (sym (append-nil top));
       then = ap (λ (l : List ℕ). k ∷ (length l ∷ l)) (x .0) ∙ ap (λ (l : List ℕ). k ∷ (length new ∷ l)) (sym (append-nil new));
       place = refl;
       size = refl;
@@ -264,4 +264,4 @@ upid-cut kind top zero k new b e =
       long = ap length (x .0) ∙ omega arith;
       lengths = none;
     }
-upid-cut kind top (suc i) k new b e = part-cut kind top i k new b e
+upid-cut upid-type top (suc i) k new b e = part-cut upid-type top i k new b e

@@ -6,7 +6,7 @@ use mathlib.Core.Path.{_≡_}
 use lib.ListN.{length, take, drop, getD}
 use Rattle.crc.specs.Crc.{crcBytesOf}
 use Rattle.relabel.specs.Relabel.{payloadIn}
-use Rattle.relabel_found.specs.Found.{kindIn, upidIn}
+use Rattle.relabel_found.specs.Found.{typeIn, upidIn}
 use Rattle.relabel_payload.specs.Payload.{upidHead}
 use Rattle.relabel_upid.specs.Relabel.{around, partAt}
 use Rattle.section.specs.Section.{commandLength, loopLength}
@@ -15,7 +15,7 @@ use Rattle.transport_packet.specs.Sections.{Right}
 use Rattle.upid.specs.Cover.{All}
 use Rattle.upid.specs.Upid.{upidOf, partsIn}
 use Rattle.upid.specs.declared.Part.{Part}
-use Rattle.relabel_trips.specs.Named.{kindAt, identifierAt}
+use Rattle.relabel_trips.specs.Named.{typeAt, identifierAt}
 
 -- ---- places
 
@@ -25,11 +25,11 @@ upidPlace s offset = 16 + commandLength s + offset + 6 + upidHead (payloadIn s o
 
 -- the head of the identifier, from the UPID's head on: a part's `start` is that of its payload, and counts from the UPID's payload on
 abbrev pub headWithin : ℕ → List ℕ → ℕ → ℕ
-headWithin kind top zero = 0
-headWithin kind top (suc i) = partAt (partsIn (upidOf kind top)) i .start
+headWithin «upid_type» top zero = 0
+headWithin «upid_type» top (suc i) = partAt (partsIn (upidOf «upid_type» top)) i .start
 
 abbrev pub headAt : List ℕ → ℕ → ℕ → ℕ
-headAt s offset part = upidPlace s offset + headWithin (kindIn (payloadIn s offset)) (upidIn (payloadIn s offset)) part
+headAt s offset part = upidPlace s offset + headWithin (typeIn (payloadIn s offset)) (upidIn (payloadIn s offset)) part
 
 -- ---- the lengths that count the identifier, outermost first
 
@@ -40,14 +40,14 @@ lengthsAround p (q ∷ qs) = pick (around p q) ((q .start + 1) ∷ lengthsAround
 
 -- from the UPID's head on: the UPID's own, and those of the MIDs around; where the UPID itself is the identifier, its length stands in the new head
 abbrev pub lengthsWithin : ℕ → List ℕ → ℕ → List ℕ
-lengthsWithin kind top zero = []
-lengthsWithin kind top (suc i) = 1 ∷ lengthsAround (partAt (partsIn (upidOf kind top)) i) (take i (partsIn (upidOf kind top)))
+lengthsWithin «upid_type» top zero = []
+lengthsWithin «upid_type» top (suc i) = 1 ∷ lengthsAround (partAt (partsIn (upidOf «upid_type» top)) i) (take i (partsIn (upidOf «upid_type» top)))
 
 -- the places of those of one byte: the item's, and these
 abbrev pub byteLengths : List ℕ → ℕ → ℕ → List ℕ
 byteLengths s offset part =
     (16 + commandLength s + offset + 1)
-    ∷ map (λ (j : ℕ). upidPlace s offset + j) (lengthsWithin (kindIn (payloadIn s offset)) (upidIn (payloadIn s offset)) part)
+    ∷ map (λ (j : ℕ). upidPlace s offset + j) (lengthsWithin (typeIn (payloadIn s offset)) (upidIn (payloadIn s offset)) part)
 
 -- every byte that holds one: before them the two bytes of section_length, and the two of descriptor_loop_length
 abbrev pub lengthBytes : List ℕ → ℕ → ℕ → List ℕ
@@ -68,7 +68,7 @@ pub record CutAt (s : List ℕ) (offset part k : ℕ) (new r : List ℕ) : Type 
   pub mended : List ℕ
   pub after : List ℕ
   -- the old section: what stands before the identifier, its type, length and bytes, what stands after it, and the CRC
-  pub old : s ≡ withCrc (before ++ (kindAt s offset part ∷ (length (identifierAt s offset part) ∷ (identifierAt s offset part ++ after))))
+  pub old : s ≡ withCrc (before ++ (typeAt s offset part ∷ (length (identifierAt s offset part) ∷ (identifierAt s offset part ++ after))))
   -- the new one: the same with lengths mended, the new type, length and bytes, and what stood after the old one; the CRC is that of this
   pub then : r ≡ withCrc (mended ++ (k ∷ (length new ∷ (new ++ after))))
   -- before the identifier nothing moves, and no byte changes but those that hold a length that counts it
@@ -93,7 +93,7 @@ pub record ByByte (s : List ℕ) (offset part k : ℕ) (new r : List ℕ) : Type
   -- before the identifier every byte is the old one, but those that hold a length that counts it (`CutAt` says what they hold)
   pub before : (j : ℕ) → j < headAt s offset part → NotIn (lengthBytes s offset part) j → getD r j 0 ≡ getD s j 0
   -- then the new type, length and bytes
-  pub kind : getD r (headAt s offset part) 0 ≡ k
+  pub «upid_type» : getD r (headAt s offset part) 0 ≡ k
   pub counted : getD r (headAt s offset part + 1) 0 ≡ length new
   pub run : take (length new) (drop (headAt s offset part + 2) r) ≡ new
   -- then all that stood after the old one, up to the CRC

@@ -5,8 +5,8 @@ use mathlib.Core.List.{List}
 use mathlib.Core.Path.{_≡_}
 use lib.ListN.{length}
 use Rattle.relabel.specs.Relabel.{payloadIn}
-use Rattle.relabel_found.specs.Found.{found, kindIn, upidIn}
-use Rattle.relabel_upid.specs.Kept.{writtenKind}
+use Rattle.relabel_found.specs.Found.{found, typeIn, upidIn}
+use Rattle.relabel_upid.specs.Kept.{writtenType}
 use Rattle.relabel_upid.specs.Relabel.{partAt}
 use Rattle.section.specs.Section.{loopBytes, sectionOf}
 use Rattle.section.specs.declared.Section.{Section}
@@ -17,17 +17,17 @@ use Rattle.upid.specs.Upid.{upidOf, partsIn}
 -- ---- of a UPID: part 0 is the UPID itself, which is none where it is empty; part i + 1 is the i-th of its MID's parts
 
 abbrev pub HasPart : ℕ → List ℕ → ℕ → Type 0
-HasPart kind top zero = 0 < length top
-HasPart kind top (suc i) = i < length (partsIn (upidOf kind top))
+HasPart upid-type top zero = 0 < length top
+HasPart upid-type top (suc i) = i < length (partsIn (upidOf upid-type top))
 
 -- 5 and 6 told apart
 abbrev pub kindWithin : ℕ → List ℕ → ℕ → ℕ
-kindWithin kind top zero = kind
-kindWithin kind top (suc i) = writtenKind top (partAt (partsIn (upidOf kind top)) i)
+kindWithin upid-type top zero = upid-type
+kindWithin upid-type top (suc i) = writtenType top (partAt (partsIn (upidOf upid-type top)) i)
 
 abbrev pub identifierWithin : ℕ → List ℕ → ℕ → List ℕ
-identifierWithin kind top zero = top
-identifierWithin kind top (suc i) = bytesOf top (partAt (partsIn (upidOf kind top)) i)
+identifierWithin upid-type top zero = top
+identifierWithin upid-type top (suc i) = bytesOf top (partAt (partsIn (upidOf upid-type top)) i)
 
 -- ---- of a section
 
@@ -36,10 +36,10 @@ pub record Named (s : List ℕ) (offset part : ℕ) : Type 0 where
   pub old : Section
   pub accepted : sectionOf s ≡ SectionRead.Is old
   pub item : found (loopBytes s) offset ≡ true
-  pub has : HasPart (kindIn (payloadIn s offset)) (upidIn (payloadIn s offset)) part
+  pub has : HasPart (typeIn (payloadIn s offset)) (upidIn (payloadIn s offset)) part
 
-abbrev pub kindAt : List ℕ → ℕ → ℕ → ℕ
-kindAt s offset part = kindWithin (kindIn (payloadIn s offset)) (upidIn (payloadIn s offset)) part
+abbrev pub typeAt : List ℕ → ℕ → ℕ → ℕ
+typeAt s offset part = kindWithin (typeIn (payloadIn s offset)) (upidIn (payloadIn s offset)) part
 
 abbrev pub identifierAt : List ℕ → ℕ → ℕ → List ℕ
-identifierAt s offset part = identifierWithin (kindIn (payloadIn s offset)) (upidIn (payloadIn s offset)) part
+identifierAt s offset part = identifierWithin (typeIn (payloadIn s offset)) (upidIn (payloadIn s offset)) part

@@ -5,7 +5,7 @@
 --     done     behind the last byte none is
 use Prim.Native.Nat.{ℕ, zero, suc, _+_, _-_, _≤_, _<_}
 use mathlib.Core.Path.{_≡_, refl, sym, ap, subst, _∙_}
-use mathlib.Core.Bool.{Bool, true, false, cond}
+use mathlib.Core.Bool.{Bool, true, false}
 use mathlib.Core.List.{List, [], _∷_, _++_, append-assoc, append-nil}
 use native.Mathlib.Omega.{arith}
 use lib.Dec.{eqb, ltb}
@@ -33,7 +33,7 @@ same : {at at₂ : ℕ} {b b₂ : List ℕ} {qs qs₂ : List Part} → at ≡ at
 same {at₂ = at₂} {b = b} {b₂ = b₂} {qs = qs} e f g r =
     subst (λ (x : List Part). Rest at₂ b₂ x) g (subst (λ (x : List ℕ). Rest at₂ x qs) f (subst (λ (x : ℕ). Rest x b qs) e r))
 
-fits : (t : Bool) (l n : ℕ) (r : Refusal) (y : UpidRead) → ltb n l ≡ t → Accepted (cond t (Refused r) y) → (l ≤ n) × Accepted y
+fits : (t : Bool) (l n : ℕ) (r : Refusal) (y : UpidRead) → ltb n l ≡ t → Accepted (pick t (Refused r) y) → (l ≤ n) × Accepted y
 fits true l n r y e a = absurd a
 fits false l n r y e a = (ltb-false n l e, a)
 

@@ -24,7 +24,7 @@ use Rattle.relabel_upid.specs.Hole.{Hole, here, inside, past, filled}
 use Rattle.relabel_upid.specs.Relabel.{instead, around, mended, spliced, partAt, replacedIn, taken, wholeMade, partMade, upidMade}
 use Rattle.relabel_upid.specs.Private.{heads, nth, nextHead, Walkable, Mends, Mendable, Ahead, Storable}
 use Rattle.relabel_upid.proofs.Answers.{part-is, take-is, parts-of-mid, has-parts}
-use Rattle.relabel_upid.proofs.Holes.{startAt, recorded, inner, before, Fair, Found, find, length-front, length-filled}
+use Rattle.relabel_upid.proofs.Holes.{startAt, recorded, inner, before, AcceptedBeside, Found, find, length-front, length-filled}
 use Rattle.relabel_upid.proofs.Places.{all-append, lies-in, spot}
 use Rattle.relabel_upid.proofs.Heads.{Rest, not-yet, told, whole, onward}
 use Rattle.relabel_upid.proofs.Turns.{mends-one, mended-on, mended-off, mended-length, mended-append, part-none, part-long, part-unfit, part-made}
@@ -34,11 +34,11 @@ use Rattle.relabel_upid.proofs.Turns.{mends-one, mended-on, mended-off,
 abbrev Early : ℕ → ℕ → Part → Type 0
 Early start high q = (2 ≤ q .start) × (q .start + 2 ≤ start) × (q .start + q .len ≤ high)
 
-early : (c : Cut) (level start high : ℕ) (h : Hole) → Fair h → start + length (filled h c) ≤ high → All (Early (startAt start h + 2) high) (before c level start h)
+early : (c : Cut) (level start high : ℕ) (h : Hole) → AcceptedBeside h → start + length (filled h c) ≤ high → All (Early (startAt start h + 2) high) (before c level start h)
 unfolding filled
 early c level start high (here a) f l = none
 early c level start high (inside h a) f l =
-    more {x = recorded level start (record { kind = 13; payload = filled h c })}
+    more {x = recorded level start (record { «upid_type» = 13; payload = filled h c })}
     (omega arith, omega (arith, length-front c (start + 2) h), omega (arith, length-append (filled h c) a))
     (early c (level + 1) (start + 2) high h (f .0) (omega (arith, length-append (filled h c) a)))
 early c level start high (past d h) f l =
@@ -52,7 +52,7 @@ abbrev Placed : List ℕ → List Part → ℕ → Type 0
 Placed top ps i =
     (2 ≤ partAt ps i .start) × (partAt ps i .start + partAt ps i .len ≤ length top) × All (Early (partAt ps i .start) (length top)) (take i ps)
 
-placed-filled : (c : Cut) (h : Hole) → Fair h → Placed (filled h c) (listOf 13 1 0 (filled h c)) (length (before c 1 0 h))
+placed-filled : (c : Cut) (h : Hole) → AcceptedBeside h → Placed (filled h c) (listOf 13 1 0 (filled h c)) (length (before c 1 0 h))
 placed-filled c h f =
     let p : Part = spot c 1 0 h in
     let x : (2 ≤ p .start) × (p .start + p .len ≤ length (filled h c)) × All (Early (p .start) (length (filled h c))) (before c 1 0 h) =
@@ -67,7 +67,7 @@ placed top i a hi =
     let c : Cut = x .part in
     let h : Hole = x .hole in
     subst (λ (s : List ℕ). Placed s (listOf 13 1 0 s) i) (x .is)
-    (subst (λ (j : ℕ). Placed (filled h c) (listOf 13 1 0 (filled h c)) j) (x .count) (placed-filled c h (x .fair)))
+    (subst (λ (j : ℕ). Placed (filled h c) (listOf 13 1 0 (filled h c)) j) (x .count) (placed-filled c h (x .accepted)))
 
 ahead : (p : Part) (n high : ℕ) (q : Part) → p .len ≤ high → high - p .len + n ≤ 255 → Early (p .start) high q → Ahead p n q
 unfolding around
@@ -226,32 +226,32 @@ unfolding taken
 never (Fine k) a e = zero-one cc
 never (Refused r) a e = a
 
-module _ (kind k i : ℕ) (top new : List ℕ) where
+module _ (upid-type k i : ℕ) (top new : List ℕ) where
   -- only a MID has parts, and only one that is accepted
-  pub no-mid : (kind ≡ 13 → ⊥) → partMade kind top i k new ≡ refused 41
-  no-mid h = part-none kind k i top new (by-cases i (length (partsIn (upidOf kind top))) (λ l. absurd (h (has-parts kind top i l .0))) (λ l. l))
+  pub no-mid : (upid-type ≡ 13 → ⊥) → partMade upid-type top i k new ≡ refused 41
+  no-mid h = part-none upid-type k i top new (by-cases i (length (partsIn (upidOf upid-type top))) (λ l. absurd (h (has-parts upid-type top i l .0))) (λ l. l))
 
-  pub no-reading : taken (checkOf kind top) ≡ false → partMade kind top i k new ≡ refused 41
-  no-reading e = part-none kind k i top new (by-cases i (length (partsIn (upidOf kind top))) (λ l. absurd (never _ (has-parts kind top i l .1) e)) (λ l. l))
+  pub no-reading : taken (checkOf upid-type top) ≡ false → partMade upid-type top i k new ≡ refused 41
+  no-reading e = part-none upid-type k i top new (by-cases i (length (partsIn (upidOf upid-type top))) (λ l. absurd (never _ (has-parts upid-type top i l .1) e)) (λ l. l))
 
-  module _ (mid : kind ≡ 13) (fine : taken (checkOf kind top) ≡ true) where
+  module _ (mid : upid-type ≡ 13) (fine : taken (checkOf upid-type top) ≡ true) where
     of-mid : Accepted (checkOf 13 top)
     of-mid = subst (λ (q : ℕ). Accepted (checkOf q top)) mid (of-taken _ fine)
 
     pub walkable : Walkable top
     walkable = record { accepted = check-mid top of-mid; short = check-short 13 top of-mid }
 
-    parts-are : partsIn (upidOf kind top) ≡ heads top
+    parts-are : partsIn (upidOf upid-type top) ≡ heads top
     parts-are = ap (λ (q : ℕ). partsIn (upidOf q top)) mid ∙ parts-of-mid top of-mid
 
-    pub made-none : length (heads top) ≤ i → partMade kind top i k new ≡ refused 41
-    made-none h = part-none kind k i top new (omega (arith, ap length parts-are))
+    pub made-none : length (heads top) ≤ i → partMade upid-type top i k new ≡ refused 41
+    made-none h = part-none upid-type k i top new (omega (arith, ap length parts-are))
 
     module _ (there : i < length (heads top)) where
-      is-there : i < length (partsIn (upidOf kind top))
+      is-there : i < length (partsIn (upidOf upid-type top))
       is-there = omega (arith, ap length parts-are)
 
-      same-part : partAt (partsIn (upidOf kind top)) i ≡ nth top i
+      same-part : partAt (partsIn (upidOf upid-type top)) i ≡ nth top i
       same-part = ap (λ (ps : List Part). getD ps i blankPart) parts-are
 
       placed-here : Placed top (heads top) i
@@ -263,18 +263,18 @@ module _ (kind k i : ℕ) (top new : List ℕ) where
       pub part-fits : nth top i .len ≤ length top
       part-fits = omega (arith, placed-here .1)
 
-      pub made-long : (255 < length top - nth top i .len + length new) → partMade kind top i k new ≡ refused 32
-      made-long h = part-long kind k i top new is-there (subst (λ (q : Part). 255 < instead q (length new) (length top)) (sym same-part) h)
+      pub made-long : (255 < length top - nth top i .len + length new) → partMade upid-type top i k new ≡ refused 32
+      made-long h = part-long upid-type k i top new is-there (subst (λ (q : Part). 255 < instead q (length new) (length top)) (sym same-part) h)
 
       module _ (h : length top - nth top i .len + length new ≤ 255) where
-        short-enough : instead (partAt (partsIn (upidOf kind top)) i) (length new) (length top) ≤ 255
+        short-enough : instead (partAt (partsIn (upidOf upid-type top)) i) (length new) (length top) ≤ 255
         short-enough = subst (λ (q : Part). instead q (length new) (length top) ≤ 255) (sym same-part) h
 
-        pub made-unfit : taken (readOf k 0 new) ≡ false → partMade kind top i k new ≡ refused 33
-        made-unfit t = part-unfit kind k i top new is-there short-enough t
+        pub made-unfit : taken (readOf k 0 new) ≡ false → partMade upid-type top i k new ≡ refused 33
+        made-unfit t = part-unfit upid-type k i top new is-there short-enough t
 
-        pub made-is : taken (readOf k 0 new) ≡ true → partMade kind top i k new ≡ made (spliced top (take i (heads top)) (nth top i) k new)
-        made-is t = part-made kind k i top new is-there short-enough t ∙ ap (λ (ps : List Part). made (replacedIn top ps i k new)) parts-are
+        pub made-is : taken (readOf k 0 new) ≡ true → partMade upid-type top i k new ≡ made (spliced top (take i (heads top)) (nth top i) k new)
+        made-is t = part-made upid-type k i top new is-there short-enough t ∙ ap (λ (ps : List Part). made (replacedIn top ps i k new)) parts-are
 
         pub storable : (head : ℕ) (target : List ℕ) → nth top i .start ≡ head + 2 → nth top i .len ≡ getD top (head + 1) 0 → length new ≤ 255
             → length top - nth top i .len + length new ≤ length target → Storable top i head new target
@@ -293,11 +293,11 @@ module _ (kind k i : ℕ) (top new : List ℕ) where
         pub size-is : length (spliced top (take i (heads top)) (nth top i) k new) ≡ length top - nth top i .len + length new
         size-is = spliced-size top (take i (heads top)) (nth top i) k new (placed-here .0) (placed-here .1)
 
-pub relabel-zero : (kind k part : ℕ) (top new : List ℕ) → part ≡ 0 → upidMade kind top part k new ≡ wholeMade kind top k new
+pub relabel-zero : (upid-type k part : ℕ) (top new : List ℕ) → part ≡ 0 → upidMade upid-type top part k new ≡ wholeMade upid-type top k new
 unfolding upidMade
-relabel-zero kind k part top new h = rw h
+relabel-zero upid-type k part top new h = rw h
 
-pub relabel-more : (kind k part : ℕ) (top new : List ℕ) → (part ≡ 0 → ⊥) → upidMade kind top part k new ≡ partMade kind top (part - 1) k new
+pub relabel-more : (upid-type k part : ℕ) (top new : List ℕ) → (part ≡ 0 → ⊥) → upidMade upid-type top part k new ≡ partMade upid-type top (part - 1) k new
 unfolding upidMade
-relabel-more kind k zero top new h = absurd (h refl)
-relabel-more kind k (suc i) top new h = let e : suc i - 1 ≡ i = omega arith in ap (λ (j : ℕ). partMade kind top j k new) (sym e)
+relabel-more upid-type k zero top new h = absurd (h refl)
+relabel-more upid-type k (suc i) top new h = let e : suc i - 1 ≡ i = omega arith in ap (λ (j : ℕ). partMade upid-type top j k new) (sym e)

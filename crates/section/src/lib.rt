@@ -198,10 +198,10 @@ pub fn read_frame(s: &[u8]) -> FrameRead
 
 // The command of a type, in its payload, as a section has it: its views count from the section's first byte, 14 bytes before the payload. The C boundary's:
 // it has one caller, so that no command is handed on by value.
-pub fn read_command_part(kind: u8, payload: &[u8]) -> CommandRead
-    ensures { λ r. ⌜ r ≡ movedRead (commandOf kind (now (payload .entry))) ⌝ }
+pub fn read_command_part(command_type: u8, payload: &[u8]) -> CommandRead
+    ensures { λ r. ⌜ r ≡ movedRead (commandOf «command_type» (now (payload .entry))) ⌝ }
 {
-    match read_command(kind, payload) {
+    match read_command(command_type, payload) {
         CommandRead::Is(c) => CommandRead::Is(move_command(c, COMMAND_AT)),
         CommandRead::UnknownType => CommandRead::UnknownType,
         CommandRead::Malformed => CommandRead::Malformed,

@@ -25,9 +25,9 @@ use Rattle.table.specs.Lent.{stored}
 use Rattle.table.specs.Writing.{Made, made, refused}
 use Rattle.table.proofs.Lists.{zero-one}
 use Rattle.table.proofs.Stores.{length-stored}
-use Rattle.section_writer.specs.Frame.{head, frame, numbersFit, fairHead}
+use Rattle.section_writer.specs.Frame.{head, frame, numbersFit, writableHead}
 use Rattle.section_writer.specs.Private.{tail, answerSection}
-use Rattle.section_writer.specs.Writing.{writerConditions, unless, sectionMade, kindOf}
+use Rattle.section_writer.specs.Writing.{writerConditions, unless, sectionMade, typeOf}
 use Rattle.section_writer.proofs.Frames.{length-frame}
 use Rattle.section_writer.proofs.Stored.{section-stored}
 use Rattle.section_writer.proofs.Trips.{tests-passed}
@@ -63,7 +63,7 @@ module _ (h : SpliceInfoHeader) (c : SpliceCommand) (cs : List ComponentSplice) 
   n = first 31 (writerConditions h (m .refusal) (m .size) (length loop) (canonicalLoop loop))
 
   abbrev section : Made
-  section = sectionMade h (commandMade c cs lent) (kindOf c) loop
+  section = sectionMade h (commandMade c cs lent) (typeOf c) loop
 
   size-is : m .size ≡ length payload
   unfolding measuredOf
@@ -75,14 +75,14 @@ module _ (h : SpliceInfoHeader) (c : SpliceCommand) (cs : List ComponentSplice) 
 
   is-refused : 0 < n → section ≡ refused n
   unfolding sectionMade
-  is-refused z = rw (← tests) (unless-refused n (frame h (kindOf c) payload loop) z)
+  is-refused z = rw (← tests) (unless-refused n (frame h (typeOf c) payload loop) z)
 
-  is-made : n ≡ 0 → section ≡ made (frame h (kindOf c) payload loop)
+  is-made : n ≡ 0 → section ≡ made (frame h (typeOf c) payload loop)
   unfolding sectionMade
   is-made e = rw (← tests, e)
 
-  long : length (frame h (kindOf c) payload loop) ≡ sectionLength (m .size) (length loop)
-  long = length-frame h (kindOf c) payload loop ∙ omega (arith, size-is)
+  long : length (frame h (typeOf c) payload loop) ≡ sectionLength (m .size) (length loop)
+  long = length-frame h (typeOf c) payload loop ∙ omega (arith, size-is)
 
   pub section-answer : (t : List ℕ) → answerSection h m loop (length t) ≡ answerOf section t
   unfolding answerSection
@@ -91,8 +91,8 @@ module _ (h : SpliceInfoHeader) (c : SpliceCommand) (cs : List ComponentSplice) 
       go : (z : Bool) → eqb n 0 ≡ z → (f : Bool) → leb (sectionLength (m .size) (length loop)) (length t) ≡ f
           → pick z (pick f (Written.Wrote (sectionLength (m .size) (length loop))) (Written.Refused 36)) (Written.Refused n) ≡ answerOf section t
       go false e f l = refused-answer section t n (is-refused (let o = eqb-false n 0 e in omega (arith, o))) .0
-      go true e false l = short-answer section t (frame h (kindOf c) payload loop) (is-made (eqb-true n 0 e)) (let o = leb-false (sectionLength (m .size) (length loop)) (length t) l in omega (arith, o, long)) .0
-      go true e true l = rw long at (wrote-answer section t (frame h (kindOf c) payload loop) (is-made (eqb-true n 0 e)) (let o = leb-true (sectionLength (m .size) (length loop)) (length t) l in omega (arith, o, long)) .0)
+      go true e false l = short-answer section t (frame h (typeOf c) payload loop) (is-made (eqb-true n 0 e)) (let o = leb-false (sectionLength (m .size) (length loop)) (length t) l in omega (arith, o, long)) .0
+      go true e true l = rw long at (wrote-answer section t (frame h (typeOf c) payload loop) (is-made (eqb-true n 0 e)) (let o = leb-true (sectionLength (m .size) (length loop)) (length t) l in omega (arith, o, long)) .0)
 
   -- where the answer is that it is written
   module _ (t : List ℕ) (r : Written) (k : ℕ) (is : r ≡ answerSection h m loop (length t)) (e : r ≡ Written.Wrote k) where
@@ -107,15 +107,15 @@ module _ (h : SpliceInfoHeader) (c : SpliceCommand) (cs : List ComponentSplice) 
         go true a false l w = zero-one cc
         go true a true l w = (eqb-true n 0 a, leb-true (sectionLength (m .size) (length loop)) (length t) l)
 
-    pub allowed : (numbersFit h ≡ true) × (fairHead h ≡ true) × (sectionLength (m .size) (length loop) ≤ 4096) × (sectionLength (m .size) (length loop) ≤ length t)
+    pub allowed : (numbersFit h ≡ true) × (writableHead h ≡ true) × (sectionLength (m .size) (length loop) ≤ 4096) × (sectionLength (m .size) (length loop) ≤ length t)
     allowed = let p = tests-passed h (m .refusal) (m .size) (length loop) (canonicalLoop loop) (no-refusal .0) in (p .0, p .1, p .2, no-refusal .1)
 
-    pub wrote-section : (u v w : List ℕ) (q : ℕ) → q ≡ kindOf c → u ≡ stored t 0 (head h q (m .size) (length loop)) → v ≡ stored u 14 payload
+    pub wrote-section : (u v w : List ℕ) (q : ℕ) → q ≡ typeOf c → u ≡ stored t 0 (head h q (m .size) (length loop)) → v ≡ stored u 14 payload
         → w ≡ stored v (14 + m .size) (tail (take (14 + m .size) v) loop) → w ≡ laterOf section t
     wrote-section u v w q eq eu ev ew =
         let room = no-refusal .1 in
-        section-stored t u v w h (kindOf c) payload loop (rw (eq, size-is) at eu) ev (rw size-is at ew) (omega (arith, size-is, room))
-        ∙ wrote-answer section t (frame h (kindOf c) payload loop) (is-made (no-refusal .0)) (omega (arith, long, room)) .1
+        section-stored t u v w h (typeOf c) payload loop (rw (eq, size-is) at eu) ev (rw size-is at ew) (omega (arith, size-is, room))
+        ∙ wrote-answer section t (frame h (typeOf c) payload loop) (is-made (no-refusal .0)) (omega (arith, long, room)) .1
 
 -- stores keep the target's length
 pub kept-length : (t u v : List ℕ) (i j : ℕ) (a b : List ℕ) → u ≡ stored t i a → v ≡ stored u j b → length v ≡ length t

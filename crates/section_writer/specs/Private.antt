@@ -27,7 +27,7 @@ unfoldable pub frontNumber : SpliceInfoHeader → ℕ
 frontNumber h = (h .«protocol_version» * 128 + algorithmNumber (h .«encryption_algorithm»)) * 2 ^ 33 + h .«pts_adjustment»
 
 unfoldable pub backNumber : SpliceInfoHeader → ℕ → ℕ → ℕ
-backNumber h kind size = ((h .«cw_index» * 4096 + h .tier) * 4096 + size) * 256 + kind
+backNumber h command-type size = ((h .«cw_index» * 4096 + h .tier) * 4096 + size) * 256 + command-type
 
 -- what follows the command, where `before` stands before it
 unfoldable pub tail : List ℕ → List ℕ → List ℕ
@@ -55,7 +55,7 @@ SameBy t p q = sameAnswers t p (parse t (bitsOf p) 0) q (parse t (bitsOf q) 0)
 
 -- of commands of one type; null and bandwidth reservation have nothing to compare
 unfoldable pub SameCommand : ℕ → List ℕ → List ℕ → Type 0
-SameCommand kind p q = byType kind (Unit {0}) (SameBy insert p q) (SameBy spliceTime p q) (Unit {0}) (SameBy private p q) (Unit {0})
+SameCommand command-type p q = byType command-type (Unit {0}) (SameBy insert p q) (SameBy spliceTime p q) (Unit {0}) (SameBy private p q) (Unit {0})
 
 -- what two sections say around their loops
 pub record SameAround (s r : List ℕ) : Type 0 where

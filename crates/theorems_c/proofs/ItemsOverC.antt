@@ -20,22 +20,22 @@ use Rattle.descriptor.specs.declared.plain.TimeDescriptor.{TimeDescriptor}
 use Rattle.descriptor.specs.declared.segmentation.DeliveryRestrictionFlags.{DeliveryRestrictionFlags}
 use Rattle.descriptor.specs.declared.segmentation.ModeComponent.{ModeComponent}
 use Rattle.descriptor.specs.declared.segmentation.SegmentationDescriptor.{SegmentationDescriptor}
-use Rattle.descriptor.specs.declared.segmentation.SegmentationDetail.{SegmentationDetail}
+use Rattle.descriptor.specs.declared.segmentation.DescriptorDetail.{DescriptorDetail}
 use Rattle.descriptor.specs.declared.segmentation.SegmentationDuration.{SegmentationDuration}
-use Rattle.descriptor.specs.declared.segmentation.SegmentationInsert.{SegmentationInsert}
+use Rattle.descriptor.specs.declared.segmentation.SegmentationDetail.{SegmentationDetail}
 use Rattle.descriptor.specs.declared.segmentation.SegmentationMode.{SegmentationMode}
 use Rattle.descriptor.specs.declared.segmentation.SubSegments.{SubSegments}
 use Rattle.descriptor.specs.declared.whole.Beside.{Beside}
 use Rattle.descriptor_measure.proofs.Refusals.{view-out, upid-long, numbers-over}
 use Rattle.descriptor_measure.specs.Private.{componentsFields, modeFields, durationFields, numbersFit}
-use Rattle.descriptor_measure.specs.Writing.{framedMade, segmentationMade, payloadMade, descriptorMade, tagOf, identifierOf, upidIn, upidSource, fairSegment, writtenDetail, countBeside}
+use Rattle.descriptor_measure.specs.Writing.{framedMade, segmentationMade, payloadMade, descriptorMade, tagOf, identifierOf, upidIn, upidSource, writableSegment, writtenDetail, countBeside}
 use Rattle.c_descriptor_writer.proofs.Answered.{unseen-made}
 use Rattle.c_descriptor_writer.proofs.Back.{descriptor-back}
 use Rattle.c_descriptor_writer.proofs.Told.{mode-count}
 use Rattle.c_descriptor_writer.specs.ItemGiven.{descriptorGiven, identifierFrom, placeFrom, byteFrom, placesFrom, eidrFrom, besideFrom, ownItem, wordsRefusal, descriptorRefusal, descriptorWordsMade}
 use Rattle.c_descriptor_writer.specs.ItemWords.{itemWords, itemWidths, placesIn, eidrIn, placeWidths, placesWithin, besideWithin, itemSeen, hasEidr, besideThere}
 use Rattle.c_descriptor_writer.proofs.Typed.{TypedSubs, TypedInsert, TypedDetail, Typed}
-use Rattle.c_items.specs.FlatItem.{flatRestrictions, flatSubSegments, wholeSegmentation, bareSegmentation, segmentationItem, flatDescriptor, flatItem, refusalIn, valuesIn, flatStep, flatComponent, flatBeside}
+use Rattle.c_items.specs.FlatItem.{flatRestrictions, flatSubSegments, wholeSegmentation, segmentationHead, segmentationItem, flatDescriptor, flatItem, refusalIn, valuesIn, flatStep, flatComponent, flatBeside}
 use Rattle.c_command_writer.proofs.Words.{and-unit, places-length}
 use Rattle.c_command_writer.specs.Words.{within, same, placesOf, eachPlace, refusalOf, seenFirst, noLess}
 use Rattle.descriptor_loop.specs.declared.Item.{Item}
@@ -131,13 +131,13 @@ unfolding framedMade
 framed-wide tag identifier (made b) w = absurd w
 framed-wide tag identifier (refused n) w = w
 
-unseen-wide : (fair : Bool) (lent : List ℕ) (fs : List Field) → seen lent fs ≡ false → Wide (makeOf fair lent fs)
-unseen-wide fair lent fs e = rw e (omega arith, omega arith)
+unseen-wide : (writable : Bool) (lent : List ℕ) (fs : List Field) → seen lent fs ≡ false → Wide (makeOf writable lent fs)
+unseen-wide writable lent fs e = rw e (omega arith, omega arith)
 
-over-wide : (fair : Bool) (lent : List ℕ) (fs : List Field) → writing.within fs ≡ false → Wide (makeOf fair lent fs)
-over-wide fair lent fs e = go (seen lent fs) refl
+over-wide : (writable : Bool) (lent : List ℕ) (fs : List Field) → writing.within fs ≡ false → Wide (makeOf writable lent fs)
+over-wide writable lent fs e = go (seen lent fs) refl
   where
-    go : (b : Bool) → seen lent fs ≡ b → Wide (makeOf fair lent fs)
+    go : (b : Bool) → seen lent fs ≡ b → Wide (makeOf writable lent fs)
     go true f = rw (f, e) (omega arith, omega arith)
     go false f = rw f (omega arith, omega arith)
 
@@ -187,11 +187,11 @@ module _ (number : ℕ) (id : List ℕ) (beside : Beside) (lent : List ℕ) (sma
   Refuses d = within itemWidths (number ∷ itemWords (flatDescriptor d)) ≡ false → Wide (payloadMade d id beside lent)
 
   avail-within : (x : AvailDescriptor) → x .«provider_avail_id» < 2 ^ 32 → Within (Descriptor.Avail x)
-  unfolding within itemWidths itemWords flatDescriptor bareSegmentation flatRestrictions flatSubSegments
+  unfolding within itemWidths itemWords flatDescriptor segmentationHead flatRestrictions flatSubSegments
   avail-within x h = rw (lt-ltb number (2 ^ 32) small, lt-ltb (x .«provider_avail_id») (2 ^ 32) h)
 
   dtmf-within : (x : DTMFDescriptor) → x .preroll < 256 → leb (x .«dtmf_chars» .at + x .«dtmf_chars» .len) (length lent) ≡ true → Within (Descriptor.Dtmf x)
-  unfolding within itemWidths itemWords flatDescriptor bareSegmentation flatRestrictions flatSubSegments
+  unfolding within itemWidths itemWords flatDescriptor segmentationHead flatRestrictions flatSubSegments
   dtmf-within x h e =
       let v = view-small (x .«dtmf_chars») lent short e in
       rw (lt-ltb number (2 ^ 32) small, lt-ltb (x .preroll) 256 h, v .0, v .1)
@@ -208,7 +208,7 @@ module _ (number : ℕ) (id : List ℕ) (beside : Beside) (lent : List ℕ) (sma
       go false f = dtmf-unseen x f
 
   time-within : (x : TimeDescriptor) → Typed (Descriptor.Time x) → ltb (x .«tai_seconds») (2 ^ 48) ≡ true → Within (Descriptor.Time x)
-  unfolding within itemWidths itemWords flatDescriptor bareSegmentation flatRestrictions flatSubSegments
+  unfolding within itemWidths itemWords flatDescriptor segmentationHead flatRestrictions flatSubSegments
   time-within x h e = rw (lt-ltb number (2 ^ 32) small, e, lt-ltb (x .«tai_nanoseconds») (2 ^ 32) (h .0), lt-ltb (x .«utc_offset») 65536 (h .1))
 
   time-over : (x : TimeDescriptor) → ltb (x .«tai_seconds») (2 ^ 48) ≡ false → Wide (payloadMade (Descriptor.Time x) id beside lent)
@@ -223,7 +223,7 @@ module _ (number : ℕ) (id : List ℕ) (beside : Beside) (lent : List ℕ) (sma
       go false f = time-over x f
 
   reserved-within : (tag : ℕ) (v : View) → tag < 256 → leb (v .at + v .len) (length lent) ≡ true → Within (Descriptor.Reserved tag v)
-  unfolding within itemWidths itemWords flatDescriptor bareSegmentation flatRestrictions flatSubSegments
+  unfolding within itemWidths itemWords flatDescriptor segmentationHead flatRestrictions flatSubSegments
   reserved-within tag v h e =
       let s = view-small v lent short e in
       rw (lt-ltb number (2 ^ 32) small, lt-ltb tag 256 h, s .0, s .1)
@@ -239,13 +239,13 @@ module _ (number : ℕ) (id : List ℕ) (beside : Beside) (lent : List ℕ) (sma
       go true f = let w = reserved-within tag v h f in zero-one cc
       go false f = reserved-unseen tag v f
 
-  cancel-within : (event : ℕ) → event < 2 ^ 32 → Within (Descriptor.Segmentation (record { «segmentation_event_id» = event; «descriptor_detail» = SegmentationDetail.Cancel }))
-  unfolding within itemWidths itemWords flatDescriptor segmentationItem bareSegmentation flatRestrictions flatSubSegments
+  cancel-within : (event : ℕ) → event < 2 ^ 32 → Within (Descriptor.Segmentation (record { «segmentation_event_id» = event; «descriptor_detail» = DescriptorDetail.Cancel }))
+  unfolding within itemWidths itemWords flatDescriptor segmentationItem segmentationHead flatRestrictions flatSubSegments
   cancel-within event h = rw (lt-ltb number (2 ^ 32) small, lt-ltb event (2 ^ 32) h)
 
-  module _ (event : ℕ) (i : SegmentationInsert) (ev : event < 2 ^ 32) (ty : TypedInsert i) where
+  module _ (event : ℕ) (i : SegmentationDetail) (ev : event < 2 ^ 32) (ty : TypedInsert i) where
     abbrev x : SegmentationDescriptor
-    x = record { «segmentation_event_id» = event; «descriptor_detail» = SegmentationDetail.Insert i }
+    x = record { «segmentation_event_id» = event; «descriptor_detail» = DescriptorDetail.Active i }
 
     abbrev view : View
     view = i .«segmentation_upid» .bytes
@@ -274,7 +274,7 @@ module _ (number : ℕ) (id : List ℕ) (beside : Beside) (lent : List ℕ) (sma
           r .3,
           lt-ltb (countOf (i .«segmentation_mode»)) 256 (mode-count (i .«segmentation_mode») (ty .mode)),
           d,
-          lt-ltb (i .«segmentation_upid» .kind) 256 (ty .upid),
+          lt-ltb (i .«segmentation_upid» .«upid_type») 256 (ty .upid),
           lt-ltb (segmentationNumber (i .«segmentation_type_id»)) 256 (ty .type-number),
           lt-ltb (i .«segment_num») 256 (ty .num),
           lt-ltb (i .«segments_expected») 256 (ty .expected),
@@ -325,9 +325,9 @@ module _ (number : ℕ) (id : List ℕ) (beside : Beside) (lent : List ℕ) (sma
   item-wide (Descriptor.Dtmf x) h e = dtmf-wide x h e
   item-wide (Descriptor.Segmentation x) h e = go (x .«segmentation_event_id») (x .«descriptor_detail») (h .0) (h .1) e
     where
-      go : (event : ℕ) (d : SegmentationDetail) → event < 2 ^ 32 → TypedDetail d → Refuses (Descriptor.Segmentation (record { «segmentation_event_id» = event; «descriptor_detail» = d }))
-      go event SegmentationDetail.Cancel v h e = let w = cancel-within event v in zero-one cc
-      go event (SegmentationDetail.Insert i) v h e = insert-wide event i v h e
+      go : (event : ℕ) (d : DescriptorDetail) → event < 2 ^ 32 → TypedDetail d → Refuses (Descriptor.Segmentation (record { «segmentation_event_id» = event; «descriptor_detail» = d }))
+      go event DescriptorDetail.Cancel v h e = let w = cancel-within event v in zero-one cc
+      go event (DescriptorDetail.Active i) v h e = insert-wide event i v h e
   item-wide (Descriptor.Time x) h e = time-wide x h e
   item-wide (Descriptor.Reserved tag v) h e = reserved-wide tag v h e
 
@@ -338,10 +338,10 @@ module _ (number : ℕ) (id : List ℕ) (beside : Beside) (lent : List ℕ) (sma
   places-wide (Descriptor.Dtmf x) h e = zero-one cc
   places-wide (Descriptor.Segmentation x) h e = go (x .«segmentation_event_id») (x .«descriptor_detail») (h .0) (h .1) e
     where
-      go : (event : ℕ) (d : SegmentationDetail) → event < 2 ^ 32 → TypedDetail d → writing.within (componentsFields (take (countOf (frontOf d .«segmentation_mode»)) (beside .components))) ≡ false
+      go : (event : ℕ) (d : DescriptorDetail) → event < 2 ^ 32 → TypedDetail d → writing.within (componentsFields (take (countOf (frontOf d .«segmentation_mode»)) (beside .components))) ≡ false
           → Wide (segmentationMade (record { «segmentation_event_id» = event; «descriptor_detail» = d }) id beside lent)
-      go event SegmentationDetail.Cancel v h e = zero-one cc
-      go event (SegmentationDetail.Insert i) v h e = offsets-wide event i v h e
+      go event DescriptorDetail.Cancel v h e = zero-one cc
+      go event (DescriptorDetail.Active i) v h e = offsets-wide event i v h e
   places-wide (Descriptor.Time x) h e = zero-one cc
   places-wide (Descriptor.Reserved tag v) h e = zero-one cc
 
@@ -355,7 +355,7 @@ module _ (number : ℕ) (id : List ℕ) (beside : Beside) (lent : List ℕ) (sma
       ap (λ (cs : List ModeComponent).
       pick (leb (upidIn x .bytes .at + upidIn x .bytes .len) (length lent))
       (pick (leb (upidIn x .bytes .len) 255)
-      (make segmentation (fairSegment x id (beside .eidr) lent) (upidSource (upidIn x) (beside .eidr) lent)
+      (make segmentation (writableSegment x id (beside .eidr) lent) (upidSource (upidIn x) (beside .eidr) lent)
       (record { descriptor = record { «segmentation_event_id» = x .«segmentation_event_id»; «descriptor_detail» = writtenDetail (x .«descriptor_detail») }; components = cs }))
       (refused 32))
       (refused 31)) e
@@ -367,9 +367,9 @@ module _ (number : ℕ) (id : List ℕ) (beside : Beside) (lent : List ℕ) (sma
   count-there (Descriptor.Dtmf x) h = omega arith
   count-there (Descriptor.Segmentation x) h = go (x .«descriptor_detail») (h .1)
     where
-      go : (d : SegmentationDetail) → TypedDetail d → countOf (frontOf d .«segmentation_mode») ≤ 255
-      go SegmentationDetail.Cancel h = omega arith
-      go (SegmentationDetail.Insert i) h = omega (arith, mode-count (i .«segmentation_mode») (h .mode))
+      go : (d : DescriptorDetail) → TypedDetail d → countOf (frontOf d .«segmentation_mode») ≤ 255
+      go DescriptorDetail.Cancel h = omega arith
+      go (DescriptorDetail.Active i) h = omega (arith, mode-count (i .«segmentation_mode») (h .mode))
   count-there (Descriptor.Time x) h = omega arith
   count-there (Descriptor.Reserved tag v) h = omega arith
 

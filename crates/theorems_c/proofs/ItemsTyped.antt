@@ -1,4 +1,4 @@
--- A descriptor that is written is of its types: each number was within its field, and each flag and number was fair.
+-- A descriptor that is written is of its types: each number was within its field, and each flag and number was writable.
 use Prim.Native.Nat.{ℕ, _+_, _^_, _<_, _≤_}
 use mathlib.Core.Bool.{Bool, true, false, _&&_}
 use mathlib.Core.List.{List, _++_}
@@ -8,21 +8,21 @@ use lib.Dec.{ltb, leb, eqb}
 use lib.ListN.{length, take}
 use borrow.Author.Tests.{ltb-true, eqb-true}
 use Rattle.descriptor.specs.Plain.{avail, dtmf, time}
-use Rattle.descriptor.specs.Segmentation.{agrees, byProgram, fairDetail, fairFront, frontOf, lasting, segmentation, unrestricted}
+use Rattle.descriptor.specs.Segmentation.{agrees, byProgram, writableDetail, writableFront, frontOf, lasting, segmentation, unrestricted}
 use Rattle.descriptor.specs.declared.Descriptor.{Descriptor}
 use Rattle.descriptor.specs.declared.segmentation.ModeComponent.{ModeComponent}
 use Rattle.descriptor.specs.declared.segmentation.SegmentationDescriptor.{SegmentationDescriptor}
+use Rattle.descriptor.specs.declared.segmentation.DescriptorDetail.{DescriptorDetail}
 use Rattle.descriptor.specs.declared.segmentation.SegmentationDetail.{SegmentationDetail}
-use Rattle.descriptor.specs.declared.segmentation.SegmentationInsert.{SegmentationInsert}
 use Rattle.descriptor.specs.declared.segmentation.SegmentationMode.{SegmentationMode}
 use Rattle.descriptor.specs.declared.segmentation.SegmentationUpid.{SegmentationUpid}
 use Rattle.descriptor.specs.declared.segmentation.SubSegments.{SubSegments}
 use Rattle.descriptor.specs.declared.whole.Beside.{Beside}
 use Rattle.descriptor_measure.proofs.Fields.{fields-are}
-use Rattle.descriptor_measure.proofs.Making.{counted, all-fair, by-table}
+use Rattle.descriptor_measure.proofs.Making.{counted, all-writable, by-table}
 use Rattle.descriptor_measure.proofs.Refusals.{within-append}
 use Rattle.descriptor_measure.specs.Private.{deliveryFields, modeFields, durationFields, upidFields, subFields, backFields, segmentFields}
-use Rattle.descriptor_measure.specs.Writing.{framed, framedMade, alone, writtenKind, writtenUpid, writtenDetail, written, upidIn, upidSource, segmentationMade, payloadMade, tagOf, identifierOf, descriptorMade, countBeside}
+use Rattle.descriptor_measure.specs.Writing.{framed, framedMade, alone, writtenType, writtenUpid, writtenDetail, written, upidIn, upidSource, segmentationMade, payloadMade, tagOf, identifierOf, descriptorMade, countBeside}
 use Rattle.c_descriptor_writer.proofs.Own.{agree}
 use Rattle.c_descriptor_writer.proofs.Typed.{TypedMode, TypedSubs, TypedInsert, TypedDetail, Typed}
 use Rattle.names.specs.Segmentation.{segmentationNumber}
@@ -58,19 +58,19 @@ subs-typed (SubSegments.Is x) w =
     let b = and-true (ltb (x .«sub_segments_expected») (2 ^ 8)) _ (a .1) in
     (ltb-true _ _ (a .0), ltb-true _ _ (b .0))
 
-upid-typed : (u : SegmentationUpid) → within (upidFields (writtenUpid u)) ≡ true → u .kind < 256
-unfolding writtenUpid writtenKind
-upid-typed u w = go (eqb (u .kind) 10) refl (eqb (u .kind) 6) refl (eqb (u .bytes .len) 8) w
+upid-typed : (u : SegmentationUpid) → within (upidFields (writtenUpid u)) ≡ true → u .«upid_type» < 256
+unfolding writtenUpid writtenType
+upid-typed u w = go (eqb (u .«upid_type») 10) refl (eqb (u .«upid_type») 6) refl (eqb (u .bytes .len) 8) w
   where
-    go : (b : Bool) → eqb (u .kind) 10 ≡ b → (c : Bool) → eqb (u .kind) 6 ≡ c → (d : Bool)
-        → within (upidFields (pick b (record { kind = 10; bytes = record { at = 0; len = 12 } }) (record { kind = pick (c && d) 5 (u .kind); bytes = u .bytes }))) ≡ true → u .kind < 256
-    go true e c f d w = omega (arith, eqb-true (u .kind) 10 e)
-    go false e true f d w = omega (arith, eqb-true (u .kind) 6 f)
-    go false e false f d w = ltb-true _ _ (and-true (ltb (u .kind) (2 ^ 8)) _ w .0)
+    go : (b : Bool) → eqb (u .«upid_type») 10 ≡ b → (c : Bool) → eqb (u .«upid_type») 6 ≡ c → (d : Bool)
+        → within (upidFields (pick b (record { «upid_type» = 10; bytes = record { at = 0; len = 12 } }) (record { «upid_type» = pick (c && d) 5 (u .«upid_type»); bytes = u .bytes }))) ≡ true → u .«upid_type» < 256
+    go true e c f d w = omega (arith, eqb-true (u .«upid_type») 10 e)
+    go false e true f d w = omega (arith, eqb-true (u .«upid_type») 6 f)
+    go false e false f d w = ltb-true _ _ (and-true (ltb (u .«upid_type») (2 ^ 8)) _ w .0)
 
-insert-typed : (event : ℕ) (i : SegmentationInsert) (cs : List ModeComponent) → within (segmentFields event (SegmentationDetail.Insert i) cs) ≡ true → fairDetail (SegmentationDetail.Insert i) ≡ true
+insert-typed : (event : ℕ) (i : SegmentationDetail) (cs : List ModeComponent) → within (segmentFields event (DescriptorDetail.Active i) cs) ≡ true → writableDetail (DescriptorDetail.Active i) ≡ true
     → (event < 2 ^ 32) × TypedInsert i
-unfolding segmentFields fairDetail fairFront
+unfolding segmentFields writableDetail writableFront
 insert-typed event i cs w f =
     let delivery = deliveryFields (i .«delivery_restrictions») in
     let mode = modeFields (i .«segmentation_mode») cs in
@@ -88,7 +88,7 @@ insert-typed event i cs w f =
     let k = and-true (ltb (segmentationNumber (i .«segmentation_type_id»)) (2 ^ 8)) _ (u .1) in
     let n = and-true (ltb (i .«segment_num») (2 ^ 8)) _ (k .1) in
     let x = and-true (ltb (i .«segments_expected») (2 ^ 8)) _ (n .1) in
-    let g = and-true (fairFront (frontOf (SegmentationDetail.Insert i))) _ f in
+    let g = and-true (writableFront (frontOf (DescriptorDetail.Active i))) _ f in
     let p = and-true (agrees (i .«program_segmentation_flag») (byProgram (i .«segmentation_mode»))) _ (g .0) in
     let q = and-true (agrees (i .«segmentation_duration_flag») (lasting (i .«segmentation_duration»))) _ (p .1) in (
       ltb-true _ _ (a .0),
@@ -102,21 +102,21 @@ insert-typed event i cs w f =
         program-flag = agree _ _ (p .0);
         duration-flag = agree _ _ (q .0);
         free-flag = agree _ _ (q .1);
-        type-fair = g .1;
+        type-writable = g .1;
       },
     )
 
-detail-typed : (event : ℕ) (d : SegmentationDetail) (cs : List ModeComponent) → within (segmentFields event d cs) ≡ true → fairDetail d ≡ true → (event < 2 ^ 32) × TypedDetail d
+detail-typed : (event : ℕ) (d : DescriptorDetail) (cs : List ModeComponent) → within (segmentFields event d cs) ≡ true → writableDetail d ≡ true → (event < 2 ^ 32) × TypedDetail d
 unfolding segmentFields
-detail-typed event SegmentationDetail.Cancel cs w f = (ltb-true _ _ (and-true (ltb event (2 ^ 32)) _ w .0), tt)
-detail-typed event (SegmentationDetail.Insert i) cs w f = insert-typed event i cs w f
+detail-typed event DescriptorDetail.Cancel cs w f = (ltb-true _ _ (and-true (ltb event (2 ^ 32)) _ w .0), tt)
+detail-typed event (DescriptorDetail.Active i) cs w f = insert-typed event i cs w f
 
 module _ (id : List ℕ) (beside : Beside) (lent : List ℕ) where
   segmentation-typed : (x : SegmentationDescriptor) (b : List ℕ) → countBeside (Descriptor.Segmentation x) ≤ length (beside .components) → segmentationMade x id beside lent ≡ made b → Typed (Descriptor.Segmentation x)
   segmentation-typed x b all e =
       let cs = take (countBeside (Descriptor.Segmentation x)) (beside .components) in
-      let w = wrote (fairDetail (writtenDetail (x .«descriptor_detail»))) (upidSource (upidIn x) (beside .eidr) lent) (walk segmentation (written x (beside .components)) 0 .fields) b (by-table x id beside lent all b e) in
-      let f = all-fair x id beside lent all b e in
+      let w = wrote (writableDetail (writtenDetail (x .«descriptor_detail»))) (upidSource (upidIn x) (beside .eidr) lent) (walk segmentation (written x (beside .components)) 0 .fields) b (by-table x id beside lent all b e) in
+      let f = all-writable x id beside lent all b e in
       detail-typed (x .«segmentation_event_id») (x .«descriptor_detail») cs
       (sym (ap within (fields-are (x .«segmentation_event_id») (x .«descriptor_detail») cs (counted x id beside lent all))) ∙ w .widths) (f .1)
 

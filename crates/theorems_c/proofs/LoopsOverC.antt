@@ -1,6 +1,6 @@
 -- The loop of a canonical section is what is written over C of the words that are read of its items over C.
 use Prim.Native.Nat.{ℕ, zero, suc, _+_, _-_, _<_, _≤_}
-use mathlib.Core.Bool.{Bool, true, false, cond, _&&_}
+use mathlib.Core.Bool.{Bool, true, false, _&&_}
 use mathlib.Core.List.{List, [], _∷_, _++_}
 use mathlib.Core.Path.{_≡_, refl, ap, ap₂, sym, subst, _∙_}
 use native.Mathlib.Omega.{arith}
@@ -15,7 +15,7 @@ use Rattle.descriptor.specs.Whole.{filled, blankBeside, besideIn, besideOf, bes
 use Rattle.descriptor.specs.declared.Descriptor.{Descriptor}
 use Rattle.descriptor.specs.declared.DescriptorRead.{DescriptorRead}
 use Rattle.descriptor.specs.declared.segmentation.ModeComponent.{ModeComponent}
-use Rattle.descriptor.specs.declared.segmentation.SegmentationDetail.{SegmentationDetail}
+use Rattle.descriptor.specs.declared.segmentation.DescriptorDetail.{DescriptorDetail}
 use Rattle.descriptor.specs.declared.whole.Beside.{Beside}
 use Rattle.descriptor_round_trips.specs.Trips.{wholeIn}
 use Rattle.c_descriptor_writer.proofs.Own.{filled-length}
@@ -106,11 +106,11 @@ module _ (s : List ℕ) where
     where
       go : (h : Head) (at : ℕ) (b : Bool)
           → parse (pick b
-          (done (record { descriptor = record { «segmentation_event_id» = h .event; «descriptor_detail» = SegmentationDetail.Cancel }; components = [] }))
+          (done (record { descriptor = record { «segmentation_event_id» = h .event; «descriptor_detail» = DescriptorDetail.Cancel }; components = [] }))
           (inside front (λ x. record { front = frontOf (x .descriptor .«descriptor_detail»); components = x .components }) λ f.
           inside back (λ x. table.backOf (x .descriptor .«descriptor_detail»)) λ k.
           done (record {
-            descriptor = record { «segmentation_event_id» = h .event; «descriptor_detail» = SegmentationDetail.Insert (table.insertFrom (f .front) (f .front .«segmentation_upid») k) };
+            descriptor = record { «segmentation_event_id» = h .event; «descriptor_detail» = DescriptorDetail.Active (table.insertFrom (f .front) (f .front .«segmentation_upid») k) };
             components = f .components;
           }))) (bitsOf s) at ≡ got x m
           → Small (x .components)
@@ -142,7 +142,7 @@ eidr-small : (k : ℕ) (bytes : List ℕ) → AllBytes bytes → (length (eidrOf
 unfolding eidrOf
 eidr-small k bytes a = go (eqb k 10) (eqb (length bytes) 12) refl
   where
-    go : (b c : Bool) → eqb (length bytes) 12 ≡ c → (length (cond (b && c) bytes (replicate 12 0)) ≡ 12) × AllBytes (cond (b && c) bytes (replicate 12 0))
+    go : (b c : Bool) → eqb (length bytes) 12 ≡ c → (length (pick (b && c) bytes (replicate 12 0)) ≡ 12) × AllBytes (pick (b && c) bytes (replicate 12 0))
     go true true e = (eqb-true (length bytes) 12 e, a)
     go true false e = (refl, zeros 12)
     go false c e = (refl, zeros 12)
@@ -166,7 +166,7 @@ beside-sized p a = go (parse segmentation (bitsOf p) 0) refl
         let c = segmentation-small p x m e in
         let f = filled-small (x .components) (c .0) (c .1) in
         let u = frontOf (x .descriptor .«descriptor_detail») .«segmentation_upid» in
-        let i = eidr-small (u .kind) (viewed p (u .bytes)) (all-viewed p (u .bytes) a) in
+        let i = eidr-small (u .«upid_type») (viewed p (u .bytes)) (all-viewed p (u .bytes) a) in
         record { places = f .0; tags = f .1; twelve = i .0; eidr-bytes = i .1 }
     go (short expected actual) e = blank-sized
 

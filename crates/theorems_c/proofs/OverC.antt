@@ -27,8 +27,8 @@ use Rattle.c_command_writer.specs.CommandWords as command-words
 use Rattle.c_command_writer.specs.CommandWords.{commandWords, componentWords, placesWords, CommandIs}
 use Rattle.c_command_writer.specs.Words.{same, refusalOf, noLess}
 use Rattle.header.specs.declared.header.SpliceInfoHeader.{SpliceInfoHeader}
-use Rattle.names.specs.Algorithm.{fairAlgorithm}
-use Rattle.section_writer.specs.Writing.{sectionMade, kindOf}
+use Rattle.names.specs.Algorithm.{writableAlgorithm}
+use Rattle.section_writer.specs.Writing.{sectionMade, typeOf}
 use Rattle.table.specs.Bits.{pick}
 use Rattle.table.specs.Lent.{noView}
 use Rattle.table.specs.Table.{flagNumber}
@@ -105,9 +105,9 @@ module _ (places : List ComponentSplice) (lent : List ℕ) (short : length lent 
   pub command-taken : commandWordsMade (commandWords (flatCommand c)) beside lent ≡ commandMade c places lent
   command-taken = sym (command.answer-is (commandWords (flatCommand c)) beside lent short _ (command-words.its c (take (countIn c) places) own-words)) ∙ counted-made
 
-  pub section-taken : (h : SpliceInfoHeader) → fairAlgorithm (h .«encryption_algorithm») ≡ true → (loop : List ℕ)
-      → sectionWordsMade (headerWords (flatHeader h)) (commandWords (flatCommand c)) beside lent loop ≡ sectionMade h (commandMade c places lent) (kindOf c) loop
-  section-taken h fair loop =
+  pub section-taken : (h : SpliceInfoHeader) → writableAlgorithm (h .«encryption_algorithm») ≡ true → (loop : List ℕ)
+      → sectionWordsMade (headerWords (flatHeader h)) (commandWords (flatCommand c)) beside lent loop ≡ sectionMade h (commandMade c places lent) (typeOf c) loop
+  section-taken h writable loop =
       sym (section.answer-is (headerWords (flatHeader h)) (commandWords (flatCommand c)) beside lent loop short _
-      (section-words.its h c (take (countIn c) places) (record { own = same-self (headerWords (flatHeader h)); fair = fair }) own-words))
-      ∙ ap (λ (m : Made). sectionMade h m (kindOf c) loop) counted-made
+      (section-words.its h c (take (countIn c) places) (record { own = same-self (headerWords (flatHeader h)); writable = writable }) own-words))
+      ∙ ap (λ (m : Made). sectionMade h m (typeOf c) loop) counted-made

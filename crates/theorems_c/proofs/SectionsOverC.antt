@@ -14,8 +14,8 @@ use Rattle.command.specs.Insert.{WithComponents, blank, count, insert, insertOf
 use Rattle.command.specs.declared.CommandRead.{CommandRead}
 use Rattle.command.specs.declared.SpliceCommand.{SpliceCommand}
 use Rattle.command.specs.declared.components.ComponentSplice.{ComponentSplice}
-use Rattle.command.specs.declared.insert.Insertion.{Insertion}
 use Rattle.command.specs.declared.insert.SpliceInsert.{SpliceInsert}
+use Rattle.command.specs.declared.insert.SpliceDetail.{SpliceDetail}
 use Rattle.command_measure.specs.Made.{commandMade}
 use Rattle.canonical_form.specs.Descriptor.{canonicalLoop}
 use Rattle.c_section.specs.Flat.{flatHeader}
@@ -40,8 +40,8 @@ use Rattle.section.proofs.Parts.{parts-of}
 use Rattle.section_writer.proofs.Theorems.{canonical-parts}
 use Rattle.section_writer.proofs.Trips.{section-wrote}
 use Rattle.canonical_form.specs.Section.{canonicalSection}
-use Rattle.section_writer.specs.Frame.{fairHead}
-use Rattle.section_writer.specs.Writing.{kindOf, sectionMade}
+use Rattle.section_writer.specs.Frame.{writableHead}
+use Rattle.section_writer.specs.Writing.{typeOf, sectionMade}
 use Rattle.table.proofs.Lists.{zero-one}
 use Rattle.table.specs.Bits.{pick, bitsOf, AllBytes}
 use Rattle.table.specs.Lent.{viewed}
@@ -53,7 +53,7 @@ use Rattle.theorems_c.proofs.OverC.{same-self, section-taken}
 use Rattle.theorems_writer.proofs.WrittenBack.{section-back}
 
 -- ---- of a payload that is read, the components that the command counts are there
-insert-there : (p : List ℕ) (x : WithComponents Insertion) (m : ℕ) → parse insert (bitsOf p) 0 ≡ got x m → count (insertOf (x .value .«splice_detail») .«splice_mode») ≤ length (componentsOf p)
+insert-there : (p : List ℕ) (x : WithComponents SpliceInsert) (m : ℕ) → parse insert (bitsOf p) 0 ≡ got x m → count (insertOf (x .value .«splice_detail») .«splice_mode») ≤ length (componentsOf p)
 unfolding componentsOf array
 insert-there p x m e =
     let h = insert-has p x m e .0 in
@@ -71,18 +71,18 @@ read-count : {X : Type 0} (f : X → SpliceCommand) (r : Answer X) (c : SpliceCo
 read-count f (got x at) c z e = let i : c ≡ f x = cc in ap countIn i ∙ z x
 read-count f (short expected actual) c z e = zero-one cc
 
-insert-count : (p : List ℕ) (c : SpliceCommand) → read (λ (x : WithComponents Insertion). SpliceCommand.SpliceInsert (x .value)) (parse insert (bitsOf p) 0) ≡ CommandRead.Is c → countIn c ≤ length (componentsOf p)
+insert-count : (p : List ℕ) (c : SpliceCommand) → read (λ (x : WithComponents SpliceInsert). SpliceCommand.SpliceInsert (x .value)) (parse insert (bitsOf p) 0) ≡ CommandRead.Is c → countIn c ≤ length (componentsOf p)
 insert-count p c e = go (parse insert (bitsOf p) 0) refl e
   where
-    go : (r : Answer (WithComponents Insertion)) → parse insert (bitsOf p) 0 ≡ r → read (λ (x : WithComponents Insertion). SpliceCommand.SpliceInsert (x .value)) r ≡ CommandRead.Is c → countIn c ≤ length (componentsOf p)
+    go : (r : Answer (WithComponents SpliceInsert)) → parse insert (bitsOf p) 0 ≡ r → read (λ (x : WithComponents SpliceInsert). SpliceCommand.SpliceInsert (x .value)) r ≡ CommandRead.Is c → countIn c ≤ length (componentsOf p)
     go (got x m) i e =
         let j : c ≡ SpliceCommand.SpliceInsert (x .value) = cc in
         omega (arith, insert-there p x m i, ap countIn j)
     go (short expected actual) i e = zero-one cc
 
-count-there : (kind : ℕ) (p : List ℕ) (c : SpliceCommand) → commandOf kind p ≡ CommandRead.Is c → countIn c ≤ length (componentsOf p)
+count-there : (command-type : ℕ) (p : List ℕ) (c : SpliceCommand) → commandOf command-type p ≡ CommandRead.Is c → countIn c ≤ length (componentsOf p)
 unfolding commandOf
-count-there kind p c f = go (eqb kind 0x00) (eqb kind 0x05) (eqb kind 0x06) (eqb kind 0x07) (eqb kind 0xff) f
+count-there command-type p c f = go (eqb command-type 0x00) (eqb command-type 0x05) (eqb command-type 0x06) (eqb command-type 0x07) (eqb command-type 0xff) f
   where
     go : (b₀ b₅ b₆ b₇ b₈ : Bool)
         → pick b₀ (empty SpliceCommand.SpliceNull p) (pick b₅ (read (λ x. SpliceCommand.SpliceInsert (x .value)) (parse insert (bitsOf p) 0)) (pick b₆ (read SpliceCommand.TimeSignal (parse spliceTime (bitsOf p) 0))
@@ -113,8 +113,8 @@ moved-splices SpliceCommand.BandwidthReservation cs = refl
 moved-splices (SpliceCommand.PrivateCommand p) cs = refl
 
 -- ---- the section
-section-made : (h : SpliceInfoHeader) (m : Made) (kind : ℕ) (loop b : List ℕ) → sectionMade h m kind loop ≡ made b → fairHead h ≡ true
-section-made h m kind loop b e = section-wrote h m kind loop b e .fair
+section-made : (h : SpliceInfoHeader) (m : Made) (command-type : ℕ) (loop b : List ℕ) → sectionMade h m command-type loop ≡ made b → writableHead h ≡ true
+section-made h m command-type loop b e = section-wrote h m command-type loop b e .writable
 
 -- what is read over C of a section, and of its command's components
 flat-header : (s : List ℕ) (x : Section) → sectionOf s ≡ SectionRead.Is x → flatSectionRead (sectionOf s) .header ≡ flatHeader (x .header)
@@ -138,7 +138,7 @@ by-payload s x a e c =
     let places = componentsOf payload in
     let there : countIn own ≤ length places = count-there (commandType s) payload own (p .command) in
     let m = section-back s x a e c in
-    let h = section-made (x .header) (commandMade (x .command) places s) (kindOf (x .command)) (viewed s (x .descriptors)) s m in
+    let h = section-made (x .header) (commandMade (x .command) places s) (typeOf (x .command)) (viewed s (x .descriptors)) s m in
     let k : countIn (x .command) ≡ countIn own = ap countIn (p .moves) ∙ moved-count own in
     let splices : flatSplices (commandOf (commandType s) payload) places ≡ flatSplices (CommandRead.Is (x .command)) places =
     ap (λ (r : CommandRead). flatSplices r places) (p .command) ∙ moved-splices own places ∙ sym (ap (λ (d : SpliceCommand). flatSplices (CommandRead.Is d) places) (p .moves)) in
@@ -172,14 +172,14 @@ unfolding commandBytes
 payload-is s h = ap (drop 14) (take-add 14 (commandLength s) s) ∙ drop-at (take 14 s) (take (commandLength s) (drop 14 s)) 14 (length-take-le 14 s h)
 
 -- only an insert counts components
-counts-by-type : (kind : ℕ) (p : List ℕ) (c : SpliceCommand) → commandOf kind p ≡ CommandRead.Is c → (kind ≡ 0x05) ⊎ (countIn c ≡ 0)
+counts-by-type : (command-type : ℕ) (p : List ℕ) (c : SpliceCommand) → commandOf command-type p ≡ CommandRead.Is c → (command-type ≡ 0x05) ⊎ (countIn c ≡ 0)
 unfolding commandOf
-counts-by-type kind p c f = go (eqb kind 0x00) (eqb kind 0x05) refl (eqb kind 0x06) (eqb kind 0x07) (eqb kind 0xff) f
+counts-by-type command-type p c f = go (eqb command-type 0x00) (eqb command-type 0x05) refl (eqb command-type 0x06) (eqb command-type 0x07) (eqb command-type 0xff) f
   where
-    go : (b₀ b₅ : Bool) → eqb kind 0x05 ≡ b₅ → (b₆ b₇ b₈ : Bool)
+    go : (b₀ b₅ : Bool) → eqb command-type 0x05 ≡ b₅ → (b₆ b₇ b₈ : Bool)
         → pick b₀ (empty SpliceCommand.SpliceNull p) (pick b₅ (read (λ x. SpliceCommand.SpliceInsert (x .value)) (parse insert (bitsOf p) 0)) (pick b₆ (read SpliceCommand.TimeSignal (parse spliceTime (bitsOf p) 0))
         (pick b₇ (empty SpliceCommand.BandwidthReservation p) (pick b₈ (read SpliceCommand.PrivateCommand (parse private (bitsOf p) 0)) CommandRead.UnknownType)))) ≡ CommandRead.Is c
-        → (kind ≡ 0x05) ⊎ (countIn c ≡ 0)
+        → (command-type ≡ 0x05) ⊎ (countIn c ≡ 0)
     go true b₅ i b₆ b₇ b₈ e = inr (empty-count SpliceCommand.SpliceNull c p refl e)
     go false true i b₆ b₇ b₈ e = inl (eqb-true _ _ i)
     go false false i true b₇ b₈ e = inr (read-count SpliceCommand.TimeSignal (parse spliceTime (bitsOf p) 0) c (λ x. refl) e)

@@ -17,11 +17,11 @@ use Rattle.header.specs.Header.{headerOf}
 use Rattle.splice_time.specs.Time.{adjustedOf, spliceTime, timeRead}
 use Rattle.descriptor_loop.specs.Items.{countOf, readingOf, stepOf}
 use Rattle.descriptor_loop.specs.Place.{viewOf}
-use Rattle.names.specs.Algorithm.{algorithmNumber, algorithmOf, fairAlgorithm}
-use Rattle.names.specs.Command.{commandNumber, commandTypeOf, fairCommand}
+use Rattle.names.specs.Algorithm.{algorithmNumber, algorithmOf, writableAlgorithm}
+use Rattle.names.specs.Command.{commandNumber, commandTypeOf, writableCommand}
 use Rattle.names.specs.Flags.{networkAnswer, networkFlag, networkOf, restrictionsAnswer, restrictionsBits, restrictionsOf, returnAnswer, returnFlag, returnOf}
-use Rattle.names.specs.Segmentation.{fairSegmentation, segmentationNumber, segmentationOf}
-use Rattle.names.specs.Upid.{fairUpidType, upidTypeNumber, upidTypeOf}
+use Rattle.names.specs.Segmentation.{writableSegmentation, segmentationNumber, segmentationOf}
+use Rattle.names.specs.Upid.{writableUpidType, upidTypeNumber, upidTypeOf}
 use Rattle.names.specs.declared.flags.NetworkRead.{NetworkRead}
 use Rattle.names.specs.declared.flags.RestrictionsRead.{RestrictionsRead}
 use Rattle.names.specs.declared.flags.ReturnRead.{ReturnRead}
@@ -61,16 +61,16 @@ use Rattle.table.proofs.store.put_number.Reads as put-number
 use Rattle.table.proofs.store.put_bytes.Reads as put-bytes
 use Rattle.names.proofs.algorithm.EncryptionAlgorithm.from_id.Reads as algorithm-from-id
 use Rattle.names.proofs.algorithm.EncryptionAlgorithm.id.Reads as algorithm-id
-use Rattle.names.proofs.algorithm.EncryptionAlgorithm.fair.Reads as algorithm-fair
+use Rattle.names.proofs.algorithm.EncryptionAlgorithm.writable.Reads as algorithm-writable
 use Rattle.names.proofs.command.SpliceCommandType.from_id.Reads as command-type-from-id
 use Rattle.names.proofs.command.SpliceCommandType.id.Reads as command-type-id
-use Rattle.names.proofs.command.SpliceCommandType.fair.Reads as command-type-fair
+use Rattle.names.proofs.command.SpliceCommandType.writable.Reads as command-type-writable
 use Rattle.names.proofs.upid.SegmentationUpidType.from_type.Reads as upid-type-from-type
 use Rattle.names.proofs.upid.SegmentationUpidType.id.Reads as upid-type-id
-use Rattle.names.proofs.upid.SegmentationUpidType.fair.Reads as upid-type-fair
+use Rattle.names.proofs.upid.SegmentationUpidType.writable.Reads as upid-type-writable
 use Rattle.names.proofs.segmentation.SegmentationTypeId.from_id.Reads as segmentation-type-from-id
 use Rattle.names.proofs.segmentation.SegmentationTypeId.id.Reads as segmentation-type-id
-use Rattle.names.proofs.segmentation.SegmentationTypeId.fair.Reads as segmentation-type-fair
+use Rattle.names.proofs.segmentation.SegmentationTypeId.writable.Reads as segmentation-type-writable
 use Rattle.names.proofs.flags.NetworkIndicator.from_flag.Reads as network-from-flag
 use Rattle.names.proofs.flags.NetworkIndicator.flag.Reads as network-flag
 use Rattle.names.proofs.flags.ReturnMode.from_flag.Reads as return-mode-from-flag
@@ -225,8 +225,8 @@ algorithm-from-id-answers = record { takes-any = λ κ a. tt; is = λ κ a r e l
 pub algorithm-id-answers : Answers algorithm-id.Asked algorithm-id.Learnt (λ κ r e. r) (λ κ a. algorithmNumber (a .0))
 algorithm-id-answers = record { takes-any = λ κ a. tt; is = λ κ a r e l. l }
 
-pub algorithm-fair-answers : Answers algorithm-fair.Asked algorithm-fair.Learnt (λ κ r e. r) (λ κ a. fairAlgorithm (a .0))
-algorithm-fair-answers = record { takes-any = λ κ a. tt; is = λ κ a r e l. l }
+pub algorithm-writable-answers : Answers algorithm-writable.Asked algorithm-writable.Learnt (λ κ r e. r) (λ κ a. writableAlgorithm (a .0))
+algorithm-writable-answers = record { takes-any = λ κ a. tt; is = λ κ a r e l. l }
 
 pub command-type-from-id-answers : Answers command-type-from-id.Asked command-type-from-id.Learnt (λ κ r e. r) (λ κ a. commandTypeOf (a .0))
 command-type-from-id-answers = record { takes-any = λ κ a. tt; is = λ κ a r e l. l }
@@ -234,8 +234,8 @@ command-type-from-id-answers = record { takes-any = λ κ a. tt; is = λ κ a r 
 pub command-type-id-answers : Answers command-type-id.Asked command-type-id.Learnt (λ κ r e. r) (λ κ a. commandNumber (a .0))
 command-type-id-answers = record { takes-any = λ κ a. tt; is = λ κ a r e l. l }
 
-pub command-type-fair-answers : Answers command-type-fair.Asked command-type-fair.Learnt (λ κ r e. r) (λ κ a. fairCommand (a .0))
-command-type-fair-answers = record { takes-any = λ κ a. tt; is = λ κ a r e l. l }
+pub command-type-writable-answers : Answers command-type-writable.Asked command-type-writable.Learnt (λ κ r e. r) (λ κ a. writableCommand (a .0))
+command-type-writable-answers = record { takes-any = λ κ a. tt; is = λ κ a r e l. l }
 
 pub upid-type-from-type-answers : Answers upid-type-from-type.Asked upid-type-from-type.Learnt (λ κ r e. r) (λ κ a. upidTypeOf (a .0))
 upid-type-from-type-answers = record { takes-any = λ κ a. tt; is = λ κ a r e l. l }
@@ -243,8 +243,8 @@ upid-type-from-type-answers = record { takes-any = λ κ a. tt; is = λ κ a r e
 pub upid-type-id-answers : Answers upid-type-id.Asked upid-type-id.Learnt (λ κ r e. r) (λ κ a. upidTypeNumber (a .0))
 upid-type-id-answers = record { takes-any = λ κ a. tt; is = λ κ a r e l. l }
 
-pub upid-type-fair-answers : Answers upid-type-fair.Asked upid-type-fair.Learnt (λ κ r e. r) (λ κ a. fairUpidType (a .0))
-upid-type-fair-answers = record { takes-any = λ κ a. tt; is = λ κ a r e l. l }
+pub upid-type-writable-answers : Answers upid-type-writable.Asked upid-type-writable.Learnt (λ κ r e. r) (λ κ a. writableUpidType (a .0))
+upid-type-writable-answers = record { takes-any = λ κ a. tt; is = λ κ a r e l. l }
 
 pub segmentation-type-from-id-answers : Answers segmentation-type-from-id.Asked segmentation-type-from-id.Learnt (λ κ r e. r) (λ κ a. segmentationOf (a .0))
 segmentation-type-from-id-answers = record { takes-any = λ κ a. tt; is = λ κ a r e l. l }
@@ -252,8 +252,8 @@ segmentation-type-from-id-answers = record { takes-any = λ κ a. tt; is = λ κ
 pub segmentation-type-id-answers : Answers segmentation-type-id.Asked segmentation-type-id.Learnt (λ κ r e. r) (λ κ a. segmentationNumber (a .0))
 segmentation-type-id-answers = record { takes-any = λ κ a. tt; is = λ κ a r e l. l }
 
-pub segmentation-type-fair-answers : Answers segmentation-type-fair.Asked segmentation-type-fair.Learnt (λ κ r e. r) (λ κ a. fairSegmentation (a .0))
-segmentation-type-fair-answers = record { takes-any = λ κ a. tt; is = λ κ a r e l. l }
+pub segmentation-type-writable-answers : Answers segmentation-type-writable.Asked segmentation-type-writable.Learnt (λ κ r e. r) (λ κ a. writableSegmentation (a .0))
+segmentation-type-writable-answers = record { takes-any = λ κ a. tt; is = λ κ a r e l. l }
 
 pub network-from-flag-answers : Answers network-from-flag.Asked network-from-flag.Learnt (λ κ r e. networkAnswer r) (λ κ a. networkOf (a .0))
 network-from-flag-answers = record { takes-any = λ κ a. tt; is = λ κ a r e l. l }

@@ -96,9 +96,9 @@ reads-beside-so : {loop : List ℕ} {offset : ℕ} {f : FlatBeside} → ReadsBes
 reads-beside-so d = sym (d .left) ∙ d .learnt-so ∙ ap (λ (v : List ℕ × ℕ). flatBeside (readingOf (v .0) (v .1))) (d .taken)
 
 abbrev pub ReadsUpidC : ℕ → List ℕ → FlatUpid → Type 0
-ReadsUpidC kind bytes f = May scte35-read-upid.Learnt {S = ℕ × List ℕ} {T = FlatUpid} (λ κ a. (a .0, drop (a .1 .1 .0) (now (a .1 .0)))) (λ κ r e. r) (kind, bytes) f
+ReadsUpidC upid-type bytes f = May scte35-read-upid.Learnt {S = ℕ × List ℕ} {T = FlatUpid} (λ κ a. (a .0, drop (a .1 .1 .0) (now (a .1 .0)))) (λ κ r e. r) (upid-type, bytes) f
 
-reads-upid-so : {kind : ℕ} {bytes : List ℕ} {f : FlatUpid} → ReadsUpidC kind bytes f → f ≡ flatUpid (upidOf kind bytes)
+reads-upid-so : {upid-type : ℕ} {bytes : List ℕ} {f : FlatUpid} → ReadsUpidC upid-type bytes f → f ≡ flatUpid (upidOf upid-type bytes)
 reads-upid-so d = sym (d .left) ∙ d .learnt-so ∙ ap (λ (v : ℕ × List ℕ). flatUpid (upidOf (v .0) (v .1))) (d .taken)
 
 -- of an insert's payload
@@ -193,7 +193,7 @@ unfolding flatBeside
 eidr-lies s f offset i b a x q r four ten =
     let e : i ≡ flatStep (stepOf (loopIn s (x .section)) offset) = reads-item-so q ∙ ap (λ (l : List ℕ). flatStep (stepOf l offset)) (x .loop) in
     let m = flat.upid-of-item 10 (stepOf (loopIn s (x .section)) offset) (ap (λ (v : FlatStep). v .item .kind) (sym e) ∙ four) (ap (λ (v : FlatStep). v .item .segmentation .«segmentation_upid_type») (sym e) ∙ ten) in
-    let w = reading.every-upid-of-the-section-is-whole s (x .section) (x .is) offset (m .descriptor) (m .insert) (m .is) (m .detail) a .eidr (m .kind) in
+    let w = reading.every-upid-of-the-section-is-whole s (x .section) (x .is) offset (m .descriptor) (m .insert) (m .is) (m .detail) a .eidr (m .«upid_type») in
     let g : b .eidr ≡ readingOf (loopIn s (x .section)) offset .beside .eidr = ap (λ (v : FlatBeside). v .eidr) (reads-beside-so r ∙ ap (λ (l : List ℕ). flatBeside (readingOf l offset)) (x .loop)) in
     subst (λ (n : ℕ). (getD s (upidAt s (n + offset + 6)) 0 ≡ 10) × (getD s (upidAt s (n + offset + 6) + 1) 0 ≡ 12) × Slice s (upidAt s (n + offset + 6) + 2) 12 (b .eidr)) (sym (x .base))
     (subst (λ (y : List ℕ). (getD s (upidAt s (x .section .descriptors .at + offset + 6)) 0 ≡ 10) × (getD s (upidAt s (x .section .descriptors .at + offset + 6) + 1) 0 ≡ 12)
@@ -212,9 +212,9 @@ pub the-eidr-over-c-is-whole : (s : List ℕ) (f : FlatSection) (offset : ℕ) (
 the-eidr-over-c-is-whole s f offset i b a d z q r four ten = eidr-lies s f offset i b a (accepted s f d z) q r four ten
 
 -- Of `scte35_read_upid` the first `count` parts are those of the UPID, field by field, and its refusal is that of what is read
-pub the-parts-over-c-are-those-of-the-upid : (kind : ℕ) (bytes : List ℕ) (u : FlatUpid) → ReadsUpidC kind bytes u
-    → (u .refusal ≡ upidRefusal (checkOf kind bytes)) × (u .count ≡ length (partsRead kind bytes)) × Pairs SamePart (take (u .count) (u .parts)) (partsRead kind bytes)
-the-parts-over-c-are-those-of-the-upid kind bytes u d = rw (reads-upid-so d) (flat.parts-flat kind bytes)
+pub the-parts-over-c-are-those-of-the-upid : (upid-type : ℕ) (bytes : List ℕ) (u : FlatUpid) → ReadsUpidC upid-type bytes u
+    → (u .refusal ≡ upidRefusal (checkOf upid-type bytes)) × (u .count ≡ length (partsRead upid-type bytes)) × Pairs SamePart (take (u .count) (u .parts)) (partsRead upid-type bytes)
+the-parts-over-c-are-those-of-the-upid upid-type bytes u d = rw (reads-upid-so d) (flat.parts-flat upid-type bytes)
 
 -- a MID that is accepted has bytes
 some-byte : (b : List ℕ) → checkOf 13 b ≡ UpidRead.Fine 13 → 1 ≤ length b
@@ -230,7 +230,7 @@ parts-lie s mid (pair {x = q} {y = p} h hs) (more a rest) =
     more {x = q} (record {
       behind = omega (arith, a .behind, h .starts);
       there = omega (arith, a .unbroken .inside, h .starts, h .lens);
-      kind = h .kinds ∙ a .kind ∙ reported-as _ ∙ ap (λ (n : ℕ). reportedAs (getD s (mid .start + n - 2) 0)) (sym (h .starts));
+      «upid_type» = h .kinds ∙ a .«upid_type» ∙ reported-as _ ∙ ap (λ (n : ℕ). reportedAs (getD s (mid .start + n - 2) 0)) (sym (h .starts));
       long = l;
     }) (parts-lie s mid hs rest)
 
@@ -242,7 +242,7 @@ mid-lies s f offset i u x q four mid r =
     let m = flat.upid-of-item 13 (stepOf (loopIn s (x .section)) offset) (ap (λ (v : FlatStep). v .item .kind) (sym e) ∙ four) (ap (λ (v : FlatStep). v .item .segmentation .«segmentation_upid_type») (sym e) ∙ mid) in
     let v : i .item .bytes ≡ flatView (m .insert .«segmentation_upid» .bytes) = ap (λ (v : FlatStep). v .item .bytes) e ∙ m .bytes in
     let w : Unsplit s (inLent (x .section .descriptors .at) (loopIn s (x .section)) (m .insert .«segmentation_upid» .bytes)) =
-    reading.no-mid-that-is-read-is-split s (x .section) (x .is) offset (m .descriptor) (m .insert) (m .is) (m .detail) (m .kind) in
+    reading.no-mid-that-is-read-is-split s (x .section) (x .is) offset (m .descriptor) (m .insert) (m .is) (m .detail) (m .«upid_type») in
     let b : taken (taken s (f .descriptors)) (i .item .bytes) ≡ viewed (loopIn s (x .section)) (m .insert .«segmentation_upid» .bytes) =
     ap (λ (l : List ℕ). taken l (i .item .bytes)) (x .loop) ∙ ap (taken (loopIn s (x .section))) v ∙ sym (viewed-is (loopIn s (x .section)) (m .insert .«segmentation_upid» .bytes) (viewed-inside (loopIn s (x .section)) (m .insert .«segmentation_upid» .bytes) (some-byte _ (w .accepted)))) in
     let k : ReadsUpidC 13 (viewed (loopIn s (x .section)) (m .insert .«segmentation_upid» .bytes)) u = rw b at r in

@@ -12,8 +12,8 @@ use Rattle.command.specs.declared.SpliceCommand.{SpliceCommand}
 use Rattle.command_measure.specs.Made.{commandMade}
 use Rattle.descriptor.specs.declared.Descriptor.{Descriptor}
 use Rattle.descriptor.specs.declared.segmentation.SegmentationDescriptor.{SegmentationDescriptor}
+use Rattle.descriptor.specs.declared.segmentation.DescriptorDetail.{DescriptorDetail}
 use Rattle.descriptor.specs.declared.segmentation.SegmentationDetail.{SegmentationDetail}
-use Rattle.descriptor.specs.declared.segmentation.SegmentationInsert.{SegmentationInsert}
 use Rattle.descriptor_writer.specs.Stores.{Writes}
 use Rattle.descriptor_loop.proofs.Places.{all-into}
 use Rattle.descriptor_loop.specs.Cover.{joined, runOf, Covered}
@@ -33,7 +33,7 @@ use Rattle.section.specs.declared.Section.{Section}
 use Rattle.section.specs.declared.SectionRead.{SectionRead}
 use Rattle.section.specs.declared.whole.WholeSection.{WholeSection}
 use Rattle.canonical_form.specs.Section.{canonicalSection}
-use Rattle.section_writer.specs.Writing.{kindOf, sectionMade}
+use Rattle.section_writer.specs.Writing.{typeOf, sectionMade}
 use Rattle.table.specs.Bits.{AllBytes}
 use Rattle.table.specs.Lent.{viewed}
 use Rattle.table.specs.Writing.{Made, made}
@@ -48,11 +48,11 @@ use Rattle.upid.specs.Cover.All.{none, more}
 use Rattle.upid.specs.Upid.{upidOf, partsIn, partView}
 use Rattle.upid.specs.declared.Part.{Part}
 use Rattle.upid.specs.declared.Upid.{Upid}
-use Rattle.command_writer.proofs.write_bare_command.Reads as write-bare-command
+use Rattle.command_writer.proofs.write_command_without_components.Reads as write-command-without-components
 use Rattle.command_writer.proofs.write_command.Reads as write-command
-use Rattle.descriptor_writer.proofs.write_bare_descriptor.Reads as write-bare-descriptor
+use Rattle.descriptor_writer.proofs.write_descriptor_without_components.Reads as write-descriptor-without-components
 use Rattle.descriptor_writer.proofs.write_descriptor.Reads as write-descriptor
-use Rattle.section_writer.proofs.write_bare_section.Reads as write-bare-section
+use Rattle.section_writer.proofs.write_section_without_components.Reads as write-section-without-components
 use Rattle.section_writer.proofs.write_section.Reads as write-section
 use Rattle.theorems_functions.specs.Calls.{Stepped, SectionGiven, Puts}
 use Rattle.theorems_functions.specs.Slices.{ItemSlice, PartSlice, Parted, PrivateSlice}
@@ -102,9 +102,9 @@ steps-are-read loop offset st r d i = steps-so d ∙ ap (λ (y : Reading). y .st
 
 -- Where it is a MID: `read_upid` of these bytes answers parts that cover it once, and each MID in it, in no other way; and `part_bytes` hands back each of them, at every level, whole: as many bytes
 -- of the section as its own head announces, of the type that is written there
-pub the-bytes-of-a-part-are-whole : (s : List ℕ) (x : Section) (loop : List ℕ) (offset : ℕ) (st : Step) (d : SegmentationDescriptor) (i : SegmentationInsert) (b : List ℕ) (u : Upid)
-    → ReadsSection s (SectionRead.Is x) → GivesLoop s x loop → Steps loop offset st → st .item ≡ Item.Is (Descriptor.Segmentation d) → d .«descriptor_detail» ≡ SegmentationDetail.Insert i
-    → i .«segmentation_upid» .kind ≡ 13 → GivesBytes loop (st .item) b → ReadsUpid 13 b u
+pub the-bytes-of-a-part-are-whole : (s : List ℕ) (x : Section) (loop : List ℕ) (offset : ℕ) (st : Step) (d : SegmentationDescriptor) (i : SegmentationDetail) (b : List ℕ) (u : Upid)
+    → ReadsSection s (SectionRead.Is x) → GivesLoop s x loop → Steps loop offset st → st .item ≡ Item.Is (Descriptor.Segmentation d) → d .«descriptor_detail» ≡ DescriptorDetail.Active i
+    → i .«segmentation_upid» .«upid_type» ≡ 13 → GivesBytes loop (st .item) b → ReadsUpid 13 b u
     → Parted b (partsIn u) × All (λ (p : Part). (c : List ℕ) → GivesPart b p c → PartSlice s (x .descriptors .at + i .«segmentation_upid» .bytes .at) p c) (partsIn u)
 the-bytes-of-a-part-are-whole s x loop offset st d i b u rs g t is detail k h ru =
     let e : sectionOf s ≡ SectionRead.Is x = sym (reads-section-so rs) in
@@ -129,7 +129,7 @@ pub a-canonical-section-is-written-back : (s : List ℕ) (w : WholeSection) (x :
 a-canonical-section-is-written-back s w x loop target answer later a t d r g p =
     let e : sectionOf s ≡ SectionRead.Is x = writes.whole-read s w x (reads-whole-section-so d) r in
     let c : w .components ≡ besideCommand (x .command) (commandBytes s) = writes.whole-beside s w x (reads-whole-section-so d) r in
-    let m : sectionMade (x .header) (commandMade (x .command) (w .components) s) (kindOf (x .command)) loop ≡ made s =
+    let m : sectionMade (x .header) (commandMade (x .command) (w .components) s) (typeOf (x .command)) loop ≡ made s =
     rw (c, writes.beside-serves (x .command) (commandBytes s) s, gives-loop-so g) (writing.a-canonical-section-is-what-is-written-of-its-reading s x a e (sym (tells-canonical-so t))) in
     writes.puts-made _ s target answer later m (writes-section-so p)
 
@@ -177,7 +177,7 @@ a-canonical-section-is-written-back-by-its-items s w x loop xs bs target answer 
     let j : joined (map (runOf loop) xs) ≡ loop = rw (z, l) (reading.the-items-cover-the-loop-of-the-section s x e .cutting .joins) in
     let k : joined bs ≡ loop = ap joined (rewritten loop h rw-all) ∙ j in
     let c : w .components ≡ besideCommand (x .command) (commandBytes s) = writes.whole-beside s w x (reads-whole-section-so d) r in
-    let m : sectionMade (x .header) (commandMade (x .command) (w .components) s) (kindOf (x .command)) (joined bs) ≡ made s =
+    let m : sectionMade (x .header) (commandMade (x .command) (w .components) s) (typeOf (x .command)) (joined bs) ≡ made s =
     rw (c, writes.beside-serves (x .command) (commandBytes s) s, k, l) (writing.a-canonical-section-is-what-is-written-of-its-reading s x a e (sym (tells-canonical-so t))) in
     writes.puts-made _ s target answer later m (writes-section-so p)
 
@@ -208,17 +208,17 @@ canonical-sections-with-equal-readings-are-one s r x y a b t u d e same =
 pub a-refused-section-changes-no-byte : (κ : _) (a : _) (r : Written) (e : _) (n : ℕ) → write-section.Learnt κ a r e → r ≡ Written.Refused n → now (e .1 .1 .1 .1 .1 .0) ≡ now (a .1 .1 .1 .1 .1 .0)
 a-refused-section-changes-no-byte κ a r e n l f = l .1 ∙ writing.a-refused-write-changes-no-byte _ _ n (sym (l .0) ∙ f)
 
-pub a-refused-bare-section-changes-no-byte : (κ : _) (a : _) (r : Written) (e : _) (n : ℕ) → write-bare-section.Learnt κ a r e → r ≡ Written.Refused n → now (e .1 .1 .1 .1 .0) ≡ now (a .1 .1 .1 .1 .0)
+pub a-refused-bare-section-changes-no-byte : (κ : _) (a : _) (r : Written) (e : _) (n : ℕ) → write-section-without-components.Learnt κ a r e → r ≡ Written.Refused n → now (e .1 .1 .1 .1 .0) ≡ now (a .1 .1 .1 .1 .0)
 a-refused-bare-section-changes-no-byte κ a r e n l f = l .1 ∙ writing.a-refused-write-changes-no-byte _ _ n (sym (l .0) ∙ f)
 
 pub a-refused-command-changes-no-byte : (κ : _) (a : _) (r : Written) (e : _) (n : ℕ) → write-command.Learnt κ a r e → r ≡ Written.Refused n → now (e .1 .1 .1 .0) ≡ now (a .1 .1 .1 .0)
 a-refused-command-changes-no-byte κ a r e n l f = l .1 ∙ writing.a-refused-write-changes-no-byte _ _ n (sym (l .0) ∙ f)
 
-pub a-refused-bare-command-changes-no-byte : (κ : _) (a : _) (r : Written) (e : _) (n : ℕ) → write-bare-command.Learnt κ a r e → r ≡ Written.Refused n → now (e .1 .1 .0) ≡ now (a .1 .1 .0)
+pub a-refused-bare-command-changes-no-byte : (κ : _) (a : _) (r : Written) (e : _) (n : ℕ) → write-command-without-components.Learnt κ a r e → r ≡ Written.Refused n → now (e .1 .1 .0) ≡ now (a .1 .1 .0)
 a-refused-bare-command-changes-no-byte κ a r e n l f = l .1 ∙ writing.a-refused-write-changes-no-byte _ _ n (sym (l .0) ∙ f)
 
 pub a-refused-descriptor-changes-no-byte : (κ : _) (a : _) (r : Written) (e : _) (n : ℕ) → write-descriptor.Learnt κ a r e → r ≡ Written.Refused n → now (e .1 .1 .1 .1 .0) ≡ now (a .1 .1 .1 .1 .0)
 a-refused-descriptor-changes-no-byte κ a r e n l f = l .target-later ∙ writing.a-refused-write-changes-no-byte _ _ n (sym (l .answer) ∙ f)
 
-pub a-refused-bare-descriptor-changes-no-byte : (κ : _) (a : _) (r : Written) (e : _) (n : ℕ) → write-bare-descriptor.Learnt κ a r e → r ≡ Written.Refused n → now (e .1 .1 .1 .1 .0) ≡ now (a .1 .1 .1 .1 .0)
+pub a-refused-bare-descriptor-changes-no-byte : (κ : _) (a : _) (r : Written) (e : _) (n : ℕ) → write-descriptor-without-components.Learnt κ a r e → r ≡ Written.Refused n → now (e .1 .1 .1 .1 .0) ≡ now (a .1 .1 .1 .1 .0)
 a-refused-bare-descriptor-changes-no-byte κ a r e n l f = l .target-later ∙ writing.a-refused-write-changes-no-byte _ _ n (sym (l .answer) ∙ f)

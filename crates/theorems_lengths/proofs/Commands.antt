@@ -13,16 +13,16 @@ use Rattle.command.proofs.InsertTrips.{insert-write-read}
 use Rattle.command.proofs.ModeLeads.{componentBytes, modeBytes}
 use Rattle.command.proofs.PrivateTrips.{private-write-read}
 use Rattle.command.specs.Command.{private, read, commandOf, componentsOf}
-use Rattle.command.specs.Fair.{fairInsert}
+use Rattle.command.specs.Writable.{writableInsert}
 use Rattle.command.specs.Insert.{WithComponents, timeUnless, component, blank, moded, breakDuration, ending, active, activeOf, insert}
 use Rattle.command.specs.declared.CommandRead.{CommandRead}
 use Rattle.command.specs.declared.Private.{Private}
 use Rattle.command.specs.declared.SpliceCommand.{SpliceCommand}
 use Rattle.command.specs.declared.components.ComponentSplice.{ComponentSplice}
 use Rattle.command.specs.declared.insert.Break.{Break}
-use Rattle.command.specs.declared.insert.Insert.{Insert}
-use Rattle.command.specs.declared.insert.Insertion.{Insertion}
+use Rattle.command.specs.declared.insert.InsertDetail.{InsertDetail}
 use Rattle.command.specs.declared.insert.SpliceInsert.{SpliceInsert}
+use Rattle.command.specs.declared.insert.SpliceDetail.{SpliceDetail}
 use Rattle.command.specs.declared.insert.SpliceMode.{SpliceMode}
 use Rattle.command_measure.specs.Made.{counted, timesFit, insertMade, commandMade}
 use Rattle.section.specs.Section.{commandType, commandLength, commandBytes, moved, sectionOf}
@@ -102,7 +102,7 @@ module _ (s : List ℕ) where
   break-past false at y m e = rw (← got-same e) (omega (arith, got-end e))
 
   -- with the mode x before it
-  ending-past : (out : Bool) (x : WithComponents SpliceMode) (d : Bool) (at : ℕ) (y : WithComponents Insert) (m : ℕ) → parse (ending out x d) (bitsOf s) at ≡ got y m
+  ending-past : (out : Bool) (x : WithComponents SpliceMode) (d : Bool) (at : ℕ) (y : WithComponents InsertDetail) (m : ℕ) → parse (ending out x d) (bitsOf s) at ≡ got y m
       → m + modeBytes (x .value) (x .components) * 8 ≡ at + (modeBytes (y .value .«splice_mode») (y .components) + breakBytes (y .value .duration) + 4) * 8
   unfolding ending
   ending-past out x d at y m e =
@@ -112,7 +112,7 @@ module _ (s : List ℕ) where
       let c = reads-number s (r .seam + 16 + 8) 8 _ _ y m b .1 in
       rw (← got-same c) (omega (arith, got-end c, break-past d at (r .inner) (r .seam) (r .front)))
 
-  active-past : (at : ℕ) (y : WithComponents Insert) (m : ℕ) → parse active (bitsOf s) at ≡ got y m → m ≡ at + activeBytes (y .value) (y .components) * 8
+  active-past : (at : ℕ) (y : WithComponents InsertDetail) (m : ℕ) → parse active (bitsOf s) at ≡ got y m → m ≡ at + activeBytes (y .value) (y .components) * 8
   unfolding active
   active-past at y m e =
       let a = reads-flag s at _ _ y m e .1 in
@@ -123,7 +123,7 @@ module _ (s : List ℕ) where
       let r = reads-in (moded (eqb (field (bitsOf s) (at + 1) 1) 1) (eqb (field (bitsOf s) (at + 1 + 1 + 1) 1) 1)) _ _ (bitsOf s) (at + 1 + 1 + 1 + 1 + 4) y m f in
       omega (arith, moded-past _ _ (at + 1 + 1 + 1 + 1 + 4) (r .inner) (r .seam) (r .front), ending-past _ (r .inner) _ (r .seam) y m (r .back))
 
-  insert-past : (x : WithComponents Insertion) (m : ℕ) → parse insert (bitsOf s) 0 ≡ got x m → m ≡ insertBytes x * 8
+  insert-past : (x : WithComponents SpliceInsert) (m : ℕ) → parse insert (bitsOf s) 0 ≡ got x m → m ≡ insertBytes x * 8
   unfolding insert
   insert-past x m e =
       let a = reads-number s 0 32 _ _ x m e .1 in
@@ -132,8 +132,8 @@ module _ (s : List ℕ) where
       go (eqb (field (bitsOf s) 32 1) 1) (field (bitsOf s) 0 32) (field (bitsOf s) 33 7) c
     where
       go : (cancel : Bool) (id kept : ℕ) → parse (pick cancel
-          (done (record { value = record { «splice_event_id» = id; reserved = kept; «splice_detail» = SpliceInsert.Cancel }; components = [] }))
-          (inside active activeOf λ a. done (record { value = record { «splice_event_id» = id; reserved = kept; «splice_detail» = SpliceInsert.Insert (a .value) }; components = a .components }))) (bitsOf s) 40 ≡ got x m
+          (done (record { value = record { «splice_event_id» = id; reserved = kept; «splice_detail» = SpliceDetail.Cancel }; components = [] }))
+          (inside active activeOf λ a. done (record { value = record { «splice_event_id» = id; reserved = kept; «splice_detail» = SpliceDetail.Insert (a .value) }; components = a .components }))) (bitsOf s) 40 ≡ got x m
           → m ≡ insertBytes x * 8
       go true id kept f = rw (← got-same f) (omega (arith, got-end f))
       go false id kept f =
@@ -177,14 +177,14 @@ module _ (s : List ℕ) where
   unfolding commandMade moved
   private-sized x m e lent p w = omega (arith, private-past (p ++ []) _ (length p * 8) (private-write-read lent _ p [] w refl .0), private-past s x m e, within s private x m e)
 
-  insert-sized : (x : WithComponents Insertion) (m : ℕ) → parse insert (bitsOf s) 0 ≡ got x m → Sized (CommandRead.Is (SpliceCommand.SpliceInsert (x .value)))
+  insert-sized : (x : WithComponents SpliceInsert) (m : ℕ) → parse insert (bitsOf s) 0 ≡ got x m → Sized (CommandRead.Is (SpliceCommand.SpliceInsert (x .value)))
   unfolding commandMade insertMade moved
   insert-sized x m e lent p w =
       let h = insert-has s x m e .0 in
       let c : counted (x .value) (componentsOf s) ≡ x = ap (counted (x .value)) (components-are s x m e) ∙ counted-is x h in
       go (timesFit (x .components)) (sym (ap insertMade c) ∙ w)
     where
-      go : (b : Bool) → pick b (make insert (fairInsert x) [] x) (refused 32) ≡ made p → length p ≤ length s
+      go : (b : Bool) → pick b (make insert (writableInsert x) [] x) (refused 32) ≡ made p → length p ≤ length s
       go true f = omega (arith, insert-past (p ++ []) x (length p * 8) (insert-write-read [] x p [] (insert-has s x m e .0) f .0), insert-past s x m e, within s insert x m e)
       go false f = zero-one cc
 

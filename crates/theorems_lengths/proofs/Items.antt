@@ -25,7 +25,7 @@ use Rattle.descriptor_loop.specs.declared.Item.{Item}
 use Rattle.descriptor_loop.specs.declared.Step.{Step}
 use Rattle.descriptor_measure.specs.Writing.{countBeside, framed, framedMade, payloadMade, descriptorMade, tagOf, identifierOf}
 use Rattle.descriptor_round_trips.proofs.Alike.{SameView, alike-made, made-told}
-use Rattle.descriptor_round_trips.proofs.Payloads.{payload-back}
+use Rattle.descriptor_round_trips.proofs.Payloads.{payload-write-read}
 use Rattle.descriptor_round_trips.specs.Making.{viewIn}
 use Rattle.descriptor_round_trips.specs.Trips.{Handed}
 use Rattle.loop_round_trips.proofs.Places.{moved-values, moved-count, moved-view}
@@ -98,7 +98,7 @@ module _ (s : List ℕ) where
   unfolding insertOf inserted
   in-insert event at =
       and-then (parse front (bitsOf s) at) _ λ f m.
-      if-fine (checkOf (f .front .«segmentation_upid» .kind) (viewed s (f .front .«segmentation_upid» .bytes))) (f .front .«segmentation_upid» .bytes) _ λ u.
+      if-fine (checkOf (f .front .«segmentation_upid» .«upid_type») (viewed s (f .front .«segmentation_upid» .bytes))) (f .front .«segmentation_upid» .bytes) _ λ u.
       and-then (parse back (bitsOf s) m) _ λ b n. omega arith
 
   in-segmentation : Tagged (segmentationOf s)
@@ -184,7 +184,7 @@ module _ (loop : List ℕ) (a : AllBytes loop) (offset L : ℕ) (st : Stands loo
       let r : Ready d own beside payload (length payload) = rw e at (ready payload id id-length payload-bytes (getD loop offset 0)) in
       let t : tagOf d < 256 = rw e at (tagged payload (getD loop offset 0) id (byte-in loop a offset)) in
       let f = framed-made (tagOf d) (identifierOf d own) (payloadMade d own beside payload) b m in
-      let q = payload-back own beside payload (f .0) d (r .handed) (f .1) in
+      let q = payload-write-read own beside payload (f .0) d (r .handed) (f .1) in
       let n : length (f .0) ≤ length payload = r .size (f .0) (f .1) in
       rw (f .2) (
         frame-bytes (tagOf d) (identifierOf d own) (f .0) t (identifier-bytes d id id-bytes) (q .are) (f .3),

@@ -10,12 +10,12 @@ use native.Mathlib.Omega.{arith}
 use lib.Dec.{eqb}
 use lib.ListN.{length, length-append}
 use borrow.Author.Tests.{eqb-true, le-leb}
-use Rattle.command.specs.Command.{componentsOf, kindOf}
-use Rattle.command.specs.Fair.{unmixed, fairInsert}
+use Rattle.command.specs.Command.{componentsOf, typeOf}
+use Rattle.command.specs.Writable.{unmixed, writableInsert}
 use Rattle.command.specs.Insert.{insert}
 use Rattle.command.specs.declared.SpliceCommand.{SpliceCommand}
 use Rattle.command.specs.declared.components.ComponentSplice.{ComponentSplice}
-use Rattle.command.specs.declared.insert.Insertion.{Insertion}
+use Rattle.command.specs.declared.insert.SpliceInsert.{SpliceInsert}
 use Rattle.command_measure.specs.Made.{counted, timesFit, insertMade, commandMade}
 use Rattle.descriptor.specs.declared.Descriptor.{Descriptor}
 use Rattle.descriptor_loop.proofs.Lists.{walked}
@@ -25,7 +25,7 @@ use Rattle.descriptor_loop.specs.Items.{readingOf, Listed, listed, itemsOf}
 use Rattle.descriptor_loop.specs.declared.Item.{Item}
 use Rattle.canonical_form.specs.Descriptor.{canonicalLoop}
 use Rattle.descriptor_round_trips.specs.Trips.{Handed}
-use Rattle.loop_round_trips.proofs.Theorems.{descriptors-written-in-order-are-the-items-of-a-canonical-loop}
+use Rattle.loop_round_trips.proofs.Theorems.{loop-write-read}
 use Rattle.canonical_form.specs.Same.{Given, Pairs, over, pair, ItemBack, SameItem}
 use Rattle.loop_round_trips.specs.Loops.{givenMade}
 use Rattle.section.specs.Section.{commandBytes, commandLength, loopBytes, loopLength, loopPlace, sectionOf, sectionLength, loopIn}
@@ -48,7 +48,7 @@ use Rattle.theorems_writer.proofs.SectionsMade.{section-reads-as}
 use Rattle.theorems_reader.proofs.Sections.{each-item, loop-run, loop-short, items-cover}
 use Rattle.theorems_writer.proofs.Writable.{can-be-written}
 use Rattle.theorems_writer.proofs.WritableInserts.{every-command-written, places-255, count-byte}
-use Rattle.theorems_writer.proofs.WritableSections.{made-around, header-fits, header-fair, section-written}
+use Rattle.theorems_writer.proofs.WritableSections.{made-around, header-fits, header-writable, section-written}
 use Rattle.theorems_writer.proofs.WrittenBack.{section-back}
 use Rattle.theorems_reader.specs.Identifiers.{inSection}
 use Rattle.theorems_writer.specs.Making.{SectionBytes, CommandPayload}
@@ -140,8 +140,8 @@ module _ (s : List ℕ) (x : Section) (a : AllBytes s) (e : sectionOf s ≡ Sect
   abbrev command : Made
   command = commandMade (x .command) (componentsOf (commandBytes s)) s
 
-  abbrev kind : ℕ
-  kind = kindOf (x .command)
+  abbrev upid-type : ℕ
+  upid-type = typeOf (x .command)
 
   loop-length : length loop ≡ loopLength s
   unfolding loopPlace
@@ -150,7 +150,7 @@ module _ (s : List ℕ) (x : Section) (a : AllBytes s) (e : sectionOf s ≡ Sect
   all-made : All (Makes loop) (itemsOf loop)
   all-made = each-item (λ o inside. makes-at loop (all-viewed s (x .descriptors) a) o) (walked loop (loop-short s x e))
 
-  module _ (h : (i : Insertion) → x .command ≡ SpliceCommand.SpliceInsert i → i .reserved ≡ 127) (r : Rewrote loop (itemsOf loop)) where
+  module _ (h : (i : SpliceInsert) → x .command ≡ SpliceCommand.SpliceInsert i → i .reserved ≡ 127) (r : Rewrote loop (itemsOf loop)) where
     abbrev new : List ℕ
     new = joined (r .pieces)
 
@@ -158,22 +158,22 @@ module _ (s : List ℕ) (x : Section) (a : AllBytes s) (e : sectionOf s ≡ Sect
     small = omega (arith, r .size 0 (length loop) (items-cover s x e .follow))
 
     canonical : canonicalLoop new ≡ true
-    canonical = descriptors-written-in-order-are-the-items-of-a-canonical-loop (r .given) (r .pieces) (r .types) (omega (arith, small, loop-short s x e)) (r .makes) .0
+    canonical = loop-write-read (r .given) (r .pieces) (r .types) (omega (arith, small, loop-short s x e)) (r .makes) .0
 
     fits : (p : List ℕ) → command ≡ made p → sectionLength (length p) (length new) ≤ length s
     fits p w = omega (arith, command-shorter s x e p w, small, loop-length, laid s x e .fits)
 
-    no-longer : (b : List ℕ) → sectionMade (x .header) command kind new ≡ made b → length b ≤ length s
+    no-longer : (b : List ℕ) → sectionMade (x .header) command upid-type new ≡ made b → length b ≤ length s
     no-longer b m =
         let c = every-command-written s x a e h in
         let p : List ℕ = c .0 in
-        let f : sectionMade (x .header) command kind new ≡ made (frame (x .header) kind p new) =
-        ap (λ (n : Made). sectionMade (x .header) n kind new) (c .1)
-        ∙ made-around (x .header) p kind new (header-fits s x a e) (header-fair s x a e) canonical (omega (arith, fits p (c .1), laid s x e .short)) in
-        let z : b ≡ frame (x .header) kind p new = made-one b (frame (x .header) kind p new) (sym m ∙ f) in
-        omega (arith, ap length z, length-frame (x .header) kind p new, fits p (c .1))
+        let f : sectionMade (x .header) command upid-type new ≡ made (frame (x .header) upid-type p new) =
+        ap (λ (n : Made). sectionMade (x .header) n upid-type new) (c .1)
+        ∙ made-around (x .header) p upid-type new (header-fits s x a e) (header-writable s x a e) canonical (omega (arith, fits p (c .1), laid s x e .short)) in
+        let z : b ≡ frame (x .header) upid-type p new = made-one b (frame (x .header) upid-type p new) (sym m ∙ f) in
+        omega (arith, ap length z, length-frame (x .header) upid-type p new, fits p (c .1))
 
-    shorter-by : (b : List ℕ) → sectionMade (x .header) command kind new ≡ made b → SectionBytes (x .header) (x .command) (componentsOf (commandBytes s)) s new b → WrittenShorter s x
+    shorter-by : (b : List ℕ) → sectionMade (x .header) command upid-type new ≡ made b → SectionBytes (x .header) (x .command) (componentsOf (commandBytes s)) s new b → WrittenShorter s x
     shorter-by b m w = record {
       pieces = r .pieces;
       items = r .items;
@@ -189,7 +189,7 @@ module _ (s : List ℕ) (x : Section) (a : AllBytes s) (e : sectionOf s ≡ Sect
         let w = section-written s x a e h new (r .are) canonical (λ p m. omega (arith, fits p m, laid s x e .short)) in
         shorter-by (w .0) (w .1) (w .2)
 
-  pub section-shorter : ((i : Insertion) → x .command ≡ SpliceCommand.SpliceInsert i → i .reserved ≡ 127) → All Readable (itemsOf loop) → WrittenShorter s x
+  pub section-shorter : ((i : SpliceInsert) → x .command ≡ SpliceCommand.SpliceInsert i → i .reserved ≡ 127) → All Readable (itemsOf loop) → WrittenShorter s x
   section-shorter h readable = rewritten h (rewrote loop all-made readable)
 
 -- ---- and no other
@@ -198,28 +198,28 @@ all-readable : {loop : List ℕ} {ys : List Listed} {bs : List (List ℕ)} → P
 all-readable over = none
 all-readable (pair i is) = more (record { descriptor = i .descriptor; is = i .is }) (all-readable is)
 
-insert-fair : (i : Insertion) (places : List ComponentSplice) (lent p : List ℕ) → commandMade (SpliceCommand.SpliceInsert i) places lent ≡ made p → i .reserved ≡ 127
-unfolding commandMade insertMade fairInsert
-insert-fair i places lent p e = go (timesFit (counted i places .components)) e
+insert-writable : (i : SpliceInsert) (places : List ComponentSplice) (lent p : List ℕ) → commandMade (SpliceCommand.SpliceInsert i) places lent ≡ made p → i .reserved ≡ 127
+unfolding commandMade insertMade writableInsert
+insert-writable i places lent p e = go (timesFit (counted i places .components)) e
   where
-    go : (b : Bool) → pick b (make insert (fairInsert (counted i places)) [] (counted i places)) (refused 32) ≡ made p → i .reserved ≡ 127
+    go : (b : Bool) → pick b (make insert (writableInsert (counted i places)) [] (counted i places)) (refused 32) ≡ made p → i .reserved ≡ 127
     go true f =
-        let w = wrote (fairInsert (counted i places)) [] (walk insert (counted i places) 0 .fields) p f in
+        let w = wrote (writableInsert (counted i places)) [] (walk insert (counted i places) 0 .fields) p f in
         eqb-true (i .reserved) 127 (and-true (eqb (i .reserved) 127) (unmixed (counted i places .components)) (w .fit) .0)
     go false f = zero-one cc
 
 -- a command of which a canonical payload is written
-has-127 : (c : SpliceCommand) (places : List ComponentSplice) (s p : List ℕ) → CommandPayload c places s p → (i : Insertion) → c ≡ SpliceCommand.SpliceInsert i → i .reserved ≡ 127
+has-127 : (c : SpliceCommand) (places : List ComponentSplice) (s p : List ℕ) → CommandPayload c places s p → (i : SpliceInsert) → c ≡ SpliceCommand.SpliceInsert i → i .reserved ≡ 127
 has-127 c places s p q i e =
     let r : CommandPayload (SpliceCommand.SpliceInsert i) places s p = subst (λ (d : SpliceCommand). CommandPayload d places s p) e q in
-    insert-fair i places s p (made-if-read (SpliceCommand.SpliceInsert i) places s p (le-leb 0 (length s) (omega arith)) r)
+    insert-writable i places s p (made-if-read (SpliceCommand.SpliceInsert i) places s p (le-leb 0 (length s) (omega arith)) r)
 
-pub only-such : (s : List ℕ) (x : Section) → WrittenShorter s x → ((i : Insertion) → x .command ≡ SpliceCommand.SpliceInsert i → i .reserved ≡ 127) × All Readable (itemsOf (loopIn s x))
+pub only-such : (s : List ℕ) (x : Section) → WrittenShorter s x → ((i : SpliceInsert) → x .command ≡ SpliceCommand.SpliceInsert i → i .reserved ≡ 127) × All Readable (itemsOf (loopIn s x))
 only-such s x w = (has-127 (x .command) (componentsOf (commandBytes s)) s (commandBytes (w .bytes)) (w .around .command), all-readable (w .items))
 
 -- a canonical section is such
 pub canonical-such : (s : List ℕ) (x : Section) → AllBytes s → sectionOf s ≡ SectionRead.Is x → canonicalSection s ≡ true
-    → ((i : Insertion) → x .command ≡ SpliceCommand.SpliceInsert i → i .reserved ≡ 127) × All Readable (itemsOf (loopIn s x))
+    → ((i : SpliceInsert) → x .command ≡ SpliceCommand.SpliceInsert i → i .reserved ≡ 127) × All Readable (itemsOf (loopIn s x))
 canonical-such s x a e c =
     let b = section-reads-as (x .header) (x .command) (componentsOf (commandBytes s)) s (loopIn s x) (places-255 (commandBytes s)) (count-byte s x a e) a (all-viewed s (x .descriptors) a) s (section-back s x a e c) in (
       has-127 (x .command) (componentsOf (commandBytes s)) s (commandBytes s) (b .command),

@@ -6,7 +6,7 @@ use mathlib.Core.Path.{_≡_}
 use lib.ListN.{length}
 use Rattle.command.specs.Command.{componentsOf}
 use Rattle.command.specs.declared.SpliceCommand.{SpliceCommand}
-use Rattle.command.specs.declared.insert.Insertion.{Insertion}
+use Rattle.command.specs.declared.insert.SpliceInsert.{SpliceInsert}
 use Rattle.command_measure.specs.Made.{commandMade}
 use Rattle.descriptor.specs.declared.Descriptor.{Descriptor}
 use Rattle.descriptor_loop.specs.Items.{stepOf, listed, itemsOf}
@@ -40,15 +40,15 @@ what-is-written-of-a-command-is-no-longer = commands.command-shorter
 -- reserved bits, what is made of each item, joined, and the section around them, is a canonical section, no longer than it, that reads as the same header, command
 -- and items. So neither 33 nor 34 is of a section that is read, but for these reserved bits.
 pub a-section-that-is-read-is-written-in-no-more-bytes : (s : List ℕ) (x : Section) → AllBytes s → sectionOf s ≡ SectionRead.Is x
-    → ((i : Insertion) → x .command ≡ SpliceCommand.SpliceInsert i → i .reserved ≡ 127) → All Readable (itemsOf (loopIn s x)) → WrittenShorter s x
+    → ((i : SpliceInsert) → x .command ≡ SpliceCommand.SpliceInsert i → i .reserved ≡ 127) → All Readable (itemsOf (loopIn s x)) → WrittenShorter s x
 a-section-that-is-read-is-written-in-no-more-bytes s x a e = sections.section-shorter s x a e
 
 -- and no other section is: "refused" are those with a refused item, of which there is nothing to write, and those whose insert has other reserved bits
 pub no-other-section-is-written : (s : List ℕ) (x : Section) → WrittenShorter s x
-    → ((i : Insertion) → x .command ≡ SpliceCommand.SpliceInsert i → i .reserved ≡ 127) × All Readable (itemsOf (loopIn s x))
+    → ((i : SpliceInsert) → x .command ≡ SpliceCommand.SpliceInsert i → i .reserved ≡ 127) × All Readable (itemsOf (loopIn s x))
 no-other-section-is-written = sections.only-such
 
 -- There are such sections: every canonical one is
 pub a-canonical-section-is-one-of-these : (s : List ℕ) (x : Section) → AllBytes s → sectionOf s ≡ SectionRead.Is x → canonicalSection s ≡ true
-    → ((i : Insertion) → x .command ≡ SpliceCommand.SpliceInsert i → i .reserved ≡ 127) × All Readable (itemsOf (loopIn s x))
+    → ((i : SpliceInsert) → x .command ≡ SpliceCommand.SpliceInsert i → i .reserved ≡ 127) × All Readable (itemsOf (loopIn s x))
 a-canonical-section-is-one-of-these = sections.canonical-such

@@ -4,7 +4,7 @@ use mathlib.Core.Bool.{true}
 use mathlib.Core.List.{List}
 use mathlib.Core.Path.{_≡_}
 use lib.ListN.{length}
-use Rattle.command.specs.Command.{componentsOf, kindOf}
+use Rattle.command.specs.Command.{componentsOf, typeOf}
 use Rattle.command_measure.specs.Made.{commandMade}
 use Rattle.descriptor.specs.declared.Descriptor.{Descriptor}
 use Rattle.descriptor_loop.specs.Cover.{joined}
@@ -42,7 +42,7 @@ pub record WrittenShorter (s : List ℕ) (x : Section) : Type 0 where
   pub pieces : List (List ℕ)
   pub items : Pairs (ItemAs (loopIn s x)) (itemsOf (loopIn s x)) pieces
   pub bytes : List ℕ
-  pub writes : sectionMade (x .header) (commandMade (x .command) (componentsOf (commandBytes s)) s) (kindOf (x .command)) (joined pieces) ≡ made bytes
+  pub writes : sectionMade (x .header) (commandMade (x .command) (componentsOf (commandBytes s)) s) (typeOf (x .command)) (joined pieces) ≡ made bytes
   pub around : SectionBytes (x .header) (x .command) (componentsOf (commandBytes s)) s (joined pieces) bytes
   pub back : Pairs (SameItem (loopBytes bytes) (loopIn s x)) (itemsOf (loopBytes bytes)) (itemsOf (loopIn s x))
   pub shorter : length bytes ≤ length s

@@ -40,10 +40,10 @@ chain false false false true b₈ r₀ r₅ r₆ r₇ r₈ e₀ e₅ e₆ e₇ e
 chain false false false false true r₀ r₅ r₆ r₇ r₈ e₀ e₅ e₆ e₇ e₈ = e₈
 chain false false false false false r₀ r₅ r₆ r₇ r₈ e₀ e₅ e₆ e₇ e₈ = refl
 
-pub unknown-is : (kind : ℕ) (payload : List ℕ) → eqb (numberOf (commandOf kind payload)) 10 ≡ byType kind false false false false false true
+pub unknown-is : (command-type : ℕ) (payload : List ℕ) → eqb (numberOf (commandOf command-type payload)) 10 ≡ byType command-type false false false false false true
 unfolding commandOf
-unknown-is kind payload =
-    chain (eqb kind 0x00) (eqb kind 0x05) (eqb kind 0x06) (eqb kind 0x07) (eqb kind 0xff) _ _ _ _ _ (empty-known SpliceCommand.SpliceNull payload)
+unknown-is command-type payload =
+    chain (eqb command-type 0x00) (eqb command-type 0x05) (eqb command-type 0x06) (eqb command-type 0x07) (eqb command-type 0xff) _ _ _ _ _ (empty-known SpliceCommand.SpliceNull payload)
     (read-known (λ x. SpliceCommand.SpliceInsert (x .value)) (parse insert (bitsOf payload) 0)) (read-known SpliceCommand.TimeSignal (parse spliceTime (bitsOf payload) 0))
     (empty-known SpliceCommand.BandwidthReservation payload) (read-known SpliceCommand.PrivateCommand (parse private (bitsOf payload) 0))
 
@@ -53,8 +53,8 @@ ten-is (CommandRead.Is c) e = zero-one cc
 ten-is CommandRead.UnknownType e = refl
 ten-is CommandRead.Malformed e = zero-one cc
 
-pub unknown-if : (kind : ℕ) (payload : List ℕ) → byType kind false false false false false true ≡ true → commandOf kind payload ≡ CommandRead.UnknownType
-unknown-if kind payload e = ten-is (commandOf kind payload) (unknown-is kind payload ∙ e)
+pub unknown-if : (command-type : ℕ) (payload : List ℕ) → byType command-type false false false false false true ≡ true → commandOf command-type payload ≡ CommandRead.UnknownType
+unknown-if command-type payload e = ten-is (commandOf command-type payload) (unknown-is command-type payload ∙ e)
 
-pub unknown-only-if : (kind : ℕ) (payload : List ℕ) → commandOf kind payload ≡ CommandRead.UnknownType → byType kind false false false false false true ≡ true
-unknown-only-if kind payload e = sym (unknown-is kind payload) ∙ ap Unknown e
+pub unknown-only-if : (command-type : ℕ) (payload : List ℕ) → commandOf command-type payload ≡ CommandRead.UnknownType → byType command-type false false false false false true ≡ true
+unknown-only-if command-type payload e = sym (unknown-is command-type payload) ∙ ap Unknown e

@@ -24,10 +24,10 @@ use Rattle.descriptor.specs.Segmentation.{segmentation}
 use Rattle.descriptor.specs.Whole.{besideOf, identifierRead}
 use Rattle.descriptor.specs.declared.Descriptor.{Descriptor}
 use Rattle.descriptor.specs.declared.DescriptorRead.{DescriptorRead}
-use Rattle.descriptor.specs.declared.segmentation.SegmentationDetail.{SegmentationDetail}
+use Rattle.descriptor.specs.declared.segmentation.DescriptorDetail.{DescriptorDetail}
 use Rattle.descriptor.specs.declared.segmentation.SegmentationUpid.{SegmentationUpid}
 use Rattle.upid.proofs.Reported.{mid-is-written, eidr-is-written}
-use Rattle.descriptor_loop.proofs.Places.{all-into, all-map, kind-stays}
+use Rattle.descriptor_loop.proofs.Places.{all-into, all-map, type-stays}
 use Rattle.descriptor_loop.proofs.Steps.{Clause, long, ended, last, small, entire}
 use Rattle.descriptor_loop.specs.Items.{itemAt, readAt, wholeAt}
 use Rattle.descriptor_loop.specs.Place.{movedUpid, movedDescriptor}
@@ -43,9 +43,9 @@ use Rattle.theorems_reader.proofs.Upids.{upidsRead, Source, sources}
 
 -- ---- the UPIDs of an item
 
-detail-upids : (base : ℕ) (d : SegmentationDetail) → detailUpids (movedDetail base d) ≡ map (movedUpid base) (detailUpids d)
-detail-upids base SegmentationDetail.Cancel = refl
-detail-upids base (SegmentationDetail.Insert i) = refl
+detail-upids : (base : ℕ) (d : DescriptorDetail) → detailUpids (movedDetail base d) ≡ map (movedUpid base) (detailUpids d)
+detail-upids base DescriptorDetail.Cancel = refl
+detail-upids base (DescriptorDetail.Active i) = refl
 
 descriptor-upids : (base : ℕ) (d : Descriptor) → upidsOf (Item.Is (movedDescriptor base d)) ≡ map (movedUpid base) (upidsOf (Item.Is d))
 descriptor-upids base (Descriptor.Avail x) = refl
@@ -90,7 +90,7 @@ module _ (s : List ℕ) (i : Identifier) (r : OneRun s i) where
       record {
         unbroken = lent-run s i r (partView p) (omega (arith, n, a .inside));
         behind = omega (arith, a .behind);
-        kind = a .kind ∙ ap reportedOf (getD-run s i r (p .start - 2) (omega (arith, n, a .inside, a .behind)) ∙ ap (λ (j : ℕ). getD s j 0) k);
+        «upid_type» = a .«upid_type» ∙ ap reportedOf (getD-run s i r (p .start - 2) (omega (arith, n, a .inside, a .behind)) ∙ ap (λ (j : ℕ). getD s j 0) k);
         len = a .len ∙ getD-run s i r (p .start - 1) (omega (arith, n, a .inside, a .behind)) ∙ ap (λ (j : ℕ). getD s j 0) l;
       }
 
@@ -119,7 +119,7 @@ mid-checked : (k : ℕ) (bytes : List ℕ) → checkOf k bytes ≡ Fine 13 → c
 mid-checked k bytes e = ap (λ (j : ℕ). checkOf j bytes) (sym (mid-is-written k bytes e)) ∙ e
 
 -- the view of a MID, moved
-mid-view : (base : ℕ) (u w : SegmentationUpid) → u .kind ≡ 13 → u ≡ reportedUpid (u .kind) (w .bytes) → movedUpid base u .bytes ≡ shifted base (w .bytes)
+mid-view : (base : ℕ) (u w : SegmentationUpid) → u .«upid_type» ≡ 13 → u ≡ reportedUpid (u .«upid_type») (w .bytes) → movedUpid base u .bytes ≡ shifted base (w .bytes)
 mid-view base u w k e =
     let z : u ≡ reportedUpid 13 (w .bytes) = e ∙ rw k in
     rw z
@@ -144,16 +144,16 @@ module _ (s : List ℕ) (i : Identifier) (r : OneRun s i) (offset next : ℕ) (u
   abbrev written : SegmentationUpid
   written = f .from .written
 
-  was : (q : ℕ) → u .kind ≡ q → checkOf (written .kind) (viewed inner (written .bytes)) ≡ Fine q
-  was q k = f .from .checked ∙ ap Fine (sym (kind-stays (offset + 6) (f .source)) ∙ sym (ap (λ (u : SegmentationUpid). u .kind) (f .is)) ∙ k)
+  was : (q : ℕ) → u .«upid_type» ≡ q → checkOf (written .«upid_type») (viewed inner (written .bytes)) ≡ Fine q
+  was q k = f .from .checked ∙ ap Fine (sym (type-stays (offset + 6) (f .source)) ∙ sym (ap (λ (u : SegmentationUpid). u .«upid_type») (f .is)) ∙ k)
 
-  pub mid-of : u .kind ≡ 13 → Unsplit s (inLent (i .start) (i .bytes) (u .bytes))
+  pub mid-of : u .«upid_type» ≡ 13 → Unsplit s (inLent (i .start) (i .bytes) (u .bytes))
   mid-of k =
-      let e : checkOf 13 (viewed inner (written .bytes)) ≡ Fine 13 = mid-checked (written .kind) (viewed inner (written .bytes)) (was 13 k) in
+      let e : checkOf 13 (viewed inner (written .bytes)) ≡ Fine 13 = mid-checked (written .«upid_type») (viewed inner (written .bytes)) (was 13 k) in
       let h : written .bytes .at + written .bytes .len ≤ length inner = viewed-inside inner (written .bytes) (some-bytes _ e) in
       let n : length inner ≡ next - offset - 6 = size (i .bytes) offset next (f .six) (f .there) in
       let l : length (i .bytes) ≡ i .len = length-run s i r in
-      let ks : f .source .kind ≡ 13 = sym (kind-stays (offset + 6) (f .source)) ∙ sym (ap (λ (u : SegmentationUpid). u .kind) (f .is)) ∙ k in
+      let ks : f .source .«upid_type» ≡ 13 = sym (type-stays (offset + 6) (f .source)) ∙ sym (ap (λ (u : SegmentationUpid). u .«upid_type») (f .is)) ∙ k in
       let v : u .bytes ≡ shifted (offset + 6) (written .bytes) = ap (λ (u : SegmentationUpid). u .bytes) (f .is) ∙ mid-view (offset + 6) (f .source) written ks (f .from .is) in
       let same : viewed (i .bytes) (shifted (offset + 6) (written .bytes)) ≡ viewed inner (written .bytes) = shown (i .bytes) offset next (f .six) (f .there) (written .bytes) h in
       let run : OneRun s (inLent (i .start) (i .bytes) (shifted (offset + 6) (written .bytes))) =
@@ -168,7 +168,7 @@ module _ (s : List ℕ) (i : Identifier) (r : OneRun s i) (offset next : ℕ) (u
   unfolding upid.eidrOf
   held k bytes e n = rw (e, n)
 
-  pub eidr-of : u .kind ≡ 10
+  pub eidr-of : u .«upid_type» ≡ 10
       → OneRun s (record { start = i .start + (offset + 6 + upidStart (parse segmentation (bitsOf inner) 0)); len = 12; bytes = besideOf inner .eidr })
   eidr-of k =
       let e = eidr-is-written _ _ (was 10 k) in
@@ -180,7 +180,7 @@ module _ (s : List ℕ) (i : Identifier) (r : OneRun s i) (offset next : ℕ) (u
       let run : OneRun s (inLent (i .start) (i .bytes) (shifted (offset + 6) (written .bytes))) =
       lent-run s i r (shifted (offset + 6) (written .bytes)) (omega (arith, h, n, l, f .six, f .there)) in
       let is : besideOf inner .eidr ≡ viewed (i .bytes) (shifted (offset + 6) (written .bytes)) =
-      f .from .beside ∙ held (written .kind) (viewed inner (written .bytes)) (e .0) (e .1) ∙ sym same in
+      f .from .beside ∙ held (written .«upid_type») (viewed inner (written .bytes)) (e .0) (e .1) ∙ sym same in
       at-start (besideOf inner .eidr) _ (written .bytes .at) (f .from .start)
       (record { inside = omega (arith, run .inside, twelve); run = is ∙ run .run ∙ ap (λ (n : ℕ). take n (drop (i .start + (offset + 6 + written .bytes .at)) s)) twelve })
 

@@ -1,6 +1,6 @@
 -- The list of a section's identifiers is complete.
 use Prim.Native.Nat.{ℕ, _+_}
-use mathlib.Core.Bool.{Bool, true, false, cond}
+use mathlib.Core.Bool.{Bool, true, false, cond as pick}
 use mathlib.Core.List.{List, [], _∷_, _++_, map, List·Memᴰ, List·Memᴰ·head, List·Memᴰ·tail, Memᴰ·append-left, Memᴰ·append-right}
 use mathlib.Core.Path.{_≡_, refl}
 use lib.Dec.{eqb}
@@ -10,7 +10,7 @@ use Rattle.command.specs.declared.SpliceCommand.{SpliceCommand}
 use Rattle.descriptor.specs.Views.{upidViews}
 use Rattle.descriptor.specs.declared.Descriptor.{Descriptor}
 use Rattle.descriptor.specs.declared.segmentation.SegmentationDescriptor.{SegmentationDescriptor}
-use Rattle.descriptor.specs.declared.segmentation.SegmentationDetail.{SegmentationDetail}
+use Rattle.descriptor.specs.declared.segmentation.DescriptorDetail.{DescriptorDetail}
 use Rattle.descriptor.specs.declared.segmentation.SegmentationUpid.{SegmentationUpid}
 use Rattle.descriptor_loop.specs.Items.{Listed, itemsOf}
 use Rattle.descriptor_loop.specs.Place.{viewsOf}
@@ -51,7 +51,7 @@ module _ (ids : List Identifier) where
 
   module _ (base : ℕ) (loop : List ℕ) (y : Listed) where
     abbrev ofUpid : SegmentationUpid → List Identifier
-    ofUpid u = partsOf base loop u ++ cond (eqb (u .kind) 10) (eidrOf base loop y ∷ []) []
+    ofUpid u = partsOf base loop u ++ pick (eqb (u .«upid_type») 10) (eidrOf base loop y ∷ []) []
 
     abbrev ofItem : Item → List Identifier
     ofItem it = map (inLent base loop) (viewsOf it) ++ (each ofUpid (upidsOf it) ++ besidesOf base (y .offset) (y .step .identifier) it)
@@ -59,14 +59,14 @@ module _ (ids : List Identifier) where
     upid-lists : (u : SegmentationUpid) → Into (map (inLent base loop) (upidViews u)) → Into (ofUpid u) → ListsUpid ids base loop y u
     upid-lists u f g =
         record {
-          view = λ none ten. into-first (inLent base loop (u .bytes)) [] (rw (ne-eqb (u .kind) 0 none, ne-eqb (u .kind) 10 ten) at f);
-          eidr = λ ten. into-first (eidrOf base loop y) [] (rw (eq-eqb (u .kind) 10 ten) at (into-right (partsOf base loop u) (cond (eqb (u .kind) 10) (eidrOf base loop y ∷ []) []) g));
-          parts = map-lists (λ (p : Part). inLent (base + u .bytes .at) (viewed loop (u .bytes)) (partView p)) (partsRead (u .kind) (viewed loop (u .bytes))) (into-left (partsOf base loop u) _ g);
+          view = λ none ten. into-first (inLent base loop (u .bytes)) [] (rw (ne-eqb (u .«upid_type») 0 none, ne-eqb (u .«upid_type») 10 ten) at f);
+          eidr = λ ten. into-first (eidrOf base loop y) [] (rw (eq-eqb (u .«upid_type») 10 ten) at (into-right (partsOf base loop u) (pick (eqb (u .«upid_type») 10) (eidrOf base loop y ∷ []) []) g));
+          parts = map-lists (λ (p : Part). inLent (base + u .bytes .at) (viewed loop (u .bytes)) (partView p)) (partsRead (u .«upid_type») (viewed loop (u .bytes))) (into-left (partsOf base loop u) _ g);
         }
 
-    detail-lists : (x : SegmentationDescriptor) (d : SegmentationDetail) → x .«descriptor_detail» ≡ d → Into (ofItem (Item.Is (Descriptor.Segmentation x))) → ListsDetail ids base loop y d
-    detail-lists x SegmentationDetail.Cancel e f = tt
-    detail-lists x (SegmentationDetail.Insert i) e f =
+    detail-lists : (x : SegmentationDescriptor) (d : DescriptorDetail) → x .«descriptor_detail» ≡ d → Into (ofItem (Item.Is (Descriptor.Segmentation x))) → ListsDetail ids base loop y d
+    detail-lists x DescriptorDetail.Cancel e f = tt
+    detail-lists x (DescriptorDetail.Active i) e f =
         let g = rw e at f in
         upid-lists (i .«segmentation_upid»)
         (into-left (map (inLent base loop) (upidViews (i .«segmentation_upid»))) _ g)
@@ -78,8 +78,8 @@ module _ (ids : List Identifier) where
     item-lists (Item.Refused (ItemRefusal.Other Refusal.InputTooLong)) f = tt
     item-lists (Item.Refused (ItemRefusal.Other (Refusal.NotEnoughData expected actual))) f = tt
     item-lists (Item.Refused (ItemRefusal.Other Refusal.UpidLengthTypeMismatch)) f = tt
-    item-lists (Item.Refused (ItemRefusal.Other (Refusal.InvalidUpidContent kind v))) f = into-first (inLent base loop v) _ f
-    item-lists (Item.Refused (ItemRefusal.Other (Refusal.InvalidUpidLength kind expected actual))) f = tt
+    item-lists (Item.Refused (ItemRefusal.Other (Refusal.InvalidUpidContent upid-type v))) f = into-first (inLent base loop v) _ f
+    item-lists (Item.Refused (ItemRefusal.Other (Refusal.InvalidUpidLength upid-type expected actual))) f = tt
     item-lists (Item.Is (Descriptor.Avail x)) f = tt
     item-lists (Item.Is (Descriptor.Dtmf x)) f = into-first (inLent base loop (x .«dtmf_chars»)) _ f
     item-lists (Item.Is (Descriptor.Segmentation x)) f = detail-lists x (x .«descriptor_detail») refl f

@@ -1,6 +1,6 @@
 -- The values of numbers go by their tables, and nothing else does: one law over the table.
 use Prim.Native.Nat.{ℕ}
-use mathlib.Core.Bool.{Bool, true, false, cond}
+use mathlib.Core.Bool.{Bool, true, false, cond as pick}
 use mathlib.Core.List.{List, [], _∷_}
 use mathlib.Core.Logic.{⊎-elim}
 use mathlib.Core.Option.{Option, none, some}
@@ -19,12 +19,12 @@ use Rattle.names.proofs.algorithm.EncryptionAlgorithm as declared-algorithm
 use Rattle.names.proofs.command.SpliceCommandType as declared-command
 use Rattle.names.proofs.segmentation.SegmentationTypeId as declared-segmentation
 use Rattle.names.proofs.upid.SegmentationUpidType as declared-upid
-use Rattle.names.specs.Algorithm.{algorithmEntry, otherAlgorithm, algorithms, algorithmOf, fairAlgorithm}
-use Rattle.names.specs.Command.{commandEntry, commands, commandTypeOf, fairCommand}
+use Rattle.names.specs.Algorithm.{algorithmEntry, otherAlgorithm, algorithms, algorithmOf, writableAlgorithm}
+use Rattle.names.specs.Command.{commandEntry, commands, commandTypeOf, writableCommand}
 use Rattle.names.specs.Flags.{restrictionsBits, restrictionsOf}
-use Rattle.names.specs.Numbering.{Numbering, numberIn, classIn, named, nameOf, or, valueOf, fair}
-use Rattle.names.specs.Segmentation.{segmentationEntry, segmentations, segmentationOf, fairSegmentation}
-use Rattle.names.specs.Upid.{upidTypeEntry, upidTypes, upidTypeOf, fairUpidType}
+use Rattle.names.specs.Numbering.{Numbering, numberIn, classIn, named, nameOf, or, valueOf, writable}
+use Rattle.names.specs.Segmentation.{segmentationEntry, segmentations, segmentationOf, writableSegmentation}
+use Rattle.names.specs.Upid.{upidTypeEntry, upidTypes, upidTypeOf, writableUpidType}
 use Rattle.names.specs.declared.algorithm.EncryptionAlgorithm.{EncryptionAlgorithm}
 use Rattle.names.specs.declared.command.SpliceCommandType.{SpliceCommandType}
 use Rattle.names.specs.declared.flags.DeviceRestrictions.{DeviceRestrictions}
@@ -40,7 +40,7 @@ module _ {A : Type 0} (number class : A → ℕ) (n : ℕ) where
   found [] a x e = zero-one cc
   found (y ∷ ys) a x e = go (eqb n (number y)) refl (found ys (and-true (eqb (class y) named) _ a .1) x) e
     where
-      go : (b : Bool) → eqb n (number y) ≡ b → (nameOf number ys n ≡ some x → (number x ≡ n) × (class x ≡ named)) → cond b (some y) (nameOf number ys n) ≡ some x
+      go : (b : Bool) → eqb n (number y) ≡ b → (nameOf number ys n ≡ some x → (number x ≡ n) × (class x ≡ named)) → pick b (some y) (nameOf number ys n) ≡ some x
           → (number x ≡ n) × (class x ≡ named)
       go true t later f =
           let z : y ≡ x = cc in
@@ -52,7 +52,7 @@ module _ {A : Type 0} (number class : A → ℕ) (n : ℕ) where
   missing [] a h = refl
   missing (y ∷ ys) a h = go (eqb n (number y)) refl (missing ys (and-true (eqb (class y) named) _ a .1) h)
     where
-      go : (b : Bool) → eqb n (number y) ≡ b → nameOf number ys n ≡ none → cond b (some y) (nameOf number ys n) ≡ none
+      go : (b : Bool) → eqb n (number y) ≡ b → nameOf number ys n ≡ none → pick b (some y) (nameOf number ys n) ≡ none
       go true t later = absurd (h y (eqb-true (class y) named (and-true (eqb (class y) named) _ a .0)) (sym (eqb-true n (number y) t)))
       go false t later = later
 
@@ -79,28 +79,28 @@ module _ {A : Type 0} (T : Numbering A) (tag : A → ℕ) (s : Sound T tag) (car
           let h = found (numberIn T) (classIn T) n (T .names) (s .listed) x e in
           ap f (sym (h .0)) ∙ g .names x (h .1)
 
-  only-by-table : OnlyBy (T .entry) (T .others) (valueOf T) (fair T)
-  only-by-table = let i = inverse T tag s in record { goes = by-table; only = one-value; own = i .back; fairly = i .only }
+  only-by-table : OnlyBy (T .entry) (T .others) (valueOf T) (writable T)
+  only-by-table = let i = inverse T tag s in record { goes = by-table; only = one-value; own = i .back; writably = i .only }
 
 -- ---- the four tables
-algorithm-carried : (b : Bool) (n : ℕ) → classIn algorithms (cond b (EncryptionAlgorithm.Reserved n) (EncryptionAlgorithm.Private n)) ≡ named → ⊥
+algorithm-carried : (b : Bool) (n : ℕ) → classIn algorithms (pick b (EncryptionAlgorithm.Reserved n) (EncryptionAlgorithm.Private n)) ≡ named → ⊥
 algorithm-carried true n e = omega arith
 algorithm-carried false n e = omega arith
 
-pub algorithms-by : OnlyBy algorithmEntry otherAlgorithm algorithmOf fairAlgorithm
-unfolding algorithmOf fairAlgorithm
+pub algorithms-by : OnlyBy algorithmEntry otherAlgorithm algorithmOf writableAlgorithm
+unfolding algorithmOf writableAlgorithm
 algorithms-by = only-by-table algorithms (tagOf declared-algorithm.the-type) algorithm.sound (λ n e. algorithm-carried (ltb n 32) n e)
 
-pub commands-by : OnlyBy commandEntry SpliceCommandType.Reserved commandTypeOf fairCommand
-unfolding commandTypeOf fairCommand
+pub commands-by : OnlyBy commandEntry SpliceCommandType.Reserved commandTypeOf writableCommand
+unfolding commandTypeOf writableCommand
 commands-by = only-by-table commands (tagOf declared-command.the-type) command.sound (λ n e. omega arith)
 
-pub upid-types-by : OnlyBy upidTypeEntry SegmentationUpidType.Reserved upidTypeOf fairUpidType
-unfolding upidTypeOf fairUpidType
+pub upid-types-by : OnlyBy upidTypeEntry SegmentationUpidType.Reserved upidTypeOf writableUpidType
+unfolding upidTypeOf writableUpidType
 upid-types-by = only-by-table upidTypes (tagOf declared-upid.the-type) upid.sound (λ n e. omega arith)
 
-pub segmentations-by : OnlyBy segmentationEntry SegmentationTypeId.Reserved segmentationOf fairSegmentation
-unfolding segmentationOf fairSegmentation
+pub segmentations-by : OnlyBy segmentationEntry SegmentationTypeId.Reserved segmentationOf writableSegmentation
+unfolding segmentationOf writableSegmentation
 segmentations-by = only-by-table segmentations (tagOf declared-segmentation.the-type) segmentation.sound (λ n e. omega arith)
 
 -- ---- device_restrictions: each number of two bits has a name

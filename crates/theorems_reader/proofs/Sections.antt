@@ -1,6 +1,6 @@
 -- The identifiers of an accepted section.
 use Prim.Native.Nat.{ℕ, _+_, _≤_, _<_}
-use mathlib.Core.Bool.{Bool, true, false, cond}
+use mathlib.Core.Bool.{Bool, true, false, cond as pick}
 use mathlib.Core.List.{List, [], _∷_, _++_}
 use mathlib.Core.Path.{_≡_, refl, ap}
 use native.Mathlib.Omega.{arith}
@@ -52,18 +52,18 @@ module _ (s : List ℕ) (i : Identifier) (r : OneRun s i) (fits : length (i .byt
     next = stepOf (i .bytes) o .next
 
     parts-run : (u : SegmentationUpid) → Found (i .bytes) o next u → All (OneRun s) (partsOf (i .start) (i .bytes) u)
-    parts-run u f = go (eqb (u .kind) 13) refl
+    parts-run u f = go (eqb (u .«upid_type») 13) refl
       where
-        go : (t : Bool) → eqb (u .kind) 13 ≡ t → All (OneRun s) (partsOf (i .start) (i .bytes) u)
+        go : (t : Bool) → eqb (u .«upid_type») 13 ≡ t → All (OneRun s) (partsOf (i .start) (i .bytes) u)
         go true t =
-            let k : u .kind ≡ 13 = eqb-true _ _ t in
+            let k : u .«upid_type» ≡ 13 = eqb-true _ _ t in
             rw k (all-map _ (all-into (λ p a. a .unbroken) (mid-of s i r o next u f k .parts)))
-        go false t = rw (only-a-mid-has-parts (u .kind) (viewed (i .bytes) (u .bytes)) (eqb-false _ _ t)) none
+        go false t = rw (only-a-mid-has-parts (u .«upid_type») (viewed (i .bytes) (u .bytes)) (eqb-false _ _ t)) none
 
-    eidrs-run : (u : SegmentationUpid) → Found (i .bytes) o next u → All (OneRun s) (cond (eqb (u .kind) 10) (eidrOf (i .start) (i .bytes) (listed (i .bytes) o) ∷ []) [])
-    eidrs-run u f = go (eqb (u .kind) 10) refl
+    eidrs-run : (u : SegmentationUpid) → Found (i .bytes) o next u → All (OneRun s) (pick (eqb (u .«upid_type») 10) (eidrOf (i .start) (i .bytes) (listed (i .bytes) o) ∷ []) [])
+    eidrs-run u f = go (eqb (u .«upid_type») 10) refl
       where
-        go : (t : Bool) → eqb (u .kind) 10 ≡ t → All (OneRun s) (cond t (eidrOf (i .start) (i .bytes) (listed (i .bytes) o) ∷ []) [])
+        go : (t : Bool) → eqb (u .«upid_type») 10 ≡ t → All (OneRun s) (pick t (eidrOf (i .start) (i .bytes) (listed (i .bytes) o) ∷ []) [])
         go true t = more (eidr-of s i r o next u f (eqb-true _ _ t)) none
         go false t = none
 

@@ -9,8 +9,8 @@ use Rattle.command.specs.Command.{commandOf, insertCount, byType}
 use Rattle.command.specs.Insert.{count}
 use Rattle.command.specs.declared.CommandRead.{CommandRead}
 use Rattle.command.specs.declared.SpliceCommand.{SpliceCommand}
-use Rattle.command.specs.declared.insert.Insert.{Insert}
-use Rattle.command.specs.declared.insert.SpliceInsert.{SpliceInsert}
+use Rattle.command.specs.declared.insert.InsertDetail.{InsertDetail}
+use Rattle.command.specs.declared.insert.SpliceDetail.{SpliceDetail}
 use Rattle.crc.specs.Crc.{crcOf}
 use Rattle.descriptor.proofs.Longer as longer
 use Rattle.descriptor.specs.Descriptor.{availOf, dtmfOf, timeOf, cuei, descriptorOf}
@@ -18,8 +18,8 @@ use Rattle.descriptor.specs.Segmentation.{deviceOf, countOf, blankUpid, detailU
 use Rattle.descriptor.specs.declared.Descriptor.{Descriptor}
 use Rattle.descriptor.specs.declared.DescriptorRead.{DescriptorRead}
 use Rattle.descriptor.specs.declared.segmentation.SegmentationDescriptor.{SegmentationDescriptor}
+use Rattle.descriptor.specs.declared.segmentation.DescriptorDetail.{DescriptorDetail}
 use Rattle.descriptor.specs.declared.segmentation.SegmentationDetail.{SegmentationDetail}
-use Rattle.descriptor.specs.declared.segmentation.SegmentationInsert.{SegmentationInsert}
 use Rattle.descriptor.specs.declared.segmentation.SegmentationUpid.{SegmentationUpid}
 use Rattle.descriptor.specs.declared.segmentation.SubSegment.{SubSegment}
 use Rattle.descriptor.specs.declared.segmentation.SubSegments.{SubSegments}
@@ -31,11 +31,11 @@ use Rattle.splice_time.specs.declared.SpliceTime.{SpliceTime}
 use Rattle.descriptor_loop.specs.Cover.{Ends, TakesRest, Covered, times}
 use Rattle.descriptor_loop.specs.Items.{stepOf, readingOf, itemsOf}
 use Rattle.descriptor_loop.specs.declared.Item.{Item}
-use Rattle.names.specs.Algorithm.{algorithmEntry, otherAlgorithm, algorithmOf, fairAlgorithm}
-use Rattle.names.specs.Command.{commandEntry, commandTypeOf, fairCommand}
+use Rattle.names.specs.Algorithm.{algorithmEntry, otherAlgorithm, algorithmOf, writableAlgorithm}
+use Rattle.names.specs.Command.{commandEntry, commandTypeOf, writableCommand}
 use Rattle.names.specs.Flags.{restrictionsBits}
-use Rattle.names.specs.Segmentation.{segmentationEntry, segmentationOf, fairSegmentation}
-use Rattle.names.specs.Upid.{upidTypeEntry, upidTypeOf, fairUpidType}
+use Rattle.names.specs.Segmentation.{segmentationEntry, segmentationOf, writableSegmentation}
+use Rattle.names.specs.Upid.{upidTypeEntry, upidTypeOf, writableUpidType}
 use Rattle.names.specs.declared.command.SpliceCommandType.{SpliceCommandType}
 use Rattle.names.specs.declared.flags.DeviceRestrictions.{DeviceRestrictions}
 use Rattle.names.specs.declared.segmentation.SegmentationTypeId.{SegmentationTypeId}
@@ -97,11 +97,11 @@ bytes-left-over-by-a-time-are-tolerated = longer.time-on
 
 -- Of a segmentation descriptor they stand behind the head of a cancelled one, and behind sub-segments. (Bytes behind one without sub-segments would be its sub-segments.)
 pub bytes-left-over-by-a-cancelled-segmentation-are-tolerated : (payload more : List ℕ) (x : SegmentationDescriptor) → descriptorOf 2 cuei payload ≡ DescriptorRead.Is (Descriptor.Segmentation x)
-    → x .«descriptor_detail» ≡ SegmentationDetail.Cancel → descriptorOf 2 cuei (payload ++ more) ≡ descriptorOf 2 cuei payload
+    → x .«descriptor_detail» ≡ DescriptorDetail.Cancel → descriptorOf 2 cuei (payload ++ more) ≡ descriptorOf 2 cuei payload
 bytes-left-over-by-a-cancelled-segmentation-are-tolerated = longer.cancelled-on
 
-pub bytes-left-over-by-sub-segments-are-tolerated : (payload more : List ℕ) (x : SegmentationDescriptor) (i : SegmentationInsert) (sub : SubSegment)
-    → descriptorOf 2 cuei payload ≡ DescriptorRead.Is (Descriptor.Segmentation x) → x .«descriptor_detail» ≡ SegmentationDetail.Insert i → i .«sub_segments» ≡ SubSegments.Is sub
+pub bytes-left-over-by-sub-segments-are-tolerated : (payload more : List ℕ) (x : SegmentationDescriptor) (i : SegmentationDetail) (sub : SubSegment)
+    → descriptorOf 2 cuei payload ≡ DescriptorRead.Is (Descriptor.Segmentation x) → x .«descriptor_detail» ≡ DescriptorDetail.Active i → i .«sub_segments» ≡ SubSegments.Is sub
     → descriptorOf 2 cuei (payload ++ more) ≡ descriptorOf 2 cuei payload
 bytes-left-over-by-sub-segments-are-tolerated = longer.sub-segments-on
 
@@ -110,10 +110,10 @@ pub condition-10-is-of-the-other-types : (s : List ℕ) → unknownCommand s ≡
 condition-10-is-of-the-other-types s = command-types.unknown-is (commandType s) (commandBytes s)
 
 -- so the command reader gives 10 to exactly these types
-pub another-type-is-refused-by-10 : (kind : ℕ) (payload : List ℕ) → byType kind false false false false false true ≡ true → commandOf kind payload ≡ CommandRead.UnknownType
+pub another-type-is-refused-by-10 : (command-type : ℕ) (payload : List ℕ) → byType command-type false false false false false true ≡ true → commandOf command-type payload ≡ CommandRead.UnknownType
 another-type-is-refused-by-10 = command-types.unknown-if
 
-pub only-another-type-is-refused-by-10 : (kind : ℕ) (payload : List ℕ) → commandOf kind payload ≡ CommandRead.UnknownType → byType kind false false false false false true ≡ true
+pub only-another-type-is-refused-by-10 : (command-type : ℕ) (payload : List ℕ) → commandOf command-type payload ≡ CommandRead.UnknownType → byType command-type false false false false false true ≡ true
 only-another-type-is-refused-by-10 = command-types.unknown-only-if
 
 -- "A section is accepted exactly when none of 1 to 11 applies"
@@ -137,16 +137,16 @@ every-identifier-is-one-run-of-the-section = sections.identifiers-run
 
 -- and it is the whole run that the section's own bytes announce (specs/Whole.antt). The station's question first: the UPID of every segmentation descriptor, at whatever
 -- offset of the loop it is read, is of the type and has exactly the bytes that its head says, which stands behind the fields before it.
-pub every-upid-of-the-section-is-whole : (s : List ℕ) (x : Section) → sectionOf s ≡ SectionRead.Is x → (offset : ℕ) (d : SegmentationDescriptor) (i : SegmentationInsert)
-    → stepOf (loopIn s x) offset .item ≡ Item.Is (Descriptor.Segmentation d) → d .«descriptor_detail» ≡ SegmentationDetail.Insert i → AllBytes s
+pub every-upid-of-the-section-is-whole : (s : List ℕ) (x : Section) → sectionOf s ≡ SectionRead.Is x → (offset : ℕ) (d : SegmentationDescriptor) (i : SegmentationDetail)
+    → stepOf (loopIn s x) offset .item ≡ Item.Is (Descriptor.Segmentation d) → d .«descriptor_detail» ≡ DescriptorDetail.Active i → AllBytes s
     → WholeUpid s (upidAt s (x .descriptors .at + offset + 6)) (x .descriptors .at) (loopIn s x) (readingOf (loopIn s x) offset .beside .eidr) (i .«segmentation_upid»)
 every-upid-of-the-section-is-whole = whole-runs.whole-upid
 
 -- The incident: where it is a MID, no identifier of it is split. It is read as its parts, each of them, at every level, exactly the run of the section that the two bytes before it announce; the direct
 -- parts of each MID cover it once; and no other part is in the list, which goes by the bytes, "outer part before its inner ones".
-pub no-mid-that-is-read-is-split : (s : List ℕ) (x : Section) → sectionOf s ≡ SectionRead.Is x → (offset : ℕ) (d : SegmentationDescriptor) (i : SegmentationInsert)
-    → stepOf (loopIn s x) offset .item ≡ Item.Is (Descriptor.Segmentation d) → d .«descriptor_detail» ≡ SegmentationDetail.Insert i
-    → i .«segmentation_upid» .kind ≡ 13 → Unsplit s (inLent (x .descriptors .at) (loopIn s x) (i .«segmentation_upid» .bytes))
+pub no-mid-that-is-read-is-split : (s : List ℕ) (x : Section) → sectionOf s ≡ SectionRead.Is x → (offset : ℕ) (d : SegmentationDescriptor) (i : SegmentationDetail)
+    → stepOf (loopIn s x) offset .item ≡ Item.Is (Descriptor.Segmentation d) → d .«descriptor_detail» ≡ DescriptorDetail.Active i
+    → i .«segmentation_upid» .«upid_type» ≡ 13 → Unsplit s (inLent (x .descriptors .at) (loopIn s x) (i .«segmentation_upid» .bytes))
 no-mid-that-is-read-is-split = whole-runs.whole-mid
 
 -- So of every item: DTMF characters, UPID with EIDR, private bytes and identifier of a reserved descriptor, the text of refusal 24; at any offset, and so of each item of the loop
@@ -162,7 +162,7 @@ pub the-private-bytes-of-the-section-are-whole : (s : List ℕ) (x : Section) �
 the-private-bytes-of-the-section-are-whole = whole-runs.whole-command
 
 -- so a reader that cuts one is not the definition's: of a UPID of type 15 with 20 bytes announced twelve are not the whole
-pub a-cut-upid-is-not-whole : (s : List ℕ) (h base : ℕ) (loop beside : List ℕ) (u : SegmentationUpid) → u .kind ≡ 15 → u .bytes .len ≡ 12 → getD s (h + 1) 0 ≡ 20
+pub a-cut-upid-is-not-whole : (s : List ℕ) (h base : ℕ) (loop beside : List ℕ) (u : SegmentationUpid) → u .«upid_type» ≡ 15 → u .bytes .len ≡ 12 → getD s (h + 1) 0 ≡ 20
     → WholeUpid s h base loop beside u → ⊥
 a-cut-upid-is-not-whole = whole-runs.a-cut-upid-is-not-whole
 
@@ -172,7 +172,7 @@ pub the-list-of-identifiers-is-complete : (s : List ℕ) (x : Section)
 the-list-of-identifiers-is-complete s x = (listing.lists-items s x, listing.lists-command s x)
 
 -- (The parts of a UPID, as `read_upid` answers them: those of its walk, and none of what is refused)
-pub the-parts-that-are-read : (kind : ℕ) (bytes : List ℕ) → partsRead kind bytes ≡ unlessRefused (checkOf kind bytes) (listOf kind 1 0 bytes)
+pub the-parts-that-are-read : (upid-type : ℕ) (bytes : List ℕ) → partsRead upid-type bytes ≡ unlessRefused (checkOf upid-type bytes) (listOf upid-type 1 0 bytes)
 the-parts-that-are-read = upids.parts-in
 
 -- the loop lies in the section whole
@@ -195,25 +195,25 @@ pub each-byte-of-the-loop-lies-in-one-item : (s : List ℕ) (x : Section) → se
 each-byte-of-the-loop-lies-in-one-item = sections.bytes-in-one-item
 
 -- "the direct parts of each accepted MID, heads included, cover that MID once", byte by byte: each byte of a MID, at every depth, lies in exactly one of its direct parts
-pub each-byte-of-a-mid-lies-in-one-part : (s : List ℕ) (x : Section) → sectionOf s ≡ SectionRead.Is x → (offset : ℕ) (d : SegmentationDescriptor) (i : SegmentationInsert)
-    → stepOf (loopIn s x) offset .item ≡ Item.Is (Descriptor.Segmentation d) → d .«descriptor_detail» ≡ SegmentationDetail.Insert i → i .«segmentation_upid» .kind ≡ 13
-    → let b : List ℕ = viewed (loopIn s x) (i .«segmentation_upid» .bytes) in All (λ m. m .kind ≡ 13 → Once (partsRead 13 b) m) (whole b ∷ partsRead 13 b)
+pub each-byte-of-a-mid-lies-in-one-part : (s : List ℕ) (x : Section) → sectionOf s ≡ SectionRead.Is x → (offset : ℕ) (d : SegmentationDescriptor) (i : SegmentationDetail)
+    → stepOf (loopIn s x) offset .item ≡ Item.Is (Descriptor.Segmentation d) → d .«descriptor_detail» ≡ DescriptorDetail.Active i → i .«segmentation_upid» .«upid_type» ≡ 13
+    → let b : List ℕ = viewed (loopIn s x) (i .«segmentation_upid» .bytes) in All (λ m. m .«upid_type» ≡ 13 → Once (partsRead 13 b) m) (whole b ∷ partsRead 13 b)
 each-byte-of-a-mid-lies-in-one-part = whole-runs.whole-mid-bytes
 
 -- ---- numbers and times
 
 -- Which value a number stands for: the name that has it in the table of names/specs, and where none has it the value that carries it ("4 to 31 reserved, 32 to 63 private; as a bare
 -- number, 64 to 255 too"); and nothing else goes by the table
-pub algorithms-go-by-their-table : OnlyBy algorithmEntry otherAlgorithm algorithmOf fairAlgorithm
+pub algorithms-go-by-their-table : OnlyBy algorithmEntry otherAlgorithm algorithmOf writableAlgorithm
 algorithms-go-by-their-table = numbers.algorithms-by
 
-pub command-types-go-by-their-table : OnlyBy commandEntry SpliceCommandType.Reserved commandTypeOf fairCommand
+pub command-types-go-by-their-table : OnlyBy commandEntry SpliceCommandType.Reserved commandTypeOf writableCommand
 command-types-go-by-their-table = numbers.commands-by
 
-pub upid-types-go-by-their-table : OnlyBy upidTypeEntry SegmentationUpidType.Reserved upidTypeOf fairUpidType
+pub upid-types-go-by-their-table : OnlyBy upidTypeEntry SegmentationUpidType.Reserved upidTypeOf writableUpidType
 upid-types-go-by-their-table = numbers.upid-types-by
 
-pub segmentation-types-go-by-their-table : OnlyBy segmentationEntry SegmentationTypeId.Reserved segmentationOf fairSegmentation
+pub segmentation-types-go-by-their-table : OnlyBy segmentationEntry SegmentationTypeId.Reserved segmentationOf writableSegmentation
 segmentation-types-go-by-their-table = numbers.segmentations-by
 
 -- of device_restrictions each number of two bits has a name
@@ -221,11 +221,11 @@ pub device-restrictions-go-by-their-numbers : (d : DeviceRestrictions) → devic
 device-restrictions-go-by-their-numbers = numbers.device-by
 
 -- what a detail has: a cancelled one has no UPID and counts no components
-pub upids-and-counts-of-segmentations : (detailUpid SegmentationDetail.Cancel ≡ blankUpid) × (detailCount SegmentationDetail.Cancel ≡ 0)
-    × ((i : SegmentationInsert) → (detailUpid (SegmentationDetail.Insert i) ≡ i .«segmentation_upid») × (detailCount (SegmentationDetail.Insert i) ≡ countOf (i .«segmentation_mode»)))
+pub upids-and-counts-of-segmentations : (detailUpid DescriptorDetail.Cancel ≡ blankUpid) × (detailCount DescriptorDetail.Cancel ≡ 0)
+    × ((i : SegmentationDetail) → (detailUpid (DescriptorDetail.Active i) ≡ i .«segmentation_upid») × (detailCount (DescriptorDetail.Active i) ≡ countOf (i .«segmentation_mode»)))
 upids-and-counts-of-segmentations = (refl, refl, λ i. (refl, refl))
 
-pub counts-of-inserts : (insertCount SpliceInsert.Cancel ≡ 0) × ((i : Insert) → insertCount (SpliceInsert.Insert i) ≡ count (i .«splice_mode»))
+pub counts-of-inserts : (insertCount SpliceDetail.Cancel ≡ 0) × ((i : InsertDetail) → insertCount (SpliceDetail.Insert i) ≡ count (i .«splice_mode»))
 counts-of-inserts = (refl, λ i. refl)
 
 -- 02, Q-2: "the adjusted time is the sum's remainder modulo 8,589,934,592"

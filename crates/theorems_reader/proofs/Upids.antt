@@ -21,7 +21,7 @@ use Rattle.descriptor.specs.Plain.{avail, dtmf, time, privateBytes}
 use Rattle.descriptor.specs.Segmentation.{Fore, Head, head, front, back, insertFrom, segmentation}
 use Rattle.descriptor.specs.Whole.{besideIn, besideOf}
 use Rattle.descriptor.specs.declared.DescriptorRead.{DescriptorRead}
-use Rattle.descriptor.specs.declared.segmentation.SegmentationDetail.{SegmentationDetail}
+use Rattle.descriptor.specs.declared.segmentation.DescriptorDetail.{DescriptorDetail}
 use Rattle.descriptor.specs.declared.segmentation.SegmentationUpid.{SegmentationUpid}
 use Rattle.descriptor_loop.specs.declared.Item.{Item}
 use Rattle.theorems_reader.specs.Identifiers.{upidStart, upidsOf}
@@ -35,9 +35,9 @@ upidsRead (DescriptorRead.Refused r) = []
 -- the UPID u of a payload's reading is this one, which is written there and was checked; and what stands beside it
 pub record Source (s : List ℕ) (u : SegmentationUpid) : Type 0 where
   pub written : SegmentationUpid
-  pub checked : checkOf (written .kind) (viewed s (written .bytes)) ≡ Fine (u .kind)
-  pub is : u ≡ reportedUpid (u .kind) (written .bytes)
-  pub beside : besideOf s .eidr ≡ upid.eidrOf (written .kind) (viewed s (written .bytes))
+  pub checked : checkOf (written .«upid_type») (viewed s (written .bytes)) ≡ Fine (u .«upid_type»)
+  pub is : u ≡ reportedUpid (u .«upid_type») (written .bytes)
+  pub beside : besideOf s .eidr ≡ upid.eidrOf (written .«upid_type») (viewed s (written .bytes))
   pub start : upidStart (parse segmentation (bitsOf s) 0) ≡ written .bytes .at
 
 module _ (s : List ℕ) where
@@ -58,12 +58,12 @@ module _ (s : List ℕ) where
 
   module _ (h : Head) (m : ℕ) (eh : parse head (bitsOf s) 0 ≡ got h m) (off : h .cancel ≡ false) where
     source : (f : Fore) (m₁ : ℕ) (b : _) (m₂ q : ℕ) → parse front (bitsOf s) m ≡ got f m₁ → parse back (bitsOf s) m₁ ≡ got b m₂
-        → checkOf (f .front .«segmentation_upid» .kind) (viewed s (f .front .«segmentation_upid» .bytes)) ≡ Fine q → Source s (reportedUpid q (f .front .«segmentation_upid» .bytes))
+        → checkOf (f .front .«segmentation_upid» .«upid_type») (viewed s (f .front .«segmentation_upid» .bytes)) ≡ Fine q → Source s (reportedUpid q (f .front .«segmentation_upid» .bytes))
     unfolding segmentation besideOf besideIn
     source f m₁ b m₂ q ef eb ec =
         let w : SegmentationUpid = f .front .«segmentation_upid» in
         let g : parse segmentation (bitsOf s) 0 ≡ got (record {
-          descriptor = record { «segmentation_event_id» = h .event; «descriptor_detail» = SegmentationDetail.Insert (insertFrom (f .front) w b) };
+          descriptor = record { «segmentation_event_id» = h .event; «descriptor_detail» = DescriptorDetail.Active (insertFrom (f .front) w b) };
           components = f .components;
         }) m₂ =
         takes-in head _ _ (bitsOf s) 0 h m eh
@@ -77,7 +77,7 @@ module _ (s : List ℕ) where
     in-insert =
         and-then (parse front (bitsOf s) m) _ λ f m₁ ef.
         let w : SegmentationUpid = f .front .«segmentation_upid» in
-        if-fine (checkOf (w .kind) (viewed s (w .bytes))) (w .bytes) _ λ q ec.
+        if-fine (checkOf (w .«upid_type») (viewed s (w .bytes))) (w .bytes) _ λ q ec.
         and-then (parse back (bitsOf s) m₁) _ λ b m₂ eb.
         more (source f m₁ b m₂ q ef eb ec) none
 

@@ -37,12 +37,12 @@ use Rattle.descriptor.specs.Whole.{besideOf, identifierRead}
 use Rattle.descriptor.specs.declared.Descriptor.{Descriptor}
 use Rattle.descriptor.specs.declared.DescriptorRead.{DescriptorRead}
 use Rattle.descriptor.specs.declared.segmentation.SegmentationDescriptor.{SegmentationDescriptor}
+use Rattle.descriptor.specs.declared.segmentation.DescriptorDetail.{DescriptorDetail}
 use Rattle.descriptor.specs.declared.segmentation.SegmentationDetail.{SegmentationDetail}
-use Rattle.descriptor.specs.declared.segmentation.SegmentationInsert.{SegmentationInsert}
 use Rattle.descriptor.specs.declared.segmentation.SegmentationUpid.{SegmentationUpid}
 use Rattle.upid.proofs.Reported.{check-none, reports, mid-is-written, eidr-is-written}
 use Rattle.descriptor_loop.proofs.Lists.{walked}
-use Rattle.descriptor_loop.proofs.Places.{all-first, kind-stays}
+use Rattle.descriptor_loop.proofs.Places.{all-first, type-stays}
 use Rattle.descriptor_loop.proofs.Steps.{Stands, Clause, long, ended, last, small, entire, clause}
 use Rattle.descriptor_loop.specs.Items.{itemAt, readAt, wholeAt, stepOf, besideItem, readingOf, Listed, listed, itemsOf}
 use Rattle.descriptor_loop.specs.Place.{viewsOf, movedUpid}
@@ -112,7 +112,7 @@ module _ (s : List ℕ) (i : Identifier) (r : OneRun s i) (offset L : ℕ) (st :
 
   -- ---- its UPID
 
-  module _ (d : SegmentationInsert) (t : Told payload d) where
+  module _ (d : SegmentationDetail) (t : Told payload d) where
     abbrev u : SegmentationUpid
     u = d .«segmentation_upid»
 
@@ -145,37 +145,37 @@ module _ (s : List ℕ) (i : Identifier) (r : OneRun s i) (offset L : ℕ) (st :
         let six : getD payload 6 0 ≡ getD s (i .start + offset + 6 + 6) 0 = byte 6 (omega (arith, t .there)) _ refl in
         ap (λ (k : ℕ). i .start + offset + 6 + k) (t .before ∙ ap₂ (λ (a b : ℕ). 6 + fieldsBefore a b) five six)
 
-    stays : movedUpid (offset + 6) u .kind ≡ u .kind
-    stays = kind-stays (offset + 6) u
+    stays : movedUpid (offset + 6) u .«upid_type» ≡ u .«upid_type»
+    stays = type-stays (offset + 6) u
 
     -- the type that is reported
-    upid-kind : u .kind ≡ pick (eqb (getD payload (q + 1) 0) 0) 0 (reportedOf (getD payload q 0))
-    upid-kind = go (eqb (getD payload (q + 1) 0) 0) refl
+    upid-type-is : u .«upid_type» ≡ pick (eqb (getD payload (q + 1) 0) 0) 0 (reportedOf (getD payload q 0))
+    upid-type-is = go (eqb (getD payload (q + 1) 0) 0) refl
       where
-        go : (b : Bool) → eqb (getD payload (q + 1) 0) 0 ≡ b → u .kind ≡ pick b 0 (reportedOf (getD payload q 0))
+        go : (b : Bool) → eqb (getD payload (q + 1) 0) 0 ≡ b → u .«upid_type» ≡ pick b 0 (reportedOf (getD payload q 0))
         go true e =
             let z : getD payload (q + 1) 0 ≡ 0 = eqb-true _ _ e in
             let c : checkOf (getD payload q 0) its ≡ Fine 0 = check-none (getD payload q 0) its (its-length ∙ z) in
             cc (t .checked, c)
         go false e =
             let z : getD payload (q + 1) 0 ≡ 0 → ⊥ = eqb-false _ _ e in
-            sym (reports (getD payload q 0) its (u .kind) (t .checked) (go-some z) .0)
+            sym (reports (getD payload q 0) its (u .«upid_type») (t .checked) (go-some z) .0)
           where
             go-some : (getD payload (q + 1) 0 ≡ 0 → ⊥) → 1 ≤ length its
             go-some z = omega (arith, its-length)
 
     -- the view of a UPID that has one
-    view-is : withoutView (u .kind) ≡ false → movedUpid (offset + 6) u .bytes ≡ shifted (offset + 6) written
+    view-is : withoutView (u .«upid_type») ≡ false → movedUpid (offset + 6) u .bytes ≡ shifted (offset + 6) written
     view-is w =
         let z : u .bytes ≡ written = ap (λ (x : SegmentationUpid). x .bytes) (t .is) ∙ ap (λ (b : Bool). pick b noView written) w in
-        ap (λ (b : Bool). (let there : SegmentationUpid = pick b u (record { kind = u .kind; bytes = shifted (offset + 6) (u .bytes) }) in there .bytes)) w
+        ap (λ (b : Bool). (let there : SegmentationUpid = pick b u (record { «upid_type» = u .«upid_type»; bytes = shifted (offset + 6) (u .bytes) }) in there .bytes)) w
         ∙ ap (shifted (offset + 6)) z
 
-    view-run : withoutView (u .kind) ≡ false → OneRun s (inLent (i .start) (i .bytes) (movedUpid (offset + 6) u .bytes))
+    view-run : withoutView (u .«upid_type») ≡ false → OneRun s (inLent (i .start) (i .bytes) (movedUpid (offset + 6) u .bytes))
     view-run w = rw (view-is w) (moved-run written (t .there))
 
     module _ (eidr : List ℕ) (beside : eidr ≡ besideOf payload .eidr) where
-      in-eidr : u .kind ≡ 10 → (getD s h 0 ≡ 10) × (getD s (h + 1) 0 ≡ 12) × Exactly s (h + 2) 12 (record { start = h + 2; len = 12; bytes = eidr })
+      in-eidr : u .«upid_type» ≡ 10 → (getD s h 0 ≡ 10) × (getD s (h + 1) 0 ≡ 12) × Exactly s (h + 2) 12 (record { start = h + 2; len = 12; bytes = eidr })
       unfolding upid.eidrOf
       in-eidr k =
           let e = eidr-is-written (getD payload q 0) its (t .checked ∙ ap Fine k) in
@@ -190,9 +190,9 @@ module _ (s : List ℕ) (i : Identifier) (r : OneRun s i) (offset L : ℕ) (st :
             record { there = omega (arith, run .inside, n); is = ap (λ (l : List ℕ). record { start = h + 2; len = 12; bytes = l }) b },
           )
 
-      mid-whole : u .kind ≡ 13 → Unsplit s (inLent (i .start) (i .bytes) (movedUpid (offset + 6) u .bytes))
+      mid-whole : u .«upid_type» ≡ 13 → Unsplit s (inLent (i .start) (i .bytes) (movedUpid (offset + 6) u .bytes))
       mid-whole k =
-          let w : withoutView (u .kind) ≡ false = rw k in
+          let w : withoutView (u .«upid_type») ≡ false = rw k in
           let c : checkOf (getD payload q 0) its ≡ Fine 13 = t .checked ∙ ap Fine k in
           let z : getD payload q 0 ≡ 13 = mid-is-written (getD payload q 0) its c in
           let b : viewed (i .bytes) (movedUpid (offset + 6) u .bytes) ≡ its = ap (viewed (i .bytes)) (view-is w) ∙ same-bytes written (t .there) in
@@ -203,9 +203,9 @@ module _ (s : List ℕ) (i : Identifier) (r : OneRun s i) (offset L : ℕ) (st :
       unfolding reportedOf
       upid-whole =
           record {
-            kind = stays ∙ upid-kind ∙ ap₂ (λ (l k : ℕ). pick (eqb l 0) 0 (reportedOf k)) length-byte type-byte;
+            «upid_type» = stays ∙ upid-type-is ∙ ap₂ (λ (l k : ℕ). pick (eqb l 0) 0 (reportedOf k)) length-byte type-byte;
             bytes = λ none ten.
-                let v : withoutView (u .kind) ≡ false = rw (ne-eqb (u .kind) 0 (λ z. none (stays ∙ z)), ne-eqb (u .kind) 10 (λ z. ten (stays ∙ z))) in
+                let v : withoutView (u .«upid_type») ≡ false = rw (ne-eqb (u .«upid_type») 0 (λ z. none (stays ∙ z)), ne-eqb (u .«upid_type») 10 (λ z. ten (stays ∙ z))) in
                 exactly s (inLent (i .start) (i .bytes) (movedUpid (offset + 6) u .bytes)) (view-run v) (h + 2) (getD s (h + 1) 0)
                 (ap (λ (x : View). i .start + x .at) (view-is v) ∙ (let z : i .start + (offset + 6 + (q + 2)) ≡ h + 2 = omega arith in z))
                 (ap (λ (x : View). x .len) (view-is v) ∙ length-byte);
@@ -220,7 +220,7 @@ module _ (s : List ℕ) (i : Identifier) (r : OneRun s i) (offset L : ℕ) (st :
       let n : length payload ≡ L - 4 = size in
       record {
         behind = omega (arith, g .behind);
-        kind = g .kind ∙ byte (v .at - 0 - 2) (omega (arith, g .behind, g .inside)) (i .start + (offset + 6 + v .at) - 2) (omega (arith, g .behind));
+        «upid_type» = g .«upid_type» ∙ byte (v .at - 0 - 2) (omega (arith, g .behind, g .inside)) (i .start + (offset + 6 + v .at) - 2) (omega (arith, g .behind));
         whole =
             exactly s (inLent (i .start) (i .bytes) (shifted (offset + 6) v)) (moved-run v (omega (arith, g .inside))) _ _ refl
             (g .len ∙ byte (v .at - 0 - 1) (omega (arith, g .behind, g .inside)) (i .start + (offset + 6 + v .at) - 1) (omega (arith, g .behind)));
@@ -248,10 +248,10 @@ module _ (s : List ℕ) (i : Identifier) (r : OneRun s i) (offset L : ℕ) (st :
   again : payloadAgain ≡ payload
   again = ap (λ (n : ℕ). take n (drop (offset + 6) (i .bytes))) (let z : offset + (L + 2) - (offset + 6) ≡ L - 4 = omega arith in z)
 
-  detail-whole : (d : SegmentationDetail) → SaysDetail payload d
+  detail-whole : (d : DescriptorDetail) → SaysDetail payload d
       → WholeDetail s (i .start + offset + 6) (i .start) (i .bytes) (besideOf payloadAgain .eidr) (movedDetail (offset + 6) d)
-  detail-whole SegmentationDetail.Cancel t = ap (λ (n : ℕ). n / 128 % 2) (sym (byte 4 (omega (arith, t .0, size)) (i .start + offset + 6 + 4) refl)) ∙ t .1
-  detail-whole (SegmentationDetail.Insert d) t = rw (← by-bytes d t) (upid-whole d t (besideOf payloadAgain .eidr) (ap (λ (l : List ℕ). besideOf l .eidr) again))
+  detail-whole DescriptorDetail.Cancel t = ap (λ (n : ℕ). n / 128 % 2) (sym (byte 4 (omega (arith, t .0, size)) (i .start + offset + 6 + 4) refl)) ∙ t .1
+  detail-whole (DescriptorDetail.Active d) t = rw (← by-bytes d t) (upid-whole d t (besideOf payloadAgain .eidr) (ap (λ (l : List ℕ). besideOf l .eidr) again))
 
   -- the item's own length
   length-written : L ≡ getD s (i .start + offset + 1) 0
@@ -293,8 +293,8 @@ no-text s p base loop ItemRefusal.InvalidDescriptorLength e = tt
 no-text s p base loop (ItemRefusal.Other Refusal.InputTooLong) e = tt
 no-text s p base loop (ItemRefusal.Other (Refusal.NotEnoughData expected actual)) e = tt
 no-text s p base loop (ItemRefusal.Other Refusal.UpidLengthTypeMismatch) e = tt
-no-text s p base loop (ItemRefusal.Other (Refusal.InvalidUpidContent kind v)) e = zero-one cc
-no-text s p base loop (ItemRefusal.Other (Refusal.InvalidUpidLength kind expected actual)) e = tt
+no-text s p base loop (ItemRefusal.Other (Refusal.InvalidUpidContent upid-type v)) e = zero-one cc
+no-text s p base loop (ItemRefusal.Other (Refusal.InvalidUpidLength upid-type expected actual)) e = tt
 
 module _ (s : List ℕ) (a : AllBytes s) (i : Identifier) (r : OneRun s i) where
   loop-bytes : AllBytes (i .bytes)
@@ -363,8 +363,8 @@ module _ (s : List ℕ) where
 -- ---- of a section
 
 -- what is said of an item says it of its UPID
-upid-from : (s : List ℕ) (base : ℕ) (loop : List ℕ) (offset : ℕ) (r : Reading) (it : Item) (d : SegmentationDescriptor) (i : SegmentationInsert) → it ≡ Item.Is (Descriptor.Segmentation d)
-    → d .«descriptor_detail» ≡ SegmentationDetail.Insert i → WholeItem s base loop offset r it → WholeUpid s (upidAt s (base + offset + 6)) base loop (r .beside .eidr) (i .«segmentation_upid»)
+upid-from : (s : List ℕ) (base : ℕ) (loop : List ℕ) (offset : ℕ) (r : Reading) (it : Item) (d : SegmentationDescriptor) (i : SegmentationDetail) → it ≡ Item.Is (Descriptor.Segmentation d)
+    → d .«descriptor_detail» ≡ DescriptorDetail.Active i → WholeItem s base loop offset r it → WholeUpid s (upidAt s (base + offset + 6)) base loop (r .beside .eidr) (i .«segmentation_upid»)
 upid-from s base loop offset r it d i e f w =
     let g : WholeDetail s (base + offset + 6) base loop (r .beside .eidr) (d .«descriptor_detail») = rw e at w in
     rw f at g
@@ -403,32 +403,32 @@ module _ (s : List ℕ) (x : Section) (e : sectionOf s ≡ SectionRead.Is x) whe
 
   -- ---- the UPID of a segmentation descriptor that is read at any offset
 
-  module _ (offset : ℕ) (d : SegmentationDescriptor) (i : SegmentationInsert) (is : stepOf (loopIn s x) offset .item ≡ Item.Is (Descriptor.Segmentation d))
-      (detail : d .«descriptor_detail» ≡ SegmentationDetail.Insert i) where
+  module _ (offset : ℕ) (d : SegmentationDescriptor) (i : SegmentationDetail) (is : stepOf (loopIn s x) offset .item ≡ Item.Is (Descriptor.Segmentation d))
+      (detail : d .«descriptor_detail» ≡ DescriptorDetail.Active i) where
     pub whole-upid : AllBytes s
         → WholeUpid s (upidAt s (x .descriptors .at + offset + 6)) (x .descriptors .at) (loopIn s x) (readingOf (loopIn s x) offset .beside .eidr) (i .«segmentation_upid»)
     unfolding readingOf
     whole-upid a = upid-from s (x .descriptors .at) (loopIn s x) offset (readingOf (loopIn s x) offset) (stepOf (loopIn s x) offset .item) d i is detail (whole-at a offset)
 
-    pub whole-mid : i .«segmentation_upid» .kind ≡ 13 → Unsplit s (inLent (x .descriptors .at) (loopIn s x) (i .«segmentation_upid» .bytes))
+    pub whole-mid : i .«segmentation_upid» .«upid_type» ≡ 13 → Unsplit s (inLent (x .descriptors .at) (loopIn s x) (i .«segmentation_upid» .bytes))
     whole-mid k =
         let f : All (Found (loopIn s x) offset (stepOf (loopIn s x) offset .next)) (upidsOf (Item.Is (Descriptor.Segmentation d))) = rw is at (found (clause (loopIn s x) offset)) in
         let g : All (Found (loopIn s x) offset (stepOf (loopIn s x) offset .next)) (i .«segmentation_upid» ∷ []) = rw detail at f in
         mid-of s (inSection s (x .descriptors)) (loop-run s x e) offset (stepOf (loopIn s x) offset .next) (i .«segmentation_upid») (all-first g) k
 
     -- byte by byte
-    pub whole-mid-bytes : i .«segmentation_upid» .kind ≡ 13 → let b : List ℕ = viewed (loopIn s x) (i .«segmentation_upid» .bytes) in
-        All (λ m. m .kind ≡ 13 → Once (partsRead 13 b) m) (whole b ∷ partsRead 13 b)
+    pub whole-mid-bytes : i .«segmentation_upid» .«upid_type» ≡ 13 → let b : List ℕ = viewed (loopIn s x) (i .«segmentation_upid» .bytes) in
+        All (λ m. m .«upid_type» ≡ 13 → Once (partsRead 13 b) m) (whole b ∷ partsRead 13 b)
     unfolding upidOf
     whole-mid-bytes k = every-byte-lies-in-one-part (viewed (loopIn s x) (i .«segmentation_upid» .bytes)) (rw (whole-mid k .accepted) tt)
 
 -- ---- what this rules out: a UPID that is cut. One that has a view and is whole has as many bytes as the section announces.
 
-pub as-long-as-announced : (s : List ℕ) (h base : ℕ) (loop beside : List ℕ) (u : SegmentationUpid) → WholeUpid s h base loop beside u → (u .kind ≡ 0 → ⊥) → (u .kind ≡ 10 → ⊥)
+pub as-long-as-announced : (s : List ℕ) (h base : ℕ) (loop beside : List ℕ) (u : SegmentationUpid) → WholeUpid s h base loop beside u → (u .«upid_type» ≡ 0 → ⊥) → (u .«upid_type» ≡ 10 → ⊥)
     → u .bytes .len ≡ getD s (h + 1) 0
 as-long-as-announced s h base loop beside u w none ten = ap (λ (i : Identifier). i .len) (w .bytes none ten .is)
 
-pub a-cut-upid-is-not-whole : (s : List ℕ) (h base : ℕ) (loop beside : List ℕ) (u : SegmentationUpid) → u .kind ≡ 15 → u .bytes .len ≡ 12 → getD s (h + 1) 0 ≡ 20
+pub a-cut-upid-is-not-whole : (s : List ℕ) (h base : ℕ) (loop beside : List ℕ) (u : SegmentationUpid) → u .«upid_type» ≡ 15 → u .bytes .len ≡ 12 → getD s (h + 1) 0 ≡ 20
     → WholeUpid s h base loop beside u → ⊥
 a-cut-upid-is-not-whole s h base loop beside u k l n w =
     let z : u .bytes .len ≡ getD s (h + 1) 0 = as-long-as-announced s h base loop beside u w (λ z. omega arith) (λ z. omega arith) in

@@ -28,35 +28,35 @@ use Rattle.descriptor.specs.Whole.{besideIn, besideOf}
 use Rattle.descriptor.specs.declared.Descriptor.{Descriptor}
 use Rattle.descriptor.specs.declared.DescriptorRead.{DescriptorRead}
 use Rattle.descriptor.specs.declared.plain.DTMFDescriptor.{DTMFDescriptor}
+use Rattle.descriptor.specs.declared.segmentation.DescriptorDetail.{DescriptorDetail}
 use Rattle.descriptor.specs.declared.segmentation.SegmentationDetail.{SegmentationDetail}
-use Rattle.descriptor.specs.declared.segmentation.SegmentationInsert.{SegmentationInsert}
 use Rattle.descriptor.specs.declared.segmentation.SegmentationUpid.{SegmentationUpid}
 use Rattle.theorems_reader.proofs.Runs.{viewed-is, length-viewed}
 use Rattle.descriptor.proofs.Heads.{head-ends, head-cancels, place, upidIn, Placed, front-told}
 use Rattle.theorems_reader.proofs.WholeTexts.{Headed, text-headed}
 
 -- where it stands in its payload, by what is read of the fields before it
-abbrev pub upidPlace : SegmentationInsert → ℕ
+abbrev pub upidPlace : SegmentationDetail → ℕ
 upidPlace i = 6 + (modeSize (i .«segmentation_mode») + durationSize (i .«segmentation_duration»))
 
 -- the UPID of an insert: it is the one that is written in the payload at its place, as it is reported; and what stands beside it
-pub record Told (s : List ℕ) (i : SegmentationInsert) : Type 0 where
+pub record Told (s : List ℕ) (i : SegmentationDetail) : Type 0 where
   pub before : upidPlace i ≡ 6 + fieldsBefore (getD s 5 0) (getD s 6 0)
   pub there : upidPlace i + 2 + getD s (upidPlace i + 1) 0 ≤ length s
-  pub checked : checkOf (getD s (upidPlace i) 0) (viewed s (upidIn s (upidPlace i) .bytes)) ≡ Fine (i .«segmentation_upid» .kind)
-  pub is : i .«segmentation_upid» ≡ reportedUpid (i .«segmentation_upid» .kind) (upidIn s (upidPlace i) .bytes)
+  pub checked : checkOf (getD s (upidPlace i) 0) (viewed s (upidIn s (upidPlace i) .bytes)) ≡ Fine (i .«segmentation_upid» .«upid_type»)
+  pub is : i .«segmentation_upid» ≡ reportedUpid (i .«segmentation_upid» .«upid_type») (upidIn s (upidPlace i) .bytes)
   pub beside : besideOf s .eidr ≡ upid.eidrOf (getD s (upidPlace i) 0) (viewed s (upidIn s (upidPlace i) .bytes))
 
-abbrev pub SaysDetail : List ℕ → SegmentationDetail → Type 0
-SaysDetail s SegmentationDetail.Cancel = (5 ≤ length s) × (getD s 4 0 / 128 % 2 ≡ 1)
-SaysDetail s (SegmentationDetail.Insert i) = Told s i
+abbrev pub SaysDetail : List ℕ → DescriptorDetail → Type 0
+SaysDetail s DescriptorDetail.Cancel = (5 ≤ length s) × (getD s 4 0 / 128 % 2 ≡ 1)
+SaysDetail s (DescriptorDetail.Active i) = Told s i
 
 abbrev pub SaysRefusal : List ℕ → Refusal → Type 0
 SaysRefusal s InputTooLong = Unit {0}
 SaysRefusal s (NotEnoughData expected actual) = Unit {0}
 SaysRefusal s UpidLengthTypeMismatch = Unit {0}
-SaysRefusal s (InvalidUpidContent kind v) = Headed s 0 kind v
-SaysRefusal s (InvalidUpidLength kind expected actual) = Unit {0}
+SaysRefusal s (InvalidUpidContent upid-type v) = Headed s 0 upid-type v
+SaysRefusal s (InvalidUpidLength upid-type expected actual) = Unit {0}
 
 abbrev pub Says : List ℕ → DescriptorRead → Type 0
 Says s (DescriptorRead.Is (Descriptor.Avail x)) = Unit {0}
@@ -106,8 +106,8 @@ module _ (s : List ℕ) (bytes : (k : ℕ) → getD s k 0 < 256) where
         let h = text-headed (getD s q 0) its k v e in
         record {
           behind = omega arith;
-          kind =
-              h .kind ∙ head-byte (2 + v .at - 0 - 2) (omega (arith, h .inside))
+          «upid_type» =
+              h .«upid_type» ∙ head-byte (2 + v .at - 0 - 2) (omega (arith, h .inside))
               ∙ ap (λ (i : ℕ). getD s i 0) (let z : q + (2 + v .at - 0 - 2) ≡ q + 2 + v .at - 0 - 2 = omega arith in z);
           len =
               h .len ∙ head-byte (2 + v .at - 0 - 1) (omega (arith, h .inside))
@@ -120,12 +120,12 @@ module _ (s : List ℕ) (bytes : (k : ℕ) → getD s k 0 < 256) where
 
   module _ (h : Head) (m : ℕ) (eh : parse head (bitsOf s) 0 ≡ got h m) (off : h .cancel ≡ false) where
     told : (f : Fore) (m₁ : ℕ) (b : _) (m₂ q : ℕ) → parse front (bitsOf s) m ≡ got f m₁ → parse back (bitsOf s) m₁ ≡ got b m₂ → Placed s bytes f
-        → checkOf (f .front .«segmentation_upid» .kind) (viewed s (f .front .«segmentation_upid» .bytes)) ≡ Fine q
+        → checkOf (f .front .«segmentation_upid» .«upid_type») (viewed s (f .front .«segmentation_upid» .bytes)) ≡ Fine q
         → Told s (insertFrom (f .front) (reportedUpid q (f .front .«segmentation_upid» .bytes)) b)
     unfolding segmentation besideOf besideIn
     told f m₁ b m₂ q ef eb p ec =
         let g : parse segmentation (bitsOf s) 0 ≡ got (record {
-          descriptor = record { «segmentation_event_id» = h .event; «descriptor_detail» = SegmentationDetail.Insert (insertFrom (f .front) (f .front .«segmentation_upid») b) };
+          descriptor = record { «segmentation_event_id» = h .event; «descriptor_detail» = DescriptorDetail.Active (insertFrom (f .front) (f .front .«segmentation_upid») b) };
           components = f .components;
         }) m₂ =
         takes-in head _ _ (bitsOf s) 0 h m eh
@@ -135,9 +135,9 @@ module _ (s : List ℕ) (bytes : (k : ℕ) → getD s k 0 < 256) where
         record {
           before = p .before;
           there = p .there;
-          checked = ap (λ (u : SegmentationUpid). checkOf (u .kind) (viewed s (u .bytes))) (sym (p .is)) ∙ ec;
+          checked = ap (λ (u : SegmentationUpid). checkOf (u .«upid_type») (viewed s (u .bytes))) (sym (p .is)) ∙ ec;
           is = ap (λ (u : SegmentationUpid). reportedUpid q (u .bytes)) (p .is);
-          beside = rw g (ap (λ (u : SegmentationUpid). upid.eidrOf (u .kind) (viewed s (u .bytes))) (p .is));
+          beside = rw g (ap (λ (u : SegmentationUpid). upid.eidrOf (u .«upid_type») (viewed s (u .bytes))) (p .is));
         }
 
     in-insert : Says s (insertOf s (h .event) m)
@@ -146,11 +146,11 @@ module _ (s : List ℕ) (bytes : (k : ℕ) → getD s k 0 < 256) where
         and-then (parse front (bitsOf s) m) _ λ f m₁ ef.
         let p : Placed s bytes f = front-told s bytes f m₁ (sym (ap (parse front (bitsOf s)) (head-ends s h m eh)) ∙ ef) in
         let w : SegmentationUpid = f .front .«segmentation_upid» in
-        if-fine (checkOf (w .kind) (viewed s (w .bytes))) (w .bytes) _
+        if-fine (checkOf (w .«upid_type») (viewed s (w .bytes))) (w .bytes) _
         (λ q ec. and-then (parse back (bitsOf s) m₁) _ λ b m₂ eb. told f m₁ b m₂ q ef eb p ec)
         (λ r ec.
         rw (ap (λ (u : SegmentationUpid). u .bytes .at) (p .is))
-        (refused-upid (place f) (p .there) r (ap (λ (u : SegmentationUpid). checkOf (u .kind) (viewed s (u .bytes))) (sym (p .is)) ∙ ec)))
+        (refused-upid (place f) (p .there) r (ap (λ (u : SegmentationUpid). checkOf (u .«upid_type») (viewed s (u .bytes))) (sym (p .is)) ∙ ec)))
 
   in-segmentation : Says s (segmentationOf s)
   unfolding segmentationOf

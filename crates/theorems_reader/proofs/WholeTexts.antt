@@ -1,7 +1,7 @@
 -- The text of refusal 24: it stands behind its own head, its type and its length, also where it is a part of a MID, at any level.
 --     text-headed      of a UPID with its head before it
 use Prim.Native.Nat.{ℕ, zero, suc, _+_, _-_, _≤_, _<_}
-use mathlib.Core.Bool.{Bool, true, false, cond, not, _&&_}
+use mathlib.Core.Bool.{Bool, true, false, not, _&&_, cond as pick}
 use mathlib.Core.List.{List, [], _∷_}
 use mathlib.Core.Path.{_≡_, refl, ap, sym, _∙_}
 use native.Mathlib.Omega.{arith}
@@ -21,7 +21,7 @@ use Rattle.upid.specs.declared.UpidRead.the-variants.{Fine, Refused}
 -- v lies in these bytes, which start at `start`, behind a head in them: its type q and its length
 pub record Headed (bytes : List ℕ) (start q : ℕ) (v : View) : Type 0 where
   pub behind : start + 2 ≤ v .at
-  pub kind : q ≡ getD bytes (v .at - start - 2) 0
+  pub «upid_type» : q ≡ getD bytes (v .at - start - 2) 0
   pub len : v .len ≡ getD bytes (v .at - start - 1) 0
   pub inside : v .at + v .len ≤ start + length bytes
 
@@ -31,8 +31,8 @@ unfolding plainOf
 plain-text k start bytes q v e = go (eqb k 0) (eqb (lengthOf k) 0) (eqb (length bytes) (lengthOf k)) (isText k && not (textOf bytes)) e
   where
     go : (a b c d : Bool)
-        → cond a (Refused UpidLengthTypeMismatch) (cond b (Fine (reportedOf k)) (cond (not c) (Refused (InvalidUpidLength k (lengthOf k) (length bytes)))
-        (cond d (Refused (InvalidUpidContent k (record { at = start; len = length bytes }))) (Fine (reportedOf k))))) ≡ Refused (InvalidUpidContent q v)
+        → pick a (Refused UpidLengthTypeMismatch) (pick b (Fine (reportedOf k)) (pick (not c) (Refused (InvalidUpidLength k (lengthOf k) (length bytes)))
+        (pick d (Refused (InvalidUpidContent k (record { at = start; len = length bytes }))) (Fine (reportedOf k))))) ≡ Refused (InvalidUpidContent q v)
         → (q ≡ k) × (v ≡ record { at = start; len = length bytes })
     go true b c d h = zero-one cc
     go false true c d h = zero-one cc
@@ -53,8 +53,8 @@ module _ (start k l : ℕ) (rest : List ℕ) (fits : l ≤ length rest) (q : ℕ
       let n : length (take l rest) ≡ l = omega (arith, length-take l rest) in
       record {
         behind = omega (arith, h .behind);
-        kind =
-            h .kind ∙ getD-take l rest (v .at - (start + 2) - 2) 0 (omega (arith, h .behind, h .inside, n))
+        «upid_type» =
+            h .«upid_type» ∙ getD-take l rest (v .at - (start + 2) - 2) 0 (omega (arith, h .behind, h .inside, n))
             ∙ sym (at-index (v .at - start - 2) (v .at - (start + 2) - 2) (omega (arith, h .behind)));
         len =
             h .len ∙ getD-take l rest (v .at - (start + 2) - 1) 0 (omega (arith, h .behind, h .inside, n))
@@ -68,8 +68,8 @@ module _ (start k l : ℕ) (rest : List ℕ) (fits : l ≤ length rest) (q : ℕ
       let n : length (drop l rest) ≡ length rest - l = length-drop l rest in
       record {
         behind = omega (arith, h .behind);
-        kind =
-            h .kind ∙ getD-drop l rest (v .at - (start + (2 + l)) - 2) 0
+        «upid_type» =
+            h .«upid_type» ∙ getD-drop l rest (v .at - (start + (2 + l)) - 2) 0
             ∙ sym (at-index (v .at - start - 2) (l + (v .at - (start + (2 + l)) - 2)) (omega (arith, h .behind)));
         len =
             h .len ∙ getD-drop l rest (v .at - (start + (2 + l)) - 1) 0
@@ -85,7 +85,7 @@ module _ (start k l : ℕ) (rest : List ℕ) (fits : l ≤ length rest) (q : ℕ
       let one-at : start + 2 - start - 1 ≡ 1 = omega arith in
       rw (h .1) (record {
         behind = omega arith;
-        kind = h .0 ∙ sym (ap (λ (i : ℕ). getD all i 0) zero-at);
+        «upid_type» = h .0 ∙ sym (ap (λ (i : ℕ). getD all i 0) zero-at);
         len = n ∙ sym (ap (λ (i : ℕ). getD all i 0) one-at);
         inside = omega (arith, n);
       })
@@ -104,14 +104,14 @@ walk-text (suc n) start (k ∷ (l ∷ rest)) q v e =
     go (ltb (length rest) l) refl (walk-text n (start + 2) (take l rest) q v) (walk-text n (start + (2 + l)) (drop l rest) q v) e
   where
     kinds : (t : Bool) → l ≤ length rest → (walkOf n (start + 2) (take l rest) ≡ Refused (InvalidUpidContent q v) → Headed (take l rest) (start + 2) q v)
-        → cond t (walkOf n (start + 2) (take l rest)) (plainOf k (start + 2) (take l rest)) ≡ Refused (InvalidUpidContent q v) → Headed (k ∷ (l ∷ rest)) start q v
+        → pick t (walkOf n (start + 2) (take l rest)) (plainOf k (start + 2) (take l rest)) ≡ Refused (InvalidUpidContent q v) → Headed (k ∷ (l ∷ rest)) start q v
     kinds true fits f h = inner start k l rest fits q v (f h)
     kinds false fits f h = first start k l rest fits q v (plain-text k (start + 2) (take l rest) q v h)
 
     go : (t : Bool) → ltb (length rest) l ≡ t → (walkOf n (start + 2) (take l rest) ≡ Refused (InvalidUpidContent q v) → Headed (take l rest) (start + 2) q v)
         → (walkOf n (start + (2 + l)) (drop l rest) ≡ Refused (InvalidUpidContent q v) → Headed (drop l rest) (start + (2 + l)) q v)
-        → cond t (Refused (NotEnoughData l (length rest)))
-        (cond (eqb k 13) (walkOf n (start + 2) (take l rest)) (plainOf k (start + 2) (take l rest)) then walkOf n (start + (2 + l)) (drop l rest)) ≡ Refused (InvalidUpidContent q v)
+        → pick t (Refused (NotEnoughData l (length rest)))
+        (pick (eqb k 13) (walkOf n (start + 2) (take l rest)) (plainOf k (start + 2) (take l rest)) then walkOf n (start + (2 + l)) (drop l rest)) ≡ Refused (InvalidUpidContent q v)
         → Headed (k ∷ (l ∷ rest)) start q v
     go true t f g h = zero-one cc
     go false t f g h =
@@ -123,7 +123,7 @@ pub text-headed : (k : ℕ) (bytes : List ℕ) (q : ℕ) (v : View) → checkOf 
 unfolding checkOf readOf
 text-headed k bytes q v e = go (ltb 255 (length bytes)) (eqb (length bytes) 0) (eqb k 13) e
   where
-    go : (t u w : Bool) → cond t (Refused InputTooLong) (cond u (Fine 0) (cond w (walkOf (length bytes) 0 bytes) (plainOf k 0 bytes))) ≡ Refused (InvalidUpidContent q v)
+    go : (t u w : Bool) → pick t (Refused InputTooLong) (pick u (Fine 0) (pick w (walkOf (length bytes) 0 bytes) (plainOf k 0 bytes))) ≡ Refused (InvalidUpidContent q v)
         → Headed (k ∷ (length bytes ∷ bytes)) 0 q (record { at = 2 + v .at; len = v .len })
     go true u w h = zero-one cc
     go false true w h = zero-one cc
@@ -131,7 +131,7 @@ text-headed k bytes q v e = go (ltb 255 (length bytes)) (eqb (length bytes) 0) (
         let i = walk-text (length bytes) 0 bytes q v h in
         record {
           behind = omega (arith, i .behind);
-          kind = i .kind ∙ sym (ap (λ (j : ℕ). getD (k ∷ (length bytes ∷ bytes)) j 0) (let z : 2 + v .at - 0 - 2 ≡ suc (suc (v .at - 0 - 2)) = omega (arith, i .behind) in z));
+          «upid_type» = i .«upid_type» ∙ sym (ap (λ (j : ℕ). getD (k ∷ (length bytes ∷ bytes)) j 0) (let z : 2 + v .at - 0 - 2 ≡ suc (suc (v .at - 0 - 2)) = omega (arith, i .behind) in z));
           len = i .len ∙ sym (ap (λ (j : ℕ). getD (k ∷ (length bytes ∷ bytes)) j 0) (let z : 2 + v .at - 0 - 1 ≡ suc (suc (v .at - 0 - 1)) = omega (arith, i .behind) in z));
           inside = omega (arith, i .inside);
         }
@@ -141,7 +141,7 @@ text-headed k bytes q v e = go (ltb 255 (length bytes)) (eqb (length bytes) 0) (
         let l : v .len ≡ length bytes = ap (λ (v : View). v .len) (i .1) in
         record {
           behind = omega arith;
-          kind = i .0 ∙ sym (ap (λ (j : ℕ). getD (k ∷ (length bytes ∷ bytes)) j 0) (let z : 2 + v .at - 0 - 2 ≡ 0 = omega arith in z));
+          «upid_type» = i .0 ∙ sym (ap (λ (j : ℕ). getD (k ∷ (length bytes ∷ bytes)) j 0) (let z : 2 + v .at - 0 - 2 ≡ 0 = omega arith in z));
           len = l ∙ sym (ap (λ (j : ℕ). getD (k ∷ (length bytes ∷ bytes)) j 0) (let z : 2 + v .at - 0 - 1 ≡ 1 = omega arith in z));
           inside = omega arith;
         }

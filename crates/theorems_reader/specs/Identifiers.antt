@@ -1,6 +1,6 @@
 -- The identifiers of an accepted section, and what it means that each is one unbroken run of it.
 use Prim.Native.Nat.{ℕ, _+_, _-_, _≤_}
-use mathlib.Core.Bool.{cond}
+use mathlib.Core.Bool.{cond as pick}
 use mathlib.Core.List.{List, [], _∷_, _++_, map}
 use mathlib.Core.Path.{_≡_}
 use lib.Dec.{eqb}
@@ -9,7 +9,7 @@ use Rattle.command.specs.Command.{ofPrivate}
 use Rattle.descriptor.specs.Segmentation as table
 use Rattle.descriptor.specs.Segmentation.{detailUpid}
 use Rattle.descriptor.specs.Whole.{ofSegmentation, ofReserved, besideOf}
-use Rattle.descriptor.specs.declared.segmentation.SegmentationDetail.{SegmentationDetail}
+use Rattle.descriptor.specs.declared.segmentation.DescriptorDetail.{DescriptorDetail}
 use Rattle.descriptor.specs.declared.segmentation.SegmentationUpid.{SegmentationUpid}
 use Rattle.descriptor_loop.specs.Items.{Listed, itemsOf}
 use Rattle.descriptor_loop.specs.Place.{viewsOf}
@@ -49,9 +49,9 @@ inLent base lent v = record { start = base + v .at; len = v .len; bytes = viewed
 -- ---- of an item: the loop is lent, and starts at byte `base` of the section
 
 -- a segmentation descriptor's UPID
-abbrev pub detailUpids : SegmentationDetail → List SegmentationUpid
-detailUpids SegmentationDetail.Cancel = []
-detailUpids (SegmentationDetail.Insert i) = i .«segmentation_upid» ∷ []
+abbrev pub detailUpids : DescriptorDetail → List SegmentationUpid
+detailUpids DescriptorDetail.Cancel = []
+detailUpids (DescriptorDetail.Active i) = i .«segmentation_upid» ∷ []
 
 abbrev pub upidsOf : Item → List SegmentationUpid
 upidsOf Item.End = []
@@ -60,10 +60,10 @@ upidsOf (Item.Is d) = ofSegmentation (λ x. detailUpids (x .«descriptor_detail�
 
 -- the parts that `read_upid` answers of a UPID, at every level: where it is no MID there are none
 abbrev pub partsRead : ℕ → List ℕ → List Part
-partsRead kind bytes = partsIn (upidOf kind bytes)
+partsRead «upid_type» bytes = partsIn (upidOf «upid_type» bytes)
 
 abbrev pub partsOf : ℕ → List ℕ → SegmentationUpid → List Identifier
-partsOf base loop u = map (λ (p : Part). inLent (base + u .bytes .at) (viewed loop (u .bytes)) (partView p)) (partsRead (u .kind) (viewed loop (u .bytes)))
+partsOf base loop u = map (λ (p : Part). inLent (base + u .bytes .at) (viewed loop (u .bytes)) (partView p)) (partsRead (u .«upid_type») (viewed loop (u .bytes)))
 
 -- the payload of an item behind its head and identifier, as it is handed to its reader
 abbrev pub payloadOf : List ℕ → Listed → List ℕ
@@ -96,7 +96,7 @@ each f (x ∷ xs) = f x ++ each f xs
 abbrev pub identifiersOfItem : ℕ → List ℕ → Listed → List Identifier
 identifiersOfItem base loop x =
     map (inLent base loop) (viewsOf (x .step .item))
-    ++ (each (λ (u : SegmentationUpid). partsOf base loop u ++ cond (eqb (u .kind) 10) (eidrOf base loop x ∷ []) []) (upidsOf (x .step .item))
+    ++ (each (λ (u : SegmentationUpid). partsOf base loop u ++ pick (eqb (u .«upid_type») 10) (eidrOf base loop x ∷ []) []) (upidsOf (x .step .item))
     ++ besidesOf base (x .offset) (x .step .identifier) (x .step .item))
 
 -- ---- of a section
@@ -111,7 +111,7 @@ identifiersOf s x = ofPrivate (λ p. inSection s (p .«private_bytes») ∷ []) 
 pub record Announced (s : List ℕ) (p : Part) (i : Identifier) : Type 0 where
   pub unbroken : OneRun s i
   pub behind : 2 ≤ i .start
-  pub kind : p .kind ≡ reportedOf (getD s (i .start - 2) 0)
+  pub «upid_type» : p .«upid_type» ≡ reportedOf (getD s (i .start - 2) 0)
   pub len : i .len ≡ getD s (i .start - 1) 0
 
 -- A MID of the section: its bytes are one run; it is accepted; each of its parts, at every level, is what its own head announces; the direct parts of each MID
@@ -121,6 +121,6 @@ pub record Unsplit (s : List ℕ) (mid : Identifier) : Type 0 where
   pub unbroken : OneRun s mid
   pub accepted : checkOf 13 (mid .bytes) ≡ UpidRead.Fine 13
   pub parts : All (λ (p : Part). Announced s p (inLent (mid .start) (mid .bytes) (partView p))) (partsRead 13 (mid .bytes))
-  pub covered : All (λ (m : Part). m .kind ≡ 13 → Covered (mid .bytes) (partsRead 13 (mid .bytes)) m) (whole (mid .bytes) ∷ partsRead 13 (mid .bytes))
+  pub covered : All (λ (m : Part). m .«upid_type» ≡ 13 → Covered (mid .bytes) (partsRead 13 (mid .bytes)) m) (whole (mid .bytes) ∷ partsRead 13 (mid .bytes))
   pub owned : All (Owned (whole (mid .bytes) ∷ partsRead 13 (mid .bytes))) (partsRead 13 (mid .bytes))
   pub ordered : Ascending (partsRead 13 (mid .bytes))

@@ -4,7 +4,7 @@ use mathlib.Core.List.{List, List·Memᴰ}
 use mathlib.Core.Path.{_≡_}
 use Rattle.command.specs.declared.SpliceCommand.{SpliceCommand}
 use Rattle.descriptor.specs.declared.Descriptor.{Descriptor}
-use Rattle.descriptor.specs.declared.segmentation.SegmentationDetail.{SegmentationDetail}
+use Rattle.descriptor.specs.declared.segmentation.DescriptorDetail.{DescriptorDetail}
 use Rattle.descriptor.specs.declared.segmentation.SegmentationUpid.{SegmentationUpid}
 use Rattle.descriptor_loop.specs.Items.{Listed}
 use Rattle.descriptor_loop.specs.declared.Item.{Item}
@@ -18,13 +18,13 @@ use Rattle.theorems_reader.specs.Identifiers.{Identifier, inSection, inL
 
 -- a UPID: its bytes unless it is None or an EIDR, an EIDR by value, and every part of a MID
 pub record ListsUpid (ids : List Identifier) (base : ℕ) (loop : List ℕ) (y : Listed) (u : SegmentationUpid) : Type 0 where
-  pub view : (u .kind ≡ 0 → ⊥) → (u .kind ≡ 10 → ⊥) → List·Memᴰ (inLent base loop (u .bytes)) ids
-  pub eidr : u .kind ≡ 10 → List·Memᴰ (eidrOf base loop y) ids
-  pub parts : All (λ (p : Part). List·Memᴰ (inLent (base + u .bytes .at) (viewed loop (u .bytes)) (partView p)) ids) (partsRead (u .kind) (viewed loop (u .bytes)))
+  pub view : (u .«upid_type» ≡ 0 → ⊥) → (u .«upid_type» ≡ 10 → ⊥) → List·Memᴰ (inLent base loop (u .bytes)) ids
+  pub eidr : u .«upid_type» ≡ 10 → List·Memᴰ (eidrOf base loop y) ids
+  pub parts : All (λ (p : Part). List·Memᴰ (inLent (base + u .bytes .at) (viewed loop (u .bytes)) (partView p)) ids) (partsRead (u .«upid_type») (viewed loop (u .bytes)))
 
-abbrev pub ListsDetail : List Identifier → ℕ → List ℕ → Listed → SegmentationDetail → Type 0
-ListsDetail ids base loop y SegmentationDetail.Cancel = Unit {0}
-ListsDetail ids base loop y (SegmentationDetail.Insert i) = ListsUpid ids base loop y (i .«segmentation_upid»)
+abbrev pub ListsDetail : List Identifier → ℕ → List ℕ → Listed → DescriptorDetail → Type 0
+ListsDetail ids base loop y DescriptorDetail.Cancel = Unit {0}
+ListsDetail ids base loop y (DescriptorDetail.Active i) = ListsUpid ids base loop y (i .«segmentation_upid»)
 
 -- DTMF characters, a UPID, a reserved descriptor's bytes and identifier, the text of refusal 24
 abbrev pub ListsItem : List Identifier → ℕ → List ℕ → Listed → Item → Type 0
@@ -33,8 +33,8 @@ ListsItem ids base loop y (Item.Refused ItemRefusal.InvalidDescriptorLength) = U
 ListsItem ids base loop y (Item.Refused (ItemRefusal.Other Refusal.InputTooLong)) = Unit {0}
 ListsItem ids base loop y (Item.Refused (ItemRefusal.Other (Refusal.NotEnoughData expected actual))) = Unit {0}
 ListsItem ids base loop y (Item.Refused (ItemRefusal.Other Refusal.UpidLengthTypeMismatch)) = Unit {0}
-ListsItem ids base loop y (Item.Refused (ItemRefusal.Other (Refusal.InvalidUpidContent kind v))) = List·Memᴰ (inLent base loop v) ids
-ListsItem ids base loop y (Item.Refused (ItemRefusal.Other (Refusal.InvalidUpidLength kind expected actual))) = Unit {0}
+ListsItem ids base loop y (Item.Refused (ItemRefusal.Other (Refusal.InvalidUpidContent upid-type v))) = List·Memᴰ (inLent base loop v) ids
+ListsItem ids base loop y (Item.Refused (ItemRefusal.Other (Refusal.InvalidUpidLength upid-type expected actual))) = Unit {0}
 ListsItem ids base loop y (Item.Is (Descriptor.Avail x)) = Unit {0}
 ListsItem ids base loop y (Item.Is (Descriptor.Dtmf x)) = List·Memᴰ (inLent base loop (x .«dtmf_chars»)) ids
 ListsItem ids base loop y (Item.Is (Descriptor.Segmentation x)) = ListsDetail ids base loop y (x .«descriptor_detail»)

@@ -8,7 +8,7 @@ use lib.ListN.{length, take, drop, getD}
 use Rattle.command.specs.declared.SpliceCommand.{SpliceCommand}
 use Rattle.descriptor.specs.Segmentation.{fieldsBefore}
 use Rattle.descriptor.specs.declared.Descriptor.{Descriptor}
-use Rattle.descriptor.specs.declared.segmentation.SegmentationDetail.{SegmentationDetail}
+use Rattle.descriptor.specs.declared.segmentation.DescriptorDetail.{DescriptorDetail}
 use Rattle.descriptor.specs.declared.segmentation.SegmentationUpid.{SegmentationUpid}
 use Rattle.descriptor_loop.specs.declared.Item.{Item}
 use Rattle.descriptor_loop.specs.declared.ItemRefusal.{ItemRefusal}
@@ -27,14 +27,14 @@ pub record Exactly (s : List ℕ) (at n : ℕ) (i : Identifier) : Type 0 where
 -- ---- a UPID: "UPID type 8, length 8, bytes", from byte h of the section on. `base` is where the lent loop starts, `beside` the EIDR that stands beside it.
 pub record WholeUpid (s : List ℕ) (h base : ℕ) (loop beside : List ℕ) (u : SegmentationUpid) : Type 0 where
   -- "Length 0 at top level is None and reports type 0, whichever type was written"; else it reports the type that is written, but 5 as 6
-  pub kind : u .kind ≡ pick (eqb (getD s (h + 1) 0) 0) 0 (pick (eqb (getD s h 0) 5) 6 (getD s h 0))
+  pub «upid_type» : u .«upid_type» ≡ pick (eqb (getD s (h + 1) 0) 0) 0 (pick (eqb (getD s h 0) 5) 6 (getD s h 0))
   -- unless it is None or an EIDR it has a view, of as many bytes as are announced, no fewer and no more. (The types are named here: a reader's own list of
   -- those without a view could be longer.)
-  pub bytes : (u .kind ≡ 0 → ⊥) → (u .kind ≡ 10 → ⊥) → Exactly s (h + 2) (getD s (h + 1) 0) (inLent base loop (u .bytes))
+  pub bytes : (u .«upid_type» ≡ 0 → ⊥) → (u .«upid_type» ≡ 10 → ⊥) → Exactly s (h + 2) (getD s (h + 1) 0) (inLent base loop (u .bytes))
   -- "The EIDR identifier of 12 bytes is held by value": written as type 10 with length 12
-  pub eidr : u .kind ≡ 10 → (getD s h 0 ≡ 10) × (getD s (h + 1) 0 ≡ 12) × Exactly s (h + 2) 12 (record { start = h + 2; len = 12; bytes = beside })
+  pub eidr : u .«upid_type» ≡ 10 → (getD s h 0 ≡ 10) × (getD s (h + 1) 0 ≡ 12) × Exactly s (h + 2) 12 (record { start = h + 2; len = 12; bytes = beside })
   -- a MID is read as its parts
-  pub mid : u .kind ≡ 13 → Unsplit s (inLent base loop (u .bytes))
+  pub mid : u .«upid_type» ≡ 13 → Unsplit s (inLent base loop (u .bytes))
 
 -- where it stands in a payload that starts at byte p of the section, by the section's own bytes: behind "event id 32, cancel 1, reserved 7" and the byte of flags;
 -- "if not program: count 8, each tag 8, reserved 7, offset 33"; "duration 40 if flagged"
@@ -42,14 +42,14 @@ abbrev pub upidAt : List ℕ → ℕ → ℕ
 upidAt s p = p + (6 + fieldsBefore (getD s (p + 5) 0) (getD s (p + 6) 0))
 
 -- (a cancelled one has no UPID, and its cancel bit is set: none is left out)
-abbrev pub WholeDetail : List ℕ → ℕ → ℕ → List ℕ → List ℕ → SegmentationDetail → Type 0
-WholeDetail s p base loop eidr SegmentationDetail.Cancel = getD s (p + 4) 0 / 128 % 2 ≡ 1
-WholeDetail s p base loop eidr (SegmentationDetail.Insert i) = WholeUpid s (upidAt s p) base loop eidr (i .«segmentation_upid»)
+abbrev pub WholeDetail : List ℕ → ℕ → ℕ → List ℕ → List ℕ → DescriptorDetail → Type 0
+WholeDetail s p base loop eidr DescriptorDetail.Cancel = getD s (p + 4) 0 / 128 % 2 ≡ 1
+WholeDetail s p base loop eidr (DescriptorDetail.Active i) = WholeUpid s (upidAt s p) base loop eidr (i .«segmentation_upid»)
 
 -- ---- the text of refusal 24, of a UPID or of a part of a MID: the two bytes before it are its type and its length
 pub record WholeText (s : List ℕ) (p k : ℕ) (i : Identifier) : Type 0 where
   pub behind : p + 2 ≤ i .start
-  pub kind : k ≡ getD s (i .start - 2) 0
+  pub «upid_type» : k ≡ getD s (i .start - 2) 0
   pub whole : Exactly s (i .start) (getD s (i .start - 1) 0) i
 
 abbrev pub WholeRefusal : List ℕ → ℕ → ℕ → List ℕ → ItemRefusal → Type 0
@@ -57,8 +57,8 @@ WholeRefusal s p base loop ItemRefusal.InvalidDescriptorLength = Unit {0}
 WholeRefusal s p base loop (ItemRefusal.Other Refusal.InputTooLong) = Unit {0}
 WholeRefusal s p base loop (ItemRefusal.Other (Refusal.NotEnoughData expected actual)) = Unit {0}
 WholeRefusal s p base loop (ItemRefusal.Other Refusal.UpidLengthTypeMismatch) = Unit {0}
-WholeRefusal s p base loop (ItemRefusal.Other (Refusal.InvalidUpidContent kind v)) = WholeText s p kind (inLent base loop v)
-WholeRefusal s p base loop (ItemRefusal.Other (Refusal.InvalidUpidLength kind expected actual)) = Unit {0}
+WholeRefusal s p base loop (ItemRefusal.Other (Refusal.InvalidUpidContent «upid_type» v)) = WholeText s p «upid_type» (inLent base loop v)
+WholeRefusal s p base loop (ItemRefusal.Other (Refusal.InvalidUpidLength «upid_type» expected actual)) = Unit {0}
 
 -- ---- an item that is read at `offset` of a loop which starts at `base` of the section, with what stands beside it; its payload starts 6 bytes behind its head.
 -- "1 DTMF: preroll 8, count 3, reserved 5, count bytes"; "reserved, with tag, identifier and bytes": the length that is written counts

@@ -16,8 +16,8 @@ use Rattle.relabel.proofs.Cuts.{spotted, pay-size, section-size, own-is, upid-i
 use Rattle.relabel.proofs.Mades.{Framing, framing}
 use Rattle.relabel.specs.Private.{Spotted}
 use Rattle.relabel.specs.Relabel.{payloadIn, payloadThen, sectionThen, fitting, loopMade, relabelMade}
-use Rattle.relabel_found.proofs.Inserts.{Inserted, inserted, hole-at, byte-in, kind-in, upid-in, size-in}
-use Rattle.relabel_found.specs.Found.{begins, inserts, found, kindIn, sizeIn, upidIn}
+use Rattle.relabel_found.proofs.Inserts.{Inserted, inserted, hole-at, byte-in, type-in, upid-in, size-in}
+use Rattle.relabel_found.specs.Found.{begins, inserts, found, typeIn, sizeIn, upidIn}
 use Rattle.relabel_laws.proofs.Results.{accepted-of}
 use Rattle.relabel_payload.specs.Payload.{Holed}
 use Rattle.relabel_upid.proofs.Answers.{Done, done, own-short, has-parts, taken-accepted, accepted-taken}
@@ -99,17 +99,17 @@ abbrev ordered : Request → ℕ → Written
 ordered q room =
     pick (noPart (kindFor q) (upidFor q) (q .part)) (Written.Refused 41)
     (pick (ltb 255 (sizeThen q (length (upidFor q)))) (Written.Refused 32)
-    (pick (unfit (q .part) (q .kind) (q .bytes)) (Written.Refused 33) (sized q room)))
+    (pick (unfit (q .part) (q .«upid_type») (q .bytes)) (Written.Refused 33) (sized q room)))
 
 module _ (s : List ℕ) (offset k : ℕ) (new target : List ℕ) (at : Spotted s offset) (x : Inserted (loopBytes s) offset) where
   abbrev top : List ℕ
   top = upidIn (payloadIn s offset)
 
-  abbrev kind : ℕ
-  kind = kindIn (payloadIn s offset)
+  abbrev upid-type : ℕ
+  upid-type = typeIn (payloadIn s offset)
 
   abbrev asked : ℕ → Request
-  asked part = record { section = s; offset = offset; part = part; kind = k; bytes = new }
+  asked part = record { section = s; offset = offset; part = part; «upid_type» = k; bytes = new }
 
   made-answer : (part : ℕ) (b : List ℕ) → length b ≡ sizeThen (asked part) (length top) → length (runOf top part) ≤ length top → length top ≡ sizeIn (payloadIn s offset)
       → answerOf (fitting s offset part k (made b)) target ≡ sized (asked part) (length target)
@@ -120,8 +120,8 @@ module _ (s : List ℕ) (offset k : ℕ) (new target : List ℕ) (at : Spotted s
       (pay-size s offset at (x .next) part k b) (section-size s offset at (x .next) part k b) (eb ∙ ap (λ (n : ℕ). n - length (runOf top part) + length new) et)
       (subst (λ (n : ℕ). length (runOf top part) ≤ n) et rn) (omega (arith, at .upid)) (omega (arith, at .upid, at .there, at .room)) target refl
 
-  module _ (et : length top ≡ sizeIn (payloadIn s offset)) (fine : taken (checkOf kind top) ≡ true) where
-    whole-answer : answerOf (fitting s offset 0 k (wholeMade kind top k new)) target ≡ ordered (asked 0) (length target)
+  module _ (et : length top ≡ sizeIn (payloadIn s offset)) (fine : taken (checkOf upid-type top) ≡ true) where
+    whole-answer : answerOf (fitting s offset 0 k (wholeMade upid-type top k new)) target ≡ ordered (asked 0) (length target)
     unfolding wholeMade noPart unfit fitting answerOf
     whole-answer =
         let z : length top - length top + length new ≡ length new = omega arith in
@@ -136,7 +136,7 @@ module _ (s : List ℕ) (offset k : ℕ) (new target : List ℕ) (at : Spotted s
 
     module _ (i : ℕ) where
       abbrev ps : List Part
-      ps = partsIn (upidOf kind top)
+      ps = partsIn (upidOf upid-type top)
 
       abbrev p : Part
       p = partAt ps i
@@ -152,7 +152,7 @@ module _ (s : List ℕ) (offset k : ℕ) (new target : List ℕ) (at : Spotted s
 
       there : i < length ps → There
       there h =
-          let hp = has-parts kind top i h in
+          let hp = has-parts upid-type top i h in
           let a : Accepted (checkOf 13 top) = subst (λ (j : ℕ). Accepted (checkOf j top)) (hp .0) (hp .1) in
           let is : ps ≡ listOf 13 1 0 top = ap (λ (j : ℕ). partsIn (upidOf j top)) (hp .0) ∙ parts-of-mid top a in
           let h₁ : i < length (listOf 13 1 0 top) = subst (λ (l : List Part). i < length l) is h in
@@ -162,7 +162,7 @@ module _ (s : List ℕ) (offset k : ℕ) (new target : List ℕ) (at : Spotted s
             size = ap length r ∙ subst (λ (l : List Part). length (bytesOf top (partAt l i)) ≡ partAt l i .len) (sym is) (o .1);
             inside = subst (λ (l : List Part). partAt l i .len ≤ length top) (sym is) (o .0);
             grows = λ t.
-                let d = done top i (record { kind = k; payload = new }) (check-mid top a) h₁ (taken-accepted _ t) in
+                let d = done top i (record { «upid_type» = k; payload = new }) (check-mid top a) h₁ (taken-accepted _ t) in
                 subst (λ (l : List Part). length (replacedIn top l i k new) ≡ instead (partAt l i) (length new) (length top)) (sym is) (ap length (d .1 .is) ∙ d .1 .size);
           }
 
@@ -185,11 +185,11 @@ module _ (s : List ℕ) (offset k : ℕ) (new target : List ℕ) (at : Spotted s
           after-there w z (ltb 255 then) (taken (readOf k 0 new)) refl
           ∙ ap (λ (n : ℕ). pick (ltb 255 n) (Written.Refused 32) (pick (not (taken (readOf k 0 new))) (Written.Refused 33) (sized (asked (suc i)) (length target)))) (sym z)
 
-      part-answer : answerOf (fitting s offset (suc i) k (partMade kind top i k new)) target ≡ ordered (asked (suc i)) (length target)
+      part-answer : answerOf (fitting s offset (suc i) k (partMade upid-type top i k new)) target ≡ ordered (asked (suc i)) (length target)
       unfolding partMade noPart unfit
       part-answer = by-place (leb (length ps) i) refl
 
-    upid-answer : (part : ℕ) → answerOf (fitting s offset part k (upidMade kind top part k new)) target ≡ ordered (asked part) (length target)
+    upid-answer : (part : ℕ) → answerOf (fitting s offset part k (upidMade upid-type top part k new)) target ≡ ordered (asked part) (length target)
     unfolding upidMade
     upid-answer zero = whole-answer
     upid-answer (suc i) = part-answer i
@@ -203,7 +203,7 @@ module _ (q : Request) (target : List ℕ) (bytes : (j : ℕ) → getD (q .secti
   abbrev loop : List ℕ
   loop = loopBytes s
 
-  in-loop : (x : Section) → sectionOf s ≡ SectionRead.Is x → answerOf (loopMade s (q .offset) (q .part) (q .kind) (q .bytes)) target ≡ inAccepted q (length target)
+  in-loop : (x : Section) → sectionOf s ≡ SectionRead.Is x → answerOf (loopMade s (q .offset) (q .part) (q .«upid_type») (q .bytes)) target ≡ inAccepted q (length target)
   unfolding loopMade inAccepted answerOf
   in-loop x e =
       let f = framing s x e in
@@ -212,7 +212,7 @@ module _ (q : Request) (target : List ℕ) (bytes : (j : ℕ) → getD (q .secti
       rw n (go f (found loop (q .offset)) refl)
     where
       go : Framing s x → (b : Bool) → found loop (q .offset) ≡ b
-          → answerOf (pick b (fitting s (q .offset) (q .part) (q .kind) (upidMade (kindFor q) (upidFor q) (q .part) (q .kind) (q .bytes))) (refused 41)) target
+          → answerOf (pick b (fitting s (q .offset) (q .part) (q .«upid_type») (upidMade (kindFor q) (upidFor q) (q .part) (q .«upid_type») (q .bytes))) (refused 41)) target
           ≡ pick (not b) (Written.Refused 41) (ordered q (length target))
       go f false ef = refl
       go f true ef =
@@ -220,17 +220,17 @@ module _ (q : Request) (target : List ℕ) (bytes : (j : ℕ) → getD (q .secti
           let x = inserted loop (q .offset) ef in
           let byte-of : (j : ℕ) → getD loop j 0 < 256 = λ j. subst (λ (l : List ℕ). getD l j 0 < 256) (sym (loop-there s (f .fits))) (byte-in s (16 + commandLength s) (loopLength s) bytes j) in
           let h = hole-at loop (q .offset) byte-of x in
-          let ek = kind-in (payloadIn s (q .offset)) _ _ h in
+          let ek = type-in (payloadIn s (q .offset)) _ _ h in
           let eu = upid-in (payloadIn s (q .offset)) _ _ h in
           let et : length (upidFor q) ≡ sizeIn (payloadIn s (q .offset)) = ap length (sym eu) ∙ size-in (payloadIn s (q .offset)) _ _ h in
           let fine : checkOf (kindFor q) (upidFor q) ≡ UpidRead.Fine (h .reported) = ap₂ checkOf (sym ek) (sym eu) ∙ h .fine in
-          upid-answer s (q .offset) (q .kind) (q .bytes) target at x et (ap taken fine ∙ is-taken (h .reported)) (q .part)
+          upid-answer s (q .offset) (q .«upid_type») (q .bytes) target at x et (ap taken fine ∙ is-taken (h .reported)) (q .part)
 
-  pub answers : answerOf (relabelMade s (q .offset) (q .part) (q .kind) (q .bytes)) target ≡ answered q (length target)
+  pub answers : answerOf (relabelMade s (q .offset) (q .part) (q .«upid_type») (q .bytes)) target ≡ answered q (length target)
   unfolding relabelMade answered answerOf
   answers = rw (← refusals-1-to-11-in-order s) (go (eqb (numberOf (sectionOf s)) 0) refl)
     where
       go : (b : Bool) → eqb (numberOf (sectionOf s)) 0 ≡ b
-          → answerOf (pick b (loopMade s (q .offset) (q .part) (q .kind) (q .bytes)) (refused (numberOf (sectionOf s)))) target ≡ pick b (inAccepted q (length target)) (Written.Refused (numberOf (sectionOf s)))
+          → answerOf (pick b (loopMade s (q .offset) (q .part) (q .«upid_type») (q .bytes)) (refused (numberOf (sectionOf s)))) target ≡ pick b (inAccepted q (length target)) (Written.Refused (numberOf (sectionOf s)))
       go false e = refl
       go true e = let x = accepted-of (sectionOf s) e in in-loop (x .0) (x .1)

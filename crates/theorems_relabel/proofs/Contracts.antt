@@ -15,13 +15,13 @@ use Rattle.scte35.proofs.relabelling.scte35_relabel.Reads as scte35-relabel
 use Rattle.theorems_relabel.specs.Replaced.{Request}
 
 abbrev pub madeFor : Request → Made
-madeFor q = relabelMade (q .section) (q .offset) (q .part) (q .kind) (q .bytes)
+madeFor q = relabelMade (q .section) (q .offset) (q .part) (q .«upid_type») (q .bytes)
 
 -- `relabel` of what is asked, with this target, may answer this and leave the target so
 abbrev pub Relabels : Request → List ℕ → Written → List ℕ → Type 0
 Relabels q target answer later =
     May relabel.Learnt {S = Request × List ℕ} {T = Written × List ℕ}
-    (λ κ a. (record { section = now (a .0); offset = a .1 .0; part = a .1 .1 .0; kind = a .1 .1 .1 .0; bytes = now (a .1 .1 .1 .1 .0) }, now (a .1 .1 .1 .1 .1 .0)))
+    (λ κ a. (record { section = now (a .0); offset = a .1 .0; part = a .1 .1 .0; «upid_type» = a .1 .1 .1 .0; bytes = now (a .1 .1 .1 .1 .0) }, now (a .1 .1 .1 .1 .1 .0)))
     (λ κ r e. (r, now (e .1 .1 .1 .1 .1 .0))) (q, target) (answer, later)
 
 pub relabels-so : {q : Request} {target : List ℕ} {answer : Written} {later : List ℕ} → Relabels q target answer later
@@ -35,7 +35,7 @@ relabels-so d = (
 abbrev pub RelabelsC : Request → List ℕ → FlatWritten → List ℕ → Type 0
 RelabelsC q target answer later =
     May scte35-relabel.Learnt {S = Request × List ℕ} {T = FlatWritten × List ℕ}
-    (λ κ a. (record { section = now (a .0); offset = a .1 .0; part = a .1 .1 .0; kind = a .1 .1 .1 .0; bytes = now (a .1 .1 .1 .1 .0) }, now (a .1 .1 .1 .1 .1 .0)))
+    (λ κ a. (record { section = now (a .0); offset = a .1 .0; part = a .1 .1 .0; «upid_type» = a .1 .1 .1 .0; bytes = now (a .1 .1 .1 .1 .0) }, now (a .1 .1 .1 .1 .1 .0)))
     (λ κ r e. (r, now (e .1 .1 .1 .1 .1 .0))) (q, target) (answer, later)
 
 pub relabels-c-so : {q : Request} {target : List ℕ} {answer : FlatWritten} {later : List ℕ} → RelabelsC q target answer later

@@ -10,18 +10,18 @@ use lib.ListN.{length, take, drop, getD}
 use Rattle.descriptor.specs.Segmentation.{cancelled}
 use Rattle.descriptor.specs.declared.Descriptor.{Descriptor}
 use Rattle.descriptor.specs.declared.segmentation.SegmentationDescriptor.{SegmentationDescriptor}
+use Rattle.descriptor.specs.declared.segmentation.DescriptorDetail.{DescriptorDetail}
 use Rattle.descriptor.specs.declared.segmentation.SegmentationDetail.{SegmentationDetail}
-use Rattle.descriptor.specs.declared.segmentation.SegmentationInsert.{SegmentationInsert}
 use Rattle.descriptor.specs.declared.segmentation.SegmentationUpid.{SegmentationUpid}
 use Rattle.descriptor_loop.proofs.Lists.{walked}
 use Rattle.descriptor_loop.specs.Items.{stepOf, readingOf, Listed, listed, itemsOf}
 use Rattle.descriptor_loop.specs.declared.Item.{Item}
-use Rattle.relabel.proofs.Cuts.{run-byte, pay-is, kind-is, size-is, old-is, upid-is, spotted, loop-there}
+use Rattle.relabel.proofs.Cuts.{run-byte, pay-is, type-is, size-is, old-is, upid-is, spotted, loop-there}
 use Rattle.relabel.proofs.Mades.{Framing, framing}
 use Rattle.relabel_found.proofs.Inserts.{Inserted, inserted, hole-at, byte-in, upid-in, size-in}
 use Rattle.relabel.specs.Private.{Spotted, headIn, placeIn, run}
 use Rattle.relabel.specs.Relabel.{payloadIn}
-use Rattle.relabel_found.specs.Found.{begins, inserts, found, payloadAt, kindIn, sizeIn, upidIn}
+use Rattle.relabel_found.specs.Found.{begins, inserts, found, payloadAt, typeIn, sizeIn, upidIn}
 use Rattle.relabel_laws.specs.Identifiers.{ofUpid, ofPayload, ofItem}
 use Rattle.relabel_payload.specs.Payload.{upidHead}
 use Rattle.relabel_upid.specs.Kept.{Identifier, identifiersOf, identifiersIn}
@@ -60,8 +60,8 @@ module _ (s : List ℕ) (offset base : ℕ) (at : Spotted s offset) (eb : base �
   unfolding upidHead
   head-same = rw (eb, in-pay 5 (omega arith), in-pay 6 (omega arith))
 
-  kind-there : getD s (upidAt s (base + offset + 6)) 0 ≡ kindIn pay
-  kind-there = ap (λ (h : ℕ). getD s h 0) head-same ∙ kind-is s offset at
+  kind-there : getD s (upidAt s (base + offset + 6)) 0 ≡ typeIn pay
+  kind-there = ap (λ (h : ℕ). getD s h 0) head-same ∙ type-is s offset at
 
   size-there : getD s (upidAt s (base + offset + 6) + 1) 0 ≡ sizeIn pay
   size-there = ap (λ (h : ℕ). getD s (h + 1) 0) head-same ∙ size-is s offset at
@@ -73,28 +73,28 @@ module _ (s : List ℕ) (offset base : ℕ) (at : Spotted s offset) (eb : base �
 
 -- ---- the list of a UPID, by its kind
 
-module _ (pay : List ℕ) (k : ℕ) (e : k ≡ pick (eqb (length (upidIn pay)) 0) 0 (pick (eqb (kindIn pay) 5) 6 (kindIn pay))) where
+module _ (pay : List ℕ) (k : ℕ) (e : k ≡ pick (eqb (length (upidIn pay)) 0) 0 (pick (eqb (typeIn pay) 5) 6 (typeIn pay))) where
   none-listed : length (upidIn pay) ≡ 0 → ofPayload pay ≡ []
   unfolding ofUpid
   none-listed h = rw (eq-eqb (length (upidIn pay)) 0 h)
 
-  mid-is : k ≡ 13 → (length (upidIn pay) ≡ 0 → ⊥) × (kindIn pay ≡ 13)
-  mid-is h = go (eqb (length (upidIn pay)) 0) refl (eqb (kindIn pay) 5) (sym e ∙ h)
+  mid-is : k ≡ 13 → (length (upidIn pay) ≡ 0 → ⊥) × (typeIn pay ≡ 13)
+  mid-is h = go (eqb (length (upidIn pay)) 0) refl (eqb (typeIn pay) 5) (sym e ∙ h)
     where
-      go : (a : Bool) → eqb (length (upidIn pay)) 0 ≡ a → (b : Bool) → pick a 0 (pick b 6 (kindIn pay)) ≡ 13 → (length (upidIn pay) ≡ 0 → ⊥) × (kindIn pay ≡ 13)
+      go : (a : Bool) → eqb (length (upidIn pay)) 0 ≡ a → (b : Bool) → pick a 0 (pick b 6 (typeIn pay)) ≡ 13 → (length (upidIn pay) ≡ 0 → ⊥) × (typeIn pay ≡ 13)
       go true ea b z = absurd (omega (arith, z))
       go false ea true z = absurd (omega (arith, z))
       go false ea false z = (eqb-false (length (upidIn pay)) 0 ea, z)
 
   mid-listed : k ≡ 13 → ofPayload pay ≡ identifiersOf (upidIn pay)
   unfolding ofUpid
-  mid-listed h = let m = mid-is h in rw (ne-eqb (length (upidIn pay)) 0 (m .0), eq-eqb (kindIn pay) 13 (m .1))
+  mid-listed h = let m = mid-is h in rw (ne-eqb (length (upidIn pay)) 0 (m .0), eq-eqb (typeIn pay) 13 (m .1))
 
-  one-listed : (length (upidIn pay) ≡ 0 → ⊥) → (k ≡ 13 → ⊥) → ofPayload pay ≡ record { level = 0; kind = kindIn pay; bytes = upidIn pay } ∷ []
+  one-listed : (length (upidIn pay) ≡ 0 → ⊥) → (k ≡ 13 → ⊥) → ofPayload pay ≡ record { level = 0; «upid_type» = typeIn pay; bytes = upidIn pay } ∷ []
   unfolding ofUpid
   one-listed n h =
-      let other : kindIn pay ≡ 13 → ⊥ = λ z. h (e ∙ rw (ne-eqb (length (upidIn pay)) 0 n, z) refl) in
-      rw (ne-eqb (length (upidIn pay)) 0 n, ne-eqb (kindIn pay) 13 other)
+      let other : typeIn pay ≡ 13 → ⊥ = λ z. h (e ∙ rw (ne-eqb (length (upidIn pay)) 0 n, z) refl) in
+      rw (ne-eqb (length (upidIn pay)) 0 n, ne-eqb (typeIn pay) 13 other)
 
 -- ---- together
 
@@ -103,18 +103,18 @@ pub read-as : (s : List ℕ) (offset base : ℕ) (loop eidr : List ℕ) (u : Seg
 read-as s offset base loop eidr u at eb el w =
     let pay : List ℕ = payloadIn s offset in
     let size : getD s (upidAt s (base + offset + 6) + 1) 0 ≡ length (upidIn pay) = size-there s offset base at eb ∙ sym el in
-    let k : u .kind ≡ pick (eqb (length (upidIn pay)) 0) 0 (pick (eqb (kindIn pay) 5) 6 (kindIn pay)) =
-    w .kind ∙ ap₂ (λ (n j : ℕ). pick (eqb n 0) 0 (pick (eqb j 5) 6 j)) size (kind-there s offset base at eb) in
-    let b : (u .kind ≡ 0 → ⊥) → (u .kind ≡ 10 → ⊥) → viewed loop (u .bytes) ≡ upidIn pay =
+    let k : u .«upid_type» ≡ pick (eqb (length (upidIn pay)) 0) 0 (pick (eqb (typeIn pay) 5) 6 (typeIn pay)) =
+    w .«upid_type» ∙ ap₂ (λ (n j : ℕ). pick (eqb n 0) 0 (pick (eqb j 5) 6 j)) size (kind-there s offset base at eb) in
+    let b : (u .«upid_type» ≡ 0 → ⊥) → (u .«upid_type» ≡ 10 → ⊥) → viewed loop (u .bytes) ≡ upidIn pay =
     λ z t. ap (λ (i : readers.Identifier). i .bytes) (w .bytes z t .is) ∙ bytes-there s offset base at eb _ (size-there s offset base at eb) in
     record {
-      kind = k;
+      «upid_type» = k;
       bytes = b;
       held = λ t. let h = w .eidr t in
           ap (λ (i : readers.Identifier). i .bytes) (h .2 .is) ∙ bytes-there s offset base at eb 12 (sym (h .1) ∙ size-there s offset base at eb);
-      none = none-listed pay (u .kind) k;
-      parts = λ t. mid-listed pay (u .kind) k t ∙ ap (λ (l : List ℕ). identifiersIn l (partsRead 13 l)) (sym (b (λ z. thirteen (sym t ∙ z)) (λ z. thirteen-ten (sym t ∙ z))));
-      one = one-listed pay (u .kind) k;
+      none = none-listed pay (u .«upid_type») k;
+      parts = λ t. mid-listed pay (u .«upid_type») k t ∙ ap (λ (l : List ℕ). identifiersIn l (partsRead 13 l)) (sym (b (λ z. thirteen (sym t ∙ z)) (λ z. thirteen-ten (sym t ∙ z))));
+      one = one-listed pay (u .«upid_type») k;
     }
   where
     thirteen : _≡_ {A = ℕ} 13 0 → ⊥
@@ -174,7 +174,7 @@ module _ (s : List ℕ) (x : Section) (e : sectionOf s ≡ SectionRead.Is x) (a 
     abbrev ids : List Identifier
     ids = ofItem list (listed list o)
 
-    insert-as : (d : SegmentationDescriptor) (i : SegmentationInsert) → stepOf list o .item ≡ Item.Is (Descriptor.Segmentation d) → d .«descriptor_detail» ≡ SegmentationDetail.Insert i
+    insert-as : (d : SegmentationDescriptor) (i : SegmentationDetail) → stepOf list o .item ≡ Item.Is (Descriptor.Segmentation d) → d .«descriptor_detail» ≡ DescriptorDetail.Active i
         → inserts (stepOf list o .item) ≡ true → (ids ≡ ofPayload (payloadAt list o)) × ReadAs (payloadAt list o) list eidr (i .«segmentation_upid»)
     insert-as d i st detail is-so =
         let f = found-there list o b is-so in
@@ -189,10 +189,10 @@ module _ (s : List ℕ) (x : Section) (e : sectionOf s ≡ SectionRead.Is x) (a 
         (λ z. demands.every-upid-of-the-section-is-whole s x e o d i z detail a) st in
         (payload-of list o f is-so, read-as s o (x .descriptors .at) list eidr (i .«segmentation_upid») at (fr .at) el w)
 
-    detail-as : (d : SegmentationDescriptor) → stepOf list o .item ≡ Item.Is (Descriptor.Segmentation d) → (t : SegmentationDetail) → d .«descriptor_detail» ≡ t
+    detail-as : (d : SegmentationDescriptor) → stepOf list o .item ≡ Item.Is (Descriptor.Segmentation d) → (t : DescriptorDetail) → d .«descriptor_detail» ≡ t
         → DetailAs (payloadAt list o) list eidr ids t
-    detail-as d st SegmentationDetail.Cancel h = not-listed list o (ap inserts st ∙ ap (λ (t : SegmentationDetail). not (cancelled t)) h)
-    detail-as d st (SegmentationDetail.Insert i) h = insert-as d i st h (ap inserts st ∙ ap (λ (t : SegmentationDetail). not (cancelled t)) h)
+    detail-as d st DescriptorDetail.Cancel h = not-listed list o (ap inserts st ∙ ap (λ (t : DescriptorDetail). not (cancelled t)) h)
+    detail-as d st (DescriptorDetail.Active i) h = insert-as d i st h (ap inserts st ∙ ap (λ (t : DescriptorDetail). not (cancelled t)) h)
 
     item-as : (it : Item) → stepOf list o .item ≡ it → ItemAs (payloadAt list o) list eidr ids it
     item-as Item.End st = not-listed list o (ap inserts st)

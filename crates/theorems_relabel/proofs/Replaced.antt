@@ -1,6 +1,6 @@
 -- The list of identifiers, before and after: with the identifier that is named between those before it and those after it.
 use Prim.Native.Nat.{ℕ, zero, suc, _+_, _<_, _≤_}
-use mathlib.Core.Bool.{Bool, true, false, not, cond, _||_}
+use mathlib.Core.Bool.{Bool, true, false, not, _||_}
 use mathlib.Core.List.{List, [], _∷_, _++_, append-assoc, append-nil}
 use mathlib.Core.Path.{_≡_, refl, ap, ap₂, sym, subst, _∙_}
 use native.Mathlib.Omega.{arith}
@@ -11,14 +11,14 @@ use Rattle.bit_stores.specs.Written.{answerOf, laterOf}
 use Rattle.bit_stores.specs.declared.Written.{Written}
 use Rattle.relabel.proofs.Ats.{some-made}
 use Rattle.relabel.specs.Relabel.{relabelMade, payloadIn}
-use Rattle.relabel_found.specs.Found.{kindIn, upidIn}
+use Rattle.relabel_found.specs.Found.{typeIn, upidIn}
 use Rattle.relabel_laws.proofs.Theorems.{the-list-is-the-old-one-with-that-one-replaced}
 use Rattle.relabel_laws.specs.Identifiers.{ofUpid, ofPayload, each, identifiersIn, upidThen}
 use Rattle.relabel_laws.specs.Result.{Result}
 use Rattle.relabel_upid.proofs.Answers.{Able, made-able, has-parts, taken-accepted, whole-made-is, relabelled-made, same-again}
 use Rattle.upid.proofs.Answers.{parts-of-mid}
 use Rattle.relabel_upid.proofs.Theorems.{the-old-list-in-the-same-words}
-use Rattle.relabel_upid.specs.Kept.{Identifier, identifiersOf, identifiersAt, identifiersThen, afterPart, writtenKind}
+use Rattle.relabel_upid.specs.Kept.{Identifier, identifiersOf, identifiersAt, identifiersThen, afterPart, writtenType}
 use Rattle.relabel_upid.specs.Kept as kept
 use Rattle.relabel_upid.specs.Relabel.{partAt, taken, wholeMade, upidMade}
 use Rattle.section.specs.Section.{loopBytes, sectionOf}
@@ -41,18 +41,18 @@ unfolding ofUpid identifiersAt
 alone k u a h = rw (ne-eqb (length u) 0 (λ z. omega arith)) (go (eqb k 13) refl)
   where
     go : (b : Bool) → eqb k 13 ≡ b
-        → pick b (identifiersOf u) (record { level = 0; kind = k; bytes = u } ∷ []) ≡ cond b (kept.identifiersIn u (listOf 13 1 0 u)) (record { level = 0; kind = k; bytes = u } ∷ [])
+        → pick b (identifiersOf u) (record { level = 0; «upid_type» = k; bytes = u } ∷ []) ≡ pick b (kept.identifiersIn u (listOf 13 1 0 u)) (record { level = 0; «upid_type» = k; bytes = u } ∷ [])
     go true e = ap (kept.identifiersIn u) (parts-of-mid u (subst (λ (j : ℕ). Accepted (checkOf j u)) (eqb-true k 13 e) a))
     go false e = refl
 
 -- one that was replaced was accepted, and not empty
-pub was-there : (kind : ℕ) (top : List ℕ) (k : ℕ) (new b : List ℕ) → upidMade kind top 0 k new ≡ made b → Accepted (checkOf kind top) × (0 < length top)
+pub was-there : (upid-type : ℕ) (top : List ℕ) (k : ℕ) (new b : List ℕ) → upidMade upid-type top 0 k new ≡ made b → Accepted (checkOf upid-type top) × (0 < length top)
 unfolding upidMade wholeMade
-was-there kind top k new b = go (eqb (length top) 0) refl (taken (checkOf kind top)) refl
+was-there upid-type top k new b = go (eqb (length top) 0) refl (taken (checkOf upid-type top)) refl
   where
-    go : (t : Bool) → eqb (length top) 0 ≡ t → (u : Bool) → taken (checkOf kind top) ≡ u
+    go : (t : Bool) → eqb (length top) 0 ≡ t → (u : Bool) → taken (checkOf upid-type top) ≡ u
         → pick (t || not u) (refused 41) (pick (ltb 255 (length new)) (refused 32) (pick (eqb (length new) 0 || not (taken (readOf k 0 new))) (refused 33) (made new))) ≡ made b
-        → Accepted (checkOf kind top) × (0 < length top)
+        → Accepted (checkOf upid-type top) × (0 < length top)
     go true et u eu e = zero-one cc
     go false et false eu e = zero-one cc
     go false et true eu e = (taken-accepted _ eu, let n = eqb-false (length top) 0 et in omega (arith, n))
@@ -65,11 +65,11 @@ regroup l a b c t =
     ∙ sym (append-assoc l a (b ++ (c ++ t)))
 
 -- what the UPID's own list is, cut at the identifier that is named
-record Sides (kind : ℕ) (top : List ℕ) (part k : ℕ) (new : List ℕ) : Type 0 where
+record Sides (upid-type : ℕ) (top : List ℕ) (part k : ℕ) (new : List ℕ) : Type 0 where
   pub left : List Identifier
   pub right : List Identifier
-  pub was : ofUpid kind top ≡ left ++ (identifiersAt (levelOf top part) (kindOf kind top part) (runOf top part) ++ right)
-  pub then : upidThen kind top part k new ≡ left ++ (identifiersAt (levelOf top part) k new ++ right)
+  pub was : ofUpid upid-type top ≡ left ++ (identifiersAt (levelOf top part) (kindOf upid-type top part) (runOf top part) ++ right)
+  pub then : upidThen upid-type top part k new ≡ left ++ (identifiersAt (levelOf top part) k new ++ right)
 
 nothing-after : (x : List Identifier) → x ≡ [] ++ (x ++ [])
 nothing-after x = sym (append-nil x)
@@ -81,7 +81,7 @@ in-the-same-words top ps i k new = refl
 
 old-list : (top : List ℕ) (i : ℕ) → Accepted (checkOf 13 top) → i < length (partsIn (upidOf 13 top))
     → let ps : List Part = partsIn (upidOf 13 top) in identifiersOf top
-    ≡ kept.identifiersIn top (take i ps) ++ (identifiersAt (partAt ps i .level) (writtenKind top (partAt ps i)) (bytesOf top (partAt ps i)) ++ kept.identifiersIn top (afterPart top ps i))
+    ≡ kept.identifiersIn top (take i ps) ++ (identifiersAt (partAt ps i .level) (writtenType top (partAt ps i)) (bytesOf top (partAt ps i)) ++ kept.identifiersIn top (afterPart top ps i))
 old-list top i a h =
     relabelled-made 13 top i _ _ top (same-again top i a h) .1 .identifiers
     ∙ in-the-same-words top (partsIn (upidOf 13 top)) i _ _
@@ -92,21 +92,21 @@ of-mid top i a h =
     let some : 1 ≤ length top = some-made 13 top (suc i) _ _ top (same-again top i a h) in
     rw (ne-eqb (length top) 0 (λ z. omega arith))
 
-sides : (kind : ℕ) (top : List ℕ) (part k : ℕ) (new b : List ℕ) → upidMade kind top part k new ≡ made b → Sides kind top part k new
+sides : (upid-type : ℕ) (top : List ℕ) (part k : ℕ) (new b : List ℕ) → upidMade upid-type top part k new ≡ made b → Sides upid-type top part k new
 unfolding upidThen
-sides kind top zero k new b e =
-    let w = was-there kind top k new b e in
-    let x = whole-made-is kind top k new b e in
+sides upid-type top zero k new b e =
+    let w = was-there upid-type top k new b e in
+    let x = whole-made-is upid-type top k new b e in
     record {
       left = [];
       right = [];
-      was = alone kind top (w .0) (w .1) ∙ nothing-after (identifiersAt 0 kind top);
+      was = alone upid-type top (w .0) (w .1) ∙ nothing-after (identifiersAt 0 upid-type top);
       then = alone k new (subst (λ (y : List ℕ). Accepted (checkOf k y)) (x .0) (x .1)) (subst (λ (y : List ℕ). 0 < length y) (x .0) (x .2)) ∙ nothing-after (identifiersAt 0 k new);
     }
-sides kind top (suc i) k new b e =
+sides upid-type top (suc i) k new b e =
     let ps : List Part = partsIn (upidOf 13 top) in
-    let x = made-able kind top i k new b e in
-    let y = has-parts kind top i (x .0 .there) in
+    let x = made-able upid-type top i k new b e in
+    let y = has-parts upid-type top i (x .0 .there) in
     let a : Accepted (checkOf 13 top) = subst (λ (j : ℕ). Accepted (checkOf j top)) (y .0) (y .1) in
     let h : i < length (partsIn (upidOf 13 top)) = subst (λ (j : ℕ). i < length (partsIn (upidOf j top))) (y .0) (x .0 .there) in
     record {
@@ -116,23 +116,23 @@ sides kind top (suc i) k new b e =
       then = in-the-same-words top ps i k new;
     }
 
-one-of : (level k : ℕ) (new : List ℕ) → (k ≡ 13 → ⊥) → identifiersAt level k new ≡ record { level = level; kind = k; bytes = new } ∷ []
+one-of : (level k : ℕ) (new : List ℕ) → (k ≡ 13 → ⊥) → identifiersAt level k new ≡ record { level = level; «upid_type» = k; bytes = new } ∷ []
 unfolding identifiersAt
 one-of level k new n = rw (ne-eqb k 13 n)
 
 -- ---- the section
 
-module _ (q : Request) (r : List ℕ) (bytes : (j : ℕ) → getD (q .section) j 0 < 256) (byte : q .kind < 256)
-    (e : relabelMade (q .section) (q .offset) (q .part) (q .kind) (q .bytes) ≡ made r) where
+module _ (q : Request) (r : List ℕ) (bytes : (j : ℕ) → getD (q .section) j 0 < 256) (byte : q .«upid_type» < 256)
+    (e : relabelMade (q .section) (q .offset) (q .part) (q .«upid_type») (q .bytes) ≡ made r) where
   pub relabelled : Relabelled q r
   relabelled =
-      let t = the-list-is-the-old-one-with-that-one-replaced (q .section) (q .offset) (q .part) (q .kind) (q .bytes) r bytes byte e in
+      let t = the-list-is-the-old-one-with-that-one-replaced (q .section) (q .offset) (q .part) (q .«upid_type») (q .bytes) r bytes byte e in
       let x = t .0 in
-      let y = sides (kindFor q) (upidFor q) (q .part) (q .kind) (q .bytes) (x .upid) (x .made-of) in
+      let y = sides (kindFor q) (upidFor q) (q .part) (q .«upid_type») (q .bytes) (x .upid) (x .made-of) in
       let l : List Identifier = each (loopBytes (q .section)) (x .lead) in
       let z : List Identifier = each (loopBytes (q .section)) (x .tail) in
-      let lists : identifiersIn r ≡ (l ++ y .left) ++ (identifiersAt (levelOf (upidFor q) (q .part)) (q .kind) (q .bytes) ++ (y .right ++ z)) =
-      t .2 ∙ ap (λ (m : List Identifier). l ++ (m ++ z)) (y .then) ∙ regroup l (y .left) (identifiersAt (levelOf (upidFor q) (q .part)) (q .kind) (q .bytes)) (y .right) z in
+      let lists : identifiersIn r ≡ (l ++ y .left) ++ (identifiersAt (levelOf (upidFor q) (q .part)) (q .«upid_type») (q .bytes) ++ (y .right ++ z)) =
+      t .2 ∙ ap (λ (m : List Identifier). l ++ (m ++ z)) (y .then) ∙ regroup l (y .left) (identifiersAt (levelOf (upidFor q) (q .part)) (q .«upid_type») (q .bytes)) (y .right) z in
       record {
         old = x .old;
         was = x .accepted;
@@ -144,13 +144,13 @@ module _ (q : Request) (r : List ℕ) (bytes : (j : ℕ) → getD (q .section) j
         after = y .right ++ z;
         listed = t .1 ∙ ap (λ (m : List Identifier). l ++ (m ++ z)) (y .was) ∙ regroup l (y .left) (identifiersAt (levelOf (upidFor q) (q .part)) (kindOf (kindFor q) (upidFor q) (q .part)) (runOf (upidFor q) (q .part))) (y .right) z;
         lists = lists;
-        whole = λ n. lists ∙ ap (λ (m : List Identifier). (l ++ y .left) ++ (m ++ (y .right ++ z))) (one-of (levelOf (upidFor q) (q .part)) (q .kind) (q .bytes) n);
+        whole = λ n. lists ∙ ap (λ (m : List Identifier). (l ++ y .left) ++ (m ++ (y .right ++ z))) (one-of (levelOf (upidFor q) (q .part)) (q .«upid_type») (q .bytes) n);
         stays = x;
       }
 
 -- what stands in the target when it was written
-pub written : (q : Request) (target later : List ℕ) (n : ℕ) → ((j : ℕ) → getD (q .section) j 0 < 256) → q .kind < 256
-    → answerOf (relabelMade (q .section) (q .offset) (q .part) (q .kind) (q .bytes)) target ≡ Written.Wrote n → later ≡ laterOf (relabelMade (q .section) (q .offset) (q .part) (q .kind) (q .bytes)) target
+pub written : (q : Request) (target later : List ℕ) (n : ℕ) → ((j : ℕ) → getD (q .section) j 0 < 256) → q .«upid_type» < 256
+    → answerOf (relabelMade (q .section) (q .offset) (q .part) (q .«upid_type») (q .bytes)) target ≡ Written.Wrote n → later ≡ laterOf (relabelMade (q .section) (q .offset) (q .part) (q .«upid_type») (q .bytes)) target
     → Relabelled q (take n later) × (drop n later ≡ drop n target) × (length later ≡ length target)
 written q target later n bytes byte e l =
     let c = an-accepted-write-changes-only-its-result _ target n e in

@@ -38,7 +38,7 @@ pub a-refused-relabelling-changes-no-byte : (q : Request) (target later : List �
 a-refused-relabelling-changes-no-byte q target later n d = relabels-so d .1 ∙ demands.a-refused-write-changes-no-byte (madeFor q) target n (sym (relabels-so d .0))
 
 -- "an accepted one only its result": it is accepted, the list of its identifiers is the old list with that one replaced, the new one whole
-pub a-relabelled-section-keeps-every-other-identifier : (q : Request) (target later : List ℕ) (n : ℕ) → AllBytes (q .section) → q .kind < 256 → Relabels q target (Written.Wrote n) later
+pub a-relabelled-section-keeps-every-other-identifier : (q : Request) (target later : List ℕ) (n : ℕ) → AllBytes (q .section) → q .«upid_type» < 256 → Relabels q target (Written.Wrote n) later
     → Relabelled q (take n later) × (drop n later ≡ drop n target) × (length later ≡ length target)
 a-relabelled-section-keeps-every-other-identifier q target later n bytes byte d =
     replaced.written q target later n (all-at (q .section) bytes) byte (sym (relabels-so d .0)) (relabels-so d .1)
@@ -54,7 +54,7 @@ a-refused-relabelling-over-c-changes-no-byte q target answer later d some =
     let r = refused-of (answerOf (madeFor q) target) (λ e. some (ap (λ (v : FlatWritten). v .refusal) (relabels-c-so d .0) ∙ e)) in
     relabels-c-so d .1 ∙ demands.a-refused-write-changes-no-byte (madeFor q) target (r .0) (r .1)
 
-pub a-relabelled-section-over-c-keeps-every-other-identifier : (q : Request) (target : List ℕ) (answer : FlatWritten) (later : List ℕ) → AllBytes (q .section) → q .kind < 256
+pub a-relabelled-section-over-c-keeps-every-other-identifier : (q : Request) (target : List ℕ) (answer : FlatWritten) (later : List ℕ) → AllBytes (q .section) → q .«upid_type» < 256
     → RelabelsC q target answer later → answer .refusal ≡ 0
     → Relabelled q (take (answer .«length») later) × (drop (answer .«length») later ≡ drop (answer .«length») target) × (length later ≡ length target)
 a-relabelled-section-over-c-keeps-every-other-identifier q target answer later bytes byte d none =

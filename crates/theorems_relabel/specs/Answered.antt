@@ -20,8 +20,8 @@ noInsert offset (y ∷ ys) = pick (eqb (y .offset) offset) (not (inserts (y .ste
 
 -- 41: "a UPID that is none, no such part"
 unfoldable pub noPart : ℕ → List ℕ → ℕ → Bool
-noPart kind top zero = eqb (length top) 0
-noPart kind top (suc i) = leb (length (partsIn (upidOf kind top))) i
+noPart upid-type top zero = eqb (length top) 0
+noPart upid-type top (suc i) = leb (length (partsIn (upidOf upid-type top))) i
 
 -- 33: "an identifier that its reader refuses there .. an empty top UPID"
 unfoldable pub unfit : ℕ → ℕ → List ℕ → Bool
@@ -39,7 +39,7 @@ inAccepted q room =
     (pick (noPart (kindFor q) (upidFor q) (q .part)) (Written.Refused 41)
     -- 32: "more than 255 bytes of UPID"
     (pick (ltb 255 (sizeThen q (length (upidFor q)))) (Written.Refused 32)
-    (pick (unfit (q .part) (q .kind) (q .bytes)) (Written.Refused 33)
+    (pick (unfit (q .part) (q .«upid_type») (q .bytes)) (Written.Refused 33)
     -- 34: "descriptor over 254 or section over 4,096"
     (pick (ltb 254 (sizeThen q (getD (loopBytes (q .section)) (q .offset + 1) 0)) || ltb 4096 (sizeThen q (length (q .section)))) (Written.Refused 34)
     -- 36: "target too short"

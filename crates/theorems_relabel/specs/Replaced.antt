@@ -3,10 +3,10 @@ use Prim.Native.Nat.{ℕ, zero, suc}
 use mathlib.Core.List.{List, _∷_, _++_}
 use mathlib.Core.Path.{_≡_}
 use Rattle.relabel.specs.Relabel.{payloadIn}
-use Rattle.relabel_found.specs.Found.{kindIn, upidIn}
+use Rattle.relabel_found.specs.Found.{typeIn, upidIn}
 use Rattle.relabel_laws.specs.Identifiers.{identifiersIn}
 use Rattle.relabel_laws.specs.Result.{Result}
-use Rattle.relabel_upid.specs.Kept.{Identifier, identifiersAt, writtenKind}
+use Rattle.relabel_upid.specs.Kept.{Identifier, identifiersAt, writtenType}
 use Rattle.relabel_upid.specs.Relabel.{partAt}
 use Rattle.section.specs.Section.{sectionOf}
 use Rattle.section.specs.declared.Section.{Section}
@@ -20,18 +20,18 @@ pub record Request : Type 0 where
   pub section : List ℕ
   pub offset : ℕ
   pub part : ℕ
-  pub kind : ℕ
+  pub «upid_type» : ℕ
   pub bytes : List ℕ
 
--- ---- the identifier that is named, as it was. The UPID is `top`, of type `kind`; part 0 is itself, part i + 1 the i-th of its parts as `read_upid` lists them.
+-- ---- the identifier that is named, as it was. The UPID is `top`, of type `upid-type`; part 0 is itself, part i + 1 the i-th of its parts as `read_upid` lists them.
 
 abbrev pub levelOf : List ℕ → ℕ → ℕ
 levelOf top zero = 0
 levelOf top (suc i) = partAt (partsIn (upidOf 13 top)) i .level
 
 abbrev pub kindOf : ℕ → List ℕ → ℕ → ℕ
-kindOf kind top zero = kind
-kindOf kind top (suc i) = writtenKind top (partAt (partsIn (upidOf 13 top)) i)
+kindOf «upid_type» top zero = «upid_type»
+kindOf «upid_type» top (suc i) = writtenType top (partAt (partsIn (upidOf 13 top)) i)
 
 abbrev pub runOf : List ℕ → ℕ → List ℕ
 runOf top zero = top
@@ -42,7 +42,7 @@ abbrev pub upidFor : Request → List ℕ
 upidFor q = upidIn (payloadIn (q .section) (q .offset))
 
 abbrev pub kindFor : Request → ℕ
-kindFor q = kindIn (payloadIn (q .section) (q .offset))
+kindFor q = typeIn (payloadIn (q .section) (q .offset))
 
 -- ---- r is the section with that one replaced
 
@@ -58,8 +58,8 @@ pub record Relabelled (q : Request) (r : List ℕ) : Type 0 where
   pub before : List Identifier
   pub after : List Identifier
   pub listed : identifiersIn (q .section) ≡ before ++ (identifiersAt (levelOf (upidFor q) (q .part)) (kindOf (kindFor q) (upidFor q) (q .part)) (runOf (upidFor q) (q .part)) ++ after)
-  pub lists : identifiersIn r ≡ before ++ (identifiersAt (levelOf (upidFor q) (q .part)) (q .kind) (q .bytes) ++ after)
+  pub lists : identifiersIn r ≡ before ++ (identifiersAt (levelOf (upidFor q) (q .part)) (q .«upid_type») (q .bytes) ++ after)
   -- where it is no MID it is one identifier, whole: of this type, with exactly these bytes
-  pub whole : (q .kind ≡ 13 → ⊥) → identifiersIn r ≡ before ++ (record { level = levelOf (upidFor q) (q .part); kind = q .kind; bytes = q .bytes } ∷ after)
+  pub whole : (q .«upid_type» ≡ 13 → ⊥) → identifiersIn r ≡ before ++ (record { level = levelOf (upidFor q) (q .part); «upid_type» = q .«upid_type»; bytes = q .bytes } ∷ after)
   -- every other item reads as it did, and of this item only the UPID differs
-  pub stays : Result (q .section) (q .offset) (q .part) (q .kind) (q .bytes) r
+  pub stays : Result (q .section) (q .offset) (q .part) (q .«upid_type») (q .bytes) r

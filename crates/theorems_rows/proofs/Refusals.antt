@@ -1,6 +1,6 @@
 -- Each refusal of an item and of a UPID by its own words.
 use Prim.Native.Nat.{ℕ, zero, suc, _+_, _-_, _≤_, _<_}
-use mathlib.Core.Bool.{Bool, true, false, cond, not, _&&_, _||_}
+use mathlib.Core.Bool.{Bool, true, false, not, _&&_, _||_}
 use mathlib.Core.List.{List, [], _∷_}
 use mathlib.Core.Path.{_≡_, refl, ap, sym, _∙_}
 use native.Mathlib.Omega.{arith}
@@ -14,12 +14,12 @@ use Rattle.descriptor.specs.Descriptor.{availOf, dtmfOf, timeOf, reservedOf, se
 use Rattle.descriptor.specs.Plain.{avail, dtmf, time}
 use Rattle.descriptor.specs.Segmentation.{head, front, back}
 use Rattle.descriptor.specs.declared.Descriptor.{Descriptor}
-use Rattle.descriptor.specs.declared.segmentation.SegmentationDetail.{SegmentationDetail}
+use Rattle.descriptor.specs.declared.segmentation.DescriptorDetail.{DescriptorDetail}
 use Rattle.descriptor.specs.declared.DescriptorRead.{DescriptorRead}
 use Rattle.descriptor.specs.declared.segmentation.SegmentationUpid.{SegmentationUpid}
 use Rattle.descriptor_loop.proofs.Steps.{step-long, step-end, step-few, step-over, step-full, step-small, step-whole}
 use Rattle.descriptor_loop.specs.Cover.{Ends}
-use Rattle.descriptor_loop.specs.Items.{bare, short, stepOf, wholeAt}
+use Rattle.descriptor_loop.specs.Items.{withoutIdentifier, short, stepOf, wholeAt}
 use Rattle.descriptor_loop.specs.Items as items
 use Rattle.descriptor_loop.specs.declared.Item.{Item}
 use Rattle.descriptor_loop.specs.declared.ItemRefusal.{ItemRefusal}
@@ -40,13 +40,13 @@ use Rattle.theorems_rows.specs.Refusals.{StepRefused, endNumber, endValu
 
 -- ---- a step
 
-bare-refused : (s : Step) (r : ItemRefusal) (n : ℕ) (values : List ℕ) (next : ℕ) → s ≡ bare (Item.Refused r) next → items.numberOf r ≡ n → items.valuesOf r ≡ values → StepRefused s n values next
-bare-refused s r n values next e a b = record { refusal = r; is = ap (λ (t : Step). t .item) e; number = a; told = b; goes = ap (λ (t : Step). t .next) e }
+refused-without-identifier : (s : Step) (r : ItemRefusal) (n : ℕ) (values : List ℕ) (next : ℕ) → s ≡ withoutIdentifier (Item.Refused r) next → items.numberOf r ≡ n → items.valuesOf r ≡ values → StepRefused s n values next
+refused-without-identifier s r n values next e a b = record { refusal = r; is = ap (λ (t : Step). t .item) e; number = a; told = b; goes = ap (λ (t : Step). t .next) e }
 
 module _ (loop : List ℕ) (offset : ℕ) where
   pub refusal-2 : 4076 < length loop → StepRefused (stepOf loop offset) 2 [] (length loop)
   unfolding items.numberOf items.valuesOf upid.numberOf upid.valuesOf
-  refusal-2 h = bare-refused _ (ItemRefusal.Other Refusal.InputTooLong) 2 [] (length loop) (step-long loop offset h) refl refl
+  refusal-2 h = refused-without-identifier _ (ItemRefusal.Other Refusal.InputTooLong) 2 [] (length loop) (step-long loop offset h) refl refl
 
   module _ (fits : length loop ≤ 4076) where
     pub at-the-end : length loop ≤ offset → (stepOf loop offset .item ≡ Item.End) × (stepOf loop offset .next ≡ length loop)
@@ -54,7 +54,7 @@ module _ (loop : List ℕ) (offset : ℕ) where
 
     pub few-left : offset < length loop → length loop - offset ≤ 5 → StepRefused (stepOf loop offset) 21 (2 ∷ 0 ∷ []) (length loop)
     unfolding items.numberOf items.valuesOf upid.numberOf upid.valuesOf
-    few-left inside h = bare-refused _ (ItemRefusal.Other (Refusal.NotEnoughData 2 0)) 21 _ (length loop) (step-few loop offset fits inside (omega arith)) refl refl
+    few-left inside h = refused-without-identifier _ (ItemRefusal.Other (Refusal.NotEnoughData 2 0)) 21 _ (length loop) (step-few loop offset fits inside (omega arith)) refl refl
 
     module _ (six : offset + 6 ≤ length loop) where
       abbrev L : ℕ
@@ -62,16 +62,16 @@ module _ (loop : List ℕ) (offset : ℕ) where
 
       pub too-long-for-the-rest : length loop - offset < L + 2 → StepRefused (stepOf loop offset) 21 ((L + 2) ∷ 0 ∷ []) (length loop)
       unfolding items.numberOf items.valuesOf upid.numberOf upid.valuesOf
-      too-long-for-the-rest h = bare-refused _ (ItemRefusal.Other (Refusal.NotEnoughData (L + 2) 0)) 21 _ (length loop) (step-over loop offset fits (omega arith) L refl (omega arith) h) refl refl
+      too-long-for-the-rest h = refused-without-identifier _ (ItemRefusal.Other (Refusal.NotEnoughData (L + 2) 0)) 21 _ (length loop) (step-over loop offset fits (omega arith) L refl (omega arith) h) refl refl
 
       module _ (there : L + 2 ≤ length loop - offset) where
         pub length-255 : 254 < L → StepRefused (stepOf loop offset) 22 [] (length loop)
         unfolding items.numberOf items.valuesOf
-        length-255 h = bare-refused _ ItemRefusal.InvalidDescriptorLength 22 [] (length loop) (step-full loop offset fits (omega arith) L refl (omega arith) there h) refl refl
+        length-255 h = refused-without-identifier _ ItemRefusal.InvalidDescriptorLength 22 [] (length loop) (step-full loop offset fits (omega arith) L refl (omega arith) there h) refl refl
 
         pub length-below-4 : L ≤ 3 → StepRefused (stepOf loop offset) 21 (6 ∷ (L + 2) ∷ []) (offset + (L + 2))
         unfolding items.numberOf items.valuesOf upid.numberOf upid.valuesOf
-        length-below-4 h = bare-refused _ (ItemRefusal.Other (Refusal.NotEnoughData 6 (L + 2))) 21 _ (offset + (L + 2)) (step-small loop offset fits (omega arith) L refl (omega arith) there (omega arith) (omega arith)) refl refl
+        length-below-4 h = refused-without-identifier _ (ItemRefusal.Other (Refusal.NotEnoughData 6 (L + 2))) 21 _ (offset + (L + 2)) (step-small loop offset fits (omega arith) L refl (omega arith) there (omega arith) (omega arith)) refl refl
 
         pub else-read : 4 ≤ L → L ≤ 254 → stepOf loop offset ≡ wholeAt loop offset L
         else-read low high = step-whole loop offset fits (omega arith) L refl (omega arith) there high low
@@ -115,9 +115,9 @@ module _ (s : List ℕ) where
   unfolding insertOf inserted
   insert-kind event at =
       kind-then 2 (parse front (bitsOf s) at)
-      (λ f at. ifFine (checkOf (f .front .«segmentation_upid» .kind) (viewed s (f .front .«segmentation_upid» .bytes))) (f .front .«segmentation_upid» .bytes)
+      (λ f at. ifFine (checkOf (f .front .«segmentation_upid» .«upid_type») (viewed s (f .front .«segmentation_upid» .bytes))) (f .front .«segmentation_upid» .bytes)
       (λ u. parse back (bitsOf s) at andThen λ b at. inserted event (f .front) u b))
-      (λ f at. kind-fine 2 (checkOf (f .front .«segmentation_upid» .kind) (viewed s (f .front .«segmentation_upid» .bytes))) (f .front .«segmentation_upid» .bytes)
+      (λ f at. kind-fine 2 (checkOf (f .front .«segmentation_upid» .«upid_type») (viewed s (f .front .«segmentation_upid» .bytes))) (f .front .«segmentation_upid» .bytes)
       (λ u. parse back (bitsOf s) at andThen λ b at. inserted event (f .front) u b)
       (λ u. kind-then 2 (parse back (bitsOf s) at) (λ b at. inserted event (f .front) u b) (λ b at. refl)))
 
@@ -125,8 +125,8 @@ module _ (s : List ℕ) where
   unfolding segmentationOf
   segmentation-kind =
       kind-then 2 (parse head (bitsOf s) 0)
-      (λ h at. pick (h .cancel) (DescriptorRead.Is (Descriptor.Segmentation (record { «segmentation_event_id» = h .event; «descriptor_detail» = SegmentationDetail.Cancel }))) (insertOf s (h .event) at))
-      (λ h at. kind-pick 2 (h .cancel) (DescriptorRead.Is (Descriptor.Segmentation (record { «segmentation_event_id» = h .event; «descriptor_detail» = SegmentationDetail.Cancel }))) (insertOf s (h .event) at)
+      (λ h at. pick (h .cancel) (DescriptorRead.Is (Descriptor.Segmentation (record { «segmentation_event_id» = h .event; «descriptor_detail» = DescriptorDetail.Cancel }))) (insertOf s (h .event) at))
+      (λ h at. kind-pick 2 (h .cancel) (DescriptorRead.Is (Descriptor.Segmentation (record { «segmentation_event_id» = h .event; «descriptor_detail» = DescriptorDetail.Cancel }))) (insertOf s (h .event) at)
       refl (insert-kind (h .event) at))
 
   -- "CUEI", and a tag of 0 to 3

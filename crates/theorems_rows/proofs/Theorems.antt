@@ -13,7 +13,7 @@ use Rattle.command.specs.Insert.{WithComponents, insert}
 use Rattle.command.specs.declared.CommandRead.{CommandRead}
 use Rattle.command.specs.declared.Private.{Private}
 use Rattle.command.specs.declared.SpliceCommand.{SpliceCommand}
-use Rattle.command.specs.declared.insert.Insertion.{Insertion}
+use Rattle.command.specs.declared.insert.SpliceInsert.{SpliceInsert}
 use Rattle.descriptor.proofs.Plains.{avail-short, avail-is, time-short, time-is, reserved-is}
 use Rattle.descriptor.specs.Descriptor.{availOf, timeOf, reservedOf, cuei, descriptorOf, isCuei}
 use Rattle.descriptor.specs.declared.Descriptor.{Descriptor}
@@ -102,7 +102,7 @@ a-command-is-malformed-where-its-table-lacks-bytes payload expected actual =
     (λ e. rw e, λ e. rw e, λ e. rw e, λ h. let z : eqb (length payload) 0 ≡ false = ne-eqb (length payload) 0 (λ e. omega arith) in (rw z, rw z))
 
 pub a-command-that-its-table-reads-is-read : (payload : List ℕ) (end : ℕ)
-    → ((x : WithComponents Insertion) → parse insert (bitsOf payload) 0 ≡ got x end → commandOf 0x05 payload ≡ CommandRead.Is (SpliceCommand.SpliceInsert (x .value)))
+    → ((x : WithComponents SpliceInsert) → parse insert (bitsOf payload) 0 ≡ got x end → commandOf 0x05 payload ≡ CommandRead.Is (SpliceCommand.SpliceInsert (x .value)))
     × ((t : SpliceTime) → parse spliceTime (bitsOf payload) 0 ≡ got t end → commandOf 0x06 payload ≡ CommandRead.Is (SpliceCommand.TimeSignal t))
     × ((p : Private) → parse private (bitsOf payload) 0 ≡ got p end → commandOf 0xff payload ≡ CommandRead.Is (SpliceCommand.PrivateCommand p))
     × (commandOf 0x00 [] ≡ CommandRead.Is SpliceCommand.SpliceNull) × (commandOf 0x07 [] ≡ CommandRead.Is SpliceCommand.BandwidthReservation)

@@ -8,7 +8,7 @@ use borrow.Author.Tests.{eqb-false}
 use Rattle.command.specs.Command.{commandOf, componentsOf, private, read, array}
 use Rattle.command.specs.Insert.{insert, active, moded, ending, breakDuration, timeUnless, component, blank}
 use Rattle.command.specs.declared.SpliceCommand.{SpliceCommand}
-use Rattle.command.specs.declared.insert.SpliceInsert.{SpliceInsert}
+use Rattle.command.specs.declared.insert.SpliceDetail.{SpliceDetail}
 use Rattle.command.specs.declared.insert.SpliceMode.{SpliceMode}
 use Rattle.command.specs.declared.insert.Break.{Break}
 use Rattle.names.specs.declared.flags.NetworkIndicator.{NetworkIndicator}
@@ -97,7 +97,7 @@ insertReading = record {
   command = SpliceCommand.SpliceInsert (record {
     «splice_event_id» = 1;
     reserved = 127;
-    «splice_detail» = SpliceInsert.Insert (record {
+    «splice_detail» = SpliceDetail.Insert (record {
       «network_indicator» = NetworkIndicator.In;
       «splice_mode» = SpliceMode.Components 0;
       duration = Break.Absent;

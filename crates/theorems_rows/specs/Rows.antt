@@ -7,7 +7,7 @@ use Rattle.canonical_form.specs.Command.{canonicalCommand}
 use Rattle.command.specs.Command.{commandOf, componentsOf}
 use Rattle.command.specs.declared.CommandRead.{CommandRead}
 use Rattle.command.specs.declared.SpliceCommand.{SpliceCommand}
-use Rattle.command.specs.declared.insert.Insertion.{Insertion}
+use Rattle.command.specs.declared.insert.SpliceInsert.{SpliceInsert}
 use Rattle.descriptor.specs.Descriptor.{cuei, segmentationOf}
 use Rattle.descriptor.specs.Segmentation.{blankUpid}
 use Rattle.descriptor.specs.declared.Descriptor.{Descriptor}
@@ -15,7 +15,7 @@ use Rattle.descriptor.specs.declared.DescriptorRead.{DescriptorRead}
 use Rattle.descriptor.specs.declared.plain.TimeDescriptor.{TimeDescriptor}
 use Rattle.descriptor.specs.declared.segmentation.DeliveryRestrictionFlags.{DeliveryRestrictionFlags}
 use Rattle.descriptor.specs.declared.segmentation.SegmentationDescriptor.{SegmentationDescriptor}
-use Rattle.descriptor.specs.declared.segmentation.SegmentationDetail.{SegmentationDetail}
+use Rattle.descriptor.specs.declared.segmentation.DescriptorDetail.{DescriptorDetail}
 use Rattle.descriptor.specs.declared.segmentation.SegmentationDuration.{SegmentationDuration}
 use Rattle.descriptor.specs.declared.segmentation.SegmentationMode.{SegmentationMode}
 use Rattle.descriptor.specs.declared.segmentation.SubSegments.{SubSegments}
@@ -67,7 +67,7 @@ payloadSays payload (DescriptorRead.Is d) = descriptorSays payload [] d
 payloadSays payload (DescriptorRead.Refused r) = refused (upids.numberOf r) (upids.valuesOf r)
 
 abbrev pub upidSays : UpidRead → List Part → Says
-upidSays (UpidRead.Fine kind) parts = upid kind parts
+upidSays (UpidRead.Fine upid-type) parts = upid upid-type parts
 upidSays (UpidRead.Refused r) parts = refused (upids.numberOf r) (upids.valuesOf r)
 
 abbrev pub commandSays : CommandRead → Says
@@ -91,7 +91,7 @@ pub data Row : Type 0 where
 
 -- "equal readings, only the first canonical", which is what `is_canonical_command` answers
 pub record Alike (first second : List ℕ) : Type 0 where
-  pub value : Insertion
+  pub value : SpliceInsert
   pub this : commandOf 0x05 first ≡ CommandRead.Is (SpliceCommand.SpliceInsert value)
   pub that : commandOf 0x05 second ≡ CommandRead.Is (SpliceCommand.SpliceInsert value)
   pub components : componentsOf first ≡ componentsOf second
@@ -100,8 +100,8 @@ pub record Alike (first second : List ℕ) : Type 0 where
 
 abbrev pub Holds : Row → Type 0
 Holds (loopIs loop says) = map (listedSays loop) (itemsOf loop) ≡ says
-Holds (upidIs kind bytes says) = upidSays (upidOf kind bytes .read) (partsIn (upidOf kind bytes)) ≡ says
-Holds (commandIs kind payload says) = commandSays (commandOf kind payload) ≡ says
+Holds (upidIs upid-type bytes says) = upidSays (upidOf upid-type bytes .read) (partsIn (upidOf upid-type bytes)) ≡ says
+Holds (commandIs command-type payload says) = commandSays (commandOf command-type payload) ≡ says
 Holds (insertsAre first second) = Alike first second
 Holds (segmentationIs payload says) = payloadSays payload (segmentationOf payload) ≡ says
 
@@ -120,7 +120,7 @@ counting from (suc n) = from ∷ counting (from + 1) n
 abbrev pub programStart : SubSegments → SegmentationDescriptor
 programStart sub = record {
   «segmentation_event_id» = 42;
-  «descriptor_detail» = SegmentationDetail.Insert (record {
+  «descriptor_detail» = DescriptorDetail.Active (record {
     «program_segmentation_flag» = true;
     «segmentation_duration_flag» = false;
     «delivery_not_restricted_flag» = true;
@@ -152,7 +152,7 @@ rows =
     -- "g. 01 07 C B1 3F 34: preroll 177, one character 34."
     ∷ loopIs (0x01 ∷ 0x07 ∷ C (0xB1 ∷ 0x3F ∷ 0x34 ∷ [])) (dtmf 177 (0x34 ∷ []) ∷ [])
     -- "h. MID 0D 02 0D 00: two parts." The second is inside the first, and is no None.
-    ∷ upidIs 13 (0x0D ∷ 0x02 ∷ 0x0D ∷ 0x00 ∷ []) (upid 13 (record { kind = 13; level = 1; start = 2; len = 2 } ∷ record { kind = 13; level = 2; start = 4; len = 0 } ∷ []))
+    ∷ upidIs 13 (0x0D ∷ 0x02 ∷ 0x0D ∷ 0x00 ∷ []) (upid 13 (record { «upid_type» = 13; level = 1; start = 2; len = 2 } ∷ record { «upid_type» = 13; level = 2; start = 4; len = 0 } ∷ []))
     -- "i. MID 00 00: 23."
     ∷ upidIs 13 (0x00 ∷ 0x00 ∷ []) (refused 23 [])
     -- "j. MID 08 03 01 02: 21 (3, 2)."

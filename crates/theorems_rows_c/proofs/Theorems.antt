@@ -11,10 +11,10 @@ use Rattle.c_command_writer.specs.Words.{within, same, eachPlace, placesOf, fla
 use Rattle.c_descriptor_writer.specs.ItemGiven.{restrictionsIn, subSegmentsIn, segmentationIn, itemIn, restrictionsFrom, insertFrom, descriptorFrom, identifierFrom, placeFrom, placesFrom, eidrFrom, besideFrom, ownItem, descriptorWordsMade, descriptorRefusal}
 use Rattle.c_descriptor_writer.specs.ItemGiven as item
 use Rattle.c_descriptor_writer.specs.ItemWords.{itemWords, itemWidths, placeWidths, placesWithin, besideWithin, itemSeen, besideThere}
-use Rattle.c_items.specs.FlatItem.{flatRestrictions, flatSubSegments, wholeSegmentation, bareSegmentation, segmentationItem, flatDescriptor, bareItem, flatItem, refusalIn, valuesIn, flatStep}
+use Rattle.c_items.specs.FlatItem.{flatRestrictions, flatSubSegments, wholeSegmentation, segmentationHead, segmentationItem, flatDescriptor, blankItem, flatItem, refusalIn, valuesIn, flatStep}
 use Rattle.c_items.specs.FlatUpid.{noParts, flatUpidRead, flatUpid}
 use Rattle.c_section.specs.Flat.{flatHeader, noHeader}
-use Rattle.c_section.specs.FlatCommand.{flatMode, flatBreak, wholeInsert, bareInsert, noCommand, flatCommand}
+use Rattle.c_section.specs.FlatCommand.{flatMode, flatBreak, wholeInsert, insertHead, noCommand, flatCommand}
 use Rattle.c_section.specs.FlatSection.{flatSectionRead}
 use Rattle.c_section_writer.specs.SectionGiven.{headerFrom, headerRefusal, sectionWordsMade}
 use Rattle.c_section_writer.specs.SectionWords.{headerWords, headerWidths}
@@ -23,22 +23,22 @@ use Rattle.command_measure.specs.Made.{commandMade}
 use Rattle.crc.specs.Crc.{crcOf, crcBits, crcBit}
 use Rattle.descriptor.specs.Descriptor.{descriptorOf, isCuei, segmentationOf, insertOf, inserted, dtmfOf}
 use Rattle.descriptor.specs.Plain.{avail, dtmf, privateBytes}
-use Rattle.descriptor.specs.Segmentation.{fairFront, fairDetail, deviceOf, component, deliveryRestrictions, mode, duration, writtenUpid, parts, front, subSegments, back, head, segmentation}
+use Rattle.descriptor.specs.Segmentation.{writableFront, writableDetail, deviceOf, component, deliveryRestrictions, mode, duration, writtenUpid, parts, front, subSegments, back, head, segmentation}
 use Rattle.descriptor.specs.Whole.{filled}
 use Rattle.descriptor_loop.specs.Items as items
 use Rattle.descriptor_loop.specs.Items.{readAt, wholeAt, stepOf}
 use Rattle.canonical_form.specs.Descriptor.{canonicalDescriptor, canonicalFrom, canonicalLoop}
 use Rattle.descriptor_measure.specs.Writing as writing
-use Rattle.descriptor_measure.specs.Writing.{framed, framedMade, allZero, alone, fairReserved, writtenKind, upidSource, fairUpid, fairSegment, segmentationMade, payloadMade, descriptorMade}
+use Rattle.descriptor_measure.specs.Writing.{framed, framedMade, allZero, alone, writableReserved, writtenType, upidSource, writableUpid, writableSegment, segmentationMade, payloadMade, descriptorMade}
 use Rattle.header.specs.Header.{headerOf, headerRead, spliceHeader}
-use Rattle.names.specs.Algorithm.{algorithmOf, fairAlgorithm}
+use Rattle.names.specs.Algorithm.{algorithmOf, writableAlgorithm}
 use Rattle.names.specs.Command as types-of-commands
 use Rattle.names.specs.Segmentation as types
 use Rattle.names.specs.Flags.{networkFlag, networkOf, returnFlag, returnOf, restrictionsBits, restrictionsOf}
 use Rattle.scte35.specs.FlatNumber.{flatAnswer}
 use Rattle.section.specs.Section as section
 use Rattle.section.specs.Section.{commandLength, commandType, commandBytes, roomAfter, loopLength, loopPlace, frameIn, moved, movedRead, accepted, frameOf, sectionOf}
-use Rattle.section_writer.specs.Frame.{headed, numbersFit, fairHead}
+use Rattle.section_writer.specs.Frame.{headed, numbersFit, writableHead}
 use Rattle.section_writer.specs.Writing.{sectionMade}
 use Rattle.splice_time.specs.Time.{spliceTime}
 use Rattle.table.specs.Bits.{bigEndian}
@@ -122,29 +122,29 @@ an-item-over-c-is-refused-with-24 = refl
 
 -- 31: of a null whose view is (5, 1), with nothing lent; 33 where it lies in what is lent
 pub a-null-with-a-view-over-c : WriteRefused 31 (commandWordsMade (commandHanded 0 0 0 5 1) [] []) (7 ∷ []) × WriteRefused 33 (commandWordsMade (commandHanded 0 0 0 5 1) [] (replicate 6 0)) (7 ∷ [])
-unfolding flatWritten answerOf laterOf commandWordsMade commandRefusal wordsRefusal commandSeen commandIn commandFrom insertIn insertionFrom modeIn breakIn componentsFrom splicesWithin ownSplices eachPlace placesOf within same commandWidths commandWords flatCommand noCommand bareInsert wholeInsert flatMode flatBreak array commandMade noLess
+unfolding flatWritten answerOf laterOf commandWordsMade commandRefusal wordsRefusal commandSeen commandIn commandFrom insertIn insertionFrom modeIn breakIn componentsFrom splicesWithin ownSplices eachPlace placesOf within same commandWidths commandWords flatCommand noCommand insertHead wholeInsert flatMode flatBreak array commandMade noLess
 a-null-with-a-view-over-c = ((refl, refl), (refl, refl))
 
 -- 32: a time of 34 bits; 33: an immediate one in a time signal; 36: a payload of one byte, and no room
 pub time-signals-over-c-are-refused-with-32-33-and-36 : WriteRefused 32 (commandWordsMade (commandHanded 6 3 (2 ^ 33) 0 0) [] []) (7 ∷ []) × WriteRefused 33 (commandWordsMade (commandHanded 6 1 0 0 0) [] []) (7 ∷ [])
     × WriteRefused 36 (commandWordsMade (commandHanded 6 2 0 0 0) [] []) []
-unfolding flatWritten answerOf laterOf commandWordsMade commandRefusal wordsRefusal commandSeen commandIn commandFrom insertIn insertionFrom modeIn breakIn componentsFrom splicesWithin ownSplices eachPlace placesOf within same commandWidths commandWords flatCommand noCommand bareInsert wholeInsert flatMode flatBreak array commandMade noLess spliceTime number bit reserved
+unfolding flatWritten answerOf laterOf commandWordsMade commandRefusal wordsRefusal commandSeen commandIn commandFrom insertIn insertionFrom modeIn breakIn componentsFrom splicesWithin ownSplices eachPlace placesOf within same commandWidths commandWords flatCommand noCommand insertHead wholeInsert flatMode flatBreak array commandMade noLess spliceTime number bit reserved
 time-signals-over-c-are-refused-with-32-33-and-36 = ((refl, refl), (refl, refl), (refl, refl))
 
 -- 31: of an avail whose view is (5, 1), with nothing lent; 34: a reserved descriptor of 251 bytes
 pub descriptors-over-c-are-refused-with-31-and-34 : WriteRefused 31 (descriptorWordsMade (itemHanded 0 1 0 5 1) [] []) (7 ∷ [])
     × WriteRefused 34 (descriptorWordsMade (itemHanded 0x41424344 6 9 0 251) [] (replicate 251 0)) (replicate 300 7)
-unfolding flatWritten answerOf laterOf descriptorWordsMade descriptorRefusal item.wordsRefusal itemSeen besideThere ownItem itemIn segmentationIn restrictionsIn subSegmentsIn descriptorFrom identifierFrom placesFrom eidrFrom besideFrom placeFrom placesWithin besideWithin eachPlace placesOf within same itemWidths placeWidths itemWords flatDescriptor bareSegmentation flatRestrictions flatSubSegments filled noLess descriptorMade payloadMade framedMade framed allZero alone fairReserved isCuei avail privateBytes number bit reserved part remaining list
+unfolding flatWritten answerOf laterOf descriptorWordsMade descriptorRefusal item.wordsRefusal itemSeen besideThere ownItem itemIn segmentationIn restrictionsIn subSegmentsIn descriptorFrom identifierFrom placesFrom eidrFrom besideFrom placeFrom placesWithin besideWithin eachPlace placesOf within same itemWidths placeWidths itemWords flatDescriptor segmentationHead flatRestrictions flatSubSegments filled noLess descriptorMade payloadMade framedMade framed allZero alone writableReserved isCuei avail privateBytes number bit reserved part remaining list
 descriptors-over-c-are-refused-with-31-and-34 = ((refl, refl), (refl, refl))
 
 -- 33: a segmentation with a component, or with an EIDR, and nothing beside it. The same with zeros beside it is written
 pub descriptors-over-c-are-refused-with-33 : WriteRefused 33 (descriptorWordsMade (segmentHanded 0 1 0) [] []) (replicate 40 7) × WriteRefused 33 (descriptorWordsMade (segmentHanded 1 0 10) [] []) (replicate 40 7)
     × (flatWritten (answerOf (descriptorWordsMade (segmentHanded 0 1 0) (replicate 7 0) []) (replicate 40 7)) ≡ record { refusal = 0; length = 24 })
     × (flatWritten (answerOf (descriptorWordsMade (segmentHanded 1 0 10) (replicate 527 0) []) (replicate 40 7)) ≡ record { refusal = 0; length = 29 })
-unfolding flatWritten answerOf laterOf descriptorWordsMade descriptorRefusal item.wordsRefusal itemSeen besideThere ownItem itemIn segmentationIn restrictionsIn subSegmentsIn restrictionsFrom insertFrom descriptorFrom identifierFrom placesFrom eidrFrom besideFrom placeFrom placesWithin besideWithin eachPlace placesOf within same itemWidths placeWidths itemWords flatDescriptor wholeSegmentation segmentationItem flatRestrictions flatSubSegments filled noLess descriptorMade payloadMade framedMade framed allZero segmentationMade fairSegment fairUpid fairDetail fairFront writing.writtenUpid writtenKind upidSource segmentation head front parts deliveryRestrictions mode component duration writtenUpid back subSegments number bit reserved part remaining list viewed checkOf readOf walkOf _then_ plainOf lengthOf isText reportedOf deviceOf types.segmentationOf types.fairSegmentation
+unfolding flatWritten answerOf laterOf descriptorWordsMade descriptorRefusal item.wordsRefusal itemSeen besideThere ownItem itemIn segmentationIn restrictionsIn subSegmentsIn restrictionsFrom insertFrom descriptorFrom identifierFrom placesFrom eidrFrom besideFrom placeFrom placesWithin besideWithin eachPlace placesOf within same itemWidths placeWidths itemWords flatDescriptor wholeSegmentation segmentationItem flatRestrictions flatSubSegments filled noLess descriptorMade payloadMade framedMade framed allZero segmentationMade writableSegment writableUpid writableDetail writableFront writing.writtenUpid writtenType upidSource segmentation head front parts deliveryRestrictions mode component duration writtenUpid back subSegments number bit reserved part remaining list viewed checkOf readOf walkOf _then_ plainOf lengthOf isText reportedOf deviceOf types.segmentationOf types.writableSegmentation
 descriptors-over-c-are-refused-with-33 = ((refl, refl), (refl, refl), refl, refl)
 
 -- 35: a loop of one byte around a null; header and command are all 0
 pub a-section-over-c-is-refused-with-35 : WriteRefused 35 (sectionWordsMade [] [] [] [] (0 ∷ [])) (replicate 30 7)
-unfolding flatWritten answerOf laterOf sectionWordsMade headerRefusal headerFrom headerWords headerWidths flatHeader commandRefusal wordsRefusal commandSeen commandIn commandFrom insertIn insertionFrom modeIn breakIn componentsFrom splicesWithin ownSplices eachPlace placesOf within same commandWidths commandWords flatCommand noCommand bareInsert wholeInsert flatMode flatBreak array commandMade noLess sectionMade numbersFit fairHead headed spliceHeader number bit canonicalLoop canonicalFrom canonicalDescriptor algorithmOf fairAlgorithm types-of-commands.commandTypeOf bytesIn
+unfolding flatWritten answerOf laterOf sectionWordsMade headerRefusal headerFrom headerWords headerWidths flatHeader commandRefusal wordsRefusal commandSeen commandIn commandFrom insertIn insertionFrom modeIn breakIn componentsFrom splicesWithin ownSplices eachPlace placesOf within same commandWidths commandWords flatCommand noCommand insertHead wholeInsert flatMode flatBreak array commandMade noLess sectionMade numbersFit writableHead headed spliceHeader number bit canonicalLoop canonicalFrom canonicalDescriptor algorithmOf writableAlgorithm types-of-commands.commandTypeOf bytesIn
 a-section-over-c-is-refused-with-35 = (refl, refl)

@@ -64,11 +64,11 @@ segment rest = cueiItem 2 (0x00 ∷ 0x00 ∷ 0x00 ∷ 0x2A ∷ 0x7F ∷ rest)
 
 -- ---- words: those of a command up to its type; of a time signal its time; of any its view
 abbrev pub commandHanded : ℕ → ℕ → ℕ → ℕ → ℕ → List ℕ
-commandHanded type kind ticks at len = 0 ∷ type ∷ replicate 14 0 ++ (kind ∷ ticks ∷ 0 ∷ at ∷ len ∷ [])
+commandHanded type upid-type ticks at len = 0 ∷ type ∷ replicate 14 0 ++ (upid-type ∷ ticks ∷ 0 ∷ at ∷ len ∷ [])
 
 -- of a step: an item's kind, its tag and its view
 abbrev pub itemHanded : ℕ → ℕ → ℕ → ℕ → ℕ → List ℕ
-itemHanded identifier kind tag at len = replicate 5 0 ++ (identifier ∷ kind ∷ replicate 23 0 ++ (tag ∷ at ∷ len ∷ []))
+itemHanded identifier upid-type tag at len = replicate 5 0 ++ (identifier ∷ upid-type ∷ replicate 23 0 ++ (tag ∷ at ∷ len ∷ []))
 
 -- a segmentation, not restricted: whether by program, how many components, and the UPID's type
 abbrev pub segmentHanded : ℕ → ℕ → ℕ → List ℕ

@@ -5,7 +5,7 @@ use mathlib.Core.Path.{_≡_}
 use lib.ListN.{replicate}
 use Rattle.bit_stores.specs.Written.{answerOf, laterOf}
 use Rattle.c_command_writer.specs.Words.{flatWritten}
-use Rattle.c_items.specs.FlatItem.{bareItem}
+use Rattle.c_items.specs.FlatItem.{blankItem}
 use Rattle.c_items.specs.FlatUpid.{noParts}
 use Rattle.c_items.specs.declared.steps.FlatStep.{FlatStep}
 use Rattle.c_items.specs.declared.upids.FlatUpid.{FlatUpid}
@@ -20,10 +20,10 @@ sectionRefused n = record { refusal = n; header = noHeader 0; command = noComman
 
 -- an item's kind is then 7; `next` is where the next item starts
 abbrev pub stepRefused : ℕ → ℕ → ℕ → ℕ → ℕ → FlatStep
-stepRefused n a b c next = record { refusal = n; values = a ∷ b ∷ c ∷ []; next = next; identifier = 0; item = bareItem 7 }
+stepRefused n a b c next = record { refusal = n; values = a ∷ b ∷ c ∷ []; next = next; identifier = 0; item = blankItem 7 }
 
 abbrev pub upidRefused : ℕ → ℕ → ℕ → ℕ → FlatUpid
-upidRefused n a b c = record { refusal = n; values = a ∷ b ∷ c ∷ []; kind = 0; eidr = replicate 12 0; count = 0; parts = noParts }
+upidRefused n a b c = record { refusal = n; values = a ∷ b ∷ c ∷ []; «upid_type» = 0; eidr = replicate 12 0; count = 0; parts = noParts }
 
 -- a write of what is made, m, to a target: the number alone, and the target as it was
 abbrev pub WriteRefused : ℕ → Made → List ℕ → Type 0

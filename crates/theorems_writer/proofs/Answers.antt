@@ -24,10 +24,10 @@ use Rattle.section.specs.Section.{commandType, commandBytes, privateView, secti
 use Rattle.section.specs.declared.Section.{Section}
 use Rattle.section.specs.declared.SectionRead.{SectionRead}
 use Rattle.section_writer.proofs.Theorems.{canonical-parts}
-use Rattle.section_writer.proofs.Trips.{one-section}
+use Rattle.section_writer.proofs.Trips.{frame-one}
 use Rattle.section_writer.specs.Frame.{headed}
 use Rattle.canonical_form.specs.Section.{canonicalSection}
-use Rattle.section_writer.specs.Writing.{kindOf}
+use Rattle.section_writer.specs.Writing.{typeOf}
 use Rattle.table.proofs.Lists.{and-true}
 use Rattle.table.proofs.Structure.{wrote}
 use Rattle.table.specs.Bits.{bitsOfNum, bitsOf, bytesOf, AllBytes}
@@ -36,7 +36,7 @@ use Rattle.table.specs.Table.{number, part, remaining}
 use Rattle.table.specs.Writing.{walk, made, make}
 use Rattle.upid.specs.Cover.{All, none, more}
 use Rattle.theorems_writer.proofs.ItemsWritten.{each-item, one-loop}
-use Rattle.theorems_writer.proofs.WrittenBack.{payload-back}
+use Rattle.theorems_writer.proofs.WrittenBack.{payload-read-write}
 
 -- ---- a command's type and payload, of the command without its view's place, its components and the bytes of its view
 commandPayload : SpliceCommand → List ComponentSplice → List ℕ → List ℕ
@@ -46,12 +46,12 @@ commandPayload (SpliceCommand.TimeSignal t) components bytes = bytesIn (make spl
 commandPayload SpliceCommand.BandwidthReservation components bytes = []
 commandPayload (SpliceCommand.PrivateCommand p) components bytes = bytesOf (bitsOfNum 32 (p .identifier) ++ (bitsOf bytes ++ []))
 
-kind-of : (c : SpliceCommand) → kindOf c ≡ kindOf (withoutPlace c)
-kind-of SpliceCommand.SpliceNull = refl
-kind-of (SpliceCommand.SpliceInsert i) = refl
-kind-of (SpliceCommand.TimeSignal t) = refl
-kind-of SpliceCommand.BandwidthReservation = refl
-kind-of (SpliceCommand.PrivateCommand p) = refl
+type-of : (c : SpliceCommand) → typeOf c ≡ typeOf (withoutPlace c)
+type-of SpliceCommand.SpliceNull = refl
+type-of (SpliceCommand.SpliceInsert i) = refl
+type-of (SpliceCommand.TimeSignal t) = refl
+type-of SpliceCommand.BandwidthReservation = refl
+type-of (SpliceCommand.PrivateCommand p) = refl
 
 -- the view lies in the lent bytes, as something is written of it
 pub private-of : (lent : List ℕ) (p : Private) (b : List ℕ) → make private true lent p ≡ made b → b ≡ bytesOf (bitsOfNum 32 (p .identifier) ++ (bitsOf (viewed lent (p .«private_bytes»)) ++ []))
@@ -74,7 +74,7 @@ payload-of (SpliceCommand.PrivateCommand own) p s b e = private-of s own b e
 -- ---- in a section
 payload-in : (s : List ℕ) (x : Section) → AllBytes s → sectionOf s ≡ SectionRead.Is x → canonicalSection s ≡ true
     → commandBytes s ≡ commandPayload (withoutPlace (x .command)) (take (countIn (x .command)) (componentsOf (commandBytes s))) (viewed s (privateView (x .command)))
-payload-in s x a e c = payload-of (x .command) (commandBytes s) s (commandBytes s) (payload-back s x a e c .1)
+payload-in s x a e c = payload-of (x .command) (commandBytes s) s (commandBytes s) (payload-read-write s x a e c .1)
 
 same-payload : {c d : SpliceCommand} {cs ds : List ComponentSplice} {p q : List ℕ} → c ≡ d → cs ≡ ds → p ≡ q → commandPayload c cs p ≡ commandPayload d ds q
 same-payload e f g = rw (e, f, g)
@@ -84,17 +84,17 @@ pub same-headed : (g h : SpliceInfoHeader) → SameHeader g h → headed g 0 0 �
 unfolding headed
 same-headed g h s = rw (s .version, s .encrypted, s .algorithm, s .adjustment, s .index, s .tiers)
 
-pub own-header : (h : SpliceInfoHeader) (size kind : ℕ) → SameHeader (headed h size kind) h
+pub own-header : (h : SpliceInfoHeader) (size command-type : ℕ) → SameHeader (headed h size command-type) h
 unfolding headed
-own-header h size kind = record { version = refl; encrypted = refl; algorithm = refl; adjustment = refl; index = refl; tiers = refl }
+own-header h size command-type = record { version = refl; encrypted = refl; algorithm = refl; adjustment = refl; index = refl; tiers = refl }
 
 pub one-answer : (s r : List ℕ) (x y : Section) → AllBytes s → AllBytes r → sectionOf s ≡ SectionRead.Is x → sectionOf r ≡ SectionRead.Is y → canonicalSection s ≡ true → canonicalSection r ≡ true
     → SameSections s x r y → s ≡ r
 one-answer s r x y a b e f c d same =
     let kinds : commandType s ≡ commandType r =
-    sym (payload-back s x a e c .0) ∙ kind-of (x .command) ∙ ap kindOf (same .commands) ∙ sym (kind-of (y .command)) ∙ payload-back r y b f d .0 in
+    sym (payload-read-write s x a e c .0) ∙ type-of (x .command) ∙ ap typeOf (same .commands) ∙ sym (type-of (y .command)) ∙ payload-read-write r y b f d .0 in
     let payloads : commandBytes s ≡ commandBytes r = payload-in s x a e c ∙ same-payload (same .commands) (same .components) (same .bytes) ∙ sym (payload-in r y b f d) in
-    one-section s r x y a b e f (canonical-parts s c .around) (canonical-parts r d .around) (same-headed (x .header) (y .header) (same .headers)) kinds payloads (one-loop s r x y a b e f c d (same .items))
+    frame-one s r x y a b e f (canonical-parts s c .around) (canonical-parts r d .around) (same-headed (x .header) (y .header) (same .headers)) kinds payloads (one-loop s r x y a b e f c d (same .items))
 
 -- ---- its own reading
 own-item : (loop : List ℕ) (offset : ℕ) (t : List ℕ) → At loop offset t → AllBytes t → SameItem loop loop (listed loop offset) (listed loop offset)

@@ -14,25 +14,25 @@ use lib.Dec.{ltb}
 use lib.ListN.{length, take, drop}
 use borrow.Author.Tests.{le-leb}
 use Rattle.command.specs.Command.{private, countIn, componentsOf, withView}
-use Rattle.command.specs.Fair.{fairInsert}
+use Rattle.command.specs.Writable.{writableInsert}
 use Rattle.command.specs.Insert.{insert, insertOf, count}
 use Rattle.command.specs.declared.Private.{Private}
 use Rattle.command.specs.declared.SpliceCommand.{SpliceCommand}
 use Rattle.command.specs.declared.components.ComponentSplice.{ComponentSplice}
-use Rattle.command.specs.declared.insert.SpliceInsert.{SpliceInsert}
+use Rattle.command.specs.declared.insert.SpliceDetail.{SpliceDetail}
 use Rattle.command_measure.proofs.Making.{plain-seen, plain-active, private-fields}
 use Rattle.command_measure.proofs.Ties.{time-fields, insert-fields}
 use Rattle.command_measure.specs.Fields.{timeFields, insertFields}
 use Rattle.command_measure.specs.Made.{counted, timesFit, insertMade, commandMade}
-use Rattle.command_writer.proofs.Theorems.{private-trip}
+use Rattle.command_writer.proofs.Theorems.{private-command-write-read}
 use Rattle.descriptor_round_trips.specs.Making.{fit}
 use Rattle.command.proofs.Arrays.{array-take}
 use Rattle.splice_time.specs.Time.{spliceTime, notImmediate}
 use Rattle.splice_time.specs.declared.SpliceTime.{SpliceTime}
 use Rattle.section.specs.Section.{privateView}
-use Rattle.section_writer.proofs.Whole.{Held, command-reads}
+use Rattle.section_writer.proofs.Whole.{Held, command-write-read}
 use Rattle.section_writer.specs.Trips.{ownOf}
-use Rattle.section_writer.specs.Writing.{kindOf}
+use Rattle.section_writer.specs.Writing.{typeOf}
 use Rattle.table.proofs.Bits.{all-bytesN}
 use Rattle.table.proofs.Lists.{zero-one, and-true}
 use Rattle.table.proofs.Structure.{wrote}
@@ -50,20 +50,20 @@ use Rattle.theorems_writer.proofs.WrittenBack.{command-back, held, comp
 
 -- ---- the writer's tests
 abbrev answer : Bool → Bool → Bool → List ℕ → Made
-answer lies fits fair b =
+answer lies fits writable b =
     pick lies
     (pick fits
-    (pick fair (made b)
+    (pick writable (made b)
     (refused 33))
     (refused 32))
     (refused 31)
 
--- `fair` is what 33 asks, and `payload` what is made where nothing is refused
+-- `writable` is what 33 asks, and `payload` what is made where nothing is refused
 record Tested (c : SpliceCommand) (places : List ComponentSplice) (lent : List ℕ) : Type 0 where
-  pub fair : Bool
+  pub writable : Bool
   pub payload : List ℕ
   pub bytes : AllBytes payload
-  pub is : commandMade c places lent ≡ answer (liesIn lent (privateView c)) (fit (commandNumbers c places)) fair payload
+  pub is : commandMade c places lent ≡ answer (liesIn lent (privateView c)) (fit (commandNumbers c places)) writable payload
 
 pub made-bytes : (cs : List Content) → AllBytes (bytesOf (print cs))
 made-bytes cs = all-bytesN (length (print cs) / 8) (print cs) (print-bits cs)
@@ -80,108 +80,108 @@ time-seen t = ap (seen []) (time-fields t 0) ∙ go t
     go SpliceTime.Unspecified = refl
     go (SpliceTime.At n) = refl
 
-insert-seen : (event kept : ℕ) (d : SpliceInsert) (cs : List ComponentSplice) → length cs ≡ count (insertOf d .«splice_mode»)
+insert-seen : (event kept : ℕ) (d : SpliceDetail) (cs : List ComponentSplice) → length cs ≡ count (insertOf d .«splice_mode»)
     → seen [] (walk insert (record { value = record { «splice_event_id» = event; reserved = kept; «splice_detail» = d }; components = cs }) 0 .fields) ≡ true
-insert-seen event kept SpliceInsert.Cancel cs e = ap (seen []) (insert-fields event kept SpliceInsert.Cancel cs e)
-insert-seen event kept (SpliceInsert.Insert i) cs e =
-    ap (seen []) (insert-fields event kept (SpliceInsert.Insert i) cs e)
-    ∙ plain-seen [] (insertFields (record { value = record { «splice_event_id» = event; reserved = kept; «splice_detail» = SpliceInsert.Insert i }; components = cs })) (plain-active i cs)
+insert-seen event kept SpliceDetail.Cancel cs e = ap (seen []) (insert-fields event kept SpliceDetail.Cancel cs e)
+insert-seen event kept (SpliceDetail.Insert i) cs e =
+    ap (seen []) (insert-fields event kept (SpliceDetail.Insert i) cs e)
+    ∙ plain-seen [] (insertFields (record { value = record { «splice_event_id» = event; reserved = kept; «splice_detail» = SpliceDetail.Insert i }; components = cs })) (plain-active i cs)
 
 -- the times, then the table
-both : (times fits fair : Bool) (b : List ℕ) → pick times (pick fits (pick fair (made b) (refused 33)) (refused 32)) (refused 32) ≡ answer true (times && fits) fair b
-both true fits fair b = refl
-both false fits fair b = refl
+both : (times fits writable : Bool) (b : List ℕ) → pick times (pick fits (pick writable (made b) (refused 33)) (refused 32)) (refused 32) ≡ answer true (times && fits) writable b
+both true fits writable b = refl
+both false fits writable b = refl
 
 tested : (c : SpliceCommand) (places : List ComponentSplice) (lent : List ℕ) → Held c places → Tested c places lent
 unfolding commandMade insertMade
-tested SpliceCommand.SpliceNull places lent h = record { fair = true; payload = []; bytes = tt; is = rw (blank-lies lent) }
+tested SpliceCommand.SpliceNull places lent h = record { writable = true; payload = []; bytes = tt; is = rw (blank-lies lent) }
 tested (SpliceCommand.SpliceInsert i) places lent h =
     let x = counted i places in
     let fs = walk insert x 0 .fields in
     let b = bytesOf (print (contents [] fs)) in
     record {
-      fair = fairInsert x;
+      writable = writableInsert x;
       payload = b;
       bytes = made-bytes (contents [] fs);
       is = rw (blank-lies lent) (
-          ap (λ (s : Bool). pick (timesFit (x .components)) (answer s (within fs) (fairInsert x) b) (refused 32))
+          ap (λ (s : Bool). pick (timesFit (x .components)) (answer s (within fs) (writableInsert x) b) (refused 32))
           (insert-seen (i .«splice_event_id») (i .reserved) (i .«splice_detail») (x .components) h)
-          ∙ both (timesFit (x .components)) (within fs) (fairInsert x) b
-          ∙ ap (λ (w : Bool). answer true w (fairInsert x) b) (insert-fits i places h));
+          ∙ both (timesFit (x .components)) (within fs) (writableInsert x) b
+          ∙ ap (λ (w : Bool). answer true w (writableInsert x) b) (insert-fits i places h));
     }
 tested (SpliceCommand.TimeSignal t) places lent h =
     let fs = walk spliceTime t 0 .fields in
     record {
-      fair = notImmediate t;
+      writable = notImmediate t;
       payload = bytesOf (print (contents [] fs));
       bytes = made-bytes (contents [] fs);
       is = rw (blank-lies lent) (ap₂ (λ (s w : Bool). answer s w (notImmediate t) (bytesOf (print (contents [] fs)))) (time-seen t) (time-fits t));
     }
-tested SpliceCommand.BandwidthReservation places lent h = record { fair = true; payload = []; bytes = tt; is = rw (blank-lies lent) }
+tested SpliceCommand.BandwidthReservation places lent h = record { writable = true; payload = []; bytes = tt; is = rw (blank-lies lent) }
 tested (SpliceCommand.PrivateCommand p) places lent h =
     let fs = walk private p 0 .fields in
     let s : seen lent fs ≡ liesIn lent (p .«private_bytes») = ap (seen lent) (private-fields p lent) ∙ and-one (liesIn lent (p .«private_bytes»)) in
     record {
-      fair = true;
+      writable = true;
       payload = bytesOf (print (contents lent fs));
       bytes = made-bytes (contents lent fs);
       is = ap₂ (λ (s w : Bool). answer s w true (bytesOf (print (contents lent fs)))) s (private-fits p);
     }
 
 -- what 33 asks of a command
-abbrev pub fairOf : SpliceCommand → List ComponentSplice → Bool
-fairOf SpliceCommand.SpliceNull places = true
-fairOf (SpliceCommand.SpliceInsert i) places = fairInsert (counted i places)
-fairOf (SpliceCommand.TimeSignal t) places = notImmediate t
-fairOf SpliceCommand.BandwidthReservation places = true
-fairOf (SpliceCommand.PrivateCommand p) places = true
+abbrev pub writableOf : SpliceCommand → List ComponentSplice → Bool
+writableOf SpliceCommand.SpliceNull places = true
+writableOf (SpliceCommand.SpliceInsert i) places = writableInsert (counted i places)
+writableOf (SpliceCommand.TimeSignal t) places = notImmediate t
+writableOf SpliceCommand.BandwidthReservation places = true
+writableOf (SpliceCommand.PrivateCommand p) places = true
 
-fair-is : (c : SpliceCommand) (places : List ComponentSplice) (lent : List ℕ) (h : Held c places) → tested c places lent h .fair ≡ fairOf c places
+writable-is : (c : SpliceCommand) (places : List ComponentSplice) (lent : List ℕ) (h : Held c places) → tested c places lent h .writable ≡ writableOf c places
 unfolding tested
-fair-is SpliceCommand.SpliceNull places lent h = refl
-fair-is (SpliceCommand.SpliceInsert i) places lent h = refl
-fair-is (SpliceCommand.TimeSignal t) places lent h = refl
-fair-is SpliceCommand.BandwidthReservation places lent h = refl
-fair-is (SpliceCommand.PrivateCommand p) places lent h = refl
+writable-is SpliceCommand.SpliceNull places lent h = refl
+writable-is (SpliceCommand.SpliceInsert i) places lent h = refl
+writable-is (SpliceCommand.TimeSignal t) places lent h = refl
+writable-is SpliceCommand.BandwidthReservation places lent h = refl
+writable-is (SpliceCommand.PrivateCommand p) places lent h = refl
 
 -- where none of 31, 32, 33 applies, bytes are made
-pub fair-made : (c : SpliceCommand) (places : List ComponentSplice) (lent : List ℕ) → Held c places → liesIn lent (privateView c) ≡ true → fit (commandNumbers c places) ≡ true → fairOf c places ≡ true
+pub writable-made : (c : SpliceCommand) (places : List ComponentSplice) (lent : List ℕ) → Held c places → liesIn lent (privateView c) ≡ true → fit (commandNumbers c places) ≡ true → writableOf c places ≡ true
     → (p : List ℕ) × (commandMade c places lent ≡ made p)
-fair-made c places lent h l f g =
+writable-made c places lent h l f g =
     let t = tested c places lent h in
-    let e : t .fair ≡ true = fair-is c places lent h ∙ g in
-    (t .payload, t .is ∙ passes (liesIn lent (privateView c)) (fit (commandNumbers c places)) (t .fair) (t .payload) l f e)
+    let e : t .writable ≡ true = writable-is c places lent h ∙ g in
+    (t .payload, t .is ∙ passes (liesIn lent (privateView c)) (fit (commandNumbers c places)) (t .writable) (t .payload) l f e)
   where
     passes : (a b c : Bool) (p : List ℕ) → a ≡ true → b ≡ true → c ≡ true → answer a b c p ≡ made p
     passes a b c p e f g = rw (e, f, g)
 
 -- what the tests say of what is made
-answer-made : (lies fits fair : Bool) (b p : List ℕ) → answer lies fits fair b ≡ made p → (lies ≡ true) × (fits ≡ true) × (b ≡ p)
+answer-made : (lies fits writable : Bool) (b p : List ℕ) → answer lies fits writable b ≡ made p → (lies ≡ true) × (fits ≡ true) × (b ≡ p)
 answer-made true true true b p e = (refl, refl, cc)
 answer-made true true false b p e = zero-one cc
-answer-made true false fair b p e = zero-one cc
-answer-made false fits fair b p e = zero-one cc
+answer-made true false writable b p e = zero-one cc
+answer-made false fits writable b p e = zero-one cc
 
-answer-else : (fair : Bool) (b : List ℕ) → (answer true true fair b ≡ refused 33) ⊎ ((p : List ℕ) × (answer true true fair b ≡ made p))
+answer-else : (writable : Bool) (b : List ℕ) → (answer true true writable b ≡ refused 33) ⊎ ((p : List ℕ) × (answer true true writable b ≡ made p))
 answer-else true b = inr (b, refl)
 answer-else false b = inl refl
 
 module _ (c : SpliceCommand) (places : List ComponentSplice) (lent : List ℕ) (h : Held c places) where
   pub is-outside : liesIn lent (privateView c) ≡ false → commandMade c places lent ≡ refused 31
-  is-outside l = let t = tested c places lent h in t .is ∙ ap (λ (s : Bool). answer s (fit (commandNumbers c places)) (t .fair) (t .payload)) l
+  is-outside l = let t = tested c places lent h in t .is ∙ ap (λ (s : Bool). answer s (fit (commandNumbers c places)) (t .writable) (t .payload)) l
 
   pub is-over : liesIn lent (privateView c) ≡ true → fit (commandNumbers c places) ≡ false → commandMade c places lent ≡ refused 32
-  is-over l f = let t = tested c places lent h in t .is ∙ ap₂ (λ (s w : Bool). answer s w (t .fair) (t .payload)) l f
+  is-over l f = let t = tested c places lent h in t .is ∙ ap₂ (λ (s w : Bool). answer s w (t .writable) (t .payload)) l f
 
   pub made-or-not : liesIn lent (privateView c) ≡ true → fit (commandNumbers c places) ≡ true → (commandMade c places lent ≡ refused 33) ⊎ ((p : List ℕ) × (commandMade c places lent ≡ made p))
   made-or-not l f =
       let t = tested c places lent h in
-      let e : commandMade c places lent ≡ answer true true (t .fair) (t .payload) = t .is ∙ ap₂ (λ (s w : Bool). answer s w (t .fair) (t .payload)) l f in
-      rw e (answer-else (t .fair) (t .payload))
+      let e : commandMade c places lent ≡ answer true true (t .writable) (t .payload) = t .is ∙ ap₂ (λ (s w : Bool). answer s w (t .writable) (t .payload)) l f in
+      rw e (answer-else (t .writable) (t .payload))
 
   module _ (p : List ℕ) (e : commandMade c places lent ≡ made p) where
     passed : (liesIn lent (privateView c) ≡ true) × (fit (commandNumbers c places) ≡ true) × (tested c places lent h .payload ≡ p)
-    passed = let t = tested c places lent h in answer-made (liesIn lent (privateView c)) (fit (commandNumbers c places)) (t .fair) (t .payload) p (sym (t .is) ∙ e)
+    passed = let t = tested c places lent h in answer-made (liesIn lent (privateView c)) (fit (commandNumbers c places)) (t .writable) (t .payload) p (sym (t .is) ∙ e)
 
     pub lies-if-made : liesIn lent (privateView c) ≡ true
     lies-if-made = passed .0
@@ -220,9 +220,9 @@ module _ (places : List ComponentSplice) (lent p : List ℕ) where
   unfolding viewed private number remaining part
   private-view own a b e =
       let c = SpliceCommand.PrivateCommand own in
-      let r = command-reads c places lent p tt e in
+      let r = command-write-read c places lent p tt e in
       let k = command-back 0xff p b (ownOf c) (r .1) (r .0) .1 in
-      let same = private-trip own places lent p a e .1 in
+      let same = private-command-write-read own places lent p a e .1 in
       let f : take (own .«private_bytes» .len) (drop 4 p) ≡ take (own .«private_bytes» .len) (drop (own .«private_bytes» .at) lent) = cc in
       rw (lies-if-made (ownOf c) (componentsOf p) p tt p k, lies-if-made c places lent tt p e) f
 
@@ -237,7 +237,7 @@ pub payload-made : (c : SpliceCommand) (places : List ComponentSplice) (lent p :
     → CommandPayload c places lent p
 payload-made c places lent p n k a e =
     let h = held c places n k in
-    let r = command-reads c places lent p h e in
+    let r = command-write-read c places lent p h e in
     let b = bytes-if-made c places lent h p e in
     record {
       bytes = b;
@@ -286,7 +286,7 @@ made-if-read c places lent p l q =
     let v = privateView (q .again) in
     let is : q .again ≡ withView (λ u. v) (withoutPlace c) = with-own-view (q .again) ∙ ap (withView (λ u. v)) (q .values) in
     again v (componentsOf p) places p lent p c l
-    (ap (λ (d : SpliceCommand). commandMade d (componentsOf p) p) (sym is) ∙ command-back (kindOf c) p (q .bytes) (q .again) (q .form) (q .reading) .1)
+    (ap (λ (d : SpliceCommand). commandMade d (componentsOf p) p) (sym is) ∙ command-back (typeOf c) p (q .bytes) (q .again) (q .form) (q .reading) .1)
     (ap (λ (d : SpliceCommand). take (countIn d) (componentsOf p)) (sym is) ∙ q .components)
     (ap (λ (d : SpliceCommand). viewed p (privateView d)) (sym is) ∙ q .view)
 

@@ -10,9 +10,9 @@ use borrow.Author.Tests.{lt-ltb}
 use Rattle.command.proofs.InsertLeads.{Counted}
 use Rattle.command.specs.Insert.{WithComponents, timeUnless, component, blank, moded, count, breakDuration, ending, active, activeOf, insert}
 use Rattle.command.specs.declared.components.ComponentSplice.{ComponentSplice}
-use Rattle.command.specs.declared.insert.Insert.{Insert}
-use Rattle.command.specs.declared.insert.Insertion.{Insertion}
+use Rattle.command.specs.declared.insert.InsertDetail.{InsertDetail}
 use Rattle.command.specs.declared.insert.SpliceInsert.{SpliceInsert}
+use Rattle.command.specs.declared.insert.SpliceDetail.{SpliceDetail}
 use Rattle.command.specs.declared.insert.SpliceMode.{SpliceMode}
 use Rattle.command_measure.specs.Made.{timesFit}
 use Rattle.splice_time.specs.Time.{spliceTime, ticks}
@@ -87,7 +87,7 @@ module _ (s : List ℕ) where
       rw z (list-has b n (at + 8) (r .inner) (r .seam) (r .front))
 
   -- what follows the mode keeps it
-  ending-keeps : (out : Bool) (x : WithComponents SpliceMode) (d : Bool) (at : ℕ) (y : WithComponents Insert) (m : ℕ) → parse (ending out x d) (bitsOf s) at ≡ got y m
+  ending-keeps : (out : Bool) (x : WithComponents SpliceMode) (d : Bool) (at : ℕ) (y : WithComponents InsertDetail) (m : ℕ) → parse (ending out x d) (bitsOf s) at ≡ got y m
       → (y .value .«splice_mode» ≡ x .value) × (y .components ≡ x .components)
   unfolding ending
   ending-keeps out x d at y m e =
@@ -95,9 +95,9 @@ module _ (s : List ℕ) where
       let a = reads-number s (r .seam) 16 _ _ y m (r .back) .1 in
       let b = reads-number s (r .seam + 16) 8 _ _ y m a .1 in
       let c = got-same (reads-number s (r .seam + 16 + 8) 8 _ _ y m b .1) in
-      (sym (ap (λ (w : WithComponents Insert). w .value .«splice_mode») c), sym (ap (λ (w : WithComponents Insert). w .components) c))
+      (sym (ap (λ (w : WithComponents InsertDetail). w .value .«splice_mode») c), sym (ap (λ (w : WithComponents InsertDetail). w .components) c))
 
-  active-has : (at : ℕ) (y : WithComponents Insert) (m : ℕ) → parse active (bitsOf s) at ≡ got y m → (length (y .components) ≡ count (y .value .«splice_mode»)) × (timesFit (y .components) ≡ true)
+  active-has : (at : ℕ) (y : WithComponents InsertDetail) (m : ℕ) → parse active (bitsOf s) at ≡ got y m → (length (y .components) ≡ count (y .value .«splice_mode»)) × (timesFit (y .components) ≡ true)
   unfolding active
   active-has at y m e =
       let a = reads-flag s at _ _ y m e .1 in
@@ -109,7 +109,7 @@ module _ (s : List ℕ) where
       let k = ending-keeps _ (r .inner) _ (r .seam) y m (r .back) in
       carried (k .0) (k .1) (moded-has _ _ (at + 1 + 1 + 1 + 1 + 4) (r .inner) (r .seam) (r .front))
 
-  pub insert-has : (x : WithComponents Insertion) (m : ℕ) → parse insert (bitsOf s) 0 ≡ got x m → Counted x × (timesFit (x .components) ≡ true)
+  pub insert-has : (x : WithComponents SpliceInsert) (m : ℕ) → parse insert (bitsOf s) 0 ≡ got x m → Counted x × (timesFit (x .components) ≡ true)
   unfolding insert
   insert-has x m e =
       let a = reads-number s 0 32 _ _ x m e .1 in
@@ -118,14 +118,14 @@ module _ (s : List ℕ) where
       go (eqb (field (bitsOf s) 32 1) 1) (field (bitsOf s) 0 32) (field (bitsOf s) 33 7) c
     where
       go : (cancel : Bool) (id kept : ℕ) → parse (pick cancel
-          (done (record { value = record { «splice_event_id» = id; reserved = kept; «splice_detail» = SpliceInsert.Cancel }; components = [] }))
-          (inside active activeOf λ a. done (record { value = record { «splice_event_id» = id; reserved = kept; «splice_detail» = SpliceInsert.Insert (a .value) }; components = a .components }))) (bitsOf s) 40 ≡ got x m
+          (done (record { value = record { «splice_event_id» = id; reserved = kept; «splice_detail» = SpliceDetail.Cancel }; components = [] }))
+          (inside active activeOf λ a. done (record { value = record { «splice_event_id» = id; reserved = kept; «splice_detail» = SpliceDetail.Insert (a .value) }; components = a .components }))) (bitsOf s) 40 ≡ got x m
           → Counted x × (timesFit (x .components) ≡ true)
       go true id kept f =
-          let z : x ≡ record { value = record { «splice_event_id» = id; reserved = kept; «splice_detail» = SpliceInsert.Cancel }; components = [] } = cc in
+          let z : x ≡ record { value = record { «splice_event_id» = id; reserved = kept; «splice_detail» = SpliceDetail.Cancel }; components = [] } = cc in
           rw z (refl, refl)
       go false id kept f =
           let r = reads-in active activeOf _ (bitsOf s) 40 x m f in
           let back = r .back in
-          let z : x ≡ record { value = record { «splice_event_id» = id; reserved = kept; «splice_detail» = SpliceInsert.Insert (r .inner .value) }; components = r .inner .components } = cc in
+          let z : x ≡ record { value = record { «splice_event_id» = id; reserved = kept; «splice_detail» = SpliceDetail.Insert (r .inner .value) }; components = r .inner .components } = cc in
           rw z (active-has 40 (r .inner) (r .seam) (r .front))

@@ -11,7 +11,7 @@ use mathlib.Core.Path.{_≡_, refl, ap, ap₂, sym, subst, _∙_}
 use lib.Dec.{leb}
 use lib.ListN.{length, take, drop}
 use Rattle.descriptor.specs.declared.Descriptor.{Descriptor}
-use Rattle.descriptor.specs.declared.segmentation.SegmentationDetail.{SegmentationDetail}
+use Rattle.descriptor.specs.declared.segmentation.DescriptorDetail.{DescriptorDetail}
 use Rattle.descriptor.specs.declared.whole.Beside.{Beside}
 use Rattle.canonical_form.specs.Descriptor.{canonicalLoop}
 use Rattle.descriptor_round_trips.proofs.Alike.{SameView, detailView}
@@ -24,14 +24,14 @@ use Rattle.descriptor_loop.specs.Private.{movedDetail}
 use Rattle.descriptor_loop.specs.declared.Item.{Item}
 use Rattle.loop_round_trips.proofs.Loops.{all-pieces, back-at, beside-is, written-at, every-item}
 use Rattle.loop_round_trips.proofs.Pieces.{At, run-is, items-cut}
-use Rattle.descriptor_loop.proofs.Places.{kind-stays}
-use Rattle.loop_round_trips.proofs.Theorems.{cut, a-canonical-loop-is-what-is-written-of-its-items, canonical-loops-of-the-same-items-are-one, descriptors-written-in-order-are-the-items-of-a-canonical-loop}
+use Rattle.descriptor_loop.proofs.Places.{type-stays}
+use Rattle.loop_round_trips.proofs.Theorems.{cut, loop-read-write, loop-one, loop-write-read}
 use Rattle.loop_round_trips.specs.Loops.{WrittenAgain, givenMade}
 use Rattle.canonical_form.specs.Same.{Given, Pairs, ItemBack, SameItem}
 use Rattle.section.specs.Section.{loopBytes, sectionOf, loopIn}
 use Rattle.section.specs.declared.Section.{Section}
 use Rattle.section.specs.declared.SectionRead.{SectionRead}
-use Rattle.section_writer.proofs.Theorems.{canonical-parts, no-other-section}
+use Rattle.section_writer.proofs.Theorems.{canonical-parts, section-one}
 use Rattle.canonical_form.specs.Section.{canonicalSection}
 use Rattle.section_writer.specs.Private.{SameAround}
 use Rattle.table.specs.Bits.{pick, AllBytes}
@@ -65,17 +65,17 @@ module _ (s : List ℕ) (x : Section) (e : sectionOf s ≡ SectionRead.Is x) whe
     here-canonical = ap canonicalLoop loop-here ∙ canonical-parts s c .loop
 
     pub loop-written : All (WrittenAgain (loopIn s x)) (itemsOf (loopIn s x)) × (joined (map (runOf (loopIn s x)) (itemsOf (loopIn s x))) ≡ loopIn s x)
-    loop-written = a-canonical-loop-is-what-is-written-of-its-items (loopIn s x) (all-viewed s (x .descriptors) a) (loop-short s x e) here-canonical
+    loop-written = loop-read-write (loopIn s x) (all-viewed s (x .descriptors) a) (loop-short s x e) here-canonical
 
 -- ---- each item keeps its UPID
 
 module _ (p loop : List ℕ) (base : ℕ) where
-  detail-held : (d : SegmentationDetail) → SameView p (detailView d) loop (detailView (movedDetail base d)) → map (heldIn p) (detailUpids d) ≡ map (heldIn loop) (detailUpids (movedDetail base d))
-  detail-held SegmentationDetail.Cancel h = refl
-  detail-held (SegmentationDetail.Insert i) h = ap (λ (u : UpidHeld). u ∷ []) (ap₂ held (sym (kind-stays base (i .«segmentation_upid»))) (h .bytes))
+  detail-held : (d : DescriptorDetail) → SameView p (detailView d) loop (detailView (movedDetail base d)) → map (heldIn p) (detailUpids d) ≡ map (heldIn loop) (detailUpids (movedDetail base d))
+  detail-held DescriptorDetail.Cancel h = refl
+  detail-held (DescriptorDetail.Active i) h = ap (λ (u : UpidHeld). u ∷ []) (ap₂ held (sym (type-stays base (i .«segmentation_upid»))) (h .bytes))
     where
       held : ℕ → List ℕ → UpidHeld
-      held k b = record { kind = k; bytes = b; parts = partsIn (upidOf k b) }
+      held k b = record { «upid_type» = k; bytes = b; parts = partsIn (upidOf k b) }
 
   descriptor-held : (d : Descriptor) → SameView p (viewIn d) loop (viewIn (movedDescriptor base d)) → map (heldIn p) (upidsOf (Item.Is d)) ≡ map (heldIn loop) (upidsOf (Item.Is (movedDescriptor base d)))
   descriptor-held (Descriptor.Avail x) h = refl
@@ -115,13 +115,13 @@ pub one-loop : (s r : List ℕ) (x y : Section) → AllBytes s → AllBytes r �
     → Pairs (SameItem (loopIn s x) (loopIn r y)) (itemsOf (loopIn s x)) (itemsOf (loopIn r y)) → loopBytes s ≡ loopBytes r
 one-loop s r x y a b e f c d items =
     let l : loopIn s x ≡ loopIn r y =
-    canonical-loops-of-the-same-items-are-one (loopIn s x) (loopIn r y) (all-viewed s (x .descriptors) a) (all-viewed r (y .descriptors) b) (loop-short s x e) (loop-short r y f)
+    loop-one (loopIn s x) (loopIn r y) (all-viewed s (x .descriptors) a) (all-viewed r (y .descriptors) b) (loop-short s x e) (loop-short r y f)
     (here-canonical s x e a c) (here-canonical r y f b d) items in
     sym (loop-here s x e) ∙ l ∙ loop-here r y f
 
 pub one-of-items : (s r : List ℕ) (x y : Section) → AllBytes s → AllBytes r → sectionOf s ≡ SectionRead.Is x → sectionOf r ≡ SectionRead.Is y → canonicalSection s ≡ true → canonicalSection r ≡ true
     → SameAround s r → Pairs (SameItem (loopIn s x) (loopIn r y)) (itemsOf (loopIn s x)) (itemsOf (loopIn r y)) → s ≡ r
-one-of-items s r x y a b e f c d around items = no-other-section s r x y a b e f c d around (one-loop s r x y a b e f c d items)
+one-of-items s r x y a b e f c d around items = section-one s r x y a b e f c d around (one-loop s r x y a b e f c d items)
 
 -- ---- written of descriptors, then read
 
@@ -129,4 +129,4 @@ pub items-read : (gs : List Given) (bs : List (List ℕ)) (b : List ℕ) → All
     → (x : Section) → sectionOf b ≡ SectionRead.Is x → loopBytes b ≡ joined bs → Pairs (ItemBack (loopBytes b)) (itemsOf (loopBytes b)) gs
 items-read gs bs b types m x e l =
     let fits : length (joined bs) ≤ 4076 = subst (λ (l : List ℕ). length l ≤ 4076) (loop-here b x e ∙ l) (loop-short b x e) in
-    subst (λ (l : List ℕ). Pairs (ItemBack l) (itemsOf l) gs) (sym l) (descriptors-written-in-order-are-the-items-of-a-canonical-loop gs bs types fits m .1)
+    subst (λ (l : List ℕ). Pairs (ItemBack l) (itemsOf l) gs) (sym l) (loop-write-read gs bs types fits m .1)

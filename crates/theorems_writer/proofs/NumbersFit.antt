@@ -14,9 +14,9 @@ use Rattle.command.specs.Insert.{insert, insertOf, byProgram, programTime, coun
 use Rattle.command.specs.declared.Private.{Private}
 use Rattle.command.specs.declared.SpliceCommand.{SpliceCommand}
 use Rattle.command.specs.declared.components.ComponentSplice.{ComponentSplice}
-use Rattle.command.specs.declared.insert.Insert.{Insert}
-use Rattle.command.specs.declared.insert.Insertion.{Insertion}
+use Rattle.command.specs.declared.insert.InsertDetail.{InsertDetail}
 use Rattle.command.specs.declared.insert.SpliceInsert.{SpliceInsert}
+use Rattle.command.specs.declared.insert.SpliceDetail.{SpliceDetail}
 use Rattle.command.specs.declared.insert.SpliceMode.{SpliceMode}
 use Rattle.command_measure.proofs.Making.{flag-within, private-fields, within-append, within-break, within-unless}
 use Rattle.command_measure.proofs.Ties.{time-fields, insert-fields}
@@ -95,7 +95,7 @@ mode-fits (SpliceMode.Components n) places =
     swap s true l = refl
     swap s false l = and-none s
 
-module _ (i : Insert) (places : List ComponentSplice) where
+module _ (i : InsertDetail) (places : List ComponentSplice) where
   abbrev cs : List ComponentSplice
   cs = take (count (i .«splice_mode»)) places
 
@@ -136,17 +136,17 @@ turned s e k m t n d p a x c h =
     last true true c true true true false = and-none c
     last true true c true true true true = and-one c
 
-pub insert-fits : (i : Insertion) (places : List ComponentSplice) → Held (SpliceCommand.SpliceInsert i) places
+pub insert-fits : (i : SpliceInsert) (places : List ComponentSplice) → Held (SpliceCommand.SpliceInsert i) places
     → timesFit (counted i places .components) && within (walk insert (counted i places) 0 .fields) ≡ fit (commandNumbers (SpliceCommand.SpliceInsert i) places)
 insert-fits i places h =
     ap (λ (w : Bool). timesFit (counted i places .components) && w) (ap within (insert-fields (i .«splice_event_id») (i .reserved) (i .«splice_detail») (counted i places .components) h))
     ∙ go (i .«splice_detail»)
   where
-    go : (d : SpliceInsert) → (let cs = take (count (insertOf d .«splice_mode»)) places in
+    go : (d : SpliceDetail) → (let cs = take (count (insertOf d .«splice_mode»)) places in
         timesFit cs && within (insertFields (record { value = record { «splice_event_id» = i .«splice_event_id»; reserved = i .reserved; «splice_detail» = d }; components = cs }))
         ≡ ltb (i .«splice_event_id») (2 ^ 32) && (ltb (i .reserved) (2 ^ 7) && fit (insertNumbers d places)))
-    go SpliceInsert.Cancel = refl
-    go (SpliceInsert.Insert x) =
+    go SpliceDetail.Cancel = refl
+    go (SpliceDetail.Insert x) =
         let k = x .«splice_mode» in
         let cs = take (count k) places in
         let e = ltb (i .«splice_event_id») (2 ^ 32) in

@@ -8,8 +8,8 @@ use lib.ListN.{length}
 use Rattle.command.specs.Command.{componentsOf, countIn}
 use Rattle.command.specs.declared.SpliceCommand.{SpliceCommand}
 use Rattle.command.specs.declared.components.ComponentSplice.{ComponentSplice}
-use Rattle.command.specs.declared.insert.Insertion.{Insertion}
 use Rattle.command.specs.declared.insert.SpliceInsert.{SpliceInsert}
+use Rattle.command.specs.declared.insert.SpliceDetail.{SpliceDetail}
 use Rattle.command_measure.specs.Made.{commandMade}
 use Rattle.descriptor.specs.declared.Descriptor.{Descriptor}
 use Rattle.descriptor.specs.declared.whole.Beside.{Beside}
@@ -32,7 +32,7 @@ use Rattle.section.specs.Section.{commandBytes, loopBytes, sectionOf, sectionLe
 use Rattle.section.specs.declared.Section.{Section}
 use Rattle.section.specs.declared.SectionRead.{SectionRead}
 use Rattle.canonical_form.specs.Section.{canonicalSection}
-use Rattle.section_writer.specs.Writing.{kindOf, sectionMade}
+use Rattle.section_writer.specs.Writing.{typeOf, sectionMade}
 use Rattle.table.specs.Bits.{AllBytes}
 use Rattle.table.specs.Writing.{Made, made}
 use Rattle.upid.specs.Cover.{All}
@@ -75,7 +75,7 @@ what-is-made-of-a-command-is-one = commands-made.one-command-made
 -- What is made of a header, a command and a loop, by the same: 33 exactly where no canonical section has the header or no canonical payload the command, "a value that no
 -- canonical reading has"; 34 and 35 by their rows; and else the canonical section that reads as the three (`SectionMakes`, specs/Making.antt)
 pub what-is-made-of-a-section : (h : SpliceInfoHeader) (c : SpliceCommand) (places : List ComponentSplice) (lent loop : List ℕ) → length places ≡ 255 → countIn c ≤ 255 → AllBytes lent → AllBytes loop
-    → SectionMakes h c places lent loop (sectionMade h (commandMade c places lent) (kindOf c) loop)
+    → SectionMakes h c places lent loop (sectionMade h (commandMade c places lent) (typeOf c) loop)
 what-is-made-of-a-section = sections-made.section-makes
 
 -- and that leaves one answer
@@ -105,7 +105,7 @@ canonical-descriptors-are-a-canonical-loop ps c = pieces.cut-canonical c
 -- Demand 2: "Writing the reading of a canonical section gives its bytes": its header, its command with the components and bytes that it has, and its loop, as it stands
 -- in the section
 pub a-canonical-section-is-what-is-written-of-its-reading : (s : List ℕ) (x : Section) → AllBytes s → sectionOf s ≡ SectionRead.Is x → canonicalSection s ≡ true
-    → sectionMade (x .header) (commandMade (x .command) (componentsOf (commandBytes s)) s) (kindOf (x .command)) (loopIn s x) ≡ made s
+    → sectionMade (x .header) (commandMade (x .command) (componentsOf (commandBytes s)) s) (typeOf (x .command)) (loopIn s x) ≡ made s
 a-canonical-section-is-what-is-written-of-its-reading = written-back.section-back
 
 -- and its loop is what is written of its items, each as its own bytes: "each item's descriptor, joined in order as the loop, then the section"
@@ -119,20 +119,20 @@ pub what-is-read-can-be-written : (s : List ℕ) (x : Section) → AllBytes s �
 what-is-read-can-be-written s x a e = writable.section-written s x a
 
 -- So of its command with what stands beside it, but for "insert reserved other than 127": bytes are made, a canonical payload that reads as it
-pub what-is-read-of-a-command-can-be-written : (s : List ℕ) (x : Section) → AllBytes s → sectionOf s ≡ SectionRead.Is x → ((i : Insertion) → x .command ≡ SpliceCommand.SpliceInsert i → i .reserved ≡ 127)
+pub what-is-read-of-a-command-can-be-written : (s : List ℕ) (x : Section) → AllBytes s → sectionOf s ≡ SectionRead.Is x → ((i : SpliceInsert) → x .command ≡ SpliceCommand.SpliceInsert i → i .reserved ≡ 127)
     → (p : List ℕ) × (commandMade (x .command) (componentsOf (commandBytes s)) s ≡ made p) × CommandPayload (x .command) (componentsOf (commandBytes s)) s p
 what-is-read-of-a-command-can-be-written = writable-inserts.every-command-written
 
 -- So of a section: its header and its command, around any canonical loop with which it is no longer than a section can be (34), are made a canonical section that reads as these
-pub what-is-read-of-a-section-can-be-written : (s : List ℕ) (x : Section) → AllBytes s → sectionOf s ≡ SectionRead.Is x → ((i : Insertion) → x .command ≡ SpliceCommand.SpliceInsert i → i .reserved ≡ 127)
+pub what-is-read-of-a-section-can-be-written : (s : List ℕ) (x : Section) → AllBytes s → sectionOf s ≡ SectionRead.Is x → ((i : SpliceInsert) → x .command ≡ SpliceCommand.SpliceInsert i → i .reserved ≡ 127)
     → (loop : List ℕ) → AllBytes loop → canonicalLoop loop ≡ true → ((p : List ℕ) → commandMade (x .command) (componentsOf (commandBytes s)) s ≡ made p → sectionLength (length p) (length loop) ≤ 4096)
-    → (b : List ℕ) × (sectionMade (x .header) (commandMade (x .command) (componentsOf (commandBytes s)) s) (kindOf (x .command)) loop ≡ made b)
+    → (b : List ℕ) × (sectionMade (x .header) (commandMade (x .command) (componentsOf (commandBytes s)) s) (typeOf (x .command)) loop ≡ made b)
     × SectionBytes (x .header) (x .command) (componentsOf (commandBytes s)) s loop b
 what-is-read-of-a-section-can-be-written = writable-sections.section-written
 
 -- "reading what the writer wrote gives what it was handed": the header; the command, with its components and the bytes of its view; and the loop. And what is written is canonical.
 pub what-is-written-reads-back : (h : SpliceInfoHeader) (c : SpliceCommand) (places : List ComponentSplice) (lent loop : List ℕ) → length places ≡ 255 → countIn c ≤ 255 → AllBytes lent → AllBytes loop
-    → (b : List ℕ) → sectionMade h (commandMade c places lent) (kindOf c) loop ≡ made b → SectionBytes h c places lent loop b
+    → (b : List ℕ) → sectionMade h (commandMade c places lent) (typeOf c) loop ≡ made b → SectionBytes h c places lent loop b
 what-is-written-reads-back = sections-made.section-reads-as
 
 -- A loop that is the join of what is written of descriptors: these are the items that are read, in order, with equal values and equal bytes in their views. (What
@@ -144,7 +144,7 @@ what-is-written-of-descriptors-reads-back gs bs types m b x e l = items-written.
 -- ---- two canonical sections
 
 -- Demand 3: "Two different canonical sections never have the same reading", over what the readers answer: the readings x and y, the components beside them, the bytes in
--- their views, and the items. (By the tables' readings: `no-other-section` in section_writer/proofs/Theorems.antt, `one-of-items` in ItemsWritten.antt.)
+-- their views, and the items. (By the tables' readings: `section-one` in section_writer/proofs/Theorems.antt, `one-of-items` in ItemsWritten.antt.)
 pub canonical-sections-of-equal-answers-are-one : (s r : List ℕ) (x y : Section) → AllBytes s → AllBytes r → sectionOf s ≡ SectionRead.Is x → sectionOf r ≡ SectionRead.Is y
     → canonicalSection s ≡ true → canonicalSection r ≡ true → SameSections s x r y → s ≡ r
 canonical-sections-of-equal-answers-are-one = answers.one-answer

@@ -7,7 +7,7 @@ use native.Mathlib.Omega.{arith}
 use lib.Dec.{eqb, ltb}
 use lib.ListN.{length}
 use borrow.Author.Tests.{lt-ltb, le-leb}
-use Rattle.command.specs.Command.{private, read, kindOf, commandOf, componentsOf, countIn}
+use Rattle.command.specs.Command.{private, read, typeOf, commandOf, componentsOf, countIn}
 use Rattle.command.specs.Insert.{insert}
 use Rattle.command.specs.declared.CommandRead.{CommandRead}
 use Rattle.command.specs.declared.Private.{Private}
@@ -31,7 +31,7 @@ use Rattle.table.specs.Writing.{made}
 use Rattle.theorems_reader.specs.Identifiers.{Identifier}
 use Rattle.theorems_writer.specs.Making.{commandNumbers, CommandPayload}
 use Rattle.theorems_reader.specs.Whole.{WholeCommand}
-use Rattle.theorems_writer.proofs.CommandsMade.{fair-made, fairOf, payload-made}
+use Rattle.theorems_writer.proofs.CommandsMade.{writable-made, writableOf, payload-made}
 use Rattle.theorems_reader.proofs.Framed.{laid}
 use Rattle.theorems_writer.proofs.InsertsRead.{time-fits}
 use Rattle.theorems_reader.proofs.Whole.{whole-command}
@@ -43,7 +43,7 @@ NoInsert (SpliceCommand.TimeSignal t) = Unit {0}
 NoInsert SpliceCommand.BandwidthReservation = Unit {0}
 NoInsert (SpliceCommand.PrivateCommand p) = Unit {0}
 
-of-another-type : (c : SpliceCommand) → (kindOf c ≡ 0x05 → ⊥) → NoInsert c
+of-another-type : (c : SpliceCommand) → (typeOf c ≡ 0x05 → ⊥) → NoInsert c
 of-another-type SpliceCommand.SpliceNull n = tt
 of-another-type (SpliceCommand.SpliceInsert i) n = n refl
 of-another-type (SpliceCommand.TimeSignal t) n = tt
@@ -109,13 +109,13 @@ module _ (s : List ℕ) (places : List ComponentSplice) where
 
   written : (c : SpliceCommand) → NoInsert c → Keeps [] (CommandRead.Is c) → WholeCommand s (moved 14 c) → (p : List ℕ) × (commandMade (moved 14 c) places s ≡ made p)
   unfolding moved
-  written SpliceCommand.SpliceNull n k w = fair-made SpliceCommand.SpliceNull places s tt nothing-seen refl refl
+  written SpliceCommand.SpliceNull n k w = writable-made SpliceCommand.SpliceNull places s tt nothing-seen refl refl
   written (SpliceCommand.SpliceInsert i) n k w = absurd n
-  written (SpliceCommand.TimeSignal t) n k w = fair-made (SpliceCommand.TimeSignal t) places s tt nothing-seen (rw (lt-ltb (ticks t) (2 ^ 33) (k .0))) (k .1)
-  written SpliceCommand.BandwidthReservation n k w = fair-made SpliceCommand.BandwidthReservation places s tt nothing-seen refl refl
+  written (SpliceCommand.TimeSignal t) n k w = writable-made (SpliceCommand.TimeSignal t) places s tt nothing-seen (rw (lt-ltb (ticks t) (2 ^ 33) (k .0))) (k .1)
+  written SpliceCommand.BandwidthReservation n k w = writable-made SpliceCommand.BandwidthReservation places s tt nothing-seen refl refl
   written (SpliceCommand.PrivateCommand p) n k w =
       let v = w .whole .is in
-      fair-made (moved 14 (SpliceCommand.PrivateCommand p)) places s tt
+      writable-made (moved 14 (SpliceCommand.PrivateCommand p)) places s tt
       (le-leb _ (length s) (omega (arith, w .whole .there, ap (λ (i : Identifier). i .start) v, ap (λ (i : Identifier). i .len) v)))
       (rw (lt-ltb (p .identifier) (2 ^ 32) k)) refl
 
@@ -141,7 +141,7 @@ counts-none (SpliceCommand.TimeSignal t) n = omega arith
 counts-none SpliceCommand.BandwidthReservation n = omega arith
 counts-none (SpliceCommand.PrivateCommand p) n = omega arith
 
-pub command-written : (s : List ℕ) (x : Section) (places : List ComponentSplice) → AllBytes s → length places ≡ 255 → sectionOf s ≡ SectionRead.Is x → (kindOf (x .command) ≡ 0x05 → ⊥)
+pub command-written : (s : List ℕ) (x : Section) (places : List ComponentSplice) → AllBytes s → length places ≡ 255 → sectionOf s ≡ SectionRead.Is x → (typeOf (x .command) ≡ 0x05 → ⊥)
     → (p : List ℕ) × (commandMade (x .command) places s ≡ made p) × CommandPayload (x .command) places s p
 command-written s x places a n e o =
     let i : NoInsert (x .command) = of-another-type (x .command) o in

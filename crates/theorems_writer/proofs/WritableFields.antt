@@ -10,13 +10,13 @@ use lib.Dec.{eqb}
 use lib.ListN.{length}
 use borrow.Author.Tests.{lt-ltb}
 use Rattle.names.proofs.Segmentations.{segmentation-laws}
-use Rattle.names.specs.Segmentation.{segmentationNumber, segmentationOf, fairSegmentation}
+use Rattle.names.specs.Segmentation.{segmentationNumber, segmentationOf, writableSegmentation}
 use Rattle.names.specs.declared.segmentation.SegmentationTypeId.{SegmentationTypeId}
 use Rattle.table.proofs.Reading.{field-lt}
 use Rattle.table.proofs.Steps.{reads-in, reads-number, reads-flag, reads-ones, reads-part, takes-remaining}
 use Rattle.table.specs.Bits.{pick, bitsOf, field}
 use Rattle.table.specs.Table.{done, must, uimsbf, list, Answer, got, short, parse}
-use Rattle.descriptor.specs.Segmentation.{deliveryRestrictions, unrestricted, component, blankComponent, Moded, mode, modeSize, byProgram, countOf, duration, durationSize, ticks, lasting, writtenUpid, Fore, parts, front, blankFront, subSegments, subSegment, subBytes, back, blankBack, agrees, fairFront}
+use Rattle.descriptor.specs.Segmentation.{deliveryRestrictions, unrestricted, component, blankComponent, Moded, mode, modeSize, byProgram, countOf, duration, durationSize, ticks, lasting, writtenUpid, Fore, parts, front, blankFront, subSegments, subSegment, subBytes, back, blankBack, agrees, writableFront}
 use Rattle.descriptor.specs.declared.segmentation.DeliveryRestrictionFlags.{DeliveryRestrictionFlags}
 use Rattle.descriptor.specs.declared.segmentation.ModeComponent.{ModeComponent}
 use Rattle.descriptor.specs.declared.segmentation.SegmentationDuration.{SegmentationDuration}
@@ -102,7 +102,7 @@ module _ (s : List ℕ) where
       let i₁ = reads-number s at 8 _ _ u m e in
       let i₂ = reads-number s (at + 8) 8 _ _ u m (i₁ .1) in
       let j = reads-part s (at + 8 + 8) (field (bitsOf s) (at + 8) 8) _ _ u m (i₂ .1) in
-      let y : u ≡ record { kind = field (bitsOf s) at 8; bytes = record { at = (at + 8 + 8) / 8; len = field (bitsOf s) (at + 8) 8 } } = cc (j .1) in
+      let y : u ≡ record { «upid_type» = field (bitsOf s) at 8; bytes = record { at = (at + 8 + 8) / 8; len = field (bitsOf s) (at + 8) 8 } } = cc (j .1) in
       let l : u .bytes .len ≡ field (bitsOf s) (at + 8) 8 = ap (λ (v : SegmentationUpid). v .bytes .len) y in
       let z : at + 8 + 8 + field (bitsOf s) (at + 8) 8 * 8 ≡ m = cc (j .1) in
       omega arith
@@ -116,7 +116,7 @@ module _ (s : List ℕ) where
   readIn (short e a) = record { front = blankFront; components = [] }
 
   pub record FrontKept (x : Fore) (m : ℕ) : Type 0 where
-    pub fair : fairFront (x .front) ≡ true
+    pub writable : writableFront (x .front) ≡ true
     pub count : countOf (x .front .«segmentation_mode») < 2 ^ 8
     pub counted : length (x .components) ≡ countOf (x .front .«segmentation_mode»)
     pub numbers : fit (componentNumbers (x .components)) ≡ true
@@ -124,7 +124,7 @@ module _ (s : List ℕ) where
     pub ends : m ≡ (place x + 2 + x .front .«segmentation_upid» .bytes .len) * 8
 
   parts-kept : (p l g : Bool) (x : Fore) (m : ℕ) → parse (parts p l g) (bitsOf s) 43 ≡ got x m → FrontKept x m
-  unfolding parts fairFront
+  unfolding parts writableFront
   parts-kept p l g x m e =
       let i = reads-in (deliveryRestrictions g) _ _ (bitsOf s) 43 x m e in
       let j = reads-in (mode p) _ _ (bitsOf s) (i .seam) x m (i .back) in
@@ -135,7 +135,7 @@ module _ (s : List ℕ) where
       let t = duration-kept l (j .seam) (k .inner) (k .seam) (k .front) in
       let n : w .seam ≡ m = cc (w .back) in
       rw (← ap readIn (w .back)) (record {
-        fair = rw (o .flag, t .0, d, agrees-same p, agrees-same l, agrees-same g);
+        writable = rw (o .flag, t .0, d, agrees-same p, agrees-same l, agrees-same g);
         count = o .count;
         counted = o .counted;
         numbers = o .numbers;
@@ -186,8 +186,8 @@ module _ (s : List ℕ) where
           rw z (record { num = field-lt s at 8; expected = field-lt s (at + 8) 8; there = omega (arith, i .0) })
 
   pub record BackKept (at : ℕ) (t : SegmentationTypeId) (n x : ℕ) (y : SubSegments) : Type 0 where
-    pub fair : fairSegmentation t ≡ true
-    pub kind : segmentationNumber t < 2 ^ 8
+    pub writable : writableSegmentation t ≡ true
+    pub type-id : segmentationNumber t < 2 ^ 8
     pub num : n < 2 ^ 8
     pub expected : x < 2 ^ 8
     pub sub : SubKept (at + 24) y
@@ -208,8 +208,8 @@ module _ (s : List ℕ) where
         «sub_segments» = j .inner;
       } = cc (j .back) in
       rw z (record {
-        fair = segmentation-laws .is-fair (field (bitsOf s) at 8);
-        kind = rw (segmentation-laws .there (field (bitsOf s) at 8)) (field-lt s at 8);
+        writable = segmentation-laws .is-writable (field (bitsOf s) at 8);
+        type-id = rw (segmentation-laws .there (field (bitsOf s) at 8)) (field-lt s at 8);
         num = field-lt s (at + 8) 8;
         expected = field-lt s (at + 8 + 8) 8;
         sub = record { num = sub .num; expected = sub .expected; there = omega (arith, sub .there) };

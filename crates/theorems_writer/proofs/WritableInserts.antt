@@ -11,16 +11,16 @@ use lib.ListN.{length, take, replicate, length-append, length-replicate}
 use borrow.Author.Tests.{lt-ltb, le-leb, eq-eqb, eqb-false, not-true}
 use Rattle.command.proofs.Filling.{blank-length}
 use Rattle.command.proofs.InsertLeads.{Counted}
-use Rattle.command.specs.Command.{kindOf, commandOf, array, componentsOf, componentsIn, countIn, private, read}
-use Rattle.command.specs.Fair.{alike, unmixed, fairInsert}
+use Rattle.command.specs.Command.{typeOf, commandOf, array, componentsOf, componentsIn, countIn, private, read}
+use Rattle.command.specs.Writable.{alike, unmixed, writableInsert}
 use Rattle.command.specs.Insert.{WithComponents, timeUnless, component, blank, moded, programTime, count, breakTicks, breakDuration, ending, active, activeOf, insert}
 use Rattle.command.specs.declared.CommandRead.{CommandRead}
 use Rattle.command.specs.declared.SpliceCommand.{SpliceCommand}
 use Rattle.command.specs.declared.components.ComponentSplice.{ComponentSplice}
 use Rattle.command.specs.declared.insert.Break.{Break}
-use Rattle.command.specs.declared.insert.Insert.{Insert}
-use Rattle.command.specs.declared.insert.Insertion.{Insertion}
+use Rattle.command.specs.declared.insert.InsertDetail.{InsertDetail}
 use Rattle.command.specs.declared.insert.SpliceInsert.{SpliceInsert}
+use Rattle.command.specs.declared.insert.SpliceDetail.{SpliceDetail}
 use Rattle.command.specs.declared.insert.SpliceMode.{SpliceMode}
 use Rattle.command_measure.specs.Made.{counted, commandMade}
 use Rattle.descriptor_round_trips.specs.Making.{fit}
@@ -39,7 +39,7 @@ use Rattle.table.specs.Lent.{liesIn, noView}
 use Rattle.table.specs.Table.{done, inside, list, Answer, got, short, parse}
 use Rattle.table.specs.Writing.{made}
 use Rattle.theorems_writer.specs.Making.{componentNumbers, insertNumbers, commandNumbers, CommandPayload}
-use Rattle.theorems_writer.proofs.CommandsMade.{fair-made, payload-made}
+use Rattle.theorems_writer.proofs.CommandsMade.{writable-made, payload-made}
 use Rattle.theorems_reader.proofs.Framed.{laid}
 use Rattle.theorems_writer.proofs.InsertsRead.{unless-fits, insert-has, got-same}
 use Rattle.theorems_writer.proofs.WritableCommands.{not-immediate, command-written}
@@ -73,7 +73,7 @@ record ModeKept (x : WithComponents SpliceMode) : Type 0 where
   numbers : fit (componentNumbers (x .components)) ≡ true
   like : unmixed (x .components) ≡ true
 
-record ActiveKept (y : WithComponents Insert) : Type 0 where
+record ActiveKept (y : WithComponents InsertDetail) : Type 0 where
   time : ticks (programTime (y .value .«splice_mode»)) < 2 ^ 33
   counts : count (y .value .«splice_mode») < 2 ^ 8
   lasts : breakTicks (y .value .duration) < 2 ^ 33
@@ -134,7 +134,7 @@ module _ (s : List ℕ) where
       rw (← c) (field-lt s (at + 1 + 6) 33)
   break-fits false at y m e = let z : y ≡ Break.Absent = cc in rw z (omega arith)
 
-  ending-kept : (out : Bool) (x : WithComponents SpliceMode) (d : Bool) (at : ℕ) (y : WithComponents Insert) (m : ℕ) → ModeKept x → parse (ending out x d) (bitsOf s) at ≡ got y m → ActiveKept y
+  ending-kept : (out : Bool) (x : WithComponents SpliceMode) (d : Bool) (at : ℕ) (y : WithComponents InsertDetail) (m : ℕ) → ModeKept x → parse (ending out x d) (bitsOf s) at ≡ got y m → ActiveKept y
   unfolding ending
   ending-kept out x d at y m k e =
       let r = reads-in (breakDuration d) _ _ (bitsOf s) at y m e in
@@ -152,7 +152,7 @@ module _ (s : List ℕ) where
         like = k .like;
       })
 
-  active-kept : (at : ℕ) (y : WithComponents Insert) (m : ℕ) → parse active (bitsOf s) at ≡ got y m → ActiveKept y
+  active-kept : (at : ℕ) (y : WithComponents InsertDetail) (m : ℕ) → parse active (bitsOf s) at ≡ got y m → ActiveKept y
   unfolding active
   active-kept at y m e =
       let a = reads-flag s at _ _ y m e .1 in
@@ -163,16 +163,16 @@ module _ (s : List ℕ) where
       let r = reads-in (moded (eqb (field (bitsOf s) (at + 1) 1) 1) (eqb (field (bitsOf s) (at + 1 + 1 + 1) 1) 1)) _ _ (bitsOf s) (at + 1 + 1 + 1 + 1 + 4) y m f in
       ending-kept _ (r .inner) _ (r .seam) y m (moded-kept _ _ (at + 1 + 1 + 1 + 1 + 4) (r .inner) (r .seam) (r .front)) (r .back)
 
-  abbrev DetailKept : SpliceInsert → List ComponentSplice → Type 0
-  DetailKept SpliceInsert.Cancel cs = cs ≡ []
-  DetailKept (SpliceInsert.Insert i) cs = ActiveKept (record { value = i; components = cs })
+  abbrev DetailKept : SpliceDetail → List ComponentSplice → Type 0
+  DetailKept SpliceDetail.Cancel cs = cs ≡ []
+  DetailKept (SpliceDetail.Insert i) cs = ActiveKept (record { value = i; components = cs })
 
-  record InsertKept (x : WithComponents Insertion) : Type 0 where
+  record InsertKept (x : WithComponents SpliceInsert) : Type 0 where
     event : x .value .«splice_event_id» < 2 ^ 32
     kept : x .value .reserved < 2 ^ 7
     detail : DetailKept (x .value .«splice_detail») (x .components)
 
-  insert-kept : (x : WithComponents Insertion) (m : ℕ) → parse insert (bitsOf s) 0 ≡ got x m → InsertKept x
+  insert-kept : (x : WithComponents SpliceInsert) (m : ℕ) → parse insert (bitsOf s) 0 ≡ got x m → InsertKept x
   unfolding insert
   insert-kept x m e =
       let a = reads-number s 0 32 _ _ x m e .1 in
@@ -181,37 +181,37 @@ module _ (s : List ℕ) where
       go (eqb (field (bitsOf s) 32 1) 1) (field (bitsOf s) 0 32) (field (bitsOf s) 33 7) (field-lt s 0 32) (field-lt s 33 7) c
     where
       go : (cancel : Bool) (id kept : ℕ) → id < 2 ^ 32 → kept < 2 ^ 7 → parse (pick cancel
-          (done (record { value = record { «splice_event_id» = id; reserved = kept; «splice_detail» = SpliceInsert.Cancel }; components = [] }))
-          (inside active activeOf λ a. done (record { value = record { «splice_event_id» = id; reserved = kept; «splice_detail» = SpliceInsert.Insert (a .value) }; components = a .components }))) (bitsOf s) 40 ≡ got x m
+          (done (record { value = record { «splice_event_id» = id; reserved = kept; «splice_detail» = SpliceDetail.Cancel }; components = [] }))
+          (inside active activeOf λ a. done (record { value = record { «splice_event_id» = id; reserved = kept; «splice_detail» = SpliceDetail.Insert (a .value) }; components = a .components }))) (bitsOf s) 40 ≡ got x m
           → InsertKept x
       go true id kept i k f =
-          let z : x ≡ record { value = record { «splice_event_id» = id; reserved = kept; «splice_detail» = SpliceInsert.Cancel }; components = [] } = cc in
+          let z : x ≡ record { value = record { «splice_event_id» = id; reserved = kept; «splice_detail» = SpliceDetail.Cancel }; components = [] } = cc in
           rw z (record { event = i; kept = k; detail = refl })
       go false id kept i k f =
           let r = reads-in active activeOf _ (bitsOf s) 40 x m f in
           let back = r .back in
-          let z : x ≡ record { value = record { «splice_event_id» = id; reserved = kept; «splice_detail» = SpliceInsert.Insert (r .inner .value) }; components = r .inner .components } = cc in
+          let z : x ≡ record { value = record { «splice_event_id» = id; reserved = kept; «splice_detail» = SpliceDetail.Insert (r .inner .value) }; components = r .inner .components } = cc in
           rw z (record { event = i; kept = k; detail = active-kept 40 (r .inner) (r .seam) (r .front) })
 
 -- ---- so it is written
 
-numbers-fit : (s : List ℕ) (event kept : ℕ) (d : SpliceInsert) (cs places : List ComponentSplice) → event < 2 ^ 32 → kept < 2 ^ 7 → DetailKept s d cs
+numbers-fit : (s : List ℕ) (event kept : ℕ) (d : SpliceDetail) (cs places : List ComponentSplice) → event < 2 ^ 32 → kept < 2 ^ 7 → DetailKept s d cs
     → take (countIn (SpliceCommand.SpliceInsert (record { «splice_event_id» = event; reserved = kept; «splice_detail» = d }))) places ≡ cs
     → fit (commandNumbers (SpliceCommand.SpliceInsert (record { «splice_event_id» = event; reserved = kept; «splice_detail» = d })) places) ≡ true
-numbers-fit s event kept SpliceInsert.Cancel cs places i k d t = and-both _ _ (lt-ltb _ _ i) (and-both _ _ (lt-ltb _ _ k) refl)
-numbers-fit s event kept (SpliceInsert.Insert j) cs places i k d t =
+numbers-fit s event kept SpliceDetail.Cancel cs places i k d t = and-both _ _ (lt-ltb _ _ i) (and-both _ _ (lt-ltb _ _ k) refl)
+numbers-fit s event kept (SpliceDetail.Insert j) cs places i k d t =
     let n : fit (componentNumbers (take (count (j .«splice_mode»)) places)) ≡ true = ap (λ (l : List ComponentSplice). fit (componentNumbers l)) t ∙ d .numbers in
     and-both _ _ (lt-ltb _ _ i) (and-both _ _ (lt-ltb _ _ k) (and-both _ _ (lt-ltb _ _ (d .time)) (and-both _ _ (lt-ltb _ _ (d .counts)) (and-both _ _ (lt-ltb _ _ (d .lasts))
     (and-both _ _ (lt-ltb _ _ (d .id)) (and-both _ _ (lt-ltb _ _ (d .num)) (and-both _ _ (lt-ltb _ _ (d .expected)) n)))))))
 
-all-like : (s : List ℕ) (d : SpliceInsert) (cs : List ComponentSplice) → DetailKept s d cs → unmixed cs ≡ true
-all-like s SpliceInsert.Cancel cs e = rw e refl
-all-like s (SpliceInsert.Insert j) cs k = k .like
+all-like : (s : List ℕ) (d : SpliceDetail) (cs : List ComponentSplice) → DetailKept s d cs → unmixed cs ≡ true
+all-like s SpliceDetail.Cancel cs e = rw e refl
+all-like s (SpliceDetail.Insert j) cs k = k .like
 
-few : (s : List ℕ) (event kept : ℕ) (d : SpliceInsert) (cs : List ComponentSplice) → DetailKept s d cs
+few : (s : List ℕ) (event kept : ℕ) (d : SpliceDetail) (cs : List ComponentSplice) → DetailKept s d cs
     → Counted (record { value = record { «splice_event_id» = event; reserved = kept; «splice_detail» = d }; components = cs }) → length cs ≤ 255
-few s event kept SpliceInsert.Cancel cs e c = rw e (omega arith)
-few s event kept (SpliceInsert.Insert j) cs k c = let n = k .counts in omega (arith, c, n)
+few s event kept SpliceDetail.Cancel cs e c = rw e (omega arith)
+few s event kept (SpliceDetail.Insert j) cs k c = let n = k .counts in omega (arith, c, n)
 
 array-255 : (cs : List ComponentSplice) → length cs ≤ 255 → length (array cs) ≡ 255
 unfolding array
@@ -223,28 +223,28 @@ module _ (s : List ℕ) where
   unfolding componentsOf
   places-255 = go (parse insert (bitsOf s) 0) refl
     where
-      go : (r : Answer (WithComponents Insertion)) → parse insert (bitsOf s) 0 ≡ r → length (array (componentsIn (parse insert (bitsOf s) 0))) ≡ 255
+      go : (r : Answer (WithComponents SpliceInsert)) → parse insert (bitsOf s) 0 ≡ r → length (array (componentsIn (parse insert (bitsOf s) 0))) ≡ 255
       go (got x m) e =
           rw e (array-255 (x .components) (few s (x .value .«splice_event_id») (x .value .reserved) (x .value .«splice_detail») (x .components) (insert-kept s x m e .detail) (insert-has s x m e .0)))
       go (short n a) e = rw e blank-length
 
   -- its count is a byte
-  pub counts-few : (x : WithComponents Insertion) (m : ℕ) → parse insert (bitsOf s) 0 ≡ got x m → countIn (SpliceCommand.SpliceInsert (x .value)) ≤ 255
+  pub counts-few : (x : WithComponents SpliceInsert) (m : ℕ) → parse insert (bitsOf s) 0 ≡ got x m → countIn (SpliceCommand.SpliceInsert (x .value)) ≤ 255
   counts-few x m e = subst (λ (n : ℕ). n ≤ 255) (insert-has s x m e .0) (few s (x .value .«splice_event_id») (x .value .reserved) (x .value .«splice_detail») (x .components) (insert-kept s x m e .detail) (insert-has s x m e .0))
 
-  pub insert-made : (x : WithComponents Insertion) (m : ℕ) (lent : List ℕ) → parse insert (bitsOf s) 0 ≡ got x m → x .value .reserved ≡ 127
+  pub insert-made : (x : WithComponents SpliceInsert) (m : ℕ) (lent : List ℕ) → parse insert (bitsOf s) 0 ≡ got x m → x .value .reserved ≡ 127
       → (p : List ℕ) × (commandMade (SpliceCommand.SpliceInsert (x .value)) (componentsOf s) lent ≡ made p)
-  unfolding fairInsert
+  unfolding writableInsert
   insert-made x m lent e r =
       let k = insert-kept s x m e in
       let h = insert-has s x m e .0 in
       let c : counted (x .value) (componentsOf s) ≡ x = ap (counted (x .value)) (components-are s x m e) ∙ counted-is x h in
-      let t : take (countIn (SpliceCommand.SpliceInsert (x .value))) (componentsOf s) ≡ x .components = ap (λ (y : WithComponents Insertion). y .components) c in
+      let t : take (countIn (SpliceCommand.SpliceInsert (x .value))) (componentsOf s) ≡ x .components = ap (λ (y : WithComponents SpliceInsert). y .components) c in
       let held : Counted (counted (x .value) (componentsOf s)) = subst Counted (sym c) h in
-      let fair : fairInsert (counted (x .value) (componentsOf s)) ≡ true =
-      ap fairInsert c ∙ and-both _ _ (eq-eqb (x .value .reserved) 127 r) (all-like s (x .value .«splice_detail») (x .components) (k .detail)) in
-      fair-made (SpliceCommand.SpliceInsert (x .value)) (componentsOf s) lent held (le-leb 0 (length lent) (omega arith))
-      (numbers-fit s (x .value .«splice_event_id») (x .value .reserved) (x .value .«splice_detail») (x .components) (componentsOf s) (k .event) (k .kept) (k .detail) t) fair
+      let writable : writableInsert (counted (x .value) (componentsOf s)) ≡ true =
+      ap writableInsert c ∙ and-both _ _ (eq-eqb (x .value .reserved) 127 r) (all-like s (x .value .«splice_detail») (x .components) (k .detail)) in
+      writable-made (SpliceCommand.SpliceInsert (x .value)) (componentsOf s) lent held (le-leb 0 (length lent) (omega arith))
+      (numbers-fit s (x .value .«splice_event_id») (x .value .reserved) (x .value .«splice_detail») (x .components) (componentsOf s) (k .event) (k .kept) (k .detail) t) writable
 
 -- ---- the command of a section
 
@@ -252,7 +252,7 @@ module _ (s : List ℕ) where
   -- an insert that was read, as its table reads it
   abbrev FromTable : CommandRead → Type 0
   FromTable (CommandRead.Is SpliceCommand.SpliceNull) = Unit {0}
-  FromTable (CommandRead.Is (SpliceCommand.SpliceInsert i)) = (x : WithComponents Insertion) × (m : ℕ) × (parse insert (bitsOf s) 0 ≡ got x m) × (x .value ≡ i)
+  FromTable (CommandRead.Is (SpliceCommand.SpliceInsert i)) = (x : WithComponents SpliceInsert) × (m : ℕ) × (parse insert (bitsOf s) 0 ≡ got x m) × (x .value ≡ i)
   FromTable (CommandRead.Is (SpliceCommand.TimeSignal t)) = Unit {0}
   FromTable (CommandRead.Is SpliceCommand.BandwidthReservation) = Unit {0}
   FromTable (CommandRead.Is (SpliceCommand.PrivateCommand p)) = Unit {0}
@@ -283,14 +283,14 @@ module _ (s : List ℕ) (x : Section) (a : AllBytes s) (e : sectionOf s ≡ Sect
   abbrev Rewrites : SpliceCommand → Type 0
   Rewrites c = (p : List ℕ) × (commandMade c places s ≡ made p) × CommandPayload c places s p
 
-  others : (kindOf (x .command) ≡ 0x05 → ⊥) → Rewrites (x .command)
+  others : (typeOf (x .command) ≡ 0x05 → ⊥) → Rewrites (x .command)
   others n = command-written s x places a (places-255 (commandBytes s)) e n
 
-  insert-case : (i : Insertion) → x .command ≡ SpliceCommand.SpliceInsert i → i .reserved ≡ 127 → commandOf (commandType s) (commandBytes s) ≡ CommandRead.Is (SpliceCommand.SpliceInsert i)
+  insert-case : (i : SpliceInsert) → x .command ≡ SpliceCommand.SpliceInsert i → i .reserved ≡ 127 → commandOf (commandType s) (commandBytes s) ≡ CommandRead.Is (SpliceCommand.SpliceInsert i)
       → Rewrites (x .command)
   insert-case i c r f =
       let t : FromTable (commandBytes s) (CommandRead.Is (SpliceCommand.SpliceInsert i)) = rw f at (from-table (commandBytes s) (commandType s)) in
-      let k : t .0 .value .reserved ≡ 127 = ap (λ (j : Insertion). j .reserved) (t .3) ∙ r in
+      let k : t .0 .value .reserved ≡ 127 = ap (λ (j : SpliceInsert). j .reserved) (t .3) ∙ r in
       let m = insert-made (commandBytes s) (t .0) (t .1) s (t .2) k in
       let same : SpliceCommand.SpliceInsert (t .0 .value) ≡ x .command = ap SpliceCommand.SpliceInsert (t .3) ∙ sym c in
       let w : commandMade (x .command) places s ≡ made (m .0) = ap (λ (d : SpliceCommand). commandMade d places s) (sym same) ∙ m .1 in
@@ -299,16 +299,16 @@ module _ (s : List ℕ) (x : Section) (a : AllBytes s) (e : sectionOf s ≡ Sect
       (m .0, w, payload-made (x .command) places s (m .0) (places-255 (commandBytes s)) n a w)
 
   -- every command but an insert with other reserved bits
-  pub every-command-written : ((i : Insertion) → x .command ≡ SpliceCommand.SpliceInsert i → i .reserved ≡ 127) → Rewrites (x .command)
+  pub every-command-written : ((i : SpliceInsert) → x .command ≡ SpliceCommand.SpliceInsert i → i .reserved ≡ 127) → Rewrites (x .command)
   unfolding moved
   every-command-written h = go (laid s x e .read) (laid s x e .from) (laid s x e .command)
     where
       go : (c : SpliceCommand) → commandOf (commandType s) (commandBytes s) ≡ CommandRead.Is c → x .command ≡ moved 14 c → Rewrites (x .command)
-      go SpliceCommand.SpliceNull f m = others (λ k. eqb-false 0 5 refl (ap kindOf (sym m) ∙ k))
+      go SpliceCommand.SpliceNull f m = others (λ k. eqb-false 0 5 refl (ap typeOf (sym m) ∙ k))
       go (SpliceCommand.SpliceInsert i) f m = insert-case i m (h i m) f
-      go (SpliceCommand.TimeSignal t) f m = others (λ k. eqb-false 6 5 refl (ap kindOf (sym m) ∙ k))
-      go SpliceCommand.BandwidthReservation f m = others (λ k. eqb-false 7 5 refl (ap kindOf (sym m) ∙ k))
-      go (SpliceCommand.PrivateCommand p) f m = others (λ k. eqb-false 0xff 5 refl (ap kindOf (sym m) ∙ k))
+      go (SpliceCommand.TimeSignal t) f m = others (λ k. eqb-false 6 5 refl (ap typeOf (sym m) ∙ k))
+      go SpliceCommand.BandwidthReservation f m = others (λ k. eqb-false 7 5 refl (ap typeOf (sym m) ∙ k))
+      go (SpliceCommand.PrivateCommand p) f m = others (λ k. eqb-false 0xff 5 refl (ap typeOf (sym m) ∙ k))
 
   -- it counts no more components than a byte says
   pub count-byte : countIn (x .command) ≤ 255

@@ -1,5 +1,5 @@
 -- Whatever is read of a descriptor's payload is written. The payload need not be canonical.
---     ready          what is read of a payload is within its fields and fair
+--     ready          what is read of a payload is within its fields and writable
 --     is-written     so something is made of it
 use Prim.Native.Nat.{ℕ, _+_, _*_, _-_, _/_, _^_, _≤_, _<_}
 use mathlib.Core.Bool.{Bool, true, false, not, _&&_}
@@ -26,7 +26,7 @@ use Rattle.descriptor.proofs.Plains.{reserved-is}
 use Rattle.descriptor.proofs.Structures.{availStructure, dtmfStructure, timeStructure, privateStructure}
 use Rattle.descriptor.specs.Descriptor.{_andThen_, reportedUpid, ifFine, availOf, dtmfOf, timeOf, reservedOf, inserted, insertOf, segmentationOf, isCuei, descriptorOf}
 use Rattle.descriptor.specs.Plain.{avail, dtmf, time, privateBytes}
-use Rattle.descriptor.specs.Segmentation.{blankComponent, Fore, Head, head, front, back, insertFrom, segmentation, fairFront, fairDetail, countOf, modeSize, durationSize, subBytes}
+use Rattle.descriptor.specs.Segmentation.{blankComponent, Fore, Head, head, front, back, insertFrom, segmentation, writableFront, writableDetail, countOf, modeSize, durationSize, subBytes}
 use Rattle.descriptor.specs.Whole.{filled, blankBeside, besideIn, besideOf, besideRead, identifierRead}
 use Rattle.descriptor.specs.declared.Descriptor.{Descriptor}
 use Rattle.descriptor.specs.declared.Descriptor.the-variants.{Avail, Dtmf, Segmentation, Time, Reserved}
@@ -36,12 +36,12 @@ use Rattle.descriptor.specs.declared.plain.DTMFDescriptor.{DTMFDescriptor}
 use Rattle.descriptor.specs.declared.plain.TimeDescriptor.{TimeDescriptor}
 use Rattle.descriptor.specs.declared.segmentation.ModeComponent.{ModeComponent}
 use Rattle.descriptor.specs.declared.segmentation.SegmentationDescriptor.{SegmentationDescriptor}
+use Rattle.descriptor.specs.declared.segmentation.DescriptorDetail.{DescriptorDetail}
 use Rattle.descriptor.specs.declared.segmentation.SegmentationDetail.{SegmentationDetail}
-use Rattle.descriptor.specs.declared.segmentation.SegmentationInsert.{SegmentationInsert}
 use Rattle.descriptor.specs.declared.segmentation.SegmentationUpid.{SegmentationUpid}
 use Rattle.descriptor.specs.declared.whole.Beside.{Beside}
 use Rattle.descriptor_measure.proofs.Making.{made-size}
-use Rattle.descriptor_measure.specs.Writing.{countBeside, framed, framedMade, allZero, alone, fairReserved, fairUpid, writtenKind, fairSegment, segmentationMade, payloadMade, descriptorMade, tagOf, identifierOf, upidSource, written, upidIn}
+use Rattle.descriptor_measure.specs.Writing.{countBeside, framed, framedMade, allZero, alone, writableReserved, writableUpid, writtenType, writableSegment, segmentationMade, payloadMade, descriptorMade, tagOf, identifierOf, upidSource, written, upidIn}
 use Rattle.descriptor_measure.specs.Private.{payloadSize}
 use Rattle.descriptor_round_trips.proofs.MadeSo.{what-is-made}
 use Rattle.descriptor_round_trips.proofs.Payloads.{written-if-read}
@@ -58,18 +58,18 @@ use Rattle.theorems_writer.proofs.WritableUpids.{zeros-all, zeros-bytes
 
 -- ---- what a writer's own rules say of 33
 
-abbrev fairOf : Descriptor → List ℕ → Beside → List ℕ → Bool
-fairOf (Avail x) id beside lent = alone id (beside .eidr)
-fairOf (Dtmf x) id beside lent = alone id (beside .eidr)
-fairOf (Segmentation x) id beside lent = fairSegment x id (beside .eidr) lent
-fairOf (Time x) id beside lent = alone id (beside .eidr)
-fairOf (Reserved tag v) id beside lent = fairReserved tag id (beside .eidr)
+abbrev writableOf : Descriptor → List ℕ → Beside → List ℕ → Bool
+writableOf (Avail x) id beside lent = alone id (beside .eidr)
+writableOf (Dtmf x) id beside lent = alone id (beside .eidr)
+writableOf (Segmentation x) id beside lent = writableSegment x id (beside .eidr) lent
+writableOf (Time x) id beside lent = alone id (beside .eidr)
+writableOf (Reserved tag v) id beside lent = writableReserved tag id (beside .eidr)
 
 apart : {A : Type 0} (m n : ℕ) → m ≡ n → (m ≡ n → ⊥) → A
 apart m n e f = absurd (f e)
 
-make-33 : {A : Type 0} (fair : Bool) (l : List ℕ) (fs : List Field) → fair ≡ true → makeOf fair l fs ≡ refused 33 → A
-make-33 {A} fair l fs f e = go (seen l fs) (within fs) fair f e
+make-33 : {A : Type 0} (writable : Bool) (l : List ℕ) (fs : List Field) → writable ≡ true → makeOf writable l fs ≡ refused 33 → A
+make-33 {A} writable l fs f e = go (seen l fs) (within fs) writable f e
   where
     go : (a b c : Bool) → c ≡ true → pick a (pick b (pick c (made (bytesOf (print (contents l fs)))) (refused 33)) (refused 32)) (refused 31) ≡ refused 33 → A
     go false b c f e = apart 31 33 (ap refusalIn e) (λ z. omega arith)
@@ -77,19 +77,19 @@ make-33 {A} fair l fs f e = go (seen l fs) (within fs) fair f e
     go true true true f e = zero-one cc
     go true true false f e = zero-one cc
 
-not-33 : {A : Type 0} (d : Descriptor) (id : List ℕ) (beside : Beside) (lent : List ℕ) → fairOf d id beside lent ≡ true → payloadMade d id beside lent ≡ refused 33 → A
+not-33 : {A : Type 0} (d : Descriptor) (id : List ℕ) (beside : Beside) (lent : List ℕ) → writableOf d id beside lent ≡ true → payloadMade d id beside lent ≡ refused 33 → A
 unfolding payloadMade segmentationMade
 not-33 (Avail x) id beside lent f e = make-33 (alone id (beside .eidr)) lent (walk avail x 0 .fields) f e
 not-33 (Dtmf x) id beside lent f e = make-33 (alone id (beside .eidr)) lent (walk dtmf x 0 .fields) f e
 not-33 {A} (Segmentation x) id beside lent f e = go (liesIn lent (upidIn x .bytes)) (leb (upidIn x .bytes .len) 255) e
   where
     go : (a b : Bool)
-        → pick a (pick b (makeOf (fairSegment x id (beside .eidr) lent) (upidSource (upidIn x) (beside .eidr) lent) (walk segmentation (written x (beside .components)) 0 .fields)) (refused 32)) (refused 31) ≡ refused 33 → A
+        → pick a (pick b (makeOf (writableSegment x id (beside .eidr) lent) (upidSource (upidIn x) (beside .eidr) lent) (walk segmentation (written x (beside .components)) 0 .fields)) (refused 32)) (refused 31) ≡ refused 33 → A
     go false b e = apart 31 33 (ap refusalIn e) (λ z. omega arith)
     go true false e = apart 32 33 (ap refusalIn e) (λ z. omega arith)
-    go true true e = make-33 (fairSegment x id (beside .eidr) lent) (upidSource (upidIn x) (beside .eidr) lent) (walk segmentation (written x (beside .components)) 0 .fields) f e
+    go true true e = make-33 (writableSegment x id (beside .eidr) lent) (upidSource (upidIn x) (beside .eidr) lent) (walk segmentation (written x (beside .components)) 0 .fields) f e
 not-33 (Time x) id beside lent f e = make-33 (alone id (beside .eidr)) lent (walk time x 0 .fields) f e
-not-33 (Reserved tag v) id beside lent f e = make-33 (fairReserved tag id (beside .eidr)) lent (walk privateBytes v 0 .fields) f e
+not-33 (Reserved tag v) id beside lent f e = make-33 (writableReserved tag id (beside .eidr)) lent (walk privateBytes v 0 .fields) f e
 
 framed-33 : (tag : ℕ) (id : List ℕ) (m : Made) → framedMade tag id m ≡ refused 33 → m ≡ refused 33
 unfolding framedMade
@@ -100,13 +100,13 @@ framed-33 tag id (made p) e = go (leb (length p + 4) 254) e
     go true e = zero-one cc
     go false e = apart 34 33 (ap refusalIn e) (λ z. omega arith)
 
--- ---- a descriptor with what stands beside it that is within its fields and fair, in no more bytes than n
+-- ---- a descriptor with what stands beside it that is within its fields and writable, in no more bytes than n
 
 pub record Ready (d : Descriptor) (id : List ℕ) (beside : Beside) (lent : List ℕ) (n : ℕ) : Type 0 where
   pub handed : Handed d id beside lent
   pub sees : viewIn d .at + viewIn d .len ≤ length lent
   pub numbers : fit (numbersOf d (beside .components)) ≡ true
-  pub fair : fairOf d id beside lent ≡ true
+  pub writable : writableOf d id beside lent ≡ true
   pub size : (p : List ℕ) → payloadMade d id beside lent ≡ made p → length p ≤ n
 
 pub is-written : (d : Descriptor) (id : List ℕ) (beside : Beside) (lent : List ℕ) (n : ℕ) → n + 4 ≤ 254 → Ready d id beside lent n → (b : List ℕ) × (descriptorMade d id beside lent ≡ made b)
@@ -116,7 +116,7 @@ is-written d id beside lent n fits r = go (descriptorMade d id beside lent) refl
     go : (m : Made) → descriptorMade d id beside lent ≡ m → DescriptorMakes d id beside lent m → (b : List ℕ) × (m ≡ made b)
     go m e (outside s) = let z : true ≡ false = sym (le-leb (viewIn d .at + viewIn d .len) (length lent) (r .sees)) ∙ s in zero-one cc
     go m e (over s w) = let z : true ≡ false = sym (r .numbers) ∙ w in zero-one cc
-    go m e (nobodys s w none) = not-33 d id beside lent (r .fair) (framed-33 (tagOf d) (identifierOf d id) (payloadMade d id beside lent) e)
+    go m e (nobodys s w none) = not-33 d id beside lent (r .writable) (framed-33 (tagOf d) (identifierOf d id) (payloadMade d id beside lent) e)
     go m e (long s tag own p q l) = absurd (omega (arith, r .size p (written-if-read d id beside lent (r .sees) tag own p q .0)))
     go m e (its s tag own p q l) = (_, refl)
 
@@ -168,7 +168,7 @@ module _ (s id : List ℕ) (four : length id ≡ 4) (a : AllBytes s) where
         handed = lone-handed (Avail x) (replicate 4 0) refl (omega arith);
         sees = omega arith;
         numbers = rw (lt-ltb _ _ b);
-        fair = lone;
+        writable = lone;
         size = λ p w. omega (arith, i .0, write-size avail availStructure s x p tt (ap (λ (f : Bool). makeOf f s (walk avail x 0 .fields)) (sym lone) ∙ w));
       }
 
@@ -188,7 +188,7 @@ module _ (s id : List ℕ) (four : length id ≡ 4) (a : AllBytes s) where
         handed = lone-handed (Time x) (replicate 4 0) refl (omega arith);
         sees = omega arith;
         numbers = rw (lt-ltb _ _ b, lt-ltb _ _ c, lt-ltb _ _ d);
-        fair = lone;
+        writable = lone;
         size = λ p w. omega (arith, i .0, write-size time timeStructure s x p tt (ap (λ (f : Bool). makeOf f s (walk time x 0 .fields)) (sym lone) ∙ w));
       }
 
@@ -209,20 +209,20 @@ module _ (s id : List ℕ) (four : length id ≡ 4) (a : AllBytes s) where
         handed = lone-handed (Dtmf x) (replicate 4 0) refl (omega arith);
         sees = omega (arith, j .0, at, l);
         numbers = rw (lt-ltb _ _ b, lt-ltb _ _ c);
-        fair = lone;
+        writable = lone;
         size = λ p w. omega (arith, j .0, l, write-size dtmf dtmfStructure s x p tt (ap (λ (f : Bool). makeOf f s (walk dtmf x 0 .fields)) (sym lone) ∙ w));
       }
 
   in-reserved : (tag : ℕ) → isCuei id && ltb tag 4 ≡ false → Keeps (reservedOf tag s)
-  unfolding payloadMade fairReserved blankBeside
+  unfolding payloadMade writableReserved blankBeside
   in-reserved tag other =
       let v : View = record { at = 0; len = length s } in
-      let f : fairReserved tag id (blankBeside .eidr) ≡ true = rw (other, zeros-all 12) in
+      let f : writableReserved tag id (blankBeside .eidr) ≡ true = rw (other, zeros-all 12) in
       let r : ReadyOf (Reserved tag v) = record {
         handed = lone-handed (Reserved tag v) id four (omega arith);
         sees = omega arith;
         numbers = refl;
-        fair = f;
+        writable = f;
         size = λ p w. omega (arith, write-size privateBytes privateStructure s v p tt (ap (λ (f : Bool). makeOf f s (walk privateBytes v 0 .fields)) (sym f) ∙ w));
       } in
       rw (← reserved-is s tag) r
@@ -239,25 +239,25 @@ module _ (s id : List ℕ) (four : length id ≡ 4) (a : AllBytes s) where
       (rw z (field-lt s 0 32), omega (arith, i .0))
 
   cancelled : (event : ℕ) → event < 2 ^ 32 → 5 ≤ length s
-      → Ready (Segmentation (record { «segmentation_event_id» = event; «descriptor_detail» = SegmentationDetail.Cancel })) (replicate 4 0) blankBeside s (length s)
-  unfolding fairSegment fairDetail fairUpid writtenKind blankBeside payloadSize payloadMade
+      → Ready (Segmentation (record { «segmentation_event_id» = event; «descriptor_detail» = DescriptorDetail.Cancel })) (replicate 4 0) blankBeside s (length s)
+  unfolding writableSegment writableDetail writableUpid writtenType blankBeside payloadSize payloadMade
   cancelled event e n =
-      let x : SegmentationDescriptor = record { «segmentation_event_id» = event; «descriptor_detail» = SegmentationDetail.Cancel } in
+      let x : SegmentationDescriptor = record { «segmentation_event_id» = event; «descriptor_detail» = DescriptorDetail.Cancel } in
       let c : checkOf 0 (viewed s noView) ≡ Fine 0 = check-none 0 (viewed s noView) (no-bytes s) in
       record {
         handed = lone-handed (Segmentation x) (replicate 4 0) refl (omega arith);
         sees = omega arith;
         numbers = rw (lt-ltb event (2 ^ 32) e);
-        fair = rw (zeros-all 4, zeros-all 12, c);
+        writable = rw (zeros-all 4, zeros-all 12, c);
         size = λ p w. omega (arith, made-size x (replicate 4 0) blankBeside s (omega arith) p w);
       }
 
   in-cancel : (h : Head) (m : ℕ) → parse head (bitsOf s) 0 ≡ got h m → h .cancel ≡ true
-      → ReadyOf (Segmentation (record { «segmentation_event_id» = h .event; «descriptor_detail» = SegmentationDetail.Cancel }))
+      → ReadyOf (Segmentation (record { «segmentation_event_id» = h .event; «descriptor_detail» = DescriptorDetail.Cancel }))
   unfolding segmentation besideOf besideIn blankBeside eidrOf
   in-cancel h m eh on =
       let g : parse segmentation (bitsOf s) 0 ≡ got (record {
-        descriptor = record { «segmentation_event_id» = h .event; «descriptor_detail» = SegmentationDetail.Cancel };
+        descriptor = record { «segmentation_event_id» = h .event; «descriptor_detail» = DescriptorDetail.Cancel };
         components = [];
       }) m = takes-in head _ _ (bitsOf s) 0 h m eh ∙ rw on in
       let b : besideOf s ≡ blankBeside = rw g in
@@ -282,7 +282,7 @@ module _ (s id : List ℕ) (four : length id ≡ 4) (a : AllBytes s) where
 
   module _ (h : Head) (m : ℕ) (eh : parse head (bitsOf s) 0 ≡ got h m) (off : h .cancel ≡ false) where
     module _ (f : Fore) (m₁ : ℕ) (ef : parse front (bitsOf s) m ≡ got f m₁) (q : ℕ)
-        (ec : checkOf (f .front .«segmentation_upid» .kind) (viewed s (f .front .«segmentation_upid» .bytes)) ≡ Fine q) where
+        (ec : checkOf (f .front .«segmentation_upid» .«upid_type») (viewed s (f .front .«segmentation_upid» .bytes)) ≡ Fine q) where
       abbrev w : SegmentationUpid
       w = f .front .«segmentation_upid»
 
@@ -295,54 +295,54 @@ module _ (s id : List ℕ) (four : length id ≡ 4) (a : AllBytes s) where
       kept : FrontKept s f m₁
       kept = front-kept s f m₁ from
 
-      upid-there : (w .kind < 256) × (w .bytes .len < 256) × (w .bytes .at + w .bytes .len ≤ length s)
+      upid-there : (w .«upid_type» < 256) × (w .bytes .len < 256) × (w .bytes .at + w .bytes .len ≤ length s)
       upid-there = rw (placed .is) (bytes (place f), bytes (place f + 1), placed .there)
 
-      fair : upids.Fair s (w .kind) (w .bytes) q (upid-there .2) ec
-      fair = upids.upid-fair s (w .kind) (w .bytes) q (upid-there .2) ec
+      writable : upids.Writable s (w .«upid_type») (w .bytes) q (upid-there .2) ec
+      writable = upids.upid-writable s (w .«upid_type») (w .bytes) q (upid-there .2) ec
 
       abbrev beside : Beside
-      beside = record { components = filled (f .components); eidr = eidrOf (w .kind) (viewed s (w .bytes)) }
+      beside = record { components = filled (f .components); eidr = eidrOf (w .«upid_type») (viewed s (w .bytes)) }
 
       inserts : (b : _) (m₂ : ℕ) → parse back (bitsOf s) m₁ ≡ got b m₂
-          → Ready (Segmentation (record { «segmentation_event_id» = h .event; «descriptor_detail» = SegmentationDetail.Insert (insertFrom (f .front) (reportedUpid q (w .bytes)) b) })) (replicate 4 0) beside s (length s)
-      unfolding fairSegment fairDetail fairFront payloadSize payloadMade
+          → Ready (Segmentation (record { «segmentation_event_id» = h .event; «descriptor_detail» = DescriptorDetail.Active (insertFrom (f .front) (reportedUpid q (w .bytes)) b) })) (replicate 4 0) beside s (length s)
+      unfolding writableSegment writableDetail writableFront payloadSize payloadMade
       inserts b m₂ eb =
           let u : SegmentationUpid = reportedUpid q (w .bytes) in
-          let x : SegmentationDescriptor = record { «segmentation_event_id» = h .event; «descriptor_detail» = SegmentationDetail.Insert (insertFrom (f .front) u b) } in
+          let x : SegmentationDescriptor = record { «segmentation_event_id» = h .event; «descriptor_detail» = DescriptorDetail.Active (insertFrom (f .front) u b) } in
           let k = back-kept s m₁ b m₂ eb in
           let n : ℕ = countOf (f .front .«segmentation_mode») in
           let c : take n (filled (f .components)) ≡ f .components = counted-again n (f .components) (kept .counted) in
           let few : length (f .components) ≤ 255 = omega (arith, kept .count, kept .counted) in
-          let held = eidr-held (w .kind) (viewed s (w .bytes)) (all-viewed s (w .bytes) a) in
+          let held = eidr-held (w .«upid_type») (viewed s (w .bytes)) (all-viewed s (w .bytes) a) in
           let all : n ≤ length (filled (f .components)) = omega (arith, kept .count, filled-length (f .components) few) in
           let last : fit (componentNumbers (take n (filled (f .components)))) ≡ true = ap (λ (cs : List ModeComponent). fit (componentNumbers cs)) c ∙ kept .numbers in
-          let l : u .bytes .len < 2 ^ 8 = omega (arith, fair .shorter, upid-there .1) in
+          let l : u .bytes .len < 2 ^ 8 = omega (arith, writable .shorter, upid-there .1) in
           record {
             handed = record { four = refl; twelve = held .0; held = held .1; places = filled-length (f .components) few; count = omega (arith, kept .count); are = a };
-            sees = fair .there;
+            sees = writable .there;
             numbers =
                 fits 32 (h .event) _ (head-kept h m eh .0)
                 (fits 8 n _ (kept .count)
                 (fits 40 _ _ (kept .lasts)
-                (fits 8 q _ (upids.reported-byte s (w .kind) (w .bytes) q (upid-there .2) ec (upid-there .0))
+                (fits 8 q _ (upids.reported-byte s (w .«upid_type») (w .bytes) q (upid-there .2) ec (upid-there .0))
                 (fits 8 (u .bytes .len) _ l
-                (fits 8 _ _ (k .kind)
+                (fits 8 _ _ (k .type-id)
                 (fits 8 _ _ (k .num)
                 (fits 8 _ _ (k .expected)
                 (fits 8 _ _ (k .sub .num)
                 (fits 8 _ _ (k .sub .expected)
                 last)))))))));
-            fair = rw (zeros-all 4, k .fair, fair .fair) (rw (kept .fair));
-            size = λ p made-so. omega (arith, made-size x (replicate 4 0) beside s all p made-so, fair .size, k .sub .there, kept .ends);
+            writable = rw (zeros-all 4, k .writable, writable .writable) (rw (kept .writable));
+            size = λ p made-so. omega (arith, made-size x (replicate 4 0) beside s all p made-so, writable .size, k .sub .there, kept .ends);
           }
 
       inserted-is : (b : _) (m₂ : ℕ) → parse back (bitsOf s) m₁ ≡ got b m₂
-          → ReadyOf (Segmentation (record { «segmentation_event_id» = h .event; «descriptor_detail» = SegmentationDetail.Insert (insertFrom (f .front) (reportedUpid q (w .bytes)) b) }))
+          → ReadyOf (Segmentation (record { «segmentation_event_id» = h .event; «descriptor_detail» = DescriptorDetail.Active (insertFrom (f .front) (reportedUpid q (w .bytes)) b) }))
       unfolding segmentation besideOf besideIn
       inserted-is b m₂ eb =
           let g : parse segmentation (bitsOf s) 0 ≡ got (record {
-            descriptor = record { «segmentation_event_id» = h .event; «descriptor_detail» = SegmentationDetail.Insert (insertFrom (f .front) w b) };
+            descriptor = record { «segmentation_event_id» = h .event; «descriptor_detail» = DescriptorDetail.Active (insertFrom (f .front) w b) };
             components = f .components;
           }) m₂ =
           takes-in head _ _ (bitsOf s) 0 h m eh
@@ -356,7 +356,7 @@ module _ (s id : List ℕ) (four : length id ≡ 4) (a : AllBytes s) where
     unfolding insertOf inserted
     in-insert =
         and-then (parse front (bitsOf s) m) _ λ f m₁ ef.
-        if-fine (checkOf (f .front .«segmentation_upid» .kind) (viewed s (f .front .«segmentation_upid» .bytes))) (f .front .«segmentation_upid» .bytes) _ λ q ec.
+        if-fine (checkOf (f .front .«segmentation_upid» .«upid_type») (viewed s (f .front .«segmentation_upid» .bytes))) (f .front .«segmentation_upid» .bytes) _ λ q ec.
         and-then (parse back (bitsOf s) m₁) _ λ b m₂ eb. inserted-is f m₁ ef q ec b m₂ eb
 
   in-segmentation : Keeps (segmentationOf s)

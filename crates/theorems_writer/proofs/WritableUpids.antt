@@ -1,6 +1,6 @@
 -- A UPID that is accepted, as it is reported, is one that a writer takes.
 use Prim.Native.Nat.{ℕ, zero, suc, _+_, _≤_, _<_}
-use mathlib.Core.Bool.{Bool, true, false, not, cond, _&&_}
+use mathlib.Core.Bool.{Bool, true, false, not, _&&_}
 use mathlib.Core.List.{List, [], _∷_}
 use mathlib.Core.Path.{_≡_, refl, ap, ap₂, sym, _∙_}
 use native.Mathlib.Omega.{arith}
@@ -16,7 +16,7 @@ use Rattle.upid.specs.declared.UpidRead.the-variants.{Fine}
 use Rattle.descriptor.specs.Descriptor.{reportedUpid}
 use Rattle.descriptor.specs.Segmentation.{agrees}
 use Rattle.descriptor.specs.declared.segmentation.SegmentationUpid.{SegmentationUpid}
-use Rattle.descriptor_measure.specs.Writing.{allZero, accepts, fairUpid, writtenKind, writtenUpid}
+use Rattle.descriptor_measure.specs.Writing.{allZero, accepts, writableUpid, writtenType, writtenUpid}
 use Rattle.upid.proofs.Reported.{check-none, reports, eidr-is-written}
 use Rattle.theorems_reader.proofs.Runs.{viewed-is, length-viewed}
 
@@ -56,7 +56,7 @@ module _ (s : List ℕ) (k : ℕ) (v : View) (q : ℕ) (inside : v .at + v .len 
   unfolding eidrOf reportedOf
   no-eidr other = go (eqb k 10) (eqb (length its) 12) refl refl
     where
-      go : (a b : Bool) → eqb k 10 ≡ a → eqb (length its) 12 ≡ b → allZero (cond (a && b) its (replicate 12 0)) ≡ true
+      go : (a b : Bool) → eqb k 10 ≡ a → eqb (length its) 12 ≡ b → allZero (pick (a && b) its (replicate 12 0)) ≡ true
       go true true ea eb =
           let n : length its ≡ 12 = eqb-true _ _ eb in
           let r = reports k its q checked (omega arith) in
@@ -66,9 +66,9 @@ module _ (s : List ℕ) (k : ℕ) (v : View) (q : ℕ) (inside : v .at + v .len 
       go false b ea eb = zeros-all 12
 
   -- the type that is written again is the one that was written
-  pub kind-again : (q ≡ 0 → ⊥) → writtenKind (record { kind = q; bytes = v }) ≡ k
-  unfolding writtenKind reportedOf lengthOf
-  kind-again some = go (eqb k 5) (eqb k 6) refl refl
+  pub type-again : (q ≡ 0 → ⊥) → writtenType (record { «upid_type» = q; bytes = v }) ≡ k
+  unfolding writtenType reportedOf lengthOf
+  type-again some = go (eqb k 5) (eqb k 6) refl refl
     where
       r : (reportedOf k ≡ q) × ((lengthOf k ≡ 0 → ⊥) → length its ≡ lengthOf k) × (k ≡ 0 → ⊥)
       r = reports k its q checked (omega (arith, its-length, some-then some))
@@ -96,7 +96,7 @@ module _ (s : List ℕ) (k : ℕ) (v : View) (q : ℕ) (inside : v .at + v .len 
   unfolding reportedOf
   not-five = go (eqb q 0) refl
     where
-      at : (a : Bool) → eqb k 5 ≡ a → cond a 6 k ≡ q → eqb q 5 ≡ false
+      at : (a : Bool) → eqb k 5 ≡ a → pick a 6 k ≡ q → eqb q 5 ≡ false
       at true ea z = rw (← z)
       at false ea z = ap (λ (n : ℕ). eqb n 5) (sym z) ∙ ea
 
@@ -112,7 +112,7 @@ module _ (s : List ℕ) (k : ℕ) (v : View) (q : ℕ) (inside : v .at + v .len 
     unfolding reportedOf
     reported-byte = go (eqb q 0) refl
       where
-        at : (a : Bool) → cond a 6 k ≡ q → q < 256
+        at : (a : Bool) → pick a 6 k ≡ q → q < 256
         at true z = omega arith
         at false z = omega arith
 
@@ -121,32 +121,32 @@ module _ (s : List ℕ) (k : ℕ) (v : View) (q : ℕ) (inside : v .at + v .len 
         go false e = at (eqb k 5) (reports k its q checked (omega (arith, its-length, some-then (eqb-false q 0 e))) .0)
 
   -- a writer takes it, in no more bytes
-  pub record Fair : Type 0 where
-    pub fair : fairUpid u (eidrOf k its) s ≡ true
+  pub record Writable : Type 0 where
+    pub writable : writableUpid u (eidrOf k its) s ≡ true
     pub there : u .bytes .at + u .bytes .len ≤ length s
     pub shorter : u .bytes .len ≤ v .len
     pub size : writtenUpid u .bytes .len ≤ v .len
 
-  pub upid-fair : Fair
-  unfolding fairUpid writtenUpid writtenKind
-  upid-fair = go (eqb q 0) (eqb q 10) refl refl
+  pub upid-writable : Writable
+  unfolding writableUpid writtenUpid writtenType
+  upid-writable = go (eqb q 0) (eqb q 10) refl refl
     where
-      go : (a b : Bool) → eqb q 0 ≡ a → eqb q 10 ≡ b → Fair
+      go : (a b : Bool) → eqb q 0 ≡ a → eqb q 10 ≡ b → Writable
       go true b ea eb =
           let z : q ≡ 0 = eqb-true q 0 ea in
           let n : allZero (eidrOf k its) ≡ true = no-eidr (λ t. omega arith) in
           let c : checkOf 0 (viewed s noView) ≡ Fine 0 = check-none 0 (viewed s noView) (no-bytes s) in
-          record { fair = rw (z, n, c); there = rw z (omega arith); shorter = rw z (omega arith); size = rw z (omega arith) }
+          record { writable = rw (z, n, c); there = rw z (omega arith); shorter = rw z (omega arith); size = rw z (omega arith) }
       go false true ea eb =
           let z : q ≡ 10 = eqb-true q 10 eb in
           let t : length its ≡ 12 = eidr-is-written k its (checked ∙ ap Fine z) .1 in
-          record { fair = rw z; there = rw z (omega arith); shorter = rw z (omega arith); size = rw z (omega (arith, its-length)) }
+          record { writable = rw z; there = rw z (omega arith); shorter = rw z (omega arith); size = rw z (omega (arith, its-length)) }
       go false false ea eb =
           let n : allZero (eidrOf k its) ≡ true = no-eidr (eqb-false q 10 eb) in
           let l : eqb (v .len) 0 ≡ false = ne-eqb (v .len) 0 (λ o. omega (arith, some-then (eqb-false q 0 ea))) in
-          let w : pick (eqb q 6 && eqb (v .len) 8) 5 q ≡ k = kind-again (eqb-false q 0 ea) in
+          let w : pick (eqb q 6 && eqb (v .len) 8) 5 q ≡ k = type-again (eqb-false q 0 ea) in
           record {
-            fair = rw (ea, eb, n, l, not-five, w, checked);
+            writable = rw (ea, eb, n, l, not-five, w, checked);
             there = rw (ea, eb) inside;
             shorter = rw (ea, eb) (omega arith);
             size = rw (ea, eb) (omega arith);

@@ -15,9 +15,9 @@ use Rattle.command.specs.Insert.{WithComponents, insert, blank, count, insertOf
 use Rattle.command.specs.declared.CommandRead.{CommandRead}
 use Rattle.command.specs.declared.SpliceCommand.{SpliceCommand}
 use Rattle.command.specs.declared.components.ComponentSplice.{ComponentSplice}
-use Rattle.command.specs.declared.insert.Insertion.{Insertion}
+use Rattle.command.specs.declared.insert.SpliceInsert.{SpliceInsert}
 use Rattle.command_measure.specs.Made.{counted, insertMade, commandMade}
-use Rattle.command_writer.proofs.Theorems.{insert-trip, time-back, private-back, insert-back}
+use Rattle.command_writer.proofs.Theorems.{insert-command-write-read, time-command-read-write, private-command-read-write, insert-command-read-write}
 use Rattle.splice_time.specs.Time.{spliceTime}
 use Rattle.header.specs.declared.header.SpliceInfoHeader.{SpliceInfoHeader}
 use Rattle.table.proofs.Lists.{run-of-run, zero-one, and-true}
@@ -26,11 +26,11 @@ use Rattle.section.specs.declared.Section.{Section}
 use Rattle.section.specs.declared.SectionRead.{SectionRead}
 use Rattle.section_writer.proofs.Commands.{Read, read-by}
 use Rattle.section.proofs.Parts.{parts-of}
-use Rattle.section_writer.proofs.Theorems.{canonical-parts, section-is-written-back}
-use Rattle.section_writer.proofs.Whole.{Held, whole-reads-back}
+use Rattle.section_writer.proofs.Theorems.{canonical-parts, section-read-write}
+use Rattle.section_writer.proofs.Whole.{Held, whole-section-write-read}
 use Rattle.canonical_form.specs.Section.{canonicalSection}
 use Rattle.section_writer.specs.Trips.{ReadsBack}
-use Rattle.section_writer.specs.Writing.{kindOf, sectionMade}
+use Rattle.section_writer.specs.Writing.{typeOf, sectionMade}
 use Rattle.table.proofs.Structure.{wrote, bytes-take, bytes-drop}
 use Rattle.table.specs.Bits.{pick, bitsOf, AllBytes}
 use Rattle.table.specs.Lent.{viewed}
@@ -54,49 +54,49 @@ read-is f r x m c e g =
     cc
 
 -- the components that stand in their array are those that were read
-pub counted-is : (x : WithComponents Insertion) → Counted x → counted (x .value) (array (x .components)) ≡ x
+pub counted-is : (x : WithComponents SpliceInsert) → Counted x → counted (x .value) (array (x .components)) ≡ x
 unfolding array
 counted-is x h =
     ap (λ (cs : List ComponentSplice). record { value = x .value; components = cs })
     (take-at (x .components) (replicate (255 - length (x .components)) blank) _ h)
 
-pub components-are : (p : List ℕ) (x : WithComponents Insertion) (m : ℕ) → parse insert (bitsOf p) 0 ≡ got x m → componentsOf p ≡ array (x .components)
+pub components-are : (p : List ℕ) (x : WithComponents SpliceInsert) (m : ℕ) → parse insert (bitsOf p) 0 ≡ got x m → componentsOf p ≡ array (x .components)
 unfolding componentsOf
 components-are p x m e = rw e
 
 -- ---- written of its reading
-module _ (kind : ℕ) (p : List ℕ) (a : AllBytes p) where
+module _ (command-type : ℕ) (p : List ℕ) (a : AllBytes p) where
   abbrev pub Back : SpliceCommand → Type 0
-  Back c = (kindOf c ≡ kind) × (commandMade c (componentsOf p) p ≡ made p)
+  Back c = (typeOf c ≡ command-type) × (commandMade c (componentsOf p) p ≡ made p)
 
-  null-back : eqb kind 0x00 ≡ true → eqb (length p) 0 ≡ true → Back SpliceCommand.SpliceNull
+  null-back : eqb command-type 0x00 ≡ true → eqb (length p) 0 ≡ true → Back SpliceCommand.SpliceNull
   unfolding commandMade
-  null-back k e = (sym (eqb-true kind 0x00 k), ap made (sym (none p e)))
+  null-back k e = (sym (eqb-true command-type 0x00 k), ap made (sym (none p e)))
 
-  bandwidth-back : eqb kind 0x07 ≡ true → eqb (length p) 0 ≡ true → Back SpliceCommand.BandwidthReservation
+  bandwidth-back : eqb command-type 0x07 ≡ true → eqb (length p) 0 ≡ true → Back SpliceCommand.BandwidthReservation
   unfolding commandMade
-  bandwidth-back k e = (sym (eqb-true kind 0x07 k), ap made (sym (none p e)))
+  bandwidth-back k e = (sym (eqb-true command-type 0x07 k), ap made (sym (none p e)))
 
-  signal-back : eqb kind 0x06 ≡ true → (r : Read spliceTime p) → Back (SpliceCommand.TimeSignal (r .value))
-  signal-back k r = (sym (eqb-true kind 0x06 k), time-back (r .value) (componentsOf p) p a (r .reads) (r .form))
+  signal-back : eqb command-type 0x06 ≡ true → (r : Read spliceTime p) → Back (SpliceCommand.TimeSignal (r .value))
+  signal-back k r = (sym (eqb-true command-type 0x06 k), time-command-read-write (r .value) (componentsOf p) p a (r .reads) (r .form))
 
-  own-back : eqb kind 0xff ≡ true → (r : Read private p) → Back (SpliceCommand.PrivateCommand (r .value))
-  own-back k r = (sym (eqb-true kind 0xff k), private-back (r .value) (componentsOf p) p a (r .reads) (r .form))
+  own-back : eqb command-type 0xff ≡ true → (r : Read private p) → Back (SpliceCommand.PrivateCommand (r .value))
+  own-back k r = (sym (eqb-true command-type 0xff k), private-command-read-write (r .value) (componentsOf p) p a (r .reads) (r .form))
 
-  inserted-back : eqb kind 0x05 ≡ true → (r : Read insert p) → Back (SpliceCommand.SpliceInsert (r .value .value))
+  inserted-back : eqb command-type 0x05 ≡ true → (r : Read insert p) → Back (SpliceCommand.SpliceInsert (r .value .value))
   unfolding commandMade
   inserted-back k r =
       let x = r .value in
       let h = insert-has p x _ (r .reads) in (
-        sym (eqb-true kind 0x05 k),
-        ap insertMade (ap (counted (x .value)) (components-are p x _ (r .reads)) ∙ counted-is x (h .0)) ∙ insert-back x p a (r .reads) (r .form) (h .0) (h .1),
+        sym (eqb-true command-type 0x05 k),
+        ap insertMade (ap (counted (x .value)) (components-are p x _ (r .reads)) ∙ counted-is x (h .0)) ∙ insert-command-read-write x p a (r .reads) (r .form) (h .0) (h .1),
       )
 
-  pub command-back : (c : SpliceCommand) → canonicalCommand kind p ≡ true → commandOf kind p ≡ CommandRead.Is c → Back c
+  pub command-back : (c : SpliceCommand) → canonicalCommand command-type p ≡ true → commandOf command-type p ≡ CommandRead.Is c → Back c
   unfolding canonicalCommand commandOf
-  command-back c e f = go (eqb kind 0x00) refl (eqb kind 0x05) refl (eqb kind 0x06) refl (eqb kind 0x07) refl (eqb kind 0xff) refl e f
+  command-back c e f = go (eqb command-type 0x00) refl (eqb command-type 0x05) refl (eqb command-type 0x06) refl (eqb command-type 0x07) refl (eqb command-type 0xff) refl e f
     where
-      go : (b₀ : Bool) → eqb kind 0x00 ≡ b₀ → (b₅ : Bool) → eqb kind 0x05 ≡ b₅ → (b₆ : Bool) → eqb kind 0x06 ≡ b₆ → (b₇ : Bool) → eqb kind 0x07 ≡ b₇ → (b₈ : Bool) → eqb kind 0xff ≡ b₈
+      go : (b₀ : Bool) → eqb command-type 0x00 ≡ b₀ → (b₅ : Bool) → eqb command-type 0x05 ≡ b₅ → (b₆ : Bool) → eqb command-type 0x06 ≡ b₆ → (b₇ : Bool) → eqb command-type 0x07 ≡ b₇ → (b₈ : Bool) → eqb command-type 0xff ≡ b₈
           → pick b₀ (eqb (length p) 0) (pick b₅ (canonicalBy insert p) (pick b₆ (canonicalBy spliceTime p) (pick b₇ (eqb (length p) 0) (pick b₈ (canonicalBy private p) false)))) ≡ true
           → pick b₀ (empty SpliceCommand.SpliceNull p) (pick b₅ (read (λ x. SpliceCommand.SpliceInsert (x .value)) (parse insert (bitsOf p) 0)) (pick b₆ (read SpliceCommand.TimeSignal (parse spliceTime (bitsOf p) 0))
           (pick b₇ (empty SpliceCommand.BandwidthReservation p) (pick b₈ (read SpliceCommand.PrivateCommand (parse private (bitsOf p) 0)) CommandRead.UnknownType)))) ≡ CommandRead.Is c
@@ -115,13 +115,13 @@ module _ (kind : ℕ) (p : List ℕ) (a : AllBytes p) where
       go false k₀ false k₅ false k₆ false k₇ false k₈ e f = zero-one cc
 
 -- ---- in a section, where the payload starts at byte 14
-kind-stays : (c : SpliceCommand) → kindOf (moved 14 c) ≡ kindOf c
+type-stays : (c : SpliceCommand) → typeOf (moved 14 c) ≡ typeOf c
 unfolding moved
-kind-stays SpliceCommand.SpliceNull = refl
-kind-stays (SpliceCommand.SpliceInsert i) = refl
-kind-stays (SpliceCommand.TimeSignal t) = refl
-kind-stays SpliceCommand.BandwidthReservation = refl
-kind-stays (SpliceCommand.PrivateCommand p) = refl
+type-stays SpliceCommand.SpliceNull = refl
+type-stays (SpliceCommand.SpliceInsert i) = refl
+type-stays (SpliceCommand.TimeSignal t) = refl
+type-stays SpliceCommand.BandwidthReservation = refl
+type-stays (SpliceCommand.PrivateCommand p) = refl
 
 -- a private command's bytes are the same run, counted from the section's first byte
 private-stays : (s : List ℕ) (n : ℕ) (id at len : ℕ) → 14 ≤ length s → make private true (take n (drop 14 s)) (record { identifier = id; «private_bytes» = record { at = at; len = len } }) ≡ made (take n (drop 14 s))
@@ -160,19 +160,19 @@ same-made : (h : SpliceInfoHeader) (b : List ℕ) {c d : Made} {k l : ℕ} {p q 
 same-made h b e f g i = rw (e, f, g) i
 
 -- the command's type, and its payload written of the command as the section's reading has it
-pub payload-back : (s : List ℕ) (x : Section) → AllBytes s → sectionOf s ≡ SectionRead.Is x → canonicalSection s ≡ true
-    → (kindOf (x .command) ≡ commandType s) × (commandMade (x .command) (componentsOf (commandBytes s)) s ≡ made (commandBytes s))
-payload-back s x a e c =
+pub payload-read-write : (s : List ℕ) (x : Section) → AllBytes s → sectionOf s ≡ SectionRead.Is x → canonicalSection s ≡ true
+    → (typeOf (x .command) ≡ commandType s) × (commandMade (x .command) (componentsOf (commandBytes s)) s ≡ made (commandBytes s))
+payload-read-write s x a e c =
     let p = parts-of s x e in
     let b = command-back (commandType s) (commandBytes s) (payload-bytes s a) (p .own) (canonical-parts s c .command) (p .command) in
     let m : commandMade (moved 14 (p .own)) (componentsOf (commandBytes s)) s ≡ made (commandBytes s) = made-there (p .own) (componentsOf (commandBytes s)) s (omega (arith, p .long)) (b .1) in
-    (ap kindOf (p .moves) ∙ kind-stays (p .own) ∙ b .0, ap (λ (c : SpliceCommand). commandMade c (componentsOf (commandBytes s)) s) (p .moves) ∙ m)
+    (ap typeOf (p .moves) ∙ type-stays (p .own) ∙ b .0, ap (λ (c : SpliceCommand). commandMade c (componentsOf (commandBytes s)) s) (p .moves) ∙ m)
 
 pub section-back : (s : List ℕ) (x : Section) → AllBytes s → sectionOf s ≡ SectionRead.Is x → canonicalSection s ≡ true
-    → sectionMade (x .header) (commandMade (x .command) (componentsOf (commandBytes s)) s) (kindOf (x .command)) (viewed s (x .descriptors)) ≡ made s
+    → sectionMade (x .header) (commandMade (x .command) (componentsOf (commandBytes s)) s) (typeOf (x .command)) (viewed s (x .descriptors)) ≡ made s
 section-back s x a e c =
-    let b = payload-back s x a e c in
-    same-made (x .header) s (b .1) (b .0) (ap (viewed s) (parts-of s x e .loop)) (section-is-written-back s x a e c)
+    let b = payload-read-write s x a e c in
+    same-made (x .header) s (b .1) (b .0) (ap (viewed s) (parts-of s x e .loop)) (section-read-write s x a e c)
 
 -- ---- written, then read: an array of 255 places holds as many components as a count of one byte says
 pub held : (c : SpliceCommand) (places : List ComponentSplice) → length places ≡ 255 → countIn c ≤ 255 → Held c places
@@ -183,11 +183,11 @@ held SpliceCommand.BandwidthReservation places n k = tt
 held (SpliceCommand.PrivateCommand p) places n k = tt
 
 pub section-reads : (h : SpliceInfoHeader) (c : SpliceCommand) (places : List ComponentSplice) (lent loop b : List ℕ) → length places ≡ 255 → countIn c ≤ 255
-    → sectionMade h (commandMade c places lent) (kindOf c) loop ≡ made b → ReadsBack h c places lent loop b
-section-reads h c places lent loop b n k e = whole-reads-back h c places lent loop b (held c places n k) e
+    → sectionMade h (commandMade c places lent) (typeOf c) loop ≡ made b → ReadsBack h c places lent loop b
+section-reads h c places lent loop b n k e = whole-section-write-read h c places lent loop b (held c places n k) e
 
 -- an insert's components, in the array that is read of its payload
-pub components-read : (i : Insertion) (places : List ComponentSplice) (lent b : List ℕ) → length places ≡ 255 → countIn (SpliceCommand.SpliceInsert i) ≤ 255
+pub components-read : (i : SpliceInsert) (places : List ComponentSplice) (lent b : List ℕ) → length places ≡ 255 → countIn (SpliceCommand.SpliceInsert i) ≤ 255
     → commandMade (SpliceCommand.SpliceInsert i) places lent ≡ made b → componentsOf b ≡ array (counted i places .components)
 components-read i places lent b n k e =
-    components-are b (counted i places) (length b * 8) (insert-trip i places lent b (held (SpliceCommand.SpliceInsert i) places n k) e .1)
+    components-are b (counted i places) (length b * 8) (insert-command-write-read i places lent b (held (SpliceCommand.SpliceInsert i) places n k) e .1)

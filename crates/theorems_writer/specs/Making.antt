@@ -6,12 +6,12 @@ use mathlib.Core.List.{List, [], _∷_}
 use mathlib.Core.Path.{_≡_}
 use lib.ListN.{length, take}
 use Rattle.canonical_form.specs.Command.{canonicalCommand}
-use Rattle.command.specs.Command.{countIn, kindOf, commandOf, componentsOf}
+use Rattle.command.specs.Command.{countIn, typeOf, commandOf, componentsOf}
 use Rattle.command.specs.Insert.{programTime, count, breakTicks}
 use Rattle.command.specs.declared.CommandRead.{CommandRead}
 use Rattle.command.specs.declared.SpliceCommand.{SpliceCommand}
 use Rattle.command.specs.declared.components.ComponentSplice.{ComponentSplice}
-use Rattle.command.specs.declared.insert.SpliceInsert.{SpliceInsert}
+use Rattle.command.specs.declared.insert.SpliceDetail.{SpliceDetail}
 use Rattle.canonical_form.specs.Descriptor.{canonicalLoop}
 use Rattle.descriptor_round_trips.specs.Making.{fit}
 use Rattle.splice_time.specs.Time.{ticks}
@@ -39,9 +39,9 @@ componentNumbers [] = []
 componentNumbers (c ∷ cs) = (8, c .«component_tag») ∷ (33, ticks (c .«splice_time»)) ∷ componentNumbers cs
 
 -- what is absent counts as 0; of the places the components up to the count
-abbrev pub insertNumbers : SpliceInsert → List ComponentSplice → List (ℕ × ℕ)
-insertNumbers SpliceInsert.Cancel places = []
-insertNumbers (SpliceInsert.Insert i) places =
+abbrev pub insertNumbers : SpliceDetail → List ComponentSplice → List (ℕ × ℕ)
+insertNumbers SpliceDetail.Cancel places = []
+insertNumbers (SpliceDetail.Insert i) places =
     (33, ticks (programTime (i .«splice_mode»))) ∷ (8, count (i .«splice_mode»)) ∷ (33, breakTicks (i .duration))
     ∷ (16, i .«unique_program_id») ∷ (8, i .«avail_num») ∷ (8, i .«avails_expected»)
     ∷ componentNumbers (take (count (i .«splice_mode»)) places)
@@ -58,9 +58,9 @@ commandNumbers (SpliceCommand.PrivateCommand p) places = (32, p .identifier) ∷
 -- p is a canonical payload that reads as the command: "equal values and equal bytes in the views; .. the views' places and array places past a count are left out"
 pub record CommandPayload (c : SpliceCommand) (places : List ComponentSplice) (lent p : List ℕ) : Type 0 where
   pub bytes : AllBytes p
-  pub form : canonicalCommand (kindOf c) p ≡ true
+  pub form : canonicalCommand (typeOf c) p ≡ true
   pub again : SpliceCommand
-  pub reading : commandOf (kindOf c) p ≡ CommandRead.Is again
+  pub reading : commandOf (typeOf c) p ≡ CommandRead.Is again
   pub values : withoutPlace again ≡ withoutPlace c
   pub components : take (countIn again) (componentsOf p) ≡ take (countIn c) places
   pub view : viewed p (privateView again) ≡ viewed lent (privateView c)
@@ -90,7 +90,7 @@ pub record HasHeader (h : SpliceInfoHeader) (b : List ℕ) : Type 0 where
 pub record SectionBytes (h : SpliceInfoHeader) (c : SpliceCommand) (places : List ComponentSplice) (lent loop b : List ℕ) : Type 0 where
   pub header : HasHeader h b
   -- a null and a bandwidth reservation have the same payload
-  pub type : commandType b ≡ kindOf c
+  pub type : commandType b ≡ typeOf c
   pub command : CommandPayload c places lent (commandBytes b)
   pub loops : loopBytes b ≡ loop
 

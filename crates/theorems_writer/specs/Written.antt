@@ -19,12 +19,12 @@ use Rattle.theorems_reader.specs.Identifiers.{partsRead, upidsOf}
 
 -- a UPID with a view of lent bytes: its reported type, its bytes, and the parts, at every level, that are read of them
 pub record UpidHeld : Type 0 where
-  pub kind : ℕ
+  pub «upid_type» : ℕ
   pub bytes : List ℕ
   pub parts : List Part
 
 abbrev pub heldIn : List ℕ → SegmentationUpid → UpidHeld
-heldIn lent u = record { kind = u .kind; bytes = viewed lent (u .bytes); parts = partsRead (u .kind) (viewed lent (u .bytes)) }
+heldIn lent u = record { «upid_type» = u .«upid_type»; bytes = viewed lent (u .bytes); parts = partsRead (u .«upid_type») (viewed lent (u .bytes)) }
 
 -- An item of a loop is written as its own bytes, and these, read alone, have the same UPID: its type, its bytes and its parts, and the EIDR beside it.
 pub record KeepsUpid (loop : List ℕ) (y : Listed) : Type 0 where

@@ -3,7 +3,7 @@
 --     mid-is-written   a MID was written as one
 --     eidr-is-written  an EIDR was written as one, with 12 bytes
 use Prim.Native.Nat.{ℕ, zero, suc, _+_, _≤_}
-use mathlib.Core.Bool.{Bool, true, false, cond, not, _&&_}
+use mathlib.Core.Bool.{Bool, true, false, not, _&&_, cond as pick}
 use mathlib.Core.List.{List, [], _∷_}
 use mathlib.Core.Path.{_≡_, refl, sym, _∙_}
 use native.Mathlib.Omega.{arith}
@@ -29,7 +29,7 @@ some-read : (k : ℕ) (bytes : List ℕ) (q : ℕ) → checkOf k bytes ≡ Fine 
 unfolding checkOf
 some-read k bytes q e some = go (ltb 255 (length bytes)) (eqb (length bytes) 0) (readOf k 0 bytes) e
   where
-    go : (t u : Bool) (r : UpidRead) → cond t (Refused InputTooLong) (cond u (Fine 0) r) ≡ Fine q → r ≡ Fine q
+    go : (t u : Bool) (r : UpidRead) → pick t (Refused InputTooLong) (pick u (Fine 0) r) ≡ Fine q → r ≡ Fine q
     go true u r h = zero-one cc
     go false true r h = absurd (some cc)
     go false false r h = h
@@ -39,7 +39,7 @@ bytes-read : (k : ℕ) (bytes : List ℕ) (q : ℕ) → checkOf k bytes ≡ Fine
 unfolding checkOf
 bytes-read k bytes q e some = go (ltb 255 (length bytes)) (eqb (length bytes) 0) (readOf k 0 bytes) refl e
   where
-    go : (t u : Bool) (r : UpidRead) → eqb (length bytes) 0 ≡ u → cond t (Refused InputTooLong) (cond u (Fine 0) r) ≡ Fine q → r ≡ Fine q
+    go : (t u : Bool) (r : UpidRead) → eqb (length bytes) 0 ≡ u → pick t (Refused InputTooLong) (pick u (Fine 0) r) ≡ Fine q → r ≡ Fine q
     go true u r eu h = zero-one cc
     go false true r eu h = let z = eqb-true (length bytes) 0 eu in absurd (omega arith)
     go false false r eu h = h
@@ -49,7 +49,7 @@ unfolding _then_
 then-last (Fine k) b q e = e
 then-last (Refused r) b q e = zero-one cc
 
-long-last : (t : Bool) (r : Refusal) (b : UpidRead) (q : ℕ) → cond t (Refused r) b ≡ Fine q → b ≡ Fine q
+long-last : (t : Bool) (r : Refusal) (b : UpidRead) (q : ℕ) → pick t (Refused r) b ≡ Fine q → b ≡ Fine q
 long-last true r b q e = zero-one cc
 long-last false r b q e = e
 
@@ -66,8 +66,8 @@ unfolding plainOf
 plain-reports k start bytes q e = go (eqb k 0) (eqb (lengthOf k) 0) (eqb (length bytes) (lengthOf k)) (isText k && not (textOf bytes)) refl refl refl e
   where
     go : (a b c d : Bool) → eqb k 0 ≡ a → eqb (lengthOf k) 0 ≡ b → eqb (length bytes) (lengthOf k) ≡ c
-        → cond a (Refused UpidLengthTypeMismatch) (cond b (Fine (reportedOf k)) (cond (not c) (Refused (InvalidUpidLength k (lengthOf k) (length bytes)))
-        (cond d (Refused (InvalidUpidContent k (record { at = start; len = length bytes }))) (Fine (reportedOf k))))) ≡ Fine q
+        → pick a (Refused UpidLengthTypeMismatch) (pick b (Fine (reportedOf k)) (pick (not c) (Refused (InvalidUpidLength k (lengthOf k) (length bytes)))
+        (pick d (Refused (InvalidUpidContent k (record { at = start; len = length bytes }))) (Fine (reportedOf k))))) ≡ Fine q
         → (reportedOf k ≡ q) × ((lengthOf k ≡ 0 → ⊥) → length bytes ≡ lengthOf k) × (k ≡ 0 → ⊥)
     go true b c d ea eb ec h = zero-one cc
     go false true c d ea eb ec h = (cc, (λ some. absurd (some (eqb-true _ _ eb))), eqb-false k 0 ea)
@@ -79,7 +79,7 @@ reported-is : (k q : ℕ) → reportedOf k ≡ q → (q ≡ 6 → ⊥) → k ≡
 unfolding reportedOf
 reported-is k q e other = go (eqb k 5) e
   where
-    go : (t : Bool) → cond t 6 k ≡ q → k ≡ q
+    go : (t : Bool) → pick t 6 k ≡ q → k ≡ q
     go true h = absurd (other (sym h))
     go false h = h
 

@@ -14,12 +14,12 @@ use crate::plain::reported;
 use table::numbers::size;
 
 // A payload, and where it is a MID each of its parts in byte order: the first refusal ends the walk. `start` is where it lies in the top UPID.
-pub(crate) fn check_payload(kind: u8, s: &[u8], start: usize) -> UpidRead
+pub(crate) fn check_payload(upid_type: u8, s: &[u8], start: usize) -> UpidRead
     requires { ⌜ start + length (now s) ≤ 255 ⌝ }
-    ensures { λ r. ⌜ r ≡ readOf kind start (now (s .entry)) ⌝ }
+    ensures { λ r. ⌜ r ≡ readOf «upid_type» start (now (s .entry)) ⌝ }
 {
-    if kind != 13 {
-        return check_plain(kind, s, start);
+    if upid_type != 13 {
+        return check_plain(upid_type, s, start);
     }
     let mut answer = UpidRead::Fine(13);
     let mut at: usize = 0;
@@ -62,7 +62,7 @@ pub(crate) fn blank() -> PartList
     ensures { λ r. ⌜ r ≡ listed [] ⌝ }
 {
     let none = Part {
-        kind: 0,
+        upid_type: 0,
         level: 0,
         start: 0,
         len: 0,
@@ -75,12 +75,12 @@ pub(crate) fn blank() -> PartList
 
 // The parts of a UPID that was accepted; there are none where it is no MID. It goes by byte order and not by calling itself, so that its need of stack is the
 // same at every depth: `ends` has the place where each open MID ends, the top one's first, and the `level` of them that are open give the level of the next part.
-pub(crate) fn list_parts(kind: u8, s: &[u8]) -> PartList
-    requires { ⌜ Listable kind (now s) ⌝ }
-    ensures { λ r. ⌜ r ≡ listed (listOf kind 1 0 (now (s .entry))) ⌝ }
+pub(crate) fn list_parts(upid_type: u8, s: &[u8]) -> PartList
+    requires { ⌜ Listable «upid_type» (now s) ⌝ }
+    ensures { λ r. ⌜ r ≡ listed (listOf «upid_type» 1 0 (now (s .entry))) ⌝ }
 {
     let mut out = blank();
-    if kind != 13 {
+    if upid_type != 13 {
         return out;
     }
     let mut ends = [0u8; 128];
@@ -100,7 +100,7 @@ pub(crate) fn list_parts(kind: u8, s: &[u8]) -> PartList
         let to = from + size(l);
         let count = out.count;
         out.parts[count] = Part {
-            kind: reported(k),
+            upid_type: reported(k),
             level: level as u8,
             start: from as u8,
             len: l,

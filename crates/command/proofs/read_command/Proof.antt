@@ -8,13 +8,13 @@ read-empty-requires : tie.Need-read-empty-requires
 read-empty-requires c κs = search needs
 
 returns : tie.Need-returns
-returns c = let a = c .before .before .before .args in of-null (a .kind) (a .payload .now) _ (c .before .match .keys1) (c .read-empty .ensures)
+returns c = let a = c .before .before .before .args in of-null (a .command-type) (a .payload .now) _ (c .before .match .keys1) (c .read-empty .ensures)
 
 read-time-signal-requires : tie.Need-read-time-signal-requires
 read-time-signal-requires c κs = search needs
 
 returns-2 : tie.Need-returns-2
-returns-2 c = let a = c .before .before .before .args in of-signal (a .kind) (a .payload .now) _ (c .before .match .keys2) (c .read-time-signal .ensures)
+returns-2 c = let a = c .before .before .before .args in of-signal (a .command-type) (a .payload .now) _ (c .before .match .keys2) (c .read-time-signal .ensures)
 
 read-apart-requires : tie.Need-read-apart-requires
 read-apart-requires c κs = search needs

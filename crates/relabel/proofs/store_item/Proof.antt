@@ -85,7 +85,7 @@ returns c =
     let z = b₁ .before .before .before .before in
     let st = z .before .before .before .before .before .before in
     let a = st .args in
-    item-stored (a .section .now) (a .p) (a .n) (st .pre .0) (a .target .now) _ _ _ _ (a .kind) _ _ _ _ _ (z .size .ensures .0) refl (ap (λ (v : ℕ). v * 256 + a .n) (w .wide .ensures .0)) refl refl
+    item-stored (a .section .now) (a .p) (a .n) (st .pre .0) (a .target .now) _ _ _ _ (a .upid-type) _ _ _ _ _ (z .size .ensures .0) refl (ap (λ (v : ℕ). v * 256 + a .n) (w .wide .ensures .0)) refl refl
     (b₁ .put-bytes .ensures) (byte .put-byte .ensures) (b₂ .put-bytes2 .ensures) (num .put-number .ensures) (st .pre .2)
 
 pub store-item-spec : {M : Type 1} → statement M

@@ -4,13 +4,13 @@ use native.Mathlib.Omega.{arith}
 use Rattle.command_measure.specs.Made.{commandMade}
 use Rattle.command_writer.proofs.Payloads.{refused-later}
 use Rattle.bit_stores.specs.Written.{answerOf}
-use Rattle.section_writer.specs.Writing.{kindOf, sectionMade}
+use Rattle.section_writer.specs.Writing.{typeOf, sectionMade}
 use Rattle.section_writer.proofs.Answers.{section-answer, allowed, wrote-section, kept-length}
 use borrow.Author.Needs.{needs}
 use Rattle.section_writer.proofs.write_section.Statement.{statement}
 use Rattle.section_writer.proofs.write_section.Tie as tie
 
-is : (w : tie.After-answer-section) → let a = w .before .before .before .before .before .args in w .answer-section .result ≡ answerOf (sectionMade (a .header) (commandMade (a .command) (a .components) (a .lent .now)) (kindOf (a .command)) (a .descriptors .now)) (a .target .now)
+is : (w : tie.After-answer-section) → let a = w .before .before .before .before .before .args in w .answer-section .result ≡ answerOf (sectionMade (a .header) (commandMade (a .command) (a .components) (a .lent .now)) (typeOf (a .command)) (a .descriptors .now)) (a .target .now)
 is w =
     let m = w .before in
     let a = m .before .before .before .before .args in
@@ -25,8 +25,8 @@ answer-section-requires c κs = search needs
 enum-told : tie.Need-enum-told
 enum-told c = search needs
 
-kind-of-requires : tie.Need-kind-of-requires
-kind-of-requires c κs = search needs
+type-of-requires : tie.Need-type-of-requires
+type-of-requires c κs = search needs
 
 put-head-requires : tie.Need-put-head-requires
 put-head-requires c κs =
@@ -77,13 +77,13 @@ returns c =
     let w = t .before .before in
     let m = w .before in
     let a = m .before .before .before .before .args in
-    (is w, wrote-section (a .header) (a .command) (a .components) (a .lent .now) (a .descriptors .now) (m .measure-command .result) (m .measure-command .ensures .0) (a .target .now) _ _ (w .answer-section .ensures) (t .enum-told .given .1) _ _ _ _ (k .kind-of .ensures) (h .put-head .ensures) (p .put-command .ensures) (e .put-tail .ensures))
+    (is w, wrote-section (a .header) (a .command) (a .components) (a .lent .now) (a .descriptors .now) (m .measure-command .result) (m .measure-command .ensures .0) (a .target .now) _ _ (w .answer-section .ensures) (t .enum-told .given .1) _ _ _ _ (k .type-of .ensures) (h .put-head .ensures) (p .put-command .ensures) (e .put-tail .ensures))
 
 returns-2 : tie.Need-returns-2
 returns-2 c =
     let w = c .before .before in
     let a = w .before .before .before .before .before .args in
-    (is w, refused-later (sectionMade (a .header) (commandMade (a .command) (a .components) (a .lent .now)) (kindOf (a .command)) (a .descriptors .now)) (a .target .now) _ (sym (is w) ∙ c .enum-told2 .given .1))
+    (is w, refused-later (sectionMade (a .header) (commandMade (a .command) (a .components) (a .lent .now)) (typeOf (a .command)) (a .descriptors .now)) (a .target .now) _ (sym (is w) ∙ c .enum-told2 .given .1))
 
 pub write-section-spec : {M : Type 1} → statement M
 write-section-spec =
@@ -92,7 +92,7 @@ write-section-spec =
     measure-command-requires
     answer-section-requires
     enum-told
-    kind-of-requires
+    type-of-requires
     put-head-requires
     put-command-requires
     add-put-tail

@@ -46,8 +46,8 @@ command-refusal-requires c κs = search needs
 count-in-command-requires : tie.Need-count-in-command-requires
 count-in-command-requires c κs = search needs
 
-write-bare-words-requires : tie.Need-write-bare-words-requires
-write-bare-words-requires c κs = small (c .before .before .before)
+write-words-without-components-requires : tie.Need-write-words-without-components-requires
+write-words-without-components-requires c κs = small (c .before .before .before)
 
 same-length : tie.Need-same-length
 same-length c = search needs
@@ -60,7 +60,7 @@ returns c =
     let k = n .before in
     let a = k .before .before .before .before .before .before .args in
     let e = made k (array []) (no-places (countIn (k .before .command-given .result)) (a .components .now) (sym (n .count-in-command .ensures) ∙ t .if1 .taken)) in
-    (q .write-bare-words .ensures .0 ∙ ap (λ (m : Made). flatWritten (answerOf m (a .target .now))) e, q .write-bare-words .ensures .1 ∙ ap (λ (m : Made). laterOf m (a .target .now)) e)
+    (q .write-words-without-components .ensures .0 ∙ ap (λ (m : Made). flatWritten (answerOf m (a .target .now))) e, q .write-words-without-components .ensures .1 ∙ ap (λ (m : Made). laterOf m (a .target .now)) e)
 
 write-listed-words-requires : tie.Need-write-listed-words-requires
 write-listed-words-requires c κs = small (c .before .before .before)
@@ -83,7 +83,7 @@ write-command-words-spec =
     command-given-requires
     command-refusal-requires
     count-in-command-requires
-    write-bare-words-requires
+    write-words-without-components-requires
     same-length
     returns
     write-listed-words-requires

@@ -35,11 +35,11 @@ abbrev claims : ℕ → lts.Claims
 claims t = (check-plain-reads.Asked, check-plain-reads.Learnt, size-reads.Asked, size-reads.Learnt, below t, Post)
 
 abbrev Inv : lts.InvT-walk
-Inv kind s start answer₀ at₀ answer at =
-    (at ≤ length s) × (answer ≡ Fine 13) × (readOf kind start s ≡ readOf 13 (start + at) (drop at s))
+Inv upid-type s start answer₀ at₀ answer at =
+    (at ≤ length s) × (answer ≡ Fine 13) × (readOf upid-type start s ≡ readOf 13 (start + at) (drop at s))
 
 abbrev fuel : lts.MeasureT-walk
-fuel kind s start answer₀ at₀ answer at = length s - at
+fuel upid-type s start answer₀ at₀ answer at = length s - at
 
 check-plain-requires : (t : ℕ) → lts.Need-check-plain-requires (claims t) (at t) Post Inv fuel
 check-plain-requires t c κs = search needs

@@ -20,16 +20,16 @@ use Rattle.upid.proofs.plain.reported.Reads as reported-reads
 use Rattle.upid.proofs.mid.list_parts.Tie as tie
 
 abbrev Inv-walk : tie.InvT-walk
-Inv-walk kind s out₀ ends₀ level₀ at₀ out ends level at =
+Inv-walk upid-type s out₀ ends₀ level₀ at₀ out ends level at =
     (at ≤ length s)
     × (2 * level ≤ at + 2)
     × (2 * out .count ≤ at)
     × Open s ends level at
-    × (listed (listOf kind 1 0 s) ≡ grown out (pending s ends level at))
+    × (listed (listOf upid-type 1 0 s) ≡ grown out (pending s ends level at))
     × (length ends ≡ 128)
 
 abbrev μ-walk : tie.MeasureT-walk
-μ-walk kind s out₀ ends₀ level₀ at₀ out ends level at = 2 * (length s - at) + level
+μ-walk upid-type s out₀ ends₀ level₀ at₀ out ends level at = 2 * (length s - at) + level
 
 -- where a part is met
 abbrev Met : Type 0
