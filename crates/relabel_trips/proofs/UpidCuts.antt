@@ -10,14 +10,13 @@ use lib.ListN.{length, take, drop, getD, set, length-append, length-set, length-
 use lib.Seq.{length-take-le, getD-set-same}
 use Rattle.relabel_joined.specs.Relabel.{typeThen}
 use Rattle.relabel_upid.proofs.Answers.{has-parts, made-able}
-use Rattle.relabel_upid.proofs.Stores as stores
+use Rattle.relabel_upid.proofs.Stores.{placed-read}
 use Rattle.relabel_upid.proofs.Theorems.{the-upid-itself}
 use Rattle.relabel_upid.proofs.Turns.{mended-length, mended-elsewhere}
 use Rattle.relabel_upid.specs.Relabel.{instead, around, mended, spliced, partAt, upidMade}
 use Rattle.table.specs.Bits.{pick}
 use Rattle.table.specs.Writing.{made}
 use Rattle.upid.proofs.Answers.{in-byte-order}
-use Rattle.upid.proofs.Laws.{by-cases}
 use Rattle.upid.proofs.Tree.{all-map}
 use Rattle.upid.specs.Cover.{All, none, more, Ascending, nothing, before}
 use Rattle.upid.specs.Private.{Accepted}
@@ -148,9 +147,6 @@ module _ (upid-type : ℕ) (top : List ℕ) (i k : ℕ) (new b : List ℕ) (e : 
   accepted : Accepted (checkOf upid-type top)
   accepted = has-parts upid-type top i there .1
 
-  counted : i < upidOf upid-type top .list .count
-  counted = by-cases i (upidOf upid-type top .list .count) (λ h. h) (λ h. absurd (omega (arith, stores.not-there upid-type top i (upidOf upid-type top .list) refl h, there)))
-
   in-order : Ascending qs
   in-order = ascending-take i ps (ordered upid-type (has-parts upid-type top i there .0) accepted)
     where
@@ -158,20 +154,17 @@ module _ (upid-type : ℕ) (top : List ℕ) (i k : ℕ) (new b : List ℕ) (e : 
       ordered j z a = subst (λ (j : ℕ). Ascending (partsIn (upidOf j top))) (sym z) (in-byte-order top (subst (λ (j : ℕ). Accepted (checkOf j top)) z a))
 
   begins : 2 ≤ p .start
-  begins = stores.placed-here upid-type top i (upidOf upid-type top .list) refl counted p (sym (stores.part-same upid-type top i (upidOf upid-type top .list) refl counted)) .0
+  begins = placed-read upid-type top i there .0
 
   within : p .start + p .len ≤ length top
-  within = stores.placed-here upid-type top i (upidOf upid-type top .list) refl counted p (sym (stores.part-same upid-type top i (upidOf upid-type top .list) refl counted)) .1
+  within = placed-read upid-type top i there .1
 
   F-long : length F ≡ p .start - 2
   F-long = length-take-le (p .start - 2) top (omega (arith, within))
 
   rooms : All (Room F) qs
   unfolding Room
-  rooms =
-      subst (λ (rs : List Part). All (λ (q : Part). (2 ≤ q .start) × (q .start ≤ length F)) rs) (stores.take-same upid-type top i (upidOf upid-type top .list) refl counted)
-      (all-map (λ q x. (x .0, omega (arith, x .1, F-long)))
-      (stores.placed-here upid-type top i (upidOf upid-type top .list) refl counted p (sym (stores.part-same upid-type top i (upidOf upid-type top .list) refl counted)) .2))
+  rooms = all-map (λ q x. (x .0, omega (arith, x .1, F-long))) (placed-read upid-type top i there .2)
 
   -- either is the same cut
   top-is : top ≡ mended p (length bs) qs F ++ (kd ∷ (length bs ∷ (bs ++ R)))

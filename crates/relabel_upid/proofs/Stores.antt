@@ -31,7 +31,7 @@ use Rattle.relabel_upid.proofs.Turns.{mends-one, mended-on, mended-off,
 
 -- ---- where the parts before a part lie
 
-abbrev Early : ℕ → ℕ → Part → Type 0
+abbrev pub Early : ℕ → ℕ → Part → Type 0
 Early start high q = (2 ≤ q .start) × (q .start + 2 ≤ start) × (q .start + q .len ≤ high)
 
 early : (c : Cut) (level start high : ℕ) (h : Hole) → AcceptedBeside h → start + length (filled h c) ≤ high → All (Early (startAt start h + 2) high) (before c level start h)
@@ -48,7 +48,7 @@ early c level start high (past d h) f l =
     (early c level (start + (2 + length (d .payload))) high h (f .1) (omega arith))
 
 -- a part of an accepted MID, and those before it
-abbrev Placed : List ℕ → List Part → ℕ → Type 0
+abbrev pub Placed : List ℕ → List Part → ℕ → Type 0
 Placed top ps i =
     (2 ≤ partAt ps i .start) × (partAt ps i .start + partAt ps i .len ≤ length top) × All (Early (partAt ps i .start) (length top)) (take i ps)
 
@@ -68,6 +68,15 @@ placed top i a hi =
     let h : Hole = x .hole in
     subst (λ (s : List ℕ). Placed s (listOf 13 1 0 s) i) (x .is)
     (subst (λ (j : ℕ). Placed (filled h c) (listOf 13 1 0 (filled h c)) j) (x .count) (placed-filled c h (x .accepted)))
+
+-- of the parts that are read
+pub placed-read : (upid-type : ℕ) (top : List ℕ) (i : ℕ) → i < length (partsIn (upidOf upid-type top)) → Placed top (partsIn (upidOf upid-type top)) i
+placed-read upid-type top i there =
+    let h = has-parts upid-type top i there in
+    let mid : upid-type ≡ 13 = h .0 in
+    let a : Accepted (checkOf 13 top) = subst (λ (k : ℕ). Accepted (checkOf k top)) mid (h .1) in
+    let e : partsIn (upidOf upid-type top) ≡ listOf 13 1 0 top = ap (λ (k : ℕ). partsIn (upidOf k top)) mid ∙ parts-of-mid top a in
+    subst (λ (ps : List Part). Placed top ps i) (sym e) (placed top i (check-mid top a) (subst (λ (ps : List Part). i < length ps) e there))
 
 ahead : (p : Part) (n high : ℕ) (q : Part) → p .len ≤ high → high - p .len + n ≤ 255 → Early (p .start) high q → Ahead p n q
 unfolding around
