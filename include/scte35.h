@@ -517,7 +517,8 @@ struct scte35_written {
 
 /*
  * The writers over words: those of the structs, in their order. A word past the end of what is handed in counts as 0, and words past the struct's end
- * are not looked at.
+ * are not looked at. A struct's view must lie in what was lent, whatever the type of the command or the kind of the item (31); where these have none, it must
+ * be blank (33).
  */
 
 /*
@@ -531,7 +532,8 @@ struct scte35_written scte35_write_command_words(const uint64_t *command, size_t
 /*
  * An item's descriptor.
  * Takes the words of struct scte35_step (of these refusal, values and next are not looked at) and of struct scte35_item_components (of these the places up to
- * the item's own count, and the EIDR), the bytes that its view names, the target. Refuses with 31 to 34, 36. Stack: 37 KB.
+ * the item's own count, and the EIDR), the bytes that its view names, the target. The words of components that it counts and of an EIDR that it has must be
+ * there: else it is 33, and no zeros are written. Refuses with 31 to 34, 36. Stack: 37 KB.
  */
 struct scte35_written scte35_write_descriptor_words(const uint64_t *step, size_t step_words, const uint64_t *beside, size_t beside_words,
                                                     const uint8_t *lent, size_t lent_length, uint8_t *target, size_t target_length);
@@ -546,23 +548,26 @@ struct scte35_written scte35_write_section_words(const uint64_t *header, size_t 
                                                  const uint8_t *descriptors, size_t descriptors_length, uint8_t *target, size_t target_length);
 
 /*
- * The same over the structs; they refuse with the same numbers and need the same stack. `components` and `beside` may be NULL: all their words count as 0. So
- * NULL serves where none are counted and the UPID is no EIDR: an insert that counts components is refused (33), but an item that counts some, or has an EIDR,
- * is written with zeros.
+ * The same over the structs; they refuse with the same numbers and need the same stack. NULL for a header, a command or a step is 33, behind 31 and 32 of all
+ * else that is handed in. `components` and `beside` may be NULL where none are counted and the UPID is no EIDR: else that, too, is 33.
  */
 
 /* the words of a struct of this file */
 #define SCTE35_ALL_WORDS(x) (const uint64_t *)(x), (x) ? sizeof *(x) / sizeof(uint64_t) : 0
+/* the same, and of NULL the first word of a struct that was refused: a refusal that is not 0 is no value's */
+#define SCTE35_OWN_WORDS(x) (x) ? (const uint64_t *)(x) : &no_value, (x) ? sizeof *(x) / sizeof(uint64_t) : 1
 
 static inline struct scte35_written scte35_write_command(const struct scte35_command *command, const struct scte35_insert_components *components,
                                                          const uint8_t *lent, size_t lent_length, uint8_t *target, size_t target_length)
 {
-    return scte35_write_command_words(SCTE35_ALL_WORDS(command), SCTE35_ALL_WORDS(components), lent, lent_length, target, target_length);
+    const uint64_t no_value = SCTE35_REFUSAL_UNWRITABLE;
+    return scte35_write_command_words(SCTE35_OWN_WORDS(command), SCTE35_ALL_WORDS(components), lent, lent_length, target, target_length);
 }
 
 static inline struct scte35_written scte35_write_descriptor(const struct scte35_step *step, const struct scte35_item_components *beside,
                                                             const uint8_t *lent, size_t lent_length, uint8_t *target, size_t target_length)
 {
+    /* of NULL the kind counts as 0, which no descriptor has */
     return scte35_write_descriptor_words(SCTE35_ALL_WORDS(step), SCTE35_ALL_WORDS(beside), lent, lent_length, target, target_length);
 }
 
@@ -570,11 +575,13 @@ static inline struct scte35_written scte35_write_section(const struct scte35_hea
                                                          const struct scte35_insert_components *components, const uint8_t *lent, size_t lent_length,
                                                          const uint8_t *descriptors, size_t descriptors_length, uint8_t *target, size_t target_length)
 {
-    return scte35_write_section_words(SCTE35_ALL_WORDS(header), SCTE35_ALL_WORDS(command), SCTE35_ALL_WORDS(components), lent, lent_length,
+    const uint64_t no_value = SCTE35_REFUSAL_UNWRITABLE;
+    return scte35_write_section_words(SCTE35_OWN_WORDS(header), SCTE35_OWN_WORDS(command), SCTE35_ALL_WORDS(components), lent, lent_length,
                                       descriptors, descriptors_length, target, target_length);
 }
 
 #undef SCTE35_ALL_WORDS
+#undef SCTE35_OWN_WORDS
 
 /*
  * Whether all bytes from the offset on are a canonical section, a loop of canonical descriptors (or of none), or one canonical descriptor. A loop of any

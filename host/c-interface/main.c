@@ -106,6 +106,47 @@ static void places(void)
     CHECK(k == 6);
 }
 
+/* ---- the writers over structs, of what no reader answers */
+
+static void handed(void)
+{
+    static const uint8_t lent[6];
+    uint8_t target[64];
+    struct scte35_command null = {0}, private = {.splice_command_type = SCTE35_COMMAND_PRIVATE_COMMAND};
+    struct scte35_header header = {0};
+    struct scte35_step avail = {.item = {.kind = SCTE35_ITEM_AVAIL}}, segmentation;
+#define COMMAND(c, lent, n) scte35_write_command(c, NULL, lent, n, target, sizeof target).refusal
+#define SECTION(h, c, lent, n) scte35_write_section(h, c, NULL, lent, n, NULL, 0, target, sizeof target).refusal
+#define DESCRIPTOR(step, beside, lent, n) scte35_write_descriptor(step, beside, lent, n, target, sizeof target)
+
+    /* 31 before 33 of a view that the kind leaves out */
+    null.private_bytes = private.private_bytes = avail.item.bytes = (struct scte35_view){5, 1};
+    CHECK(COMMAND(&null, NULL, 0) == 31 && COMMAND(&null, lent, 5) == 31 && COMMAND(&null, lent, 6) == 33);
+    CHECK(SECTION(&header, &null, NULL, 0) == 31 && SECTION(&header, &null, lent, 6) == 33);
+    CHECK(DESCRIPTOR(&avail, NULL, NULL, 0).refusal == 31 && DESCRIPTOR(&avail, NULL, lent, 6).refusal == 33);
+    CHECK(COMMAND(&private, lent, 5) == 31 && COMMAND(&private, lent, 6) == 0);
+
+    /* NULL for a struct is 33, and behind 31 of another */
+    CHECK(COMMAND(NULL, NULL, 0) == 33 && SECTION(NULL, &private, lent, 6) == 33 && SECTION(&header, NULL, NULL, 0) == 33);
+    CHECK(SECTION(NULL, &private, lent, 5) == 31 && DESCRIPTOR(NULL, NULL, NULL, 0).refusal == 33);
+
+    /* components and an EIDR that are not handed in are not written as zeros */
+    uint8_t loop[64];
+    size_t n = unhex("02 22 43554549 00000007 7F 3F 01 09 FE 00000005 0A 0C 0102030405060708090A0B0C 34 02 03", loop);
+    struct scte35_item_components beside = scte35_read_item_components(loop, n, 0);
+    segmentation = scte35_read_item(loop, n, 0);
+    CHECK(DESCRIPTOR(&segmentation, &beside, loop, n).length == n && !memcmp(target, loop, n));
+    CHECK(DESCRIPTOR(&segmentation, NULL, loop, n).refusal == 33);
+    segmentation.item.segmentation.segmentation_upid_type = 0; /* components alone, then an EIDR alone */
+    memset(beside.eidr, 0, sizeof beside.eidr);
+    CHECK(!DESCRIPTOR(&segmentation, &beside, loop, n).refusal && DESCRIPTOR(&segmentation, NULL, loop, n).refusal == 33);
+    segmentation.item.segmentation.program_segmentation_flag = 1;
+    segmentation.item.segmentation.component_count = 0;
+    CHECK(!DESCRIPTOR(&segmentation, NULL, loop, n).refusal);
+    segmentation.item.segmentation.segmentation_upid_type = SCTE35_UPID_EIDR;
+    CHECK(DESCRIPTOR(&segmentation, NULL, loop, n).refusal == 33 && !DESCRIPTOR(&segmentation, &beside, loop, n).refusal);
+}
+
 /* ---- stack */
 
 enum { painted = 400 * 1024, paint = 0xA5 };
@@ -279,6 +320,7 @@ int main(void)
     CHECK(scte35_abi() == SCTE35_ABI);
     refusals();
     places();
+    handed();
     stacks();
     return 0;
 }

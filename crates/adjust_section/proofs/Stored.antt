@@ -1,7 +1,6 @@
 -- What the functions rest on: four stores as one; and the answer, case by case.
-use Prim.Native.Nat.{ℕ, suc, _+_, _*_, _-_, _/_, _%_, _^_, _<_, _≤_}
-use mathlib.Core.Bool.{Bool, true, false}
-use mathlib.Core.List.{List, [], _∷_, _++_, append-assoc}
+use Prim.Native.Nat.{ℕ, _+_, _*_, _-_, _/_, _%_, _^_, _<_, _≤_}
+use mathlib.Core.List.{List, _++_, append-assoc}
 use mathlib.Core.Path.{_≡_, refl, ap, ap₂, sym, _∙_}
 use native.Mathlib.Nat.{div-one}
 use native.Mathlib.Omega.{arith}
@@ -13,14 +12,11 @@ use Rattle.crc.specs.Crc.{crcOf, crcBytesOf}
 use Rattle.bit_stores.specs.Written.{answerOf, laterOf}
 use Rattle.bit_stores.specs.declared.Written.{Written}
 use Rattle.bit_stores.proofs.Writes.{refused-answer, short-answer, wrote-answer}
-use Rattle.section.specs.Section.{sectionOf, numberOf, conditions, first, None}
-use Rattle.section.specs.declared.Section.{Section}
-use Rattle.section.specs.declared.SectionRead.{SectionRead}
-use Rattle.section.proofs.Acceptance.{accepted-if-none, none-if-accepted, refusals-in-order}
+use Rattle.section.specs.Section.{sectionOf, numberOf}
+use Rattle.section.proofs.Acceptance.{none-holds}
 use Rattle.table.specs.Bits.{pick, bitsOf, field, bigEndian}
 use Rattle.table.specs.Lent.{stored}
 use Rattle.table.specs.Writing.{Made, made, refused}
-use Rattle.table.proofs.Lists.{zero-one}
 use Rattle.table.proofs.Stores.{stored-fits, stored-append}
 use Rattle.adjust_section.specs.Adjusted.{adjustmentIn, withAdjustment, bodyWith, sectionWith, adjustedSection}
 use Rattle.adjust_section.proofs.Parts.{behind, length-behind, length-body, length-section}
@@ -70,14 +66,6 @@ module _ (s : List ℕ) (a : ℕ) where
   is-made e h = rw (eq-eqb (numberOf (sectionOf s)) 0 e, lt-ltb a (2 ^ 33) h)
 
 -- what is accepted has a header and fits a section
-first-none : (n : ℕ) (bs : List Bool) → first (suc n) bs ≡ 0 → None bs
-first-none n [] e = tt
-first-none n (true ∷ bs) e = absurd (omega arith)
-first-none n (false ∷ bs) e = (refl, first-none (suc n) bs e)
-
-pub none-holds : (s : List ℕ) → numberOf (sectionOf s) ≡ 0 → None (conditions s)
-none-holds s e = first-none 0 (conditions s) (sym (refusals-in-order s) ∙ e)
-
 pub sizes : (s : List ℕ) → numberOf (sectionOf s) ≡ 0 → (18 ≤ length s) × (length s ≤ 4096)
 sizes s e =
     let t = none-holds s e in

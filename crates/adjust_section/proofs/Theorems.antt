@@ -15,7 +15,7 @@ use Rattle.crc.specs.Crc.{crcOf}
 use Rattle.section.specs.Section.{commandType, commandBytes, loopBytes, sectionOf, numberOf}
 use Rattle.section.specs.declared.Section.{Section}
 use Rattle.section.specs.declared.SectionRead.{SectionRead}
-use Rattle.section.proofs.Acceptance.{accepted-if-none}
+use Rattle.section.proofs.Acceptance.{is-read, none-holds}
 use Rattle.table.specs.Bits.{pick, bitsOf, field}
 use Rattle.table.specs.Writing.{Made, made, refused}
 use Rattle.table.proofs.Lists.{zero-one}
@@ -23,7 +23,7 @@ use Rattle.table.proofs.Reading.{field-lt}
 use Rattle.adjust_section.specs.Adjusted.{adjustmentIn, sectionWith, adjustedSection}
 use Rattle.adjust_section.specs.Readings.{headerWith, readingWith, andThen}
 use Rattle.adjust_section.proofs.Parts.{length-section, front-same, moved-is, byte-kept, first-kept}
-use Rattle.adjust_section.proofs.Stored.{is-refused, is-made, none-holds, sizes}
+use Rattle.adjust_section.proofs.Stored.{is-refused, is-made, sizes}
 use Rattle.adjust_section.proofs.Stays.{reads-again, adjustment-is, loop-stays, command-stays}
 use Rattle.adjust_section.proofs.Back.{moved-twice, moved-to-its-own}
 
@@ -112,7 +112,7 @@ a-box-behind-a-box-is-one-box s a b byte ha hb = go (eqb (numberOf (sectionOf s)
     go : (z : Bool) → eqb (numberOf (sectionOf s)) 0 ≡ z → andThen (adjustedSection s a) b ≡ adjustedSection s ((a + b) % 8589934592)
     go true ez =
         let e : numberOf (sectionOf s) ≡ 0 = eqb-true (numberOf (sectionOf s)) 0 ez in
-        let x = accepted-if-none s (none-holds s e) in
+        let x = is-read (sectionOf s) e in
         twice (x .0) (x .1) e
     go false ez =
         let h : 0 < numberOf (sectionOf s) = let o = eqb-false (numberOf (sectionOf s)) 0 ez in omega (arith, o) in

@@ -4,7 +4,6 @@ ghost use Prim.Native.Nat.{_+_, _^_, _≤_, _<_};
 ghost use lib.ListN.{length};
 ghost use Rattle.adjust_section.specs.Adjusted.{sectionWith, adjustedSection};
 ghost use Rattle.bit_stores.specs.Written.{answerOf, laterOf};
-ghost use Rattle.section.specs.Section.{sectionOf, numberOf};
 ghost use Rattle.table.specs.Lent.{stored};
 use bit_stores::Written;
 use crc::crc32;
@@ -14,16 +13,6 @@ use table::numbers::time33;
 use table::numbers::wide;
 use table::store::put_bytes;
 use table::store::put_number;
-
-// The number of a section's refusal, 0 where it is accepted.
-pub fn refusal_number(r: SectionRead) -> u8
-    ensures { λ n. ⌜ n ≡ numberOf r ⌝ }
-{
-    match r {
-        SectionRead::Is(_) => 0,
-        SectionRead::Refused(x) => x.number(),
-    }
-}
 
 // The section with p as its pts_adjustment, from the target's first byte on.
 fn put_section(target: &mut [u8], section: &[u8], p: u64)
@@ -43,9 +32,9 @@ pub fn adjust_section(section: &[u8], adjustment: u64, target: &mut [u8]) -> Wri
     ensures answer { λ r. ⌜ r ≡ answerOf (adjustedSection (now (section .entry)) adjustment) (now (target .entry)) ⌝ }
     ensures bytes { λ _. ⌜ now (target .exit) ≡ laterOf (adjustedSection (now (section .entry)) adjustment) (now (target .entry)) ⌝ }
 {
-    let refusal = refusal_number(read_section(section));
-    if 0 < refusal {
-        return Written::Refused(refusal);
+    match read_section(section) {
+        SectionRead::Is(_) => {}
+        SectionRead::Refused(r) => return Written::Refused(r.number()),
     }
     if 0x1_FFFF_FFFF < adjustment {
         return Written::Refused(32);

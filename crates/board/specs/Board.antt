@@ -1,6 +1,6 @@
 -- What each function of the board answers, for any board, also one that no calls make.
 use Prim.Native.Nat.{ℕ, suc}
-use mathlib.Core.Bool.{Bool, true, false, cond, not, _&&_}
+use mathlib.Core.Bool.{Bool, true, false, not, _&&_, cond as pick}
 use mathlib.Core.List.{List, [], _∷_}
 use lib.Dec.{leb, eqb}
 use lib.ListN.{length, set, replicate}
@@ -32,12 +32,12 @@ holds event p = p .used && eqb (p .event) event
 -- how many places stand before the first that passes the test; all, where none does
 unfoldable pub before : (Place → Bool) → List Place → ℕ
 before test [] = 0
-before test (p ∷ ps) = cond (test p) 0 (suc (before test ps))
+before test (p ∷ ps) = pick (test p) 0 (suc (before test ps))
 
 -- the open breaks, in the order of their places
 unfoldable pub breaksOf : List Place → List Break
 breaksOf [] = []
-breaksOf (p ∷ ps) = cond (p .used) (record { event = p .event; provider = p .provider } ∷ breaksOf ps) (breaksOf ps)
+breaksOf (p ∷ ps) = pick (p .used) (record { event = p .event; provider = p .provider } ∷ breaksOf ps) (breaksOf ps)
 
 -- "both leave the board as found"
 abbrev pub asFound : Refusal → Board → Step
@@ -47,7 +47,7 @@ asFound refusal b = record { answer = Refused refusal; board = b }
 unfoldable pub openOf : Board → ℕ → Step
 openOf b provider =
     let id : ℕ = freeFrom 32 (breaksOf (b .places)) (b .next) in
-    cond (leb 32 (length (breaksOf (b .places)))) (asFound BoardFull b)
+    pick (leb 32 (length (breaksOf (b .places)))) (asFound BoardFull b)
     (record {
       answer = Is id;
       board = record { places = set (b .places) (before isFree (b .places)) (takenBy id provider); next = after id };
@@ -55,7 +55,7 @@ openOf b provider =
 
 unfoldable pub closeOf : Board → ℕ → Step
 closeOf b id =
-    cond (isOpen id (breaksOf (b .places)))
+    pick (isOpen id (breaksOf (b .places)))
     (record {
       answer = Is (providerOf id (breaksOf (b .places)));
       board = record { places = set (b .places) (before (holds id) (b .places)) blankPlace; next = b .next };

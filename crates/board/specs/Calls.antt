@@ -1,6 +1,6 @@
 -- What an opening and a closing do on any board, and calls one after the other, as the contracts of the functions allow them.
 use Prim.Native.Nat.{ℕ, suc, _+_, _%_, _≤_, _<_}
-use mathlib.Core.Bool.{Bool, true, false, not, cond, _&&_}
+use mathlib.Core.Bool.{Bool, true, false, not, _&&_, cond as pick}
 use mathlib.Core.List.{List, [], _∷_, _++_}
 use mathlib.Core.Path.{_≡_}
 use lib.Dec.{eqb}

@@ -1,6 +1,6 @@
 -- A board is found again in its words, and so over any calls over C the answers are those of two plain lists.
 use Prim.Native.Nat.{ℕ, zero, suc, _+_, _*_, _/_, _%_, _≤_, _<_}
-use mathlib.Core.Bool.{Bool, true, false, cond, _||_}
+use mathlib.Core.Bool.{Bool, true, false, _||_, cond as pick}
 use mathlib.Core.List.{List, [], _∷_, _++_, map}
 use mathlib.Core.Path.{_≡_, refl, sym, _∙_, ap, ap₂}
 use native.Mathlib.Nat.{zero-add}
@@ -32,7 +32,7 @@ mark-used : (p : Place) (w : ℕ) → eqb (markWord p w % 2) 1 ≡ p .used
 unfolding markWord
 mark-used p w = go (p .used)
   where
-    go : (u : Bool) → eqb (cond u (w * 2 + 1) (w * 2) % 2) 1 ≡ u
+    go : (u : Bool) → eqb (pick u (w * 2 + 1) (w * 2) % 2) 1 ≡ u
     go true = let x : (w * 2 + 1) % 2 ≡ 1 = omega arith in rw x
     go false = let x : w * 2 % 2 ≡ 0 = omega arith in rw x
 
@@ -40,7 +40,7 @@ mark-whose : (p : Place) (w : ℕ) → w < 256 → markWord p w / 2 % 256 ≡ w
 unfolding markWord
 mark-whose p w h = go (p .used)
   where
-    go : (u : Bool) → cond u (w * 2 + 1) (w * 2) / 2 % 256 ≡ w
+    go : (u : Bool) → pick u (w * 2 + 1) (w * 2) / 2 % 256 ≡ w
     go true = omega arith
     go false = omega arith
 
@@ -182,7 +182,7 @@ words-after : (c : ℕ) (q : Call) (words : List ℕ) (b : SharedBoard) → Fits
 words-after c q words b f h g = go (eqb (flatReply (turnBy c q b .reply) .refusal) 0) refl
   where
     go : (x : Bool) → eqb (flatReply (turnBy c q b .reply) .refusal) 0 ≡ x
-        → (boardGiven (cond x (stored (turnBy c q b .board) words) words) ≡ turnBy c q b .board) × (66 ≤ length (cond x (stored (turnBy c q b .board) words) words))
+        → (boardGiven (pick x (stored (turnBy c q b .board) words) words) ≡ turnBy c q b .board) × (66 ≤ length (pick x (stored (turnBy c q b .board) words) words))
     go true e = (board-given-back (turnBy c q b .board) f words, long (turnBy c q b .board) f words)
     go false e = (g ∙ sym (refused-same c q b e), h)
 

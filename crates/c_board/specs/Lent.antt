@@ -1,6 +1,6 @@
 -- What the functions over C answer, and the lent words after them.
 use Prim.Native.Nat.{ℕ}
-use mathlib.Core.Bool.{cond}
+use mathlib.Core.Bool.{cond as pick}
 use mathlib.Core.List.{List}
 use lib.Dec.{ltb, eqb}
 use lib.ListN.{length}
@@ -28,11 +28,11 @@ flatReply reply = record { refusal = refusalOf reply; id = idOf reply }
 
 -- the words after a call: a refusal leaves them as found
 abbrev pub settled : FlatBoardAnswer → SharedBoard → List ℕ → List ℕ
-settled answer b words = cond (eqb (answer .refusal) 0) (stored b words) words
+settled answer b words = pick (eqb (answer .refusal) 0) (stored b words) words
 
 -- a run that is shorter than a board is refused (36)
 abbrev pub whole : List ℕ → Lent → Lent
-whole words l = cond (ltb (length words) 66) (record { answer = record { refusal = 36; id = 0 }; words = words }) l
+whole words l = pick (ltb (length words) 66) (record { answer = record { refusal = 36; id = 0 }; words = words }) l
 
 abbrev pub called : (SharedBoard → Turn) → List ℕ → Lent
 called turn words =

@@ -2,7 +2,7 @@
 -- 66 words: the ids of each of 32 places, 32 marks (taken or not, and above that the channel), the next id of each channel. Every run of 66 words is a
 -- board: what lies above a mark's channel and above 32 bits of a next id is not looked at.
 use Prim.Native.Nat.{ℕ, zero, suc, _+_, _-_, _*_, _/_, _%_}
-use mathlib.Core.Bool.{Bool, cond}
+use mathlib.Core.Bool.{Bool, cond as pick}
 use mathlib.Core.List.{List, [], _∷_, _++_}
 use lib.Dec.{ltb, eqb}
 use lib.ListN.{getD, drop}
@@ -32,11 +32,11 @@ unfoldable pub idsWord : Place → ℕ
 idsWord p = p .event * 4294967296 + p .provider
 
 unfoldable pub markWord : Place → ℕ → ℕ
-markWord p whose = cond (p .used) (whose * 2 + 1) (whose * 2)
+markWord p whose = pick (p .used) (whose * 2 + 1) (whose * 2)
 
 -- a board's word at a place, 65 being the last, with the board's place, channel and next id that it is of
 unfoldable pub wordOf : Place → ℕ → ℕ → ℕ → ℕ
-wordOf p whose next at = cond (ltb at 32) (idsWord p) (cond (ltb at 64) (markWord p whose) next)
+wordOf p whose next at = pick (ltb at 32) (idsWord p) (pick (ltb at 64) (markWord p whose) next)
 
 abbrev pub wordAt : SharedBoard → ℕ → ℕ
 wordAt b at = wordOf (getD (b .places) (at % 32) blankPlace) (getD (b .whose) (at % 32) 0) (getD (b .next) (at % 2) 0) at

@@ -8,31 +8,30 @@ use native.Mathlib.Omega.{arith}
 use lib.Dec.{eqb, ltb}
 use lib.ListN.{length, take}
 use borrow.Author.Tests.{leb-true, le-ltb}
-use Rattle.command.specs.Command.{array, countIn}
+use Rattle.command.specs.Command.{array, countIn, Tags}
 use Rattle.command.specs.Insert as insert
 use Rattle.command.specs.Insert.{count, immediate, programTime, insertOf}
 use Rattle.command.specs.declared.SpliceCommand.{SpliceCommand}
 use Rattle.command.specs.declared.components.ComponentSplice.{ComponentSplice}
-use Rattle.command.specs.declared.insert.Insert.{Insert}
-use Rattle.command.specs.declared.insert.Insertion.{Insertion}
+use Rattle.command.specs.declared.insert.InsertDetail.{InsertDetail}
 use Rattle.command.specs.declared.insert.SpliceInsert.{SpliceInsert}
+use Rattle.command.specs.declared.insert.SpliceDetail.{SpliceDetail}
 use Rattle.command.specs.declared.insert.SpliceMode.{SpliceMode}
 use Rattle.command_measure.proofs.Making.{measured-time, measured-parts, private-fields, private-inside, insert-cancelled, insert-active, command-insert, command-time, command-private}
 use Rattle.command_measure.proofs.Surveys.{survey-fits}
 use Rattle.command_measure.specs.Fields.{immediateIn}
 use Rattle.command_measure.specs.Made.{timesFit, commandMade, measuredOf}
 use Rattle.command_measure.specs.Survey.{surveyed, modeBytes, breakBytes, measured, activeMeasured, timeBytes}
-use Rattle.command.specs.Command.{Tags}
 use Rattle.c_section.specs.FlatCommand.{flatCommand}
 use Rattle.splice_time.specs.Time.{ticks}
 use Rattle.splice_time.specs.declared.SpliceTime.{SpliceTime}
 use Rattle.bit_stores.specs.Written.{bytesIn}
 use Rattle.table.proofs.Lists.{zero-one, and-true}
 use Rattle.table.specs.Writing.{Made, made, refused}
-use Rattle.c_command_writer.specs.CommandGiven.{commandGiven, componentFrom, componentsFrom, splicesWithin, ownComponent, ownSplices, commandRefusal, commandWordsMade}
+use Rattle.c_command_writer.specs.CommandGiven.{commandGiven, componentFrom, componentsFrom, splicesWithin, ownComponent, ownSplices, wordsRefusal, commandRefusal, commandWordsMade}
 use Rattle.c_command_writer.specs.CommandWords.{commandWords, commandWidths, splicesIn, componentWidths, placesGiven, CommandIs, commandSeen, commandFits, CommandAnswer, outside, over, nobodys, its}
-use Rattle.c_command_writer.specs.Words.{within, same, placesOf, eachPlace, refusalOf, lowest, noLess}
-use Rattle.c_command_writer.proofs.Arrays.{array-take, array-there}
+use Rattle.c_command_writer.specs.Words.{within, same, placesOf, eachPlace, refusalOf, seenFirst, lowest, noLess}
+use Rattle.command.proofs.Arrays.{array-take, array-there}
 use Rattle.c_command_writer.proofs.Fits.{over-or-fits, fit-within}
 use Rattle.c_command_writer.proofs.Given.{own-given, given-typed, places-tags, Small, given-small, places-fit, given-count, own-places, places-own, seenBy, given-seen, own-seen}
 use Rattle.c_command_writer.proofs.Words.{places-length}
@@ -47,15 +46,19 @@ pub late-lowest : (n : ℕ) (m : Made) → Late n m → lowest n m ≡ n
 late-lowest n (made b) h = refl
 late-lowest n (refused k) h = rw (le-ltb k n h)
 
-measured-late : (fits fair : Bool) (size : ℕ) (m : Made) → 0 < size → measured fits fair size ≡ measuredOf m → Late 32 m × (fits ≡ true → Late 33 m)
+pub late-31 : (m : Made) → Late 32 m → Late 31 m
+late-31 (made b) h = tt
+late-31 (refused k) h = omega arith
+
+measured-late : (fits writable : Bool) (size : ℕ) (m : Made) → 0 < size → measured fits writable size ≡ measuredOf m → Late 32 m × (fits ≡ true → Late 33 m)
 unfolding bytesIn
-measured-late fits fair size (made b) h e = (tt, λ t. tt)
-measured-late fits fair size (refused k) h e = go fits fair (measured-parts (measured fits fair size) (refused k) e)
+measured-late fits writable size (made b) h e = (tt, λ t. tt)
+measured-late fits writable size (refused k) h e = go fits writable (measured-parts (measured fits writable size) (refused k) e)
   where
-    go : (fits fair : Bool) → (measured fits fair size .refusal ≡ k) × (measured fits fair size .size ≡ 0) → (32 ≤ k) × (fits ≡ true → 33 ≤ k)
+    go : (fits writable : Bool) → (measured fits writable size .refusal ≡ k) × (measured fits writable size .size ≡ 0) → (32 ≤ k) × (fits ≡ true → 33 ≤ k)
     go true true p = absurd (omega (arith, p .1))
     go true false p = (omega (arith, p .0), λ t. omega (arith, p .0))
-    go false fair p = (omega (arith, p .0), λ t. zero-one cc)
+    go false writable p = (omega (arith, p .0), λ t. zero-one cc)
 
 -- ---- a command whose view, if it has one, lies in the lent bytes is not refused with 31; nor with 32, if its numbers fit
 time-bytes : (t : SpliceTime) → 0 < timeBytes false t
@@ -71,16 +74,16 @@ module _ (places : List ComponentSplice) (lent : List ℕ) where
   abbrev Last : SpliceCommand → Type 0
   Last c = Late 32 (commandMade c places lent) × (Small c → timesFit (take (countIn c) places) ≡ true → Late 33 (commandMade c places lent))
 
-  insert-late : (event kept : ℕ) (d : SpliceInsert) → event < 2 ^ 32 → TypedDetail d → count (insertOf d .«splice_mode») ≤ length places → Tags (take (count (insertOf d .«splice_mode»)) places)
+  insert-late : (event kept : ℕ) (d : SpliceDetail) → event < 2 ^ 32 → TypedDetail d → count (insertOf d .«splice_mode») ≤ length places → Tags (take (count (insertOf d .«splice_mode»)) places)
       → Last (SpliceCommand.SpliceInsert (record { «splice_event_id» = event; reserved = kept; «splice_detail» = d }))
   unfolding activeMeasured
-  insert-late event kept SpliceInsert.Cancel v h there tags =
-      let i : Insertion = record { «splice_event_id» = event; reserved = kept; «splice_detail» = SpliceInsert.Cancel } in
+  insert-late event kept SpliceDetail.Cancel v h there tags =
+      let i : SpliceInsert = record { «splice_event_id» = event; reserved = kept; «splice_detail» = SpliceDetail.Cancel } in
       let c = SpliceCommand.SpliceInsert i in
       let m = measured-late (ltb kept 128) (eqb kept 127) 5 (commandMade c places lent) (omega arith) (insert-cancelled i places refl v ∙ command-insert c places lent i refl) in
       (m .0, λ s t. m .1 (s .0))
-  insert-late event kept (SpliceInsert.Insert x) v h there tags =
-      let i : Insertion = record { «splice_event_id» = event; reserved = kept; «splice_detail» = SpliceInsert.Insert x } in
+  insert-late event kept (SpliceDetail.Insert x) v h there tags =
+      let i : SpliceInsert = record { «splice_event_id» = event; reserved = kept; «splice_detail» = SpliceDetail.Insert x } in
       let c = SpliceCommand.SpliceInsert i in
       let cs = take (count (x .«splice_mode»)) places in
       let size = 10 + modeBytes (x .«splice_mode») (surveyed (immediateIn x cs) cs .bytes) + breakBytes (x .duration) in
@@ -113,11 +116,9 @@ module _ (places : List ComponentSplice) (lent : List ℕ) where
   unseen-made (SpliceCommand.PrivateCommand p) e = rw (private-fields p lent, e)
 
 -- ---- the words' own refusal beside that of the value
-pub refused-31 : (fits own : Bool) → noLess (refusalOf fits own) (refused 31) ≡ refused 31
+pub refused-31 : (m : Made) → Late 31 m → noLess 31 m ≡ refused 31
 unfolding noLess
-refused-31 true true = refl
-refused-31 true false = refl
-refused-31 false own = refl
+refused-31 m h = ap refused (late-lowest 31 m h)
 
 pub refused-32 : (fits own : Bool) (m : Made) → fits ≡ false → Late 32 m → noLess (refusalOf fits own) m ≡ refused 32
 unfolding noLess
@@ -147,9 +148,12 @@ module _ (words components lent : List ℕ) where
   abbrev pub own : Bool
   own = same (commandWords (flatCommand given)) words && ownSplices (countIn given) components
 
-  words-made : commandWordsMade words components lent ≡ noLess (refusalOf fits own) whole
-  unfolding commandWordsMade commandRefusal componentsFrom
+  words-made : commandWordsMade words components lent ≡ noLess (seenFirst (commandSeen words lent) (refusalOf fits own)) whole
+  unfolding commandWordsMade commandRefusal wordsRefusal componentsFrom
   words-made = refl
+
+  words-seen : commandSeen words lent ≡ true → commandWordsMade words components lent ≡ noLess (refusalOf fits own) whole
+  words-seen e = words-made ∙ rw e
 
   pub fits-are : commandFits words components ≡ fits
   unfolding commandFits splicesWithin
@@ -162,28 +166,35 @@ module _ (words components lent : List ℕ) where
   listed-length : length listed ≡ countIn given
   listed-length = places-length componentFrom 3 (countIn given) (splicesIn components)
 
-  pub given-late : commandSeen words lent ≡ true → Late 32 whole × (fits ≡ true → Late 33 whole)
+  value-late : seenBy given lent ≡ true → Late 32 whole × (fits ≡ true → Late 33 whole)
   unfolding splicesWithin
-  given-late e =
+  value-late e =
       let t : take (countIn given) (array listed) ≡ listed = array-take listed (countIn given) listed-length in
-      let l = command-late (array listed) lent given (given-typed words) (array-there listed (countIn given) listed-length) (rw t (places-tags (countIn given) (splicesIn components))) (sym (given-seen words lent) ∙ e) in
+      let l = command-late (array listed) lent given (given-typed words) (array-there listed (countIn given) listed-length) (rw t (places-tags (countIn given) (splicesIn components))) e in
       (l .0, λ f. let a = and-true (within commandWidths words) (splicesWithin (countIn given) components) f in l .1 (given-small words (a .0)) (rw t (places-fit (countIn given) (splicesIn components) (a .1))))
 
-  pub given-unseen : commandSeen words lent ≡ false → whole ≡ refused 31
-  given-unseen e = unseen-made (array listed) lent given (sym (given-seen words lent) ∙ e)
+  pub given-late : commandSeen words lent ≡ true → Late 32 whole × (fits ≡ true → Late 33 whole)
+  given-late e = value-late (given-seen words lent e)
+
+  any-late : Late 31 whole
+  any-late = go (seenBy given lent) refl
+    where
+      go : (s : Bool) → seenBy given lent ≡ s → Late 31 whole
+      go true e = late-31 whole (value-late e .0)
+      go false e = rw (unseen-made (array listed) lent given e) (omega arith)
 
   -- ---- by each case
   made-outside : commandSeen words lent ≡ false → commandWordsMade words components lent ≡ refused 31
-  made-outside e = words-made ∙ ap (noLess (refusalOf fits own)) (given-unseen e) ∙ refused-31 fits own
+  made-outside e = words-made ∙ rw e (refused-31 whole any-late)
 
   made-over : commandSeen words lent ≡ true → commandFits words components ≡ false → commandWordsMade words components lent ≡ refused 32
-  made-over e f = words-made ∙ refused-32 fits own whole (sym fits-are ∙ f) (given-late e .0)
+  made-over e f = words-seen e ∙ refused-32 fits own whole (sym fits-are ∙ f) (given-late e .0)
 
   made-other : commandSeen words lent ≡ true → commandFits words components ≡ true → own ≡ false → commandWordsMade words components lent ≡ refused 33
-  made-other e f g = words-made ∙ refused-33 fits own whole (sym fits-are ∙ f) g (given-late e .1 (sym fits-are ∙ f))
+  made-other e f g = words-seen e ∙ refused-33 fits own whole (sym fits-are ∙ f) g (given-late e .1 (sym fits-are ∙ f))
 
-  made-own : commandFits words components ≡ true → own ≡ true → commandWordsMade words components lent ≡ whole
-  made-own f g = words-made ∙ unrefused fits own whole (sym fits-are ∙ f) g
+  made-own : commandSeen words lent ≡ true → commandFits words components ≡ true → own ≡ true → commandWordsMade words components lent ≡ whole
+  made-own e f g = words-seen e ∙ unrefused fits own whole (sym fits-are ∙ f) g
 
   -- ---- their own value
   pub given-is : own ≡ true → CommandIs words components given listed
@@ -208,7 +219,7 @@ module _ (words components lent : List ℕ) where
       go false e f g o h = rw (made-outside e) (outside e)
       go true e false g o h = rw (made-over e g) (over e g)
       go true e true g false h = rw (made-other e g h) (nobodys e g (λ c cs i. let z = is-given c cs i g .2 in zero-one cc))
-      go true e true g true h = rw (made-own g h) (its given listed (given-is h))
+      go true e true g true h = rw (made-own e g h) (its given listed (given-is h))
 
   -- ---- a value whose words they are is refused with 31 and with 32 where they are
   pub is-unseen : (c : SpliceCommand) (cs : List ComponentSplice) → CommandIs words components c cs → commandSeen words lent ≡ false → commandMade c (array cs) lent ≡ refused 31
@@ -228,7 +239,7 @@ module _ (words components lent : List ℕ) where
         go true e false g = is-over c cs h e g ∙ sym (made-over e g)
         go true e true g =
             let i = is-given c cs h g in
-            ap₂ (λ (d : SpliceCommand) (l : List ComponentSplice). commandMade d (array l) lent) (sym (i .0)) (sym (i .1)) ∙ sym (made-own g (i .2))
+            ap₂ (λ (d : SpliceCommand) (l : List ComponentSplice). commandMade d (array l) lent) (sym (i .0)) (sym (i .1)) ∙ sym (made-own e g (i .2))
 
     -- so nothing else is an answer
     pub answer-is : (m : Made) → CommandAnswer words components lent m → m ≡ commandWordsMade words components lent

@@ -5,11 +5,11 @@ use native.Mathlib.Nat.{mod-eq-of-lt}
 use lib.Dec.{eqb}
 use Rattle.command.specs.declared.SpliceCommand.{SpliceCommand}
 use Rattle.command.specs.declared.insert.Break.{Break}
-use Rattle.command.specs.declared.insert.Insert.{Insert}
-use Rattle.command.specs.declared.insert.SpliceInsert.{SpliceInsert}
+use Rattle.command.specs.declared.insert.InsertDetail.{InsertDetail}
+use Rattle.command.specs.declared.insert.SpliceDetail.{SpliceDetail}
 use Rattle.command.specs.declared.insert.SpliceMode.{SpliceMode}
 use Rattle.c_section.specs.Flat.{flatTime}
-use Rattle.c_section.specs.FlatCommand.{flatMode, flatBreak, wholeInsert, bareInsert, flatDetail, flatInsertion, noCommand, flatCommand}
+use Rattle.c_section.specs.FlatCommand.{flatMode, flatBreak, wholeInsert, insertHead, flatDetail, flatInsertion, noCommand, flatCommand}
 use Rattle.c_section.specs.declared.commands.FlatCommand.{FlatCommand}
 use Rattle.splice_time.specs.declared.SpliceTime.{SpliceTime}
 use Rattle.names.specs.Flags.{networkFlag, returnFlag}
@@ -49,16 +49,16 @@ unfolding breakFrom flatBreak
 break-back Break.Absent = refl
 break-back (Break.Lasts d) = rw (return-back (d .«return_mode»))
 
-insert-back : (event reserved : ℕ) (i : Insert) → TypedDetail (SpliceInsert.Insert i) → insertFrom (wholeInsert event 0 reserved i) ≡ i
+insert-back : (event reserved : ℕ) (i : InsertDetail) → TypedDetail (SpliceDetail.Insert i) → insertFrom (wholeInsert event 0 reserved i) ≡ i
 unfolding insertFrom wholeInsert
 insert-back event reserved i h =
     rw (network-back (i .«network_indicator»), mode-back (i .«splice_mode») (h .3), break-back (i .duration), mod-eq-of-lt (h .0), mod-eq-of-lt (h .1), mod-eq-of-lt (h .2))
 
-detail-back : (event reserved : ℕ) (d : SpliceInsert) → event < 2 ^ 32 → reserved < 256 → TypedDetail d
+detail-back : (event reserved : ℕ) (d : SpliceDetail) → event < 2 ^ 32 → reserved < 256 → TypedDetail d
     → insertionFrom (flatDetail event reserved d) ≡ record { «splice_event_id» = event; reserved = reserved; «splice_detail» = d }
-unfolding insertionFrom bareInsert wholeInsert
-detail-back event reserved SpliceInsert.Cancel e r h = rw (mod-eq-of-lt e, mod-eq-of-lt r)
-detail-back event reserved (SpliceInsert.Insert i) e r h = rw (mod-eq-of-lt e, mod-eq-of-lt r, insert-back event reserved i h)
+unfolding insertionFrom insertHead wholeInsert
+detail-back event reserved SpliceDetail.Cancel e r h = rw (mod-eq-of-lt e, mod-eq-of-lt r)
+detail-back event reserved (SpliceDetail.Insert i) e r h = rw (mod-eq-of-lt e, mod-eq-of-lt r, insert-back event reserved i h)
 
 from-back : (c : SpliceCommand) → Typed c → commandFrom (flatCommand c) ≡ c
 unfolding commandFrom flatCommand noCommand flatInsertion

@@ -8,25 +8,24 @@ use native.Mathlib.Omega.{arith}
 use lib.Dec.{eqb, ltb}
 use lib.ListN.{length, drop}
 use borrow.Author.Tests.{ltb-true, lt-ltb, leb-true}
-use Rattle.command.specs.Command.{array, countIn}
-use Rattle.command.specs.Fair.{fairInsert}
+use Rattle.command.specs.Command.{array, countIn, Tags}
+use Rattle.command.specs.Writable.{writableInsert}
 use Rattle.command.specs.Insert as insert
 use Rattle.command.specs.Insert.{WithComponents, count, programTime, immediate, allImmediate, insertOf, byProgram, lasting, outOfNetwork}
 use Rattle.command.specs.declared.SpliceCommand.{SpliceCommand}
 use Rattle.command.specs.declared.components.ComponentSplice.{ComponentSplice}
 use Rattle.command.specs.declared.insert.Break.{Break}
-use Rattle.command.specs.declared.insert.Insert.{Insert}
-use Rattle.command.specs.declared.insert.Insertion.{Insertion}
+use Rattle.command.specs.declared.insert.InsertDetail.{InsertDetail}
 use Rattle.command.specs.declared.insert.SpliceInsert.{SpliceInsert}
+use Rattle.command.specs.declared.insert.SpliceDetail.{SpliceDetail}
 use Rattle.command.specs.declared.insert.SpliceMode.{SpliceMode}
 use Rattle.command_measure.proofs.Making.{measured-time, measured-parts, private-fields, command-time, plain-seen, plain-active, within-append, within-unless, within-break}
 use Rattle.command_measure.proofs.Ties.{insert-fields}
 use Rattle.command_measure.specs.Fields.{unlessFields, listFields, modeFields, breakFields, tailFields, endFields, immediateIn, insertFields}
 use Rattle.command_measure.specs.Made.{timesFit, insertMade, commandMade, measuredOf}
 use Rattle.command_measure.specs.Survey.{measured, timeBytes}
-use Rattle.command.specs.Command.{Tags}
 use Rattle.c_section.specs.Flat.{flatTime}
-use Rattle.c_section.specs.FlatCommand.{flatMode, flatBreak, wholeInsert, bareInsert, flatInsertion, noCommand, flatCommand, flatComponent}
+use Rattle.c_section.specs.FlatCommand.{flatMode, flatBreak, wholeInsert, insertHead, flatInsertion, noCommand, flatCommand, flatComponent}
 use Rattle.splice_time.specs.Time.{ticks}
 use Rattle.splice_time.specs.declared.SpliceTime.{SpliceTime}
 use Rattle.names.specs.Flags.{networkFlag, returnFlag}
@@ -39,7 +38,7 @@ use Rattle.table.specs.Writing as writing
 use Rattle.table.specs.Writing.{Field, walk, seen, Made, made, refused, makeOf}
 use Rattle.c_command_writer.specs.CommandWords.{commandWords, commandWidths, componentWords, componentWidths, placesWords, splicesIn, placesGiven, CommandIs, commandFits}
 use Rattle.c_command_writer.specs.Words.{word, within, same, eachPlace}
-use Rattle.c_command_writer.proofs.Arrays.{array-take}
+use Rattle.command.proofs.Arrays.{array-take}
 use Rattle.c_command_writer.proofs.Given.{same-at, same-append, within-same, SmallDetail, Small, seenBy}
 use Rattle.c_command_writer.proofs.Typed.{TypedMode, TypedDetail, Typed}
 
@@ -59,8 +58,8 @@ mode-fits b (SpliceMode.Components n) cs f e w =
     let a = and-true (ltb n (2 ^ 8)) _ w in
     (ltb-true _ _ (a .0), list-tags b cs (a .1), refl)
 
-active-fits : (i : Insert) (cs : List ComponentSplice) → length cs ≡ count (i .«splice_mode») → writing.within (modeFields (immediateIn i cs) (i .«splice_mode») cs ++ endFields i) ≡ true
-    → TypedDetail (SpliceInsert.Insert i) × SmallDetail (SpliceInsert.Insert i) × Tags cs
+active-fits : (i : InsertDetail) (cs : List ComponentSplice) → length cs ≡ count (i .«splice_mode») → writing.within (modeFields (immediateIn i cs) (i .«splice_mode») cs ++ endFields i) ≡ true
+    → TypedDetail (SpliceDetail.Insert i) × SmallDetail (SpliceDetail.Insert i) × Tags cs
 active-fits i cs e w =
     let m = modeFields (immediateIn i cs) (i .«splice_mode») cs in
     let d = breakFields (i .duration) in
@@ -73,19 +72,19 @@ active-fits i cs e w =
     let k = mode-fits (immediateIn i cs) (i .«splice_mode») cs refl e (a .0) in
     ((ltb-true _ _ (p .0), ltb-true _ _ (q .0), ltb-true _ _ (s .0), k .0), (k .2, sym (within-break (i .duration)) ∙ r .0), k .1)
 
-abbrev insertion : ℕ → ℕ → SpliceInsert → Insertion
+abbrev insertion : ℕ → ℕ → SpliceDetail → SpliceInsert
 insertion event kept d = record { «splice_event_id» = event; reserved = kept; «splice_detail» = d }
 
-insert-fits : (event kept : ℕ) (d : SpliceInsert) (cs : List ComponentSplice) → length cs ≡ count (insertOf d .«splice_mode»)
+insert-fits : (event kept : ℕ) (d : SpliceDetail) (cs : List ComponentSplice) → length cs ≡ count (insertOf d .«splice_mode»)
     → writing.within (insertFields (record { value = insertion event kept d; components = cs })) ≡ true
     → Typed (SpliceCommand.SpliceInsert (insertion event kept d)) × Small (SpliceCommand.SpliceInsert (insertion event kept d)) × Tags cs
-insert-fits event kept SpliceInsert.Cancel [] e w =
+insert-fits event kept SpliceDetail.Cancel [] e w =
     let a = and-true (ltb event (2 ^ 32)) _ w in
     let c = and-true (ltb kept (2 ^ 7)) _ (a .1) in
     let k = ltb-true kept (2 ^ 7) (c .0) in
     ((ltb-true _ _ (a .0), omega (arith, k), tt), (c .0, tt), tt)
-insert-fits event kept SpliceInsert.Cancel (c ∷ cs) e w = absurd (omega arith)
-insert-fits event kept (SpliceInsert.Insert i) cs e w =
+insert-fits event kept SpliceDetail.Cancel (c ∷ cs) e w = absurd (omega arith)
+insert-fits event kept (SpliceDetail.Insert i) cs e w =
     let a = and-true (ltb event (2 ^ 32)) _ w in
     let c = and-true (ltb kept (2 ^ 7)) _ (a .1) in
     let k = ltb-true kept (2 ^ 7) (c .0) in
@@ -96,9 +95,9 @@ insert-fits event kept (SpliceInsert.Insert i) cs e w =
     let t = active-fits i cs e (f₄ .1) in
     ((ltb-true _ _ (a .0), omega (arith, k), t .0), (c .0, t .1), t .2)
 
-insert-seen : (event kept : ℕ) (d : SpliceInsert) (cs : List ComponentSplice) → seen [] (insertFields (record { value = insertion event kept d; components = cs })) ≡ true
-insert-seen event kept SpliceInsert.Cancel cs = refl
-insert-seen event kept (SpliceInsert.Insert i) cs = plain-seen [] (insertFields (record { value = insertion event kept (SpliceInsert.Insert i); components = cs })) (plain-active i cs)
+insert-seen : (event kept : ℕ) (d : SpliceDetail) (cs : List ComponentSplice) → seen [] (insertFields (record { value = insertion event kept d; components = cs })) ≡ true
+insert-seen event kept SpliceDetail.Cancel cs = refl
+insert-seen event kept (SpliceDetail.Insert i) cs = plain-seen [] (insertFields (record { value = insertion event kept (SpliceDetail.Insert i); components = cs })) (plain-active i cs)
 
 -- ---- a command is refused with 32, or its numbers fit
 pub record Fit (c : SpliceCommand) (cs : List ComponentSplice) : Type 0 where
@@ -107,19 +106,19 @@ pub record Fit (c : SpliceCommand) (cs : List ComponentSplice) : Type 0 where
   pub tags : Tags cs
   pub times : timesFit cs ≡ true
 
-measured-over : (fits fair : Bool) (size : ℕ) (m : Made) → fits ≡ false → measured fits fair size ≡ measuredOf m → m ≡ refused 32
-measured-over fits fair size m e f = go m (measured-parts (measured fits fair size) m f .0)
+measured-over : (fits writable : Bool) (size : ℕ) (m : Made) → fits ≡ false → measured fits writable size ≡ measuredOf m → m ≡ refused 32
+measured-over fits writable size m e f = go m (measured-parts (measured fits writable size) m f .0)
   where
-    go : (m : Made) → measured fits fair size .refusal ≡ writing.refusalIn m → m ≡ refused 32
-    go (made b) g = let z : measured fits fair size .refusal ≡ 32 = rw e in absurd (omega arith)
-    go (refused k) g = let z : measured fits fair size .refusal ≡ 32 = rw e in ap refused (sym g ∙ z)
+    go : (m : Made) → measured fits writable size .refusal ≡ writing.refusalIn m → m ≡ refused 32
+    go (made b) g = let z : measured fits writable size .refusal ≡ 32 = rw e in absurd (omega arith)
+    go (refused k) g = let z : measured fits writable size .refusal ≡ 32 = rw e in ap refused (sym g ∙ z)
 
-insert-or : (event kept : ℕ) (d : SpliceInsert) (cs : List ComponentSplice) → length cs ≡ count (insertOf d .«splice_mode»)
+insert-or : (event kept : ℕ) (d : SpliceDetail) (cs : List ComponentSplice) → length cs ≡ count (insertOf d .«splice_mode»)
     → (insertMade (record { value = insertion event kept d; components = cs }) ≡ refused 32) ⊎ Fit (SpliceCommand.SpliceInsert (insertion event kept d)) cs
 unfolding insertMade
 insert-or event kept d cs e = go (timesFit cs) refl (writing.within fs) refl
   where
-    x : WithComponents Insertion
+    x : WithComponents SpliceInsert
     x = record { value = insertion event kept d; components = cs }
 
     fs : List Field
@@ -129,7 +128,7 @@ insert-or event kept d cs e = go (timesFit cs) refl (writing.within fs) refl
     is = insert-fields event kept d cs e
 
     go : (t : Bool) → timesFit cs ≡ t → (w : Bool) → writing.within fs ≡ w
-        → (pick (timesFit cs) (makeOf (fairInsert x) [] fs) (refused 32) ≡ refused 32) ⊎ Fit (SpliceCommand.SpliceInsert (insertion event kept d)) cs
+        → (pick (timesFit cs) (makeOf (writableInsert x) [] fs) (refused 32) ≡ refused 32) ⊎ Fit (SpliceCommand.SpliceInsert (insertion event kept d)) cs
     go false f w g = inl (rw f)
     go true f false g = inl (rw (f, ap (seen []) is ∙ insert-seen event kept d cs, g))
     go true f true g =
@@ -189,15 +188,15 @@ unfolding flatBreak
 break-within Break.Absent e = (refl, refl, refl)
 break-within (Break.Lasts d) e = (refl, return-within (d .«return_mode»), e)
 
-cancel-within : (event kept : ℕ) → event < 2 ^ 32 → ltb kept (2 ^ 7) ≡ true → within commandWidths (commandWords (flatCommand (SpliceCommand.SpliceInsert (insertion event kept SpliceInsert.Cancel)))) ≡ true
-unfolding within commandWidths commandWords flatCommand flatInsertion wholeInsert bareInsert flatMode flatBreak
+cancel-within : (event kept : ℕ) → event < 2 ^ 32 → ltb kept (2 ^ 7) ≡ true → within commandWidths (commandWords (flatCommand (SpliceCommand.SpliceInsert (insertion event kept SpliceDetail.Cancel)))) ≡ true
+unfolding within commandWidths commandWords flatCommand flatInsertion wholeInsert insertHead flatMode flatBreak
 cancel-within event kept h e = rw (lt-ltb event (2 ^ 32) h, e)
 
-insert-within : (event kept : ℕ) (d : SpliceInsert) → Typed (SpliceCommand.SpliceInsert (insertion event kept d)) → Small (SpliceCommand.SpliceInsert (insertion event kept d))
+insert-within : (event kept : ℕ) (d : SpliceDetail) → Typed (SpliceCommand.SpliceInsert (insertion event kept d)) → Small (SpliceCommand.SpliceInsert (insertion event kept d))
     → within commandWidths (commandWords (flatCommand (SpliceCommand.SpliceInsert (insertion event kept d)))) ≡ true
-unfolding within commandWidths commandWords flatCommand flatInsertion wholeInsert bareInsert flatBreak
-insert-within event kept SpliceInsert.Cancel t s = cancel-within event kept (t .0) (s .0)
-insert-within event kept (SpliceInsert.Insert i) t s =
+unfolding within commandWidths commandWords flatCommand flatInsertion wholeInsert insertHead flatBreak
+insert-within event kept SpliceDetail.Cancel t s = cancel-within event kept (t .0) (s .0)
+insert-within event kept (SpliceDetail.Insert i) t s =
     let m = mode-within (i .«splice_mode») (t .2 .3) (s .1 .0) in
     let b = break-within (i .duration) (s .1 .1) in
     rw (
@@ -217,7 +216,7 @@ insert-within event kept (SpliceInsert.Insert i) t s =
     )
 
 command-within : (lent : List ℕ) (c : SpliceCommand) → length lent < 2 ^ 64 → seenBy c lent ≡ true → Typed c → Small c → within commandWidths (commandWords (flatCommand c)) ≡ true
-unfolding within commandWidths commandWords flatCommand noCommand wholeInsert bareInsert flatMode flatBreak
+unfolding within commandWidths commandWords flatCommand noCommand wholeInsert insertHead flatMode flatBreak
 command-within lent SpliceCommand.SpliceNull l e t s = refl
 command-within lent (SpliceCommand.SpliceInsert x) l e t s = insert-within (x .«splice_event_id») (x .reserved) (x .«splice_detail») t s
 command-within lent (SpliceCommand.TimeSignal x) l e t s = let w = time-within x s in rw (w .0, w .1)
@@ -241,7 +240,7 @@ components-within (c ∷ cs) words t f e =
 
 -- ---- a command's own words say how many components it has
 pub own-count : (c : SpliceCommand) (words : List ℕ) → same (commandWords (flatCommand c)) words ≡ true → placesGiven words ≡ countIn c
-unfolding commandWords flatCommand noCommand flatInsertion wholeInsert bareInsert flatMode
+unfolding commandWords flatCommand noCommand flatInsertion wholeInsert insertHead flatMode
 own-count c words e =
     let w : (i : ℕ) → i < 21 → word words i ≡ word (commandWords (flatCommand c)) i = same-at (commandWords (flatCommand c)) words e in
     rw (w 1 (omega arith), w 3 (omega arith), w 6 (omega arith), w 9 (omega arith)) (go c)
@@ -250,9 +249,9 @@ own-count c words e =
     mode (SpliceMode.Program t) = refl
     mode (SpliceMode.Components n) = refl
 
-    detail : (event kept : ℕ) (d : SpliceInsert) → placesGiven (commandWords (flatCommand (SpliceCommand.SpliceInsert (insertion event kept d)))) ≡ count (insertOf d .«splice_mode»)
-    detail event kept SpliceInsert.Cancel = refl
-    detail event kept (SpliceInsert.Insert i) = mode (i .«splice_mode»)
+    detail : (event kept : ℕ) (d : SpliceDetail) → placesGiven (commandWords (flatCommand (SpliceCommand.SpliceInsert (insertion event kept d)))) ≡ count (insertOf d .«splice_mode»)
+    detail event kept SpliceDetail.Cancel = refl
+    detail event kept (SpliceDetail.Insert i) = mode (i .«splice_mode»)
 
     go : (c : SpliceCommand) → placesGiven (commandWords (flatCommand c)) ≡ countIn c
     go SpliceCommand.SpliceNull = refl

@@ -8,19 +8,19 @@ use native.Mathlib.Omega.{arith}
 use lib.Dec.{eqb, ltb, leb, lit<}
 use lib.ListN.{length, getD, drop}
 use lib.Seq.{getD-drop, drop-drop}
-use borrow.Author.Tests.{ltb-true, lt-ltb, eqb-true, eqb-false, ne-eqb}
+use borrow.Author.Tests.{ltb-true, lt-ltb, le-leb, eqb-true, eqb-false, ne-eqb}
 use Rattle.command.specs.Command.{countIn, ofPrivate}
 use Rattle.command.specs.Insert as insert
 use Rattle.command.specs.Insert.{programTime}
 use Rattle.command.specs.declared.SpliceCommand.{SpliceCommand}
 use Rattle.command.specs.declared.components.ComponentSplice.{ComponentSplice}
 use Rattle.command.specs.declared.insert.Break.{Break}
-use Rattle.command.specs.declared.insert.Insert.{Insert}
-use Rattle.command.specs.declared.insert.SpliceInsert.{SpliceInsert}
+use Rattle.command.specs.declared.insert.InsertDetail.{InsertDetail}
+use Rattle.command.specs.declared.insert.SpliceDetail.{SpliceDetail}
 use Rattle.command.specs.declared.insert.SpliceMode.{SpliceMode}
 use Rattle.command_measure.specs.Made.{timesFit}
 use Rattle.command.specs.Command.{Tags}
-use Rattle.c_section.specs.FlatCommand.{flatMode, wholeInsert, bareInsert, flatInsertion, noCommand, flatCommand, flatComponent}
+use Rattle.c_section.specs.FlatCommand.{flatMode, wholeInsert, insertHead, flatInsertion, noCommand, flatCommand, flatComponent}
 use Rattle.c_section.specs.declared.FlatTime.{FlatTime}
 use Rattle.c_section.specs.declared.commands.FlatCommand.{FlatCommand}
 use Rattle.c_section.specs.declared.commands.FlatInsert.{FlatInsert}
@@ -102,7 +102,7 @@ own-in f words e =
 
 -- its numbers are of their types if the words are within their widths
 own-typed : (c : SpliceCommand) → within commandWidths (commandWords (flatCommand c)) ≡ true → Typed c
-unfolding commandWidths commandWords flatCommand flatInsertion wholeInsert bareInsert flatMode
+unfolding commandWidths commandWords flatCommand flatInsertion wholeInsert insertHead flatMode
 own-typed SpliceCommand.SpliceNull h = tt
 own-typed (SpliceCommand.SpliceInsert x) h = go (x .«splice_event_id») (x .reserved) (x .«splice_detail») h
   where
@@ -110,12 +110,12 @@ own-typed (SpliceCommand.SpliceInsert x) h = go (x .«splice_event_id») (x .res
     mode (SpliceMode.Program t) h = tt
     mode (SpliceMode.Components n) h = h
 
-    go : (event kept : ℕ) (d : SpliceInsert) → within commandWidths (commandWords (flatCommand (SpliceCommand.SpliceInsert (record { «splice_event_id» = event; reserved = kept; «splice_detail» = d })))) ≡ true
+    go : (event kept : ℕ) (d : SpliceDetail) → within commandWidths (commandWords (flatCommand (SpliceCommand.SpliceInsert (record { «splice_event_id» = event; reserved = kept; «splice_detail» = d })))) ≡ true
         → (event < 2 ^ 32) × (kept < 256) × TypedDetail d
-    go event kept SpliceInsert.Cancel h =
+    go event kept SpliceDetail.Cancel h =
         let w = within-at commandWidths _ h in
         (w 2 (omega arith), omega (arith, w 4 (omega arith)), tt)
-    go event kept (SpliceInsert.Insert i) h =
+    go event kept (SpliceDetail.Insert i) h =
         let w = within-at commandWidths _ h in
         (w 2 (omega arith), omega (arith, w 4 (omega arith)), (w 13 (omega arith), w 14 (omega arith), w 15 (omega arith), mode (i .«splice_mode») (w 9 (omega arith))))
 own-typed (SpliceCommand.TimeSignal t) h = tt
@@ -129,7 +129,7 @@ own-given c words w e =
     ∙ command-back c (own-typed c (sym (within-same commandWidths (commandWords (flatCommand c)) words refl e) ∙ w))
 
 -- ---- by its kind: what holds of the command of each kind that the words may make
-from-kinds : (P : SpliceCommand → Type 0) (f : FlatCommand)
+from-types : (P : SpliceCommand → Type 0) (f : FlatCommand)
     → (f .«splice_command_type» ≡ 0x05 → P (SpliceCommand.SpliceInsert (insertionFrom (f .insert))))
     → (f .«splice_command_type» ≡ 0x06 → P (SpliceCommand.TimeSignal (timeFrom (f .«splice_time»))))
     → (f .«splice_command_type» ≡ 0x07 → P SpliceCommand.BandwidthReservation)
@@ -137,7 +137,7 @@ from-kinds : (P : SpliceCommand → Type 0) (f : FlatCommand)
     → ((f .«splice_command_type» ≡ 0x05 → ⊥) → (f .«splice_command_type» ≡ 0xff → ⊥) → P SpliceCommand.SpliceNull)
     → P (commandFrom f)
 unfolding commandFrom
-from-kinds P f insert time bandwidth private null = go (eqb k 0x05) refl (eqb k 0x06) refl (eqb k 0x07) refl (eqb k 0xff) refl
+from-types P f insert time bandwidth private null = go (eqb k 0x05) refl (eqb k 0x06) refl (eqb k 0x07) refl (eqb k 0xff) refl
   where
     k : ℕ
     k = f .«splice_command_type»
@@ -155,7 +155,7 @@ from-kinds P f insert time bandwidth private null = go (eqb k 0x05) refl (eqb k 
 below : (x m : ℕ) → 0 < m → x % m < m
 below x m h = mod-lt x {m = m} h
 
-detail-typed : (i : FlatInsert) (b : Bool) → TypedDetail (pick b SpliceInsert.Cancel (SpliceInsert.Insert (insertFrom i)))
+detail-typed : (i : FlatInsert) (b : Bool) → TypedDetail (pick b SpliceDetail.Cancel (SpliceDetail.Insert (insertFrom i)))
 unfolding insertFrom modeFrom
 detail-typed i true = tt
 detail-typed i false = (below _ 65536 (lit< tt), below _ 256 (lit< tt), below _ 256 (lit< tt), mode (eqb (i .mode .«program_splice_flag») 1))
@@ -168,7 +168,7 @@ pub given-typed : (words : List ℕ) → Typed (commandGiven words)
 unfolding insertionFrom
 given-typed words =
     let f = commandIn words in
-    from-kinds (λ c. Typed c) f (λ e. (below _ (2 ^ 32) (lit< tt), below _ 256 (lit< tt), detail-typed (f .insert) (eqb (f .insert .«splice_event_cancel_indicator») 1))) (λ e. tt) (λ e. tt)
+    from-types (λ c. Typed c) f (λ e. (below _ (2 ^ 32) (lit< tt), below _ 256 (lit< tt), detail-typed (f .insert) (eqb (f .insert .«splice_event_cancel_indicator») 1))) (λ e. tt) (λ e. tt)
     (λ e. below _ (2 ^ 32) (lit< tt)) (λ a b. tt)
 
 pub places-tags : (n : ℕ) (words : List ℕ) → Tags (placesOf componentFrom 3 n words)
@@ -177,9 +177,9 @@ places-tags zero words = tt
 places-tags (suc n) words = (below _ 256 (lit< tt), places-tags n (drop 3 words))
 
 -- ---- and within their fields, if the words are within their widths
-abbrev pub SmallDetail : SpliceInsert → Type 0
-SmallDetail SpliceInsert.Cancel = Unit {0}
-SmallDetail (SpliceInsert.Insert i) = (ltb (ticks (programTime (i .«splice_mode»))) (2 ^ 33) ≡ true) × (ltb (insert.breakTicks (i .duration)) (2 ^ 33) ≡ true)
+abbrev pub SmallDetail : SpliceDetail → Type 0
+SmallDetail SpliceDetail.Cancel = Unit {0}
+SmallDetail (SpliceDetail.Insert i) = (ltb (ticks (programTime (i .«splice_mode»))) (2 ^ 33) ≡ true) × (ltb (insert.breakTicks (i .duration)) (2 ^ 33) ≡ true)
 
 abbrev pub Small : SpliceCommand → Type 0
 Small SpliceCommand.SpliceNull = Unit {0}
@@ -196,7 +196,7 @@ small-time t h = go (eqb (t .kind) 1) (eqb (t .kind) 3)
     go false true = lt-ltb _ _ h
     go false false = refl
 
-small-detail : (i : FlatInsert) → i .mode .«splice_time» .ticks < 2 ^ 33 → i .«break_duration» .duration < 2 ^ 33 → (b : Bool) → SmallDetail (pick b SpliceInsert.Cancel (SpliceInsert.Insert (insertFrom i)))
+small-detail : (i : FlatInsert) → i .mode .«splice_time» .ticks < 2 ^ 33 → i .«break_duration» .duration < 2 ^ 33 → (b : Bool) → SmallDetail (pick b SpliceDetail.Cancel (SpliceDetail.Insert (insertFrom i)))
 unfolding insertFrom modeFrom breakFrom
 small-detail i t d true = tt
 small-detail i t d false = (mode (eqb (i .mode .«program_splice_flag») 1), lasts (eqb (i .«break_duration» .«duration_flag») 1))
@@ -215,7 +215,7 @@ unfolding commandWidths insertionFrom commandIn insertIn modeIn breakIn
 given-small words h =
     let w : (i : ℕ) → i < 21 → word words i < 2 ^ getD commandWidths i 0 = within-at commandWidths words h in
     let k : word words 4 % 256 ≡ word words 4 = mod-eq-of-lt (omega (arith, w 4 (omega arith))) in
-    from-kinds (λ c. Small c) (commandIn words)
+    from-types (λ c. Small c) (commandIn words)
     (λ e. (lt-ltb (word words 4 % 256) 128 (omega (arith, k, w 4 (omega arith))), small-detail (insertIn words) (w 8 (omega arith)) (w 12 (omega arith)) (eqb (word words 3) 1)))
     (λ e. small-time (record { kind = word words 16; ticks = word words 17 }) (w 17 (omega arith))) (λ e. tt) (λ e. tt) (λ a b. tt)
 
@@ -230,7 +230,7 @@ places-fit (suc n) words e =
 pub given-count : (words : List ℕ) → within commandWidths words ≡ true → countIn (commandGiven words) ≡ placesGiven words
 unfolding commandWidths insertionFrom insertFrom modeFrom commandIn insertIn modeIn
 given-count words h =
-    from-kinds (λ c. countIn c ≡ placesGiven words) (commandIn words)
+    from-types (λ c. countIn c ≡ placesGiven words) (commandIn words)
     (λ e. rw e (go (eqb (word words 3) 1) (eqb (word words 3) 0) (eqb (word words 6) 1) (eqb (word words 6) 0) (flags (word words 3) (w 3 (omega arith))) (flags (word words 6) (w 6 (omega arith)))))
     (λ e. rw e) (λ e. rw e) (λ e. rw e) (λ a b. rw (ne-eqb (word words 1) 0x05 a))
   where
@@ -246,7 +246,7 @@ given-count words h =
     i = insertIn words
 
     go : (cancel kept program listed : Bool) → cancel ≡ not kept → program ≡ not listed
-        → insert.count (insert.insertOf (pick cancel SpliceInsert.Cancel (SpliceInsert.Insert (record {
+        → insert.count (insert.insertOf (pick cancel SpliceDetail.Cancel (SpliceDetail.Insert (record {
           «network_indicator» = insertFrom i .«network_indicator»;
           «splice_mode» = pick program (SpliceMode.Program (timeFrom (i .mode .«splice_time»))) (SpliceMode.Components (word words 9 % 256));
           duration = insertFrom i .duration;
@@ -293,20 +293,23 @@ places-own (suc n) words e =
 abbrev pub seenBy : SpliceCommand → List ℕ → Bool
 seenBy c lent = ofPrivate (λ p. leb (p .«private_bytes» .at + p .«private_bytes» .len) (length lent)) true c
 
-pub given-seen : (words lent : List ℕ) → commandSeen words lent ≡ seenBy (commandGiven words) lent
+pub given-seen : (words lent : List ℕ) → commandSeen words lent ≡ true → seenBy (commandGiven words) lent ≡ true
 unfolding commandSeen commandIn
-given-seen words lent =
-    from-kinds (λ c. commandSeen words lent ≡ seenBy c lent) (commandIn words) (λ e. rw e) (λ e. rw e) (λ e. rw e) (λ e. rw e) (λ a b. rw (ne-eqb (word words 1) 0xff b))
+given-seen words lent s = from-types (λ c. seenBy c lent ≡ true) (commandIn words) (λ e. refl) (λ e. refl) (λ e. refl) (λ e. s) (λ a b. refl)
 
 pub own-seen : (c : SpliceCommand) (words lent : List ℕ) → same (commandWords (flatCommand c)) words ≡ true → commandSeen words lent ≡ seenBy c lent
 unfolding commandSeen commandWords flatCommand noCommand
 own-seen c words lent e =
     let w : (i : ℕ) → i < 21 → word words i ≡ word (commandWords (flatCommand c)) i = same-at (commandWords (flatCommand c)) words e in
-    rw (w 1 (omega arith), w 19 (omega arith), w 20 (omega arith)) (go c)
+    rw (w 19 (omega arith), w 20 (omega arith)) (go c)
   where
-    go : (c : SpliceCommand) → pick (eqb (flatCommand c .«splice_command_type») 0xff) (leb (flatCommand c .«private_bytes» .at + flatCommand c .«private_bytes» .len) (length lent)) true ≡ seenBy c lent
-    go SpliceCommand.SpliceNull = refl
-    go (SpliceCommand.SpliceInsert x) = refl
-    go (SpliceCommand.TimeSignal t) = refl
-    go SpliceCommand.BandwidthReservation = refl
+    -- the blank lies in any bytes
+    blank : leb (0 + 0) (length lent) ≡ true
+    blank = le-leb (0 + 0) (length lent) (omega arith)
+
+    go : (c : SpliceCommand) → leb (flatCommand c .«private_bytes» .at + flatCommand c .«private_bytes» .len) (length lent) ≡ seenBy c lent
+    go SpliceCommand.SpliceNull = blank
+    go (SpliceCommand.SpliceInsert x) = blank
+    go (SpliceCommand.TimeSignal t) = blank
+    go SpliceCommand.BandwidthReservation = blank
     go (SpliceCommand.PrivateCommand p) = refl

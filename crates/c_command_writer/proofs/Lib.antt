@@ -1,5 +1,4 @@
 pub mod Answers
-pub mod Arrays
 pub mod Back
 pub mod Components
 pub mod Fits

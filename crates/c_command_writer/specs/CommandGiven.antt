@@ -11,10 +11,10 @@ use Rattle.command.specs.declared.SpliceCommand.the-variants as command
 use Rattle.command.specs.declared.components.ComponentSplice.{ComponentSplice}
 use Rattle.command.specs.declared.insert.Break.{Break}
 use Rattle.command.specs.declared.insert.Break.the-variants.{Absent, Lasts}
-use Rattle.command.specs.declared.insert.Insert.{Insert}
-use Rattle.command.specs.declared.insert.Insertion.{Insertion}
+use Rattle.command.specs.declared.insert.InsertDetail.{InsertDetail}
 use Rattle.command.specs.declared.insert.SpliceInsert.{SpliceInsert}
-use Rattle.command.specs.declared.insert.SpliceInsert.the-variants as insert
+use Rattle.command.specs.declared.insert.SpliceDetail.{SpliceDetail}
+use Rattle.command.specs.declared.insert.SpliceDetail.the-variants as insert
 use Rattle.command.specs.declared.insert.SpliceMode.{SpliceMode}
 use Rattle.command.specs.declared.insert.SpliceMode.the-variants.{Program, Components}
 use Rattle.command_measure.specs.Made.{commandMade}
@@ -32,8 +32,8 @@ use Rattle.names.specs.declared.flags.ReturnMode.{ReturnMode}
 use Rattle.table.specs.Bits.{pick}
 use Rattle.table.specs.Writing.{Made}
 use Rattle.table.specs.declared.View.{View}
-use Rattle.c_command_writer.specs.CommandWords.{commandWords, commandWidths, splicesIn, componentWords, componentWidths}
-use Rattle.c_command_writer.specs.Words.{word, within, same, placesOf, eachPlace, refusalOf, noLess}
+use Rattle.c_command_writer.specs.CommandWords.{commandWords, commandWidths, splicesIn, componentWords, componentWidths, commandSeen}
+use Rattle.c_command_writer.specs.Words.{word, within, same, placesOf, eachPlace, refusalOf, seenFirst, noLess}
 
 -- ---- the struct that words are
 unfoldable pub modeIn : List ℕ → FlatMode
@@ -88,7 +88,7 @@ breakFrom b =
     (Lasts (record { «return_mode» = pick (eqb (b .«auto_return») 1) ReturnMode.Automatic ReturnMode.Manual; duration = b .duration }))
     Absent
 
-unfoldable pub insertFrom : FlatInsert → Insert
+unfoldable pub insertFrom : FlatInsert → InsertDetail
 insertFrom i =
     record {
       «network_indicator» = pick (eqb (i .«out_of_network_indicator») 1) NetworkIndicator.Out NetworkIndicator.In;
@@ -99,7 +99,7 @@ insertFrom i =
       «avails_expected» = i .«avails_expected» % 256;
     }
 
-unfoldable pub insertionFrom : FlatInsert → Insertion
+unfoldable pub insertionFrom : FlatInsert → SpliceInsert
 insertionFrom i =
     record {
       «splice_event_id» = i .«splice_event_id» % 2 ^ 32;
@@ -133,12 +133,16 @@ ownComponent words = same (componentWords (flatComponent (componentFrom words)))
 unfoldable pub ownSplices : ℕ → List ℕ → Bool
 ownSplices n words = eachPlace ownComponent 3 n (splicesIn words)
 
--- the number of the words' own refusal, of a command that they make
-unfoldable pub commandRefusal : SpliceCommand → List ℕ → List ℕ → ℕ
-commandRefusal c words components =
+-- the number of the words' own refusal, of a command that they make: 32 or 33
+unfoldable pub wordsRefusal : SpliceCommand → List ℕ → List ℕ → ℕ
+wordsRefusal c words components =
     refusalOf
     (within commandWidths words && splicesWithin (countIn c) components)
     (same (commandWords (flatCommand c)) words && ownSplices (countIn c) components)
+
+-- and 31 before them
+unfoldable pub commandRefusal : SpliceCommand → List ℕ → List ℕ → List ℕ → ℕ
+commandRefusal c words components lent = seenFirst (commandSeen words lent) (wordsRefusal c words components)
 
 -- ---- the payload, or the number of a refusal: 31, 32 or 33
 abbrev pub commandGiven : List ℕ → SpliceCommand
@@ -146,4 +150,4 @@ commandGiven words = commandFrom (commandIn words)
 
 unfoldable pub commandWordsMade : List ℕ → List ℕ → List ℕ → Made
 commandWordsMade words components lent =
-    noLess (commandRefusal (commandGiven words) words components) (commandMade (commandGiven words) (componentsFrom (countIn (commandGiven words)) components) lent)
+    noLess (commandRefusal (commandGiven words) words components lent) (commandMade (commandGiven words) (componentsFrom (countIn (commandGiven words)) components) lent)

@@ -78,9 +78,9 @@ pub record CommandIs (words components : List ℕ) (c : SpliceCommand) (cs : Lis
 abbrev pub placesGiven : List ℕ → ℕ
 placesGiven words = pick (eqb (word words 1) 0x05 && (eqb (word words 3) 0 && eqb (word words 6) 0)) (word words 9) 0
 
--- refusal 31: "a view reaches outside the lent bytes". Only a private command has one
+-- refusal 31: "a view reaches outside the lent bytes". The last two words are a view, whatever the type: where only a private command has one, 33 comes behind
 unfoldable pub commandSeen : List ℕ → List ℕ → Bool
-commandSeen words lent = pick (eqb (word words 1) 0xff) (liesIn lent (record { at = word words 19; len = word words 20 })) true
+commandSeen words lent = liesIn lent (record { at = word words 19; len = word words 20 })
 
 -- refusal 32: "a number or count handed in exceeds its field"
 unfoldable pub commandFits : List ℕ → List ℕ → Bool

@@ -43,6 +43,10 @@ placesOf f k (suc n) words = f words ∷ placesOf f k n (drop k words)
 abbrev pub refusalOf : Bool → Bool → ℕ
 refusalOf fits own = pick fits (pick own 0 33) 32
 
+-- 31 before it, where a view is not seen
+abbrev pub seenFirst : Bool → ℕ → ℕ
+seenFirst seen n = pick seen n 31
+
 -- the lower of two refusals
 abbrev pub lowerOf : ℕ → ℕ → ℕ
 lowerOf m n = pick (ltb n m) n m

@@ -6,8 +6,8 @@ ghost use lib.ListN.{drop};
 ghost use Rattle.command.specs.Command.{array, countIn};
 ghost use Rattle.command_measure.specs.Made.{commandMade};
 ghost use Rattle.c_command_writer.specs.CommandGiven.{modeIn, breakIn, insertIn, commandIn, modeFrom, breakFrom, insertFrom, insertionFrom, commandFrom};
-ghost use Rattle.c_command_writer.specs.CommandWords.{commandWords, commandWidths};
-ghost use Rattle.c_command_writer.specs.CommandGiven.{componentsFrom, commandGiven, commandRefusal, commandWordsMade};
+ghost use Rattle.c_command_writer.specs.CommandWords.{commandWords, commandWidths, commandSeen};
+ghost use Rattle.c_command_writer.specs.CommandGiven.{componentsFrom, commandGiven, wordsRefusal, commandRefusal, commandWordsMade};
 ghost use Rattle.c_command_writer.specs.Words.{within, same, flatWritten, noLess};
 ghost use Rattle.bit_stores.specs.Written.{answerOf, laterOf};
 use crate::FlatWritten;
@@ -34,16 +34,17 @@ use command::Private;
 use command::SpliceCommand;
 use command::components::ComponentSplice;
 use command::insert::Break;
-use command::insert::Insert;
-use command::insert::Insertion;
+use command::insert::InsertDetail;
+use command::insert::SpliceDetail;
 use command::insert::SpliceDuration;
 use command::insert::SpliceInsert;
 use command::insert::SpliceMode;
-use command_writer::write_bare_command;
 use command_writer::write_command;
+use command_writer::write_command_without_components;
 use names::flags::NetworkIndicator;
 use names::flags::ReturnMode;
 use table::View;
+use table::lent::lies_in;
 
 // ---- the struct that words are
 
@@ -134,7 +135,7 @@ fn break_from(b: FlatBreak) -> Break
     Break::Absent
 }
 
-fn insert_from(i: FlatInsert) -> Insert
+fn insert_from(i: FlatInsert) -> InsertDetail
     ensures { λ r. ⌜ r ≡ insertFrom i ⌝ }
 {
     let mode = i.mode;
@@ -144,7 +145,7 @@ fn insert_from(i: FlatInsert) -> Insert
     } else {
         NetworkIndicator::In
     };
-    Insert {
+    InsertDetail {
         network_indicator,
         splice_mode: mode_from(mode),
         duration: break_from(lasts),
@@ -154,15 +155,15 @@ fn insert_from(i: FlatInsert) -> Insert
     }
 }
 
-fn insertion_from(i: FlatInsert) -> Insertion
+fn insertion_from(i: FlatInsert) -> SpliceInsert
     ensures { λ r. ⌜ r ≡ insertionFrom i ⌝ }
 {
     let splice_detail = if i.splice_event_cancel_indicator == 1 {
-        SpliceInsert::Cancel
+        SpliceDetail::Cancel
     } else {
-        SpliceInsert::Insert(insert_from(i))
+        SpliceDetail::Insert(insert_from(i))
     };
-    Insertion {
+    SpliceInsert {
         splice_event_id: (i.splice_event_id % 0x1_0000_0000) as u32,
         reserved: (i.reserved % 256) as u8,
         splice_detail,
@@ -172,8 +173,8 @@ fn insertion_from(i: FlatInsert) -> Insertion
 pub(crate) fn command_from(c: FlatCommand) -> SpliceCommand
     ensures { λ r. ⌜ r ≡ commandFrom c ⌝ }
 {
-    let kind = c.splice_command_type;
-    match kind {
+    let command_type = c.splice_command_type;
+    match command_type {
         0x05 => {
             let insert = c.insert;
             SpliceCommand::SpliceInsert(insertion_from(insert))
@@ -198,7 +199,7 @@ pub(crate) fn command_from(c: FlatCommand) -> SpliceCommand
 }
 
 // How many components it has.
-pub fn count_in(c: SpliceCommand) -> u8
+pub fn count_in_command(c: SpliceCommand) -> u8
     ensures { λ r. ⌜ r ≡ countIn c ⌝ }
 {
     let insertion = match c {
@@ -210,8 +211,8 @@ pub fn count_in(c: SpliceCommand) -> u8
     };
     let detail = insertion.splice_detail;
     let insert = match detail {
-        SpliceInsert::Insert(i) => i,
-        SpliceInsert::Cancel => return 0,
+        SpliceDetail::Insert(i) => i,
+        SpliceDetail::Cancel => return 0,
     };
     let mode = insert.splice_mode;
     match mode {
@@ -233,7 +234,7 @@ pub fn command_given(words: &[u64]) -> SpliceCommand
 pub fn components_given(c: SpliceCommand, words: &[u64]) -> [ComponentSplice; 255]
     ensures { λ r. ⌜ r ≡ componentsFrom (countIn c) (now (words .entry)) ⌝ }
 {
-    components_from(count_in(c) as usize, words)
+    components_from(count_in_command(c) as usize, words)
 }
 
 // Refusal 32 of the words of a command, in their order: is each within its width?
@@ -333,10 +334,10 @@ fn is_flat_command(c: FlatCommand, words: &[u64]) -> bool
 }
 
 // Refusals 32 and 33 of the words themselves; 0 for none.
-pub fn command_refusal(c: SpliceCommand, words: &[u64], components: &[u64]) -> u64
-    ensures { λ r. ⌜ r ≡ commandRefusal c (now (words .entry)) (now (components .entry)) ⌝ }
+fn words_refusal(c: SpliceCommand, words: &[u64], components: &[u64]) -> u64
+    ensures { λ r. ⌜ r ≡ wordsRefusal c (now (words .entry)) (now (components .entry)) ⌝ }
 {
-    let count = count_in(c) as usize;
+    let count = count_in_command(c) as usize;
     if !is_command_within(words) {
         return 32;
     }
@@ -352,8 +353,31 @@ pub fn command_refusal(c: SpliceCommand, words: &[u64], components: &[u64]) -> u
     0
 }
 
+// Refusal 31 of the words of a command: does their view, whatever the command's type, lie in the lent bytes?
+fn is_command_seen(words: &[u64], lent: &[u8]) -> bool
+    ensures { λ r. ⌜ r ≡ commandSeen (now (words .entry)) (now (lent .entry)) ⌝ }
+{
+    lies_in(
+        lent,
+        View {
+            at: word_at(words, 19) as usize,
+            len: word_at(words, 20) as usize,
+        },
+    )
+}
+
+// Refusals 31 to 33 of the words themselves, in their order; 0 for none.
+pub fn command_refusal(c: SpliceCommand, words: &[u64], components: &[u64], lent: &[u8]) -> u64
+    ensures { λ r. ⌜ r ≡ commandRefusal c (now (words .entry)) (now (components .entry)) (now (lent .entry)) ⌝ }
+{
+    if !is_command_seen(words, lent) {
+        return 31;
+    }
+    words_refusal(c, words, components)
+}
+
 // The payload of a command without components, whose words have a refusal of their own, or 0.
-fn write_bare_words(
+fn write_words_without_components(
     refusal: u64,
     command: SpliceCommand,
     lent: &[u8],
@@ -364,11 +388,11 @@ fn write_bare_words(
     ensures bytes { λ _. ⌜ now (target .exit) ≡ laterOf (noLess refusal (commandMade command (array []) (now (lent .entry)))) (now (target .entry)) ⌝ }
 {
     if refusal == 0 {
-        return flat_written(write_bare_command(command, lent, target));
+        return flat_written(write_command_without_components(command, lent, target));
     }
     lower_refusal(
         refusal,
-        write_bare_command(command, lent, &mut target[0..0]),
+        write_command_without_components(command, lent, &mut target[0..0]),
     )
 }
 
@@ -405,9 +429,9 @@ pub fn write_command_words(
     ensures bytes { λ _. ⌜ now (target .exit) ≡ laterOf (commandWordsMade (now (words .entry)) (now (components .entry)) (now (lent .entry))) (now (target .entry)) ⌝ }
 {
     let command = command_given(words);
-    let refusal = command_refusal(command, words, components);
-    if count_in(command) == 0 {
-        return write_bare_words(refusal, command, lent, target);
+    let refusal = command_refusal(command, words, components, lent);
+    if count_in_command(command) == 0 {
+        return write_words_without_components(refusal, command, lent, target);
     }
     write_listed_words(refusal, command, components, lent, target)
 }

@@ -1,36 +1,36 @@
 -- What is made of words is what they say, and nothing else is.
 use Prim.Native.Nat.{ℕ, _+_, _-_, _%_, _^_, _<_, _≤_}
-use mathlib.Core.Bool.{Bool, true, false, _&&_}
+use mathlib.Core.Bool.{Bool, true, false, _&&_, _||_}
 use mathlib.Core.List.{List}
 use mathlib.Core.Path.{_≡_, refl, ap, ap₂, sym, _∙_}
 use native.Mathlib.Nat.{mod-eq-of-lt, mod-lt}
 use native.Mathlib.Omega.{arith}
 use lib.Dec.{eqb, ltb, leb, lit<, lit≤}
 use lib.ListN.{length, getD, take, drop, replicate}
-use lib.Seq.{take-at}
-use borrow.Author.Tests.{eqb-true, eqb-false, lt-ltb}
+use lib.Seq.{take-at, getD-drop}
+use borrow.Author.Tests.{eqb-true, eqb-false, lt-ltb, le-leb}
 use Rattle.descriptor.specs.Plain as plain
 use Rattle.descriptor.specs.Plain.{privateBytes}
-use Rattle.descriptor.specs.Segmentation.{blankComponent, byProgram, countOf, lasting, unrestricted, fairDetail, ticks}
+use Rattle.descriptor.specs.Segmentation.{blankComponent, byProgram, countOf, lasting, unrestricted, writableDetail, ticks}
 use Rattle.descriptor.specs.Whole.{filled, ofSegmentation}
 use Rattle.descriptor.specs.declared.Descriptor.{Descriptor}
 use Rattle.descriptor.specs.declared.plain.TimeDescriptor.{TimeDescriptor}
 use Rattle.descriptor.specs.declared.segmentation.DeliveryRestrictionFlags.{DeliveryRestrictionFlags}
 use Rattle.descriptor.specs.declared.segmentation.ModeComponent.{ModeComponent}
 use Rattle.descriptor.specs.declared.segmentation.SegmentationDescriptor.{SegmentationDescriptor}
-use Rattle.descriptor.specs.declared.segmentation.SegmentationDetail.{SegmentationDetail}
+use Rattle.descriptor.specs.declared.segmentation.DescriptorDetail.{DescriptorDetail}
 use Rattle.descriptor.specs.declared.segmentation.SegmentationDuration.{SegmentationDuration}
-use Rattle.descriptor.specs.declared.segmentation.SegmentationInsert.{SegmentationInsert}
+use Rattle.descriptor.specs.declared.segmentation.SegmentationDetail.{SegmentationDetail}
 use Rattle.descriptor.specs.declared.segmentation.SegmentationMode.{SegmentationMode}
 use Rattle.descriptor.specs.declared.segmentation.SubSegments.{SubSegments}
 use Rattle.descriptor.specs.declared.whole.Beside.{Beside}
-use Rattle.descriptor_measure.specs.Same.{countBeside}
+use Rattle.descriptor_measure.specs.Writing.{countBeside, alone, writableReserved, payloadMade, tagOf, identifierOf, descriptorMade}
 use Rattle.descriptor_measure.specs.Private.{componentsFields, numbersFit}
-use Rattle.descriptor_measure.specs.Writing.{alone, fairReserved, payloadMade, tagOf, identifierOf, descriptorMade}
-use Rattle.c_items.specs.FlatItem.{flatDescriptor}
+use Rattle.c_items.specs.FlatItem.{flatDescriptor, segmentationItem}
 use Rattle.c_items.specs.declared.segmentations.FlatSegmentation.{FlatSegmentation}
 use Rattle.c_command_writer.proofs.Words.{and-unit, places-length}
-use Rattle.c_command_writer.specs.Words.{within, same, placesOf, eachPlace}
+use Rattle.c_command_writer.proofs.Given.{same-at}
+use Rattle.c_command_writer.specs.Words.{within, same, placesOf, eachPlace, refusalOf, seenFirst, noLess}
 use Rattle.names.proofs.Segmentations.{segmentation-laws}
 use Rattle.table.proofs.Lists.{and-true, zero-one}
 use Rattle.table.specs.Bits.{pick}
@@ -39,11 +39,11 @@ use Rattle.table.specs.Table.{reserved, part, remaining}
 use Rattle.table.specs.Writing as writing
 use Rattle.table.specs.Writing.{Made, refused, walk}
 use Rattle.table.specs.declared.View.{View}
-use Rattle.c_descriptor_writer.specs.ItemGiven.{segmentationIn, itemIn, restrictionsFrom, insertFrom, descriptorFrom, descriptorGiven, identifierFrom, placeFrom, byteFrom, placesFrom, eidrFrom, besideFrom, ownItem, descriptorRefusal, descriptorWordsMade}
-use Rattle.c_descriptor_writer.specs.ItemWords.{itemWords, itemWidths, placesIn, eidrIn, placeWidths, placesWithin, besideWithin, itemSeen, viewFits, placesGiven, itemFits, DescriptorIs, DescriptorAnswer, outside, over, nobodys, its}
+use Rattle.c_descriptor_writer.specs.ItemGiven.{segmentationIn, itemIn, restrictionsFrom, insertFrom, descriptorFrom, descriptorGiven, identifierFrom, placeFrom, byteFrom, placesFrom, eidrFrom, besideFrom, ownItem, wordsRefusal, descriptorRefusal, descriptorWordsMade}
+use Rattle.c_descriptor_writer.specs.ItemWords.{itemWords, itemWidths, placesIn, eidrIn, placeWidths, placesWithin, besideWithin, itemSeen, viewFits, placesGiven, itemFits, besideThere, DescriptorIs, DescriptorAnswer, outside, over, nobodys, its}
 use Rattle.c_descriptor_writer.proofs.Typed.{TypedMode, TypedSubs, TypedInsert}
 use Rattle.c_descriptor_writer.proofs.Own.{step-small, given-is, places-are, places-own, places-fit, bytes-are, bytes-own, filled-length}
-use Rattle.c_descriptor_writer.proofs.Told.{Told, make-told, framed-told, framed-unseen, told-as, mode-count, fair-insert, insert-fit, insert-told, cancel-told}
+use Rattle.c_descriptor_writer.proofs.Told.{Told, make-told, framed-told, framed-31, framed-unseen, told-as, mode-count, writable-insert, insert-fit, insert-told, cancel-told}
 
 -- ---- the descriptor that words make, by its kind
 data Kind (k : ℕ) : Type 0 where
@@ -78,7 +78,7 @@ from-typed s v =
       program-flag = program (eqb (s .«program_segmentation_flag») 1);
       duration-flag = lasts (eqb (s .«segmentation_duration_flag») 1);
       free-flag = free (eqb (s .«delivery_not_restricted_flag») 1);
-      type-fair = segmentation-laws .is-fair (s .«segmentation_type_id» % 256);
+      type-writable = segmentation-laws .is-writable (s .«segmentation_type_id» % 256);
     }
   where
     modes : (b : Bool) → TypedMode (pick b SegmentationMode.Program (SegmentationMode.Component (s .«component_count» % 256)))
@@ -101,19 +101,24 @@ from-typed s v =
     free true = refl
     free false = refl
 
--- how many components it has, that its flags are fair, and what its writer says of its view and its numbers
+-- is the view of a kind that has one seen? Of the others nothing is asked
+abbrev kindSeen : List ℕ → List ℕ → Bool
+kindSeen words lent =
+    pick (eqb (getD words 6 0) 2 || (eqb (getD words 6 0) 4 || eqb (getD words 6 0) 6)) (leb (getD words 31 0 + getD words 32 0) (length lent)) true
+
+-- how many components it has, that its flags are writable, and what its writer says of its view and its numbers
 record Facts (words id : List ℕ) (b : Beside) (lent : List ℕ) (d : Descriptor) : Type 0 where
   count : within itemWidths (drop 5 words) ≡ true → countBeside d ≡ placesGiven words
-  fair : ofSegmentation (λ x. fairDetail (x .«descriptor_detail»)) true d ≡ true
+  writable : ofSegmentation (λ x. writableDetail (x .«descriptor_detail»)) true d ≡ true
   fit : Bool
-  told : Told (itemSeen words lent) fit (payloadMade d id b lent)
+  told : Told (kindSeen words lent) fit (payloadMade d id b lent)
   tight : within itemWidths (drop 5 words) ≡ true → writing.within (componentsFields (take (countBeside d) (b .components))) ≡ true → fit ≡ viewFits words
 
 module _ (words : List ℕ) where
   abbrev viewGiven : View
   viewGiven = record { at = getD words 31 0; len = getD words 32 0 }
 
-  abbrev insertGiven : SegmentationInsert
+  abbrev insertGiven : SegmentationDetail
   insertGiven = insertFrom (segmentationIn words) viewGiven
 
   abbrev eventGiven : ℕ
@@ -125,11 +130,11 @@ module _ (words : List ℕ) where
     is-dtmf = rw e
 
     dtmf-facts : (id : List ℕ) (b : Beside) (lent : List ℕ) → Facts words id b lent (Descriptor.Dtmf (record { preroll = getD words 8 0 % 256; «dtmf_chars» = viewGiven }))
-    unfolding payloadMade plain.dtmf tables.number reserved part itemSeen
+    unfolding payloadMade plain.dtmf tables.number reserved part
     dtmf-facts id b lent =
         record {
           count = λ w. rw e;
-          fair = refl;
+          writable = refl;
           fit = ltb (getD words 32 0) 8;
           told =
               told-as (make-told (alone id (b .eidr)) lent (walk plain.dtmf (record { preroll = getD words 8 0 % 256; «dtmf_chars» = viewGiven }) 0 .fields))
@@ -139,23 +144,23 @@ module _ (words : List ℕ) where
         }
 
   module _ (e : getD words 6 0 ≡ 3) where
-    is-cancel : descriptorGiven words ≡ Descriptor.Segmentation (record { «segmentation_event_id» = eventGiven; «descriptor_detail» = SegmentationDetail.Cancel })
+    is-cancel : descriptorGiven words ≡ Descriptor.Segmentation (record { «segmentation_event_id» = eventGiven; «descriptor_detail» = DescriptorDetail.Cancel })
     unfolding descriptorFrom itemIn segmentationIn
     is-cancel = rw e
 
-    cancel-facts : (id : List ℕ) (b : Beside) (lent : List ℕ) → Facts words id b lent (Descriptor.Segmentation (record { «segmentation_event_id» = eventGiven; «descriptor_detail» = SegmentationDetail.Cancel }))
-    unfolding payloadMade itemSeen fairDetail itemWidths
+    cancel-facts : (id : List ℕ) (b : Beside) (lent : List ℕ) → Facts words id b lent (Descriptor.Segmentation (record { «segmentation_event_id» = eventGiven; «descriptor_detail» = DescriptorDetail.Cancel }))
+    unfolding payloadMade writableDetail itemWidths
     cancel-facts id b lent =
         record {
           count = λ w. rw e;
-          fair = refl;
+          writable = refl;
           fit = true;
           told = rw e (cancel-told eventGiven id b lent (mod-lt (getD words 9 0) (lit< tt)));
           tight = λ w p. rw e (sym (lt-ltb (getD words 32 0) (2 ^ 64) (step-small words w 27 (lit< tt))));
         }
 
   module _ (e : getD words 6 0 ≡ 4) where
-    is-whole : descriptorGiven words ≡ Descriptor.Segmentation (record { «segmentation_event_id» = eventGiven; «descriptor_detail» = SegmentationDetail.Insert insertGiven })
+    is-whole : descriptorGiven words ≡ Descriptor.Segmentation (record { «segmentation_event_id» = eventGiven; «descriptor_detail» = DescriptorDetail.Active insertGiven })
     unfolding descriptorFrom itemIn segmentationIn
     is-whole = rw e
 
@@ -178,15 +183,15 @@ module _ (words : List ℕ) where
         go false = lit< tt
 
     whole-facts : (id : List ℕ) (b : Beside) (lent : List ℕ) → length (b .components) ≡ 255 → length (b .eidr) ≡ 12
-        → Facts words id b lent (Descriptor.Segmentation (record { «segmentation_event_id» = eventGiven; «descriptor_detail» = SegmentationDetail.Insert insertGiven }))
-    unfolding payloadMade itemSeen insertFrom
+        → Facts words id b lent (Descriptor.Segmentation (record { «segmentation_event_id» = eventGiven; «descriptor_detail» = DescriptorDetail.Active insertGiven }))
+    unfolding payloadMade insertFrom
     whole-facts id b lent many twelve =
         let i = insertGiven in
         let t = from-typed (segmentationIn words) viewGiven in
         let ev : eventGiven < 2 ^ 32 = mod-lt (getD words 9 0) (lit< tt) in
         record {
           count = whole-count;
-          fair = fair-insert i t;
+          writable = writable-insert i t;
           fit = ltb (getD words 32 0) 256 && numbersFit i (take (countOf (i .«segmentation_mode»)) (b .components));
           told = rw e (insert-told eventGiven i id b lent many twelve ev t);
           tight = λ w p. rw (e, insert-fit eventGiven i id b lent many twelve ev t (whole-ticks w) p) (sym (and-unit (ltb (getD words 32 0) 256)));
@@ -201,11 +206,11 @@ module _ (words : List ℕ) where
     is-time = rw e
 
     time-facts : (id : List ℕ) (b : Beside) (lent : List ℕ) → Facts words id b lent (Descriptor.Time timeGiven)
-    unfolding payloadMade plain.time tables.number itemSeen itemWidths
+    unfolding payloadMade plain.time tables.number itemWidths
     time-facts id b lent =
         record {
           count = λ w. rw e;
-          fair = refl;
+          writable = refl;
           fit = ltb (getD words 27 0) (2 ^ 48);
           told =
               told-as (make-told (alone id (b .eidr)) lent (walk plain.time timeGiven 0 .fields)) (rw e)
@@ -219,14 +224,14 @@ module _ (words : List ℕ) where
     is-private = rw e
 
     private-facts : (id : List ℕ) (b : Beside) (lent : List ℕ) → Facts words id b lent (Descriptor.Reserved (getD words 30 0 % 256) viewGiven)
-    unfolding payloadMade privateBytes remaining part itemSeen itemWidths
+    unfolding payloadMade privateBytes remaining part itemWidths
     private-facts id b lent =
         record {
           count = λ w. rw e;
-          fair = refl;
+          writable = refl;
           fit = true;
           told =
-              told-as (make-told (fairReserved (getD words 30 0 % 256) id (b .eidr)) lent (walk privateBytes viewGiven 0 .fields))
+              told-as (make-told (writableReserved (getD words 30 0 % 256) id (b .eidr)) lent (walk privateBytes viewGiven 0 .fields))
               (rw e (sym (and-unit (leb (getD words 31 0 + getD words 32 0) (length lent))))) refl;
           tight = λ w p. rw e (sym (lt-ltb (getD words 32 0) (2 ^ 64) (step-small words w 27 (lit< tt))));
         }
@@ -237,11 +242,11 @@ module _ (words : List ℕ) where
     is-avail = rw (h₂, h₃, h₄, h₅, h₆)
 
     avail-facts : (id : List ℕ) (b : Beside) (lent : List ℕ) → Facts words id b lent (Descriptor.Avail (record { «provider_avail_id» = getD words 7 0 % 2 ^ 32 }))
-    unfolding payloadMade plain.avail tables.number itemSeen itemWidths
+    unfolding payloadMade plain.avail tables.number itemWidths
     avail-facts id b lent =
         record {
           count = λ w. rw h₄;
-          fair = refl;
+          writable = refl;
           fit = true;
           told =
               told-as (make-told (alone id (b .eidr)) lent (walk plain.avail (record { «provider_avail_id» = getD words 7 0 % 2 ^ 32 }) 0 .fields)) (rw (h₂, h₄, h₆))
@@ -264,6 +269,36 @@ module _ (words : List ℕ) where
   facts-given id b lent many twelve (time e) = rw (is-time e) (time-facts e id b lent)
   facts-given id b lent many twelve (private e) = rw (is-private e) (private-facts e id b lent)
   facts-given id b lent many twelve (other h₂ h₃ h₄ h₅ h₆) = rw (is-avail h₂ h₃ h₄ h₅ h₆) (avail-facts h₂ h₃ h₄ h₅ h₆ id b lent)
+
+-- ---- of words that are a descriptor's own, those of a view that its kind has not are blank
+seen-kind : (words lent : List ℕ) → itemSeen words lent ≡ true → kindSeen words lent ≡ true
+unfolding itemSeen
+seen-kind words lent s = rw s (go (eqb (getD words 6 0) 2 || (eqb (getD words 6 0) 4 || eqb (getD words 6 0) 6)))
+  where
+    go : (b : Bool) → pick b true true ≡ true
+    go true = refl
+    go false = refl
+
+module _ (words lent : List ℕ) where
+  blank-seen : (d : Descriptor) → ownItem d words ≡ true → getD (itemWords (flatDescriptor d)) 25 0 ≡ 0 → getD (itemWords (flatDescriptor d)) 26 0 ≡ 0 → itemSeen words lent ≡ true
+  unfolding ownItem itemSeen itemWords
+  blank-seen d o a l =
+      let s : (i : ℕ) → i < 27 → getD (drop 6 words) i 0 ≡ getD (itemWords (flatDescriptor d)) i 0 = same-at (itemWords (flatDescriptor d)) (drop 6 words) o in
+      let at : getD words 31 0 ≡ 0 = sym (getD-drop 6 words 25 0) ∙ s 25 (lit< tt) ∙ a in
+      let len : getD words 32 0 ≡ 0 = sym (getD-drop 6 words 26 0) ∙ s 26 (lit< tt) ∙ l in
+      rw (at, len) (le-leb (0 + 0) (length lent) (omega arith))
+
+  as-own : (d : Descriptor) → descriptorGiven words ≡ d → ownItem (descriptorGiven words) words ≡ true → ownItem d words ≡ true
+  as-own d e o = sym (ap (λ (x : Descriptor). ownItem x words) e) ∙ o
+
+  own-seen : Kind (getD words 6 0) → ownItem (descriptorGiven words) words ≡ true → itemSeen words lent ≡ kindSeen words lent
+  unfolding itemSeen itemWords flatDescriptor segmentationItem
+  own-seen (dtmf e) o = rw e
+  own-seen (cancel e) o = blank-seen _ (as-own _ (is-cancel words e) o) refl refl ∙ rw e
+  own-seen (whole e) o = rw e
+  own-seen (time e) o = blank-seen _ (as-own _ (is-time words e) o) refl refl ∙ rw e
+  own-seen (private e) o = rw e
+  own-seen (other h₂ h₃ h₄ h₅ h₆) o = blank-seen _ (as-own _ (is-avail words h₂ h₃ h₄ h₅ h₆) o) refl refl ∙ rw (h₂, h₄, h₆)
 
 -- ---- what is made of words
 and-swap : (a b : Bool) → a && b ≡ b && a
@@ -309,17 +344,25 @@ module _ (words beside lent : List ℕ) where
       go false w = refl
       go true w = rw (facts .count w) (and-swap (besideWithin (placesGiven words) beside) (viewFits words))
 
-  made-is : descriptorWordsMade words beside lent
-      ≡ pick (itemSeen words lent) (pick (itemFits words beside) (pick (ownItem D words) (descriptorMade D I B lent) (refused 33)) (refused 32)) (refused 31)
-  unfolding descriptorWordsMade descriptorRefusal descriptorMade
-  made-is =
-      framed-told (tagOf D) (identifierOf D I) (itemSeen words lent) (facts .fit) (payloadMade D I B lent) (facts .told) all-within (ownItem D words) (viewFits words)
-      (λ w. let p = and-true (within itemWidths (drop 5 words)) _ w in facts .tight (p .0) (listed-fit (p .1)))
-      ∙ ap (λ (c : Bool). pick (itemSeen words lent) (pick c (pick (ownItem D words) (descriptorMade D I B lent) (refused 33)) (refused 32)) (refused 31)) fits-so
+  abbrev own : Bool
+  own = ownItem D words && besideThere (countBeside D) words beside
 
-  unseen-made : itemSeen words lent ≡ false → descriptorMade D I B lent ≡ refused 31
+  made-is : descriptorWordsMade words beside lent
+      ≡ pick (itemSeen words lent) (pick (itemFits words beside) (pick own (descriptorMade D I B lent) (refused 33)) (refused 32)) (refused 31)
+  unfolding descriptorWordsMade descriptorRefusal wordsRefusal descriptorMade
+  made-is = go (itemSeen words lent) refl
+    where
+      go : (s : Bool) → itemSeen words lent ≡ s
+          → noLess (seenFirst s (refusalOf all-within own)) (descriptorMade D I B lent) ≡ pick s (pick (itemFits words beside) (pick own (descriptorMade D I B lent) (refused 33)) (refused 32)) (refused 31)
+      go false s = framed-31 (tagOf D) (identifierOf D I) (facts .told)
+      go true s =
+          framed-told (tagOf D) (identifierOf D I) (kindSeen words lent) (facts .fit) (payloadMade D I B lent) (facts .told) all-within own (viewFits words)
+          (λ w. let p = and-true (within itemWidths (drop 5 words)) _ w in facts .tight (p .0) (listed-fit (p .1)))
+          ∙ ap₂ (λ (c k : Bool). pick k (pick c (pick own (descriptorMade D I B lent) (refused 33)) (refused 32)) (refused 31)) fits-so (seen-kind words lent s)
+
+  pub unseen-made : ownItem D words ≡ true → itemSeen words lent ≡ false → descriptorMade D I B lent ≡ refused 31
   unfolding descriptorMade
-  unseen-made s = framed-unseen (tagOf D) (identifierOf D I) (facts .told) s
+  unseen-made o s = framed-unseen (tagOf D) (identifierOf D I) (facts .told) (sym (own-seen words lent (kind-of (getD words 6 0)) o) ∙ s)
 
   -- what fits, part by part
   parts-fit : itemFits words beside ≡ true
@@ -331,14 +374,16 @@ module _ (words beside lent : List ℕ) where
       let d = and-true (eachPlace (within placeWidths) 2 (countBeside D) (placesIn beside)) _ (c .1) in
       (c .0, d .0, d .1)
 
-  given : itemFits words beside ≡ true → ownItem D words ≡ true → DescriptorIs words beside D I B
+  given : itemFits words beside ≡ true → own ≡ true → DescriptorIs words beside D I B
   unfolding ownItem identifierFrom besideFrom placesFrom eidrFrom
   given f o =
       let p = parts-fit f in
+      let a = and-true (ownItem D words) (besideThere (countBeside D) words beside) o in
       record {
-        item = o;
-        fair = facts .fair;
+        item = a .0;
+        writable = facts .writable;
         identifies = refl;
+        there = a .1;
         listed = places-given;
         count = places-length placeFrom 2 (countBeside D) (placesIn beside);
         places = places-own (countBeside D) (placesIn beside) (p .1);
@@ -351,38 +396,39 @@ module _ (words beside lent : List ℕ) where
   unfolding identifierFrom besideFrom placesFrom eidrFrom
   only d id b f is =
       let p = parts-fit f in
-      let e : D ≡ d = given-is words d (p .0) (is .item) (is .fair) in
+      let e : D ≡ d = given-is words d (p .0) (is .item) (is .writable) in
       let n : countBeside D ≡ length (is .listed) = ap countBeside e ∙ sym (is .count) in
       let cs : places-given ≡ is .listed = rw n (places-are (is .listed) (placesIn beside) (is .places) (rw n at (p .1))) in
       let eidr : placesOf byteFrom 1 12 (eidrIn beside) ≡ b .eidr = bytes-are 12 (b .eidr) (eidrIn beside) (is .twelve) (is .eidr) (p .2) in
       (e, sym (is .identifies), ap₂ (λ (l : List ModeComponent) (s : List ℕ). record { components = l; eidr = s }) (ap filled cs ∙ sym (is .components)) eidr)
 
-  own-given : (d : Descriptor) (id : List ℕ) (b : Beside) → itemFits words beside ≡ true → DescriptorIs words beside d id b → ownItem D words ≡ true
+  own-given : (d : Descriptor) (id : List ℕ) (b : Beside) → itemFits words beside ≡ true → DescriptorIs words beside d id b → own ≡ true
   unfolding ownItem
-  own-given d id b f is = ap (λ (x : Descriptor). same (itemWords (flatDescriptor x)) (drop 6 words)) (only d id b f is .0) ∙ is .item
+  own-given d id b f is = ap (λ (x : Descriptor). ownItem x words && besideThere (countBeside x) words beside) (only d id b f is .0) ∙ rw (is .item, is .there)
 
   answer-is : {m : Made} → DescriptorAnswer words beside lent m → m ≡ descriptorWordsMade words beside lent
   answer-is (outside s) = sym (made-is ∙ rw s)
   answer-is (over s f) = sym (made-is ∙ rw (s, f))
-  answer-is (nobodys s f none) = go (ownItem D words) refl
+  answer-is (nobodys s f none) = go own refl
     where
-      go : (o : Bool) → ownItem D words ≡ o → refused 33 ≡ descriptorWordsMade words beside lent
+      go : (o : Bool) → own ≡ o → refused 33 ≡ descriptorWordsMade words beside lent
       go true o = absurd (none D I B (given f o))
       go false o = sym (made-is ∙ rw (s, f, o))
   answer-is (its d id b f is) =
       let e = only d id b f is in
       let given-made : descriptorMade D I B lent ≡ descriptorMade d id b lent =
       ap (λ (x : Descriptor). descriptorMade x I B lent) (e .0) ∙ ap (λ (l : List ℕ). descriptorMade d l B lent) (e .1) ∙ ap (λ (x : Beside). descriptorMade d id x lent) (e .2) in
-      sym (made-is ∙ rw (f, own-given d id b f is) (go (itemSeen words lent) refl) ∙ given-made)
+      let o = own-given d id b f is in
+      sym (made-is ∙ rw (f, o) (go (and-true (ownItem D words) _ o .0) (itemSeen words lent) refl) ∙ given-made)
     where
-      go : (s : Bool) → itemSeen words lent ≡ s → pick s (descriptorMade D I B lent) (refused 31) ≡ descriptorMade D I B lent
-      go true s = refl
-      go false s = sym (unseen-made s)
+      go : ownItem D words ≡ true → (s : Bool) → itemSeen words lent ≡ s → pick s (descriptorMade D I B lent) (refused 31) ≡ descriptorMade D I B lent
+      go o true s = refl
+      go o false s = sym (unseen-made o s)
 
   pub descriptor-words-are-answered : DescriptorAnswer words beside lent (descriptorWordsMade words beside lent)
-  descriptor-words-are-answered = rw made-is (go (itemSeen words lent) refl (itemFits words beside) refl (ownItem D words) refl)
+  descriptor-words-are-answered = rw made-is (go (itemSeen words lent) refl (itemFits words beside) refl own refl)
     where
-      go : (s : Bool) → itemSeen words lent ≡ s → (f : Bool) → itemFits words beside ≡ f → (o : Bool) → ownItem D words ≡ o
+      go : (s : Bool) → itemSeen words lent ≡ s → (f : Bool) → itemFits words beside ≡ f → (o : Bool) → own ≡ o
           → DescriptorAnswer words beside lent (pick s (pick f (pick o (descriptorMade D I B lent) (refused 33)) (refused 32)) (refused 31))
       go false s f g o h = outside s
       go true s false f o h = over s f

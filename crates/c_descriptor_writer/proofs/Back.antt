@@ -10,12 +10,12 @@ use lib.ListN.{getD}
 use Rattle.descriptor.specs.Segmentation.{deviceOf}
 use Rattle.descriptor.specs.declared.Descriptor.{Descriptor}
 use Rattle.descriptor.specs.declared.segmentation.DeliveryRestrictionFlags.{DeliveryRestrictionFlags}
-use Rattle.descriptor.specs.declared.segmentation.SegmentationDetail.{SegmentationDetail}
+use Rattle.descriptor.specs.declared.segmentation.DescriptorDetail.{DescriptorDetail}
 use Rattle.descriptor.specs.declared.segmentation.SegmentationDuration.{SegmentationDuration}
-use Rattle.descriptor.specs.declared.segmentation.SegmentationInsert.{SegmentationInsert}
+use Rattle.descriptor.specs.declared.segmentation.SegmentationDetail.{SegmentationDetail}
 use Rattle.descriptor.specs.declared.segmentation.SegmentationMode.{SegmentationMode}
 use Rattle.descriptor.specs.declared.segmentation.SubSegments.{SubSegments}
-use Rattle.c_items.specs.FlatItem.{flatRestrictions, flatSubSegments, wholeSegmentation, bareSegmentation, segmentationItem, flatDescriptor}
+use Rattle.c_items.specs.FlatItem.{flatRestrictions, flatSubSegments, wholeSegmentation, segmentationHead, segmentationItem, flatDescriptor}
 use Rattle.c_items.specs.declared.descriptors.FlatItem.{FlatItem}
 use Rattle.names.specs.Flags.{restrictionsBits, restrictionsOf}
 use Rattle.names.specs.declared.flags.DeviceRestrictions.{DeviceRestrictions}
@@ -49,7 +49,7 @@ device-back DeviceRestrictions.RestrictGroup1 = refl
 device-back DeviceRestrictions.RestrictGroup2 = refl
 device-back DeviceRestrictions.None = refl
 
-module _ (event : ℕ) (i : SegmentationInsert) (t : TypedInsert i) where
+module _ (event : ℕ) (i : SegmentationDetail) (t : TypedInsert i) where
   delivery-back : (d : DeliveryRestrictionFlags) → i .«delivery_restrictions» ≡ d → deliveryFrom (wholeSegmentation event i) ≡ d
   unfolding wholeSegmentation flatRestrictions restrictionsFrom
   delivery-back DeliveryRestrictionFlags.None e = rw (t .free-flag, e)
@@ -71,7 +71,7 @@ unfolding flatSubSegments
 subs-back SubSegments.Absent h = refl
 subs-back (SubSegments.Is x) h = rw (mod-eq-of-lt (h .0), mod-eq-of-lt (h .1))
 
-whole : (event : ℕ) (i : SegmentationInsert) (bytes : View) (restrictions : DeliveryRestrictionFlags) (mode : SegmentationMode) (duration : SegmentationDuration)
+whole : (event : ℕ) (i : SegmentationDetail) (bytes : View) (restrictions : DeliveryRestrictionFlags) (mode : SegmentationMode) (duration : SegmentationDuration)
     → deliveryFrom (wholeSegmentation event i) ≡ restrictions → modeFrom (wholeSegmentation event i) ≡ mode → durationFrom (wholeSegmentation event i) ≡ duration
     → insertFrom (wholeSegmentation event i) bytes
     ≡ record {
@@ -90,7 +90,7 @@ whole : (event : ℕ) (i : SegmentationInsert) (bytes : View) (restrictions : De
 unfolding insertFrom
 whole event i bytes restrictions mode duration e f g = rw (e, f, g)
 
-insert-back : (event : ℕ) (i : SegmentationInsert) → TypedInsert i → insertFrom (wholeSegmentation event i) (i .«segmentation_upid» .bytes) ≡ i
+insert-back : (event : ℕ) (i : SegmentationDetail) → TypedInsert i → insertFrom (wholeSegmentation event i) (i .«segmentation_upid» .bytes) ≡ i
 unfolding insertFrom wholeSegmentation
 insert-back event i t =
     whole event i (i .«segmentation_upid» .bytes) _ _ _ (delivery-back event i t (i .«delivery_restrictions») refl) (mode-back event i t (i .«segmentation_mode») refl (t .mode))
@@ -101,23 +101,23 @@ insert-back event i t =
       flag-back (i .«delivery_not_restricted_flag»),
       mod-eq-of-lt (t .upid),
       mod-eq-of-lt (t .type-number),
-      segmentation-laws .back (i .«segmentation_type_id») (t .type-fair),
+      segmentation-laws .back (i .«segmentation_type_id») (t .type-writable),
       mod-eq-of-lt (t .num),
       mod-eq-of-lt (t .expected),
       subs-back (i .«sub_segments») (t .subs),
     )
 
-event-back : (event : ℕ) (i : SegmentationInsert) → event < 2 ^ 32
-    → Descriptor.Segmentation (record { «segmentation_event_id» = wholeSegmentation event i .«segmentation_event_id» % 2 ^ 32; «descriptor_detail» = SegmentationDetail.Insert i })
-    ≡ Descriptor.Segmentation (record { «segmentation_event_id» = event; «descriptor_detail» = SegmentationDetail.Insert i })
+event-back : (event : ℕ) (i : SegmentationDetail) → event < 2 ^ 32
+    → Descriptor.Segmentation (record { «segmentation_event_id» = wholeSegmentation event i .«segmentation_event_id» % 2 ^ 32; «descriptor_detail» = DescriptorDetail.Active i })
+    ≡ Descriptor.Segmentation (record { «segmentation_event_id» = event; «descriptor_detail» = DescriptorDetail.Active i })
 unfolding wholeSegmentation
 event-back event i h = rw (mod-eq-of-lt h)
 
-detail-back : (event : ℕ) (d : SegmentationDetail) → event < 2 ^ 32 → TypedDetail d
+detail-back : (event : ℕ) (d : DescriptorDetail) → event < 2 ^ 32 → TypedDetail d
     → descriptorFrom (segmentationItem event d) ≡ Descriptor.Segmentation (record { «segmentation_event_id» = event; «descriptor_detail» = d })
-unfolding descriptorFrom segmentationItem bareSegmentation
-detail-back event SegmentationDetail.Cancel h t = rw (mod-eq-of-lt h)
-detail-back event (SegmentationDetail.Insert i) h t = rw (insert-back event i t) (event-back event i h)
+unfolding descriptorFrom segmentationItem segmentationHead
+detail-back event DescriptorDetail.Cancel h t = rw (mod-eq-of-lt h)
+detail-back event (DescriptorDetail.Active i) h t = rw (insert-back event i t) (event-back event i h)
 
 pub from-back : (d : Descriptor) → Typed d → descriptorFrom (flatDescriptor d) ≡ d
 unfolding descriptorFrom flatDescriptor

@@ -11,8 +11,8 @@ use lib.Seq.{getD-drop}
 use borrow.Author.Tests.{ltb-true, ltb-false}
 use Rattle.c_items.specs.FlatItem.{flatDescriptor}
 use Rattle.c_command_writer.specs.Words.{within, same, placesOf}
-use Rattle.c_descriptor_writer.specs.ItemGiven.{firstWord, paddedWords, identifierFrom, descriptorGiven, ownItem, descriptorRefusal, descriptorWordsMade}
-use Rattle.c_descriptor_writer.specs.ItemWords.{itemWords, itemWidths}
+use Rattle.c_descriptor_writer.specs.ItemGiven.{firstWord, paddedWords, identifierFrom, descriptorGiven, ownItem, wordsRefusal, descriptorRefusal, descriptorWordsMade}
+use Rattle.c_descriptor_writer.specs.ItemWords.{itemWords, itemWidths, itemSeen, besideThere}
 use Rattle.c_command_writer.proofs.Words.{word-drop, places-length, places-at}
 use Rattle.c_descriptor_writer.proofs.Back.{item-agree}
 
@@ -34,8 +34,8 @@ same-agree [] u v h = refl
 same-agree (x ∷ own) u v h = ap₂ _&&_ (ap (λ (y : ℕ). eqb y x) (h 0)) (same-agree own (drop 1 u) (drop 1 v) (drop-agree 1 u v h))
 
 made-agree : (u v beside lent : List ℕ) → Agree u v → descriptorWordsMade u beside lent ≡ descriptorWordsMade v beside lent
-unfolding descriptorWordsMade descriptorRefusal ownItem identifierFrom
-made-agree u v beside lent h = rw (item-agree u v (λ i l. h (6 + i)), h 5, within-agree itemWidths (drop 5 u) (drop 5 v) (drop-agree 5 u v h), same-agree (itemWords (flatDescriptor (descriptorGiven v))) (drop 6 u) (drop 6 v) (drop-agree 6 u v h))
+unfolding descriptorWordsMade descriptorRefusal wordsRefusal ownItem identifierFrom itemSeen besideThere
+made-agree u v beside lent h = rw (item-agree u v (λ i l. h (6 + i)), h 5, within-agree itemWidths (drop 5 u) (drop 5 v) (drop-agree 5 u v h), same-agree (itemWords (flatDescriptor (descriptorGiven v))) (drop 6 u) (drop 6 v) (drop-agree 6 u v h), h 31, h 32, h 6, h 20)
 
 -- ---- the words of a step
 pub word-at-place : (words : List ℕ) (i : ℕ) → getD words i 0 ≡ firstWord (drop (i * 1) words)

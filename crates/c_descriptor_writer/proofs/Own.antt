@@ -9,17 +9,17 @@ use lib.Dec.{eqb, ltb, lit<}
 use lib.ListN.{length, getD, drop, replicate, length-append, length-replicate}
 use lib.Seq.{getD-drop, drop-drop}
 use borrow.Author.Tests.{eqb-true, eq-eqb, ltb-true, lt-ltb}
-use Rattle.descriptor.specs.Segmentation.{agrees, blankComponent, byProgram, countOf, lasting, fairDetail, fairFront, frontOf}
+use Rattle.descriptor.specs.Segmentation.{agrees, blankComponent, byProgram, countOf, lasting, writableDetail, writableFront, frontOf}
 use Rattle.descriptor.specs.Whole.{filled, ofSegmentation}
 use Rattle.descriptor.specs.declared.Descriptor.{Descriptor}
 use Rattle.descriptor.specs.declared.segmentation.ModeComponent.{ModeComponent}
 use Rattle.descriptor.specs.declared.segmentation.SegmentationDescriptor.{SegmentationDescriptor}
+use Rattle.descriptor.specs.declared.segmentation.DescriptorDetail.{DescriptorDetail}
 use Rattle.descriptor.specs.declared.segmentation.SegmentationDetail.{SegmentationDetail}
-use Rattle.descriptor.specs.declared.segmentation.SegmentationInsert.{SegmentationInsert}
 use Rattle.descriptor.specs.declared.segmentation.SegmentationMode.{SegmentationMode}
 use Rattle.descriptor.specs.declared.segmentation.SubSegments.{SubSegments}
 use Rattle.descriptor_measure.specs.Private.{componentsFields}
-use Rattle.c_items.specs.FlatItem.{flatSubSegments, wholeSegmentation, bareSegmentation, segmentationItem, flatDescriptor}
+use Rattle.c_items.specs.FlatItem.{flatSubSegments, wholeSegmentation, segmentationHead, segmentationItem, flatDescriptor}
 use Rattle.c_items.specs.declared.descriptors.FlatItem.{FlatItem}
 use Rattle.c_command_writer.specs.Words.{within, same, placesOf, eachPlace}
 use Rattle.table.proofs.Lists.{and-true, zero-one}
@@ -85,10 +85,10 @@ unfolding flatSubSegments
 subs-typed SubSegments.Absent h g = tt
 subs-typed (SubSegments.Is x) h g = (h, g)
 
-insert-typed : (event : ℕ) (i : SegmentationInsert) → fairDetail (SegmentationDetail.Insert i) ≡ true → Small (segmentationItem event (SegmentationDetail.Insert i)) → (event < 2 ^ 32) × TypedInsert i
-unfolding itemWords itemWidths segmentationItem wholeSegmentation fairDetail fairFront
+insert-typed : (event : ℕ) (i : SegmentationDetail) → writableDetail (DescriptorDetail.Active i) ≡ true → Small (segmentationItem event (DescriptorDetail.Active i)) → (event < 2 ^ 32) × TypedInsert i
+unfolding itemWords itemWidths segmentationItem wholeSegmentation writableDetail writableFront
 insert-typed event i f s =
-    let g = and-true (fairFront (frontOf (SegmentationDetail.Insert i))) _ f in
+    let g = and-true (writableFront (frontOf (DescriptorDetail.Active i))) _ f in
     let p = and-true (agrees (i .«program_segmentation_flag») (byProgram (i .«segmentation_mode»))) _ (g .0) in
     let q = and-true (agrees (i .«segmentation_duration_flag») (lasting (i .«segmentation_duration»))) _ (p .1) in (
       s 3 (lit< tt),
@@ -102,16 +102,16 @@ insert-typed event i f s =
         program-flag = agree _ _ (p .0);
         duration-flag = agree _ _ (q .0);
         free-flag = agree _ _ (q .1);
-        type-fair = g .1;
+        type-writable = g .1;
       },
     )
 
-detail-typed : (event : ℕ) (d : SegmentationDetail) → fairDetail d ≡ true → Small (segmentationItem event d) → (event < 2 ^ 32) × TypedDetail d
-unfolding itemWords itemWidths segmentationItem bareSegmentation
-detail-typed event SegmentationDetail.Cancel f s = (s 3 (lit< tt), tt)
-detail-typed event (SegmentationDetail.Insert i) f s = insert-typed event i f s
+detail-typed : (event : ℕ) (d : DescriptorDetail) → writableDetail d ≡ true → Small (segmentationItem event d) → (event < 2 ^ 32) × TypedDetail d
+unfolding itemWords itemWidths segmentationItem segmentationHead
+detail-typed event DescriptorDetail.Cancel f s = (s 3 (lit< tt), tt)
+detail-typed event (DescriptorDetail.Active i) f s = insert-typed event i f s
 
-typed : (d : Descriptor) → ofSegmentation (λ x. fairDetail (x .«descriptor_detail»)) true d ≡ true → Small (flatDescriptor d) → Typed d
+typed : (d : Descriptor) → ofSegmentation (λ x. writableDetail (x .«descriptor_detail»)) true d ≡ true → Small (flatDescriptor d) → Typed d
 unfolding itemWords itemWidths flatDescriptor
 typed (Descriptor.Avail x) f s = s 1 (lit< tt)
 typed (Descriptor.Dtmf x) f s = s 2 (lit< tt)
@@ -120,7 +120,7 @@ typed (Descriptor.Time x) f s = (s 22 (lit< tt), s 23 (lit< tt))
 typed (Descriptor.Reserved tag bytes) f s = s 24 (lit< tt)
 
 pub given-is : (words : List ℕ) (d : Descriptor) → within itemWidths (drop 5 words) ≡ true → same (itemWords (flatDescriptor d)) (drop 6 words) ≡ true
-    → ofSegmentation (λ x. fairDetail (x .«descriptor_detail»)) true d ≡ true → descriptorGiven words ≡ d
+    → ofSegmentation (λ x. writableDetail (x .«descriptor_detail»)) true d ≡ true → descriptorGiven words ≡ d
 given-is words d w is f = ap descriptorFrom (item-is words (flatDescriptor d) is) ∙ from-back d (typed d f (item-small words (flatDescriptor d) is w))
 
 -- ---- what stands beside it

@@ -7,19 +7,19 @@ use native.Mathlib.Omega.{arith}
 use lib.Dec.{ltb, leb}
 use lib.ListN.{length, take}
 use borrow.Author.Tests.{ltb-true, ltb-false, lt-ltb}
-use Rattle.descriptor.specs.Segmentation.{agrees, byProgram, countOf, lasting, unrestricted, fairDetail, fairFront, ticks}
+use Rattle.descriptor.specs.Segmentation.{agrees, byProgram, countOf, lasting, unrestricted, writableDetail, writableFront, ticks}
 use Rattle.descriptor.specs.declared.segmentation.ModeComponent.{ModeComponent}
 use Rattle.descriptor.specs.declared.segmentation.SegmentationDescriptor.{SegmentationDescriptor}
-use Rattle.descriptor.specs.declared.segmentation.SegmentationDetail.{SegmentationDetail}
+use Rattle.descriptor.specs.declared.segmentation.DescriptorDetail.{DescriptorDetail}
 use Rattle.descriptor.specs.declared.segmentation.SegmentationDuration.{SegmentationDuration}
-use Rattle.descriptor.specs.declared.segmentation.SegmentationInsert.{SegmentationInsert}
+use Rattle.descriptor.specs.declared.segmentation.SegmentationDetail.{SegmentationDetail}
 use Rattle.descriptor.specs.declared.segmentation.SegmentationMode.{SegmentationMode}
 use Rattle.descriptor.specs.declared.segmentation.SubSegments.{SubSegments}
 use Rattle.descriptor.specs.declared.whole.Beside.{Beside}
 use Rattle.descriptor_measure.proofs.Making.{made-zero}
 use Rattle.descriptor_measure.proofs.Refusals as refusals
 use Rattle.descriptor_measure.specs.Private.{componentsFields, modeFields, durationFields, subFields, numbersFit}
-use Rattle.descriptor_measure.specs.Writing.{framed, framedMade, allZero, fairUpid, segmentationMade}
+use Rattle.descriptor_measure.specs.Writing.{framed, framedMade, allZero, writableUpid, segmentationMade}
 use Rattle.c_command_writer.specs.Words.{refusalOf, lowest, noLess}
 use Rattle.names.specs.Segmentation.{segmentationNumber}
 use Rattle.table.proofs.Lists.{zero-one}
@@ -33,16 +33,16 @@ use Rattle.c_descriptor_writer.proofs.Typed.{TypedMode, TypedSubs, Type
 pub data Told : Bool → Bool → Made → Type 0 where
   unseen : {fit : Bool} → Told false fit (refused 31)
   wide : Told true false (refused 32)
-  unfair : Told true true (refused 33)
+  unwritable : Told true true (refused 33)
   done : {b : List ℕ} → Told true true (made b)
 
-pub make-told : (fair : Bool) (l : List ℕ) (fs : List Field) → Told (seen l fs) (writing.within fs) (makeOf fair l fs)
-make-told fair l fs = go (seen l fs) (writing.within fs) fair
+pub make-told : (writable : Bool) (l : List ℕ) (fs : List Field) → Told (seen l fs) (writing.within fs) (makeOf writable l fs)
+make-told writable l fs = go (seen l fs) (writing.within fs) writable
   where
     go : (s w f : Bool) → Told s w (pick s (pick w (pick f (made (bytesOf (print (contents l fs)))) (refused 33)) (refused 32)) (refused 31))
     go false w f = unseen
     go true false f = wide
-    go true true false = unfair
+    go true true false = unwritable
     go true true true = done
 
 refused-so : (m : Made) (n : ℕ) → n ≡ refusalIn m → 0 < n → m ≡ refused n
@@ -59,9 +59,9 @@ framed-told tag id s fit m unseen true false view t = refl
 framed-told tag id s fit m wide false own view t = refl
 framed-told tag id s fit m wide true true view t = rw (← t refl)
 framed-told tag id s fit m wide true false view t = rw (← t refl)
-framed-told tag id s fit m unfair false own view t = refl
-framed-told tag id s fit m unfair true true view t = rw (← t refl)
-framed-told tag id s fit m unfair true false view t = rw (← t refl)
+framed-told tag id s fit m unwritable false own view t = refl
+framed-told tag id s fit m unwritable true true view t = rw (← t refl)
+framed-told tag id s fit m unwritable true false view t = rw (← t refl)
 framed-told tag id s fit m (done {b}) false own view t = go (leb (length b + 4) 254)
   where
     go : (c : Bool) → refused (lowest 32 (pick c (made (framed tag id b)) (refused 34))) ≡ refused 32
@@ -74,11 +74,23 @@ framed-told tag id s fit m (done {b}) true false view t = rw (← t refl) (go (l
     go true = refl
     go false = refl
 
+-- whatever it says, 31 of the words comes first
+pub framed-31 : (tag : ℕ) (id : List ℕ) {s fit : Bool} {m : Made} → Told s fit m → noLess 31 (framedMade tag id m) ≡ refused 31
+unfolding noLess framedMade
+framed-31 tag id unseen = refl
+framed-31 tag id wide = refl
+framed-31 tag id unwritable = refl
+framed-31 tag id (done {b}) = go (leb (length b + 4) 254)
+  where
+    go : (c : Bool) → refused (lowest 31 (pick c (made (framed tag id b)) (refused 34))) ≡ refused 31
+    go true = refl
+    go false = refl
+
 pub framed-unseen : (tag : ℕ) (id : List ℕ) {s fit : Bool} {m : Made} → Told s fit m → s ≡ false → framedMade tag id m ≡ refused 31
 unfolding framedMade
 framed-unseen tag id unseen e = refl
 framed-unseen tag id wide e = zero-one cc
-framed-unseen tag id unfair e = zero-one cc
+framed-unseen tag id unwritable e = zero-one cc
 framed-unseen tag id done e = zero-one cc
 
 pub told-as : {s t f g : Bool} {m : Made} → Told s f m → s ≡ t → f ≡ g → Told t g m
@@ -105,9 +117,9 @@ agrees-same : (b : Bool) → agrees b b ≡ true
 agrees-same true = refl
 agrees-same false = refl
 
-pub fair-insert : (i : SegmentationInsert) → TypedInsert i → fairDetail (SegmentationDetail.Insert i) ≡ true
-unfolding fairDetail fairFront
-fair-insert i t =
+pub writable-insert : (i : SegmentationDetail) → TypedInsert i → writableDetail (DescriptorDetail.Active i) ≡ true
+unfolding writableDetail writableFront
+writable-insert i t =
     rw (
       t .program-flag,
       t .duration-flag,
@@ -115,12 +127,12 @@ fair-insert i t =
       agrees-same (byProgram (i .«segmentation_mode»)),
       agrees-same (lasting (i .«segmentation_duration»)),
       agrees-same (unrestricted (i .«delivery_restrictions»)),
-      t .type-fair,
+      t .type-writable,
     )
 
-module _ (event : ℕ) (i : SegmentationInsert) (id : List ℕ) (b : Beside) (lent : List ℕ) (many : length (b .components) ≡ 255) (twelve : length (b .eidr) ≡ 12) (ev : event < 2 ^ 32) (t : TypedInsert i) where
+module _ (event : ℕ) (i : SegmentationDetail) (id : List ℕ) (b : Beside) (lent : List ℕ) (many : length (b .components) ≡ 255) (twelve : length (b .eidr) ≡ 12) (ev : event < 2 ^ 32) (t : TypedInsert i) where
   abbrev x : SegmentationDescriptor
-  x = record { «segmentation_event_id» = event; «descriptor_detail» = SegmentationDetail.Insert i }
+  x = record { «segmentation_event_id» = event; «descriptor_detail» = DescriptorDetail.Active i }
 
   abbrev view : View
   view = i .«segmentation_upid» .bytes
@@ -148,20 +160,20 @@ module _ (event : ℕ) (i : SegmentationInsert) (id : List ℕ) (b : Beside) (le
 
   -- the tests in their order: the view, its length, the numbers, the identifier, the flags, the UPID
   module _ (e : leb (view .at + view .len) (length lent) ≡ true) (l : view .len ≤ 255) (n : numbersFit i listed ≡ true) where
-    upid-told : allZero id ≡ true → fairDetail (SegmentationDetail.Insert i) ≡ true → (g : Bool) → fairUpid (i .«segmentation_upid») (b .eidr) lent ≡ g → Told true true whole-made
-    upid-told z f false g = rw (refused-so whole-made 33 (refusals.unfair-upid event i id (b .components) (b .eidr) lent true (sym e) refl l many twelve ev (t .upid) true (sym n, few) refl true (sym z) refl true (sym f) refl false (sym g) refl) (omega arith)) unfair
+    upid-told : allZero id ≡ true → writableDetail (DescriptorDetail.Active i) ≡ true → (g : Bool) → writableUpid (i .«segmentation_upid») (b .eidr) lent ≡ g → Told true true whole-made
+    upid-told z f false g = rw (refused-so whole-made 33 (refusals.unwritable-upid event i id (b .components) (b .eidr) lent true (sym e) refl l many twelve ev (t .upid) true (sym n, few) refl true (sym z) refl true (sym f) refl false (sym g) refl) (omega arith)) unwritable
     upid-told z f true g = rw (made-zero x id b lent (omega (arith, few)) (sym (refusals.no-refusal event i id (b .components) (b .eidr) lent true (sym e) refl l many twelve ev (t .upid) true (sym n, few) refl true (sym z) refl true (sym f) refl true (sym g) refl))) done
 
-    fair-told : (z : Bool) → allZero id ≡ z → Told true true whole-made
-    fair-told false z = rw (refused-so whole-made 33 (refusals.with-identifier event i id (b .components) (b .eidr) lent true (sym e) refl l many twelve ev (t .upid) true (sym n, few) refl false (sym z) refl) (omega arith)) unfair
-    fair-told true z = upid-told z (fair-insert i t) (fairUpid (i .«segmentation_upid») (b .eidr) lent) refl
+    writable-told : (z : Bool) → allZero id ≡ z → Told true true whole-made
+    writable-told false z = rw (refused-so whole-made 33 (refusals.with-identifier event i id (b .components) (b .eidr) lent true (sym e) refl l many twelve ev (t .upid) true (sym n, few) refl false (sym z) refl) (omega arith)) unwritable
+    writable-told true z = upid-told z (writable-insert i t) (writableUpid (i .«segmentation_upid») (b .eidr) lent) refl
 
   pub insert-told : Told (leb (view .at + view .len) (length lent)) (ltb (view .len) 256 && numbersFit i listed) whole-made
   insert-told = seen-told (leb (view .at + view .len) (length lent)) refl
     where
       numbers-told : leb (view .at + view .len) (length lent) ≡ true → view .len ≤ 255 → (n : Bool) → numbersFit i listed ≡ n → Told true n whole-made
       numbers-told e l false n = rw (refused-so whole-made 32 (refusals.numbers-over event i id (b .components) (b .eidr) lent true (sym e) refl l many twelve ev (t .upid) false (sym n, few) refl) (omega arith)) wide
-      numbers-told e l true n = fair-told e l n (allZero id) refl
+      numbers-told e l true n = writable-told e l n (allZero id) refl
 
       length-told : leb (view .at + view .len) (length lent) ≡ true → (c : Bool) → ltb (view .len) 256 ≡ c → Told true (c && numbersFit i listed) whole-made
       length-told e false c = rw (refused-so whole-made 32 (refusals.upid-long event i id (b .components) (b .eidr) lent true (sym e) refl (ltb-false (view .len) 256 c)) (omega arith)) wide
@@ -173,7 +185,7 @@ module _ (event : ℕ) (i : SegmentationInsert) (id : List ℕ) (b : Beside) (le
 
 module _ (event : ℕ) (id : List ℕ) (b : Beside) (lent : List ℕ) (ev : event < 2 ^ 32) where
   abbrev y : SegmentationDescriptor
-  y = record { «segmentation_event_id» = event; «descriptor_detail» = SegmentationDetail.Cancel }
+  y = record { «segmentation_event_id» = event; «descriptor_detail» = DescriptorDetail.Cancel }
 
   abbrev cancel-made : Made
   cancel-made = segmentationMade y id b lent
@@ -182,9 +194,9 @@ module _ (event : ℕ) (id : List ℕ) (b : Beside) (lent : List ℕ) (ev : even
   cancel-told = identifier-told (allZero id) refl
     where
       eidr-told : allZero id ≡ true → (w : Bool) → allZero (b .eidr) ≡ w → Told true true cancel-made
-      eidr-told z false w = rw (refused-so cancel-made 33 (refusals.cancel-eidr y id (b .components) (b .eidr) lent refl ev true (sym z) refl false (sym w) refl) (omega arith)) unfair
-      eidr-told z true w = rw (made-zero y id b lent (omega arith) (sym (refusals.cancel-fair y id (b .components) (b .eidr) lent refl ev true (sym z) refl true (sym w) refl))) done
+      eidr-told z false w = rw (refused-so cancel-made 33 (refusals.cancel-eidr y id (b .components) (b .eidr) lent refl ev true (sym z) refl false (sym w) refl) (omega arith)) unwritable
+      eidr-told z true w = rw (made-zero y id b lent (omega arith) (sym (refusals.cancel-writable y id (b .components) (b .eidr) lent refl ev true (sym z) refl true (sym w) refl))) done
 
       identifier-told : (z : Bool) → allZero id ≡ z → Told true true cancel-made
-      identifier-told false z = rw (refused-so cancel-made 33 (refusals.cancel-identifier y id (b .components) (b .eidr) lent refl ev false (sym z) refl) (omega arith)) unfair
+      identifier-told false z = rw (refused-so cancel-made 33 (refusals.cancel-identifier y id (b .components) (b .eidr) lent refl ev false (sym z) refl) (omega arith)) unwritable
       identifier-told true z = eidr-told z (allZero (b .eidr)) refl

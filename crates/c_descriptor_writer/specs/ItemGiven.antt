@@ -16,16 +16,15 @@ use Rattle.descriptor.specs.declared.segmentation.DeliveryRestrictionFlags.{Del
 use Rattle.descriptor.specs.declared.segmentation.DeliveryRestrictions.{DeliveryRestrictions}
 use Rattle.descriptor.specs.declared.segmentation.ModeComponent.{ModeComponent}
 use Rattle.descriptor.specs.declared.segmentation.SegmentationDescriptor.{SegmentationDescriptor}
-use Rattle.descriptor.specs.declared.segmentation.SegmentationDetail.{SegmentationDetail}
+use Rattle.descriptor.specs.declared.segmentation.DescriptorDetail.{DescriptorDetail}
 use Rattle.descriptor.specs.declared.segmentation.SegmentationDuration.{SegmentationDuration}
-use Rattle.descriptor.specs.declared.segmentation.SegmentationInsert.{SegmentationInsert}
+use Rattle.descriptor.specs.declared.segmentation.SegmentationDetail.{SegmentationDetail}
 use Rattle.descriptor.specs.declared.segmentation.SegmentationMode.{SegmentationMode}
 use Rattle.descriptor.specs.declared.segmentation.SegmentationUpid.{SegmentationUpid}
 use Rattle.descriptor.specs.declared.segmentation.SubSegment.{SubSegment}
 use Rattle.descriptor.specs.declared.segmentation.SubSegments.{SubSegments}
 use Rattle.descriptor.specs.declared.whole.Beside.{Beside}
-use Rattle.descriptor_measure.specs.Same.{countBeside}
-use Rattle.descriptor_measure.specs.Writing.{descriptorMade}
+use Rattle.descriptor_measure.specs.Writing.{countBeside, descriptorMade}
 use Rattle.c_items.specs.FlatItem.{flatDescriptor}
 use Rattle.c_items.specs.declared.descriptors.FlatItem.{FlatItem}
 use Rattle.c_items.specs.declared.descriptors.FlatTimeDescriptor.{FlatTimeDescriptor}
@@ -33,12 +32,12 @@ use Rattle.c_items.specs.declared.segmentations.FlatRestrictions.{FlatRestricti
 use Rattle.c_items.specs.declared.segmentations.FlatSegmentation.{FlatSegmentation}
 use Rattle.c_items.specs.declared.segmentations.FlatSubSegments.{FlatSubSegments}
 use Rattle.c_command_writer.specs.CommandGiven.{viewFrom}
-use Rattle.c_command_writer.specs.Words.{word, within, same, placesOf, refusalOf, noLess}
+use Rattle.c_command_writer.specs.Words.{word, within, same, placesOf, refusalOf, seenFirst, noLess}
 use Rattle.names.specs.Segmentation.{segmentationOf}
 use Rattle.table.specs.Bits.{pick, bigEndian}
 use Rattle.table.specs.Writing.{Made}
 use Rattle.table.specs.declared.View.{View}
-use Rattle.c_descriptor_writer.specs.ItemWords.{itemWords, itemWidths, placesIn, eidrIn, besideWithin}
+use Rattle.c_descriptor_writer.specs.ItemWords.{itemWords, itemWidths, placesIn, eidrIn, besideWithin, itemSeen, besideThere}
 
 -- ---- struct scte35_step: of 33 words, with 0 for those past the end of the slice
 abbrev pub firstWord : List ℕ → ℕ
@@ -117,7 +116,7 @@ subSegmentsFrom s =
     SubSegments.Absent
 
 -- a view, which is that of the item, is the UPID's
-unfoldable pub insertFrom : FlatSegmentation → View → SegmentationInsert
+unfoldable pub insertFrom : FlatSegmentation → View → SegmentationDetail
 insertFrom s bytes =
     record {
       «program_segmentation_flag» = eqb (s .«program_segmentation_flag») 1;
@@ -126,22 +125,22 @@ insertFrom s bytes =
       «delivery_restrictions» = deliveryFrom s;
       «segmentation_mode» = modeFrom s;
       «segmentation_duration» = durationFrom s;
-      «segmentation_upid» = record { kind = s .«segmentation_upid_type» % 256; bytes = bytes };
+      «segmentation_upid» = record { «upid_type» = s .«segmentation_upid_type» % 256; bytes = bytes };
       «segmentation_type_id» = segmentationOf (s .«segmentation_type_id» % 256);
       «segment_num» = s .«segment_num» % 256;
       «segments_expected» = s .«segments_expected» % 256;
       «sub_segments» = subSegmentsFrom (s .«sub_segments»);
     }
 
-abbrev pub segmentationWith : ℕ → SegmentationDetail → Descriptor
+abbrev pub segmentationWith : ℕ → DescriptorDetail → Descriptor
 segmentationWith event detail = Segmentation (record { «segmentation_event_id» = event % 2 ^ 32; «descriptor_detail» = detail })
 
 unfoldable pub descriptorFrom : FlatItem → Descriptor
 descriptorFrom i =
     pick (eqb (i .kind) 2) (Dtmf (record { preroll = i .preroll % 256; «dtmf_chars» = viewFrom (i .bytes) }))
-    (pick (eqb (i .kind) 3) (segmentationWith (i .segmentation .«segmentation_event_id») SegmentationDetail.Cancel)
+    (pick (eqb (i .kind) 3) (segmentationWith (i .segmentation .«segmentation_event_id») DescriptorDetail.Cancel)
     (pick (eqb (i .kind) 4)
-    (segmentationWith (i .segmentation .«segmentation_event_id») (SegmentationDetail.Insert (insertFrom (i .segmentation) (viewFrom (i .bytes)))))
+    (segmentationWith (i .segmentation .«segmentation_event_id») (DescriptorDetail.Active (insertFrom (i .segmentation) (viewFrom (i .bytes)))))
     (pick (eqb (i .kind) 5)
     (Time (record {
       «tai_seconds» = i .time .«tai_seconds»;
@@ -178,11 +177,16 @@ besideFrom n words = record { components = placesFrom n words; eidr = eidrFrom w
 unfoldable pub ownItem : Descriptor → List ℕ → Bool
 ownItem d words = same (itemWords (flatDescriptor d)) (drop 6 words)
 
--- the number of the words' own refusal, of a descriptor that they make
-unfoldable pub descriptorRefusal : Descriptor → List ℕ → List ℕ → ℕ
-descriptorRefusal d words beside = refusalOf (within itemWidths (drop 5 words) && besideWithin (countBeside d) beside) (ownItem d words)
+-- the number of the words' own refusal, of a descriptor that they make: 32 or 33
+unfoldable pub wordsRefusal : Descriptor → List ℕ → List ℕ → ℕ
+wordsRefusal d words beside =
+    refusalOf (within itemWidths (drop 5 words) && besideWithin (countBeside d) beside) (ownItem d words && besideThere (countBeside d) words beside)
+
+-- and 31 before them
+unfoldable pub descriptorRefusal : Descriptor → List ℕ → List ℕ → List ℕ → ℕ
+descriptorRefusal d words beside lent = seenFirst (itemSeen words lent) (wordsRefusal d words beside)
 
 -- ---- the descriptor, or the number of a refusal: 31 to 34
 unfoldable pub descriptorWordsMade : List ℕ → List ℕ → List ℕ → Made
 descriptorWordsMade words beside lent =
-    noLess (descriptorRefusal (descriptorGiven words) words beside) (descriptorMade (descriptorGiven words) (identifierFrom words) (besideFrom (countBeside (descriptorGiven words)) beside) lent)
+    noLess (descriptorRefusal (descriptorGiven words) words beside lent) (descriptorMade (descriptorGiven words) (identifierFrom words) (besideFrom (countBeside (descriptorGiven words)) beside) lent)

@@ -1,19 +1,18 @@
 -- What `scte35_write_descriptor` makes of words: those of a step, and those of what stands beside its item. 01, "Refusal numbers", 31 to 33. These are
 -- definitions.
-use Prim.Native.Nat.{ℕ, _^_}
-use mathlib.Core.Bool.{Bool, true, false, _&&_, _||_}
+use Prim.Native.Nat.{ℕ, _+_, _*_, _^_}
+use mathlib.Core.Bool.{Bool, true, false, _&&_}
 use mathlib.Core.List.{List, [], _∷_}
 use mathlib.Core.Path.{_≡_}
-use lib.Dec.{eqb, ltb}
+use lib.Dec.{eqb, ltb, leb}
 use lib.ListN.{length, drop, replicate}
-use Rattle.descriptor.specs.Segmentation.{fairDetail}
+use Rattle.descriptor.specs.Segmentation.{writableDetail}
 use Rattle.descriptor.specs.Whole.{filled, ofSegmentation}
 use Rattle.descriptor.specs.declared.Descriptor.{Descriptor}
 use Rattle.descriptor.specs.declared.segmentation.ModeComponent.{ModeComponent}
 use Rattle.descriptor.specs.declared.segmentation.SegmentationDescriptor.{SegmentationDescriptor}
 use Rattle.descriptor.specs.declared.whole.Beside.{Beside}
-use Rattle.descriptor_measure.specs.Same.{countBeside}
-use Rattle.descriptor_measure.specs.Writing.{descriptorMade}
+use Rattle.descriptor_measure.specs.Writing.{countBeside, descriptorMade}
 use Rattle.c_items.specs.FlatItem.{flatDescriptor}
 use Rattle.c_items.specs.declared.descriptors.FlatItem.{FlatItem}
 use Rattle.c_command_writer.specs.Words.{word, within, same, eachPlace}
@@ -85,11 +84,10 @@ placesWithin n words = eachPlace (within placeWidths) 2 n (placesIn words)
 unfoldable pub besideWithin : ℕ → List ℕ → Bool
 besideWithin n words = placesWithin n words && within (replicate 12 8) (eidrIn words)
 
--- ---- refusal 31: "a view reaches outside the lent bytes". The item's last two words are a view, of a DTMF, segmentation or
--- reserved descriptor; of any other kind they are a part left out (33).
+-- ---- refusal 31: "a view reaches outside the lent bytes". The item's last two words are a view, whatever its kind: of a kind that has none they are a part
+-- left out, and 33 comes behind.
 unfoldable pub itemSeen : List ℕ → List ℕ → Bool
-itemSeen words lent =
-    pick (eqb (word words 6) 2 || (eqb (word words 6) 4 || eqb (word words 6) 6)) (liesIn lent (record { at = word words 31; len = word words 32 })) true
+itemSeen words lent = liesIn lent (record { at = word words 31; len = word words 32 })
 
 -- ---- refusal 32: "a number or count handed in exceeds its field; so do over 7 DTMF or 255 UPID bytes"
 abbrev pub viewFits : List ℕ → Bool
@@ -102,12 +100,21 @@ placesGiven words = pick (eqb (word words 6) 4 && eqb (word words 11) 0) (word w
 unfoldable pub itemFits : List ℕ → List ℕ → Bool
 itemFits words beside = within itemWidths (drop 5 words) && (viewFits words && besideWithin (placesGiven words) beside)
 
+-- ---- refusal 33 of words that are not there, which would count as 0: beside an EIDR all 527, beside n components their places; else none
+abbrev pub hasEidr : List ℕ → Bool
+hasEidr words = eqb (word words 6) 4 && eqb (word words 20) 0x0a
+
+unfoldable pub besideThere : ℕ → List ℕ → List ℕ → Bool
+besideThere n words beside = leb (pick (hasEidr words) 527 (pick (eqb n 0) 0 (5 + n * 2))) (length beside)
+
 -- ---- the words are those of d, its identifier and b beside it
 pub record DescriptorIs (words beside : List ℕ) (d : Descriptor) (identifier : List ℕ) (b : Beside) : Type 0 where
   pub item : same (itemWords (flatDescriptor d)) (drop 6 words) ≡ true
   -- of the values with these words, the one whose flags say what their parts say, and whose type number, if reserved, has no name
-  pub fair : ofSegmentation (λ x. fairDetail (x .«descriptor_detail»)) true d ≡ true
+  pub writable : ofSegmentation (λ x. writableDetail (x .«descriptor_detail»)) true d ≡ true
   pub identifies : identifier ≡ bigEndian 4 (word words 5)
+  -- "a descriptor put without its components or EIDR" is no descriptor's
+  pub there : besideThere (countBeside d) words beside ≡ true
   -- as many components as d counts, and blanks past them
   pub listed : List ModeComponent
   pub count : length listed ≡ countBeside d

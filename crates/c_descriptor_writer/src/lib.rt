@@ -1,10 +1,10 @@
 // The descriptor writer over the C boundary: an item from the words of its step, and of what stands beside it.
 ghost use mathlib.Core.Path.{_≡_};
 ghost use Prim.Native.Nat.{_≤_};
-ghost use Rattle.descriptor_measure.specs.Same.{countBeside};
-ghost use Rattle.descriptor_measure.specs.Writing.{descriptorMade};
+ghost use Rattle.descriptor_measure.specs.Writing.{countBeside, descriptorMade};
 ghost use Rattle.descriptor_writer.specs.Stores.{Writes};
-ghost use Rattle.c_descriptor_writer.specs.ItemGiven.{paddedWords, besideFrom, ownItem, descriptorRefusal, descriptorWordsMade};
+ghost use Rattle.c_descriptor_writer.specs.ItemGiven.{paddedWords, besideFrom, ownItem, wordsRefusal, descriptorRefusal, descriptorWordsMade};
+ghost use Rattle.c_descriptor_writer.specs.ItemWords.{itemSeen, hasEidr, besideThere};
 ghost use Rattle.c_command_writer.specs.Words.{flatWritten};
 ghost use Rattle.bit_stores.specs.Written.{answerOf, laterOf};
 use crate::beside::beside_from;
@@ -21,18 +21,20 @@ use c_command_writer::lower_refusal;
 use c_command_writer::word_at;
 use c_items::steps::flat_step;
 use descriptor::Descriptor;
-use descriptor::segmentation::SegmentationDetail;
+use descriptor::segmentation::DescriptorDetail;
 use descriptor::segmentation::SegmentationMode;
 use descriptor_loop::Item;
 use descriptor_loop::Step;
-use descriptor_writer::write_bare_descriptor;
 use descriptor_writer::write_descriptor;
+use descriptor_writer::write_descriptor_without_components;
+use table::View;
+use table::lent::lies_in;
 
 pub mod beside;
 pub mod values;
 
 // How many components it has.
-fn count_in(d: Descriptor) -> u8
+fn count_in_descriptor(d: Descriptor) -> u8
     ensures { λ r. ⌜ r ≡ countBeside d ⌝ }
 {
     let segmentation = match d {
@@ -47,8 +49,8 @@ fn count_in(d: Descriptor) -> u8
     };
     let detail = segmentation.descriptor_detail;
     let insert = match detail {
-        SegmentationDetail::Cancel => return 0,
-        SegmentationDetail::Insert(i) => i,
+        DescriptorDetail::Cancel => return 0,
+        DescriptorDetail::Active(i) => i,
     };
     let mode = insert.segmentation_mode;
     match mode {
@@ -70,20 +72,70 @@ fn is_own_item(d: Descriptor, words: &[u64]) -> bool
     is_flat_item(item, words)
 }
 
-// Refusals 32 and 33 of the words themselves; 0 for none.
-pub fn descriptor_refusal(d: Descriptor, words: &[u64], beside: &[u64]) -> u64
-    ensures { λ r. ⌜ r ≡ descriptorRefusal d (now (words .entry)) (now (beside .entry)) ⌝ }
+fn has_eidr(words: &[u64]) -> bool
+    ensures { λ r. ⌜ r ≡ hasEidr (now (words .entry)) ⌝ }
 {
+    if word_at(words, 6) != 4 {
+        return false;
+    }
+    word_at(words, 20) == 0x0A
+}
+
+// Refusal 33: are the words beside the item there, where it has an EIDR or `count` components? They would count as 0.
+fn is_beside_there(count: usize, words: &[u64], beside: &[u64]) -> bool
+    requires { ⌜ count ≤ 255 ⌝ }
+    ensures { λ r. ⌜ r ≡ besideThere count (now (words .entry)) (now (beside .entry)) ⌝ }
+{
+    if has_eidr(words) {
+        return 527 <= beside.len();
+    }
+    if count == 0 {
+        return true;
+    }
+    5 + count * 2 <= beside.len()
+}
+
+// Refusals 32 and 33 of the words themselves; 0 for none.
+fn words_refusal(d: Descriptor, words: &[u64], beside: &[u64]) -> u64
+    ensures { λ r. ⌜ r ≡ wordsRefusal d (now (words .entry)) (now (beside .entry)) ⌝ }
+{
+    let count = count_in_descriptor(d) as usize;
     if !is_item_within(words) {
         return 32;
     }
-    if !beside_within(count_in(d) as usize, beside) {
+    if !beside_within(count, beside) {
         return 32;
     }
     if !is_own_item(d, words) {
         return 33;
     }
+    if !is_beside_there(count, words, beside) {
+        return 33;
+    }
     0
+}
+
+// Refusal 31 of the words of an item: does their view, whatever the item's kind, lie in the lent bytes?
+fn is_item_seen(words: &[u64], lent: &[u8]) -> bool
+    ensures { λ r. ⌜ r ≡ itemSeen (now (words .entry)) (now (lent .entry)) ⌝ }
+{
+    lies_in(
+        lent,
+        View {
+            at: word_at(words, 31) as usize,
+            len: word_at(words, 32) as usize,
+        },
+    )
+}
+
+// Refusals 31 to 33 of the words themselves, in their order; 0 for none.
+pub fn descriptor_refusal(d: Descriptor, words: &[u64], beside: &[u64], lent: &[u8]) -> u64
+    ensures { λ r. ⌜ r ≡ descriptorRefusal d (now (words .entry)) (now (beside .entry)) (now (lent .entry)) ⌝ }
+{
+    if !is_item_seen(words, lent) {
+        return 31;
+    }
+    words_refusal(d, words, beside)
 }
 
 // A descriptor with the components and the EIDR that the words make. Where it has no components no array of them is made.
@@ -100,7 +152,7 @@ fn write_given(
 {
     if count == 0 {
         let eidr = eidr_from(beside);
-        return write_bare_descriptor(d, identifier, eidr, lent, target);
+        return write_descriptor_without_components(d, identifier, eidr, lent, target);
     }
     let aside = beside_from(count, beside);
     write_descriptor(d, identifier, aside, lent, target)
@@ -126,8 +178,8 @@ fn write_from_words(words: &[u64], beside: &[u64], lent: &[u8], target: &mut [u8
 {
     let d = descriptor_given(words);
     let identifier = identifier_from(words);
-    let count = count_in(d) as usize;
-    let refusal = descriptor_refusal(d, words, beside);
+    let count = count_in_descriptor(d) as usize;
+    let refusal = descriptor_refusal(d, words, beside, lent);
     if 0 < refusal {
         return lower_refusal(
             refusal,

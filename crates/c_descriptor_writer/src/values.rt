@@ -23,10 +23,10 @@ use descriptor::plain::DTMFDescriptor;
 use descriptor::plain::TimeDescriptor;
 use descriptor::segmentation::DeliveryRestrictionFlags;
 use descriptor::segmentation::DeliveryRestrictions;
+use descriptor::segmentation::DescriptorDetail;
 use descriptor::segmentation::SegmentationDescriptor;
 use descriptor::segmentation::SegmentationDetail;
 use descriptor::segmentation::SegmentationDuration;
-use descriptor::segmentation::SegmentationInsert;
 use descriptor::segmentation::SegmentationMode;
 use descriptor::segmentation::SegmentationUpid;
 use descriptor::segmentation::SubSegment;
@@ -279,11 +279,11 @@ fn sub_segments_from(s: FlatSubSegments) -> SubSegments
     SubSegments::Absent
 }
 
-fn insert_from(s: FlatSegmentation, bytes: View) -> SegmentationInsert
+fn insert_from(s: FlatSegmentation, bytes: View) -> SegmentationDetail
     ensures { λ r. ⌜ r ≡ insertFrom s bytes ⌝ }
 {
     let subs = s.sub_segments;
-    SegmentationInsert {
+    SegmentationDetail {
         program_segmentation_flag: s.program_segmentation_flag == 1,
         segmentation_duration_flag: s.segmentation_duration_flag == 1,
         delivery_not_restricted_flag: s.delivery_not_restricted_flag == 1,
@@ -291,7 +291,7 @@ fn insert_from(s: FlatSegmentation, bytes: View) -> SegmentationInsert
         segmentation_mode: mode_from(s),
         segmentation_duration: duration_from(s),
         segmentation_upid: SegmentationUpid {
-            kind: (s.segmentation_upid_type % 256) as u8,
+            upid_type: (s.segmentation_upid_type % 256) as u8,
             bytes,
         },
         segmentation_type_id: SegmentationTypeId::from_id((s.segmentation_type_id % 256) as u8),
@@ -319,11 +319,11 @@ fn descriptor_from(i: FlatItem) -> Descriptor
         }),
         3 => Descriptor::Segmentation(SegmentationDescriptor {
             segmentation_event_id: (s.segmentation_event_id % 0x1_0000_0000) as u32,
-            descriptor_detail: SegmentationDetail::Cancel,
+            descriptor_detail: DescriptorDetail::Cancel,
         }),
         4 => Descriptor::Segmentation(SegmentationDescriptor {
             segmentation_event_id: (s.segmentation_event_id % 0x1_0000_0000) as u32,
-            descriptor_detail: SegmentationDetail::Insert(insert_from(s, bytes)),
+            descriptor_detail: DescriptorDetail::Active(insert_from(s, bytes)),
         }),
         5 => Descriptor::Time(TimeDescriptor {
             tai_seconds: time.tai_seconds,

@@ -10,9 +10,9 @@ use Rattle.descriptor.specs.declared.Descriptor.the-variants.{Avail, Dtmf, Segm
 use Rattle.descriptor.specs.declared.plain.TimeDescriptor.{TimeDescriptor}
 use Rattle.descriptor.specs.declared.segmentation.DeliveryRestrictionFlags.{DeliveryRestrictionFlags}
 use Rattle.descriptor.specs.declared.segmentation.ModeComponent.{ModeComponent}
+use Rattle.descriptor.specs.declared.segmentation.DescriptorDetail.{DescriptorDetail}
+use Rattle.descriptor.specs.declared.segmentation.DescriptorDetail.the-variants.{Cancel, Active}
 use Rattle.descriptor.specs.declared.segmentation.SegmentationDetail.{SegmentationDetail}
-use Rattle.descriptor.specs.declared.segmentation.SegmentationDetail.the-variants.{Cancel, Insert}
-use Rattle.descriptor.specs.declared.segmentation.SegmentationInsert.{SegmentationInsert}
 use Rattle.descriptor.specs.declared.segmentation.SubSegments.{SubSegments}
 use Rattle.c_section.specs.Flat.{flatView}
 use Rattle.c_section.specs.declared.FlatView.{FlatView}
@@ -50,7 +50,7 @@ flatSubSegments SubSegments.Absent = record { present = 0; «sub_segment_num» =
 flatSubSegments (SubSegments.Is x) =
     record { present = 1; «sub_segment_num» = x .«sub_segment_num»; «sub_segments_expected» = x .«sub_segments_expected» }
 
-unfoldable pub wholeSegmentation : ℕ → SegmentationInsert → FlatSegmentation
+unfoldable pub wholeSegmentation : ℕ → SegmentationDetail → FlatSegmentation
 wholeSegmentation event i =
     record {
       «segmentation_event_id» = event;
@@ -61,7 +61,7 @@ wholeSegmentation event i =
       «delivery_restrictions» = flatRestrictions (i .«delivery_restrictions»);
       «component_count» = countOf (i .«segmentation_mode»);
       «segmentation_duration» = ticks (i .«segmentation_duration»);
-      «segmentation_upid_type» = i .«segmentation_upid» .kind;
+      «segmentation_upid_type» = i .«segmentation_upid» .«upid_type»;
       «segmentation_type_id» = segmentationNumber (i .«segmentation_type_id»);
       «segment_num» = i .«segment_num»;
       «segments_expected» = i .«segments_expected»;
@@ -69,8 +69,8 @@ wholeSegmentation event i =
     }
 
 -- without what follows the cancel indicator
-unfoldable pub bareSegmentation : ℕ → ℕ → FlatSegmentation
-bareSegmentation event cancel =
+unfoldable pub segmentationHead : ℕ → ℕ → FlatSegmentation
+segmentationHead event cancel =
     record {
       «segmentation_event_id» = event;
       «segmentation_event_cancel_indicator» = cancel;
@@ -106,23 +106,23 @@ itemWith kind avail preroll segmentation times tag bytes =
       bytes = bytes;
     }
 
-unfoldable pub segmentationItem : ℕ → SegmentationDetail → FlatItem
-segmentationItem event Cancel = itemWith 3 0 0 (bareSegmentation event 1) noTimes 0 (flatView noView)
-segmentationItem event (Insert i) = itemWith 4 0 0 (wholeSegmentation event i) noTimes 0 (flatView (i .«segmentation_upid» .bytes))
+unfoldable pub segmentationItem : ℕ → DescriptorDetail → FlatItem
+segmentationItem event Cancel = itemWith 3 0 0 (segmentationHead event 1) noTimes 0 (flatView noView)
+segmentationItem event (Active i) = itemWith 4 0 0 (wholeSegmentation event i) noTimes 0 (flatView (i .«segmentation_upid» .bytes))
 
 unfoldable pub flatDescriptor : Descriptor → FlatItem
-flatDescriptor (Avail x) = itemWith 1 (x .«provider_avail_id») 0 (bareSegmentation 0 0) noTimes 0 (flatView noView)
-flatDescriptor (Dtmf x) = itemWith 2 0 (x .preroll) (bareSegmentation 0 0) noTimes 0 (flatView (x .«dtmf_chars»))
+flatDescriptor (Avail x) = itemWith 1 (x .«provider_avail_id») 0 (segmentationHead 0 0) noTimes 0 (flatView noView)
+flatDescriptor (Dtmf x) = itemWith 2 0 (x .preroll) (segmentationHead 0 0) noTimes 0 (flatView (x .«dtmf_chars»))
 flatDescriptor (Segmentation x) = segmentationItem (x .«segmentation_event_id») (x .«descriptor_detail»)
-flatDescriptor (Time x) = itemWith 5 0 0 (bareSegmentation 0 0) (flatTimeDescriptor x) 0 (flatView noView)
-flatDescriptor (Reserved tag bytes) = itemWith 6 0 0 (bareSegmentation 0 0) noTimes tag (flatView bytes)
+flatDescriptor (Time x) = itemWith 5 0 0 (segmentationHead 0 0) (flatTimeDescriptor x) 0 (flatView noView)
+flatDescriptor (Reserved tag bytes) = itemWith 6 0 0 (segmentationHead 0 0) noTimes tag (flatView bytes)
 
-unfoldable pub bareItem : ℕ → FlatItem
-bareItem kind = itemWith kind 0 0 (bareSegmentation 0 0) noTimes 0 (flatView noView)
+unfoldable pub blankItem : ℕ → FlatItem
+blankItem kind = itemWith kind 0 0 (segmentationHead 0 0) noTimes 0 (flatView noView)
 
 unfoldable pub flatItem : Item → FlatItem
-flatItem End = bareItem 0
-flatItem (Refused r) = bareItem 7
+flatItem End = blankItem 0
+flatItem (Refused r) = blankItem 7
 flatItem (Is d) = flatDescriptor d
 
 -- ---- a step

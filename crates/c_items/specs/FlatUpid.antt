@@ -17,16 +17,16 @@ abbrev pub three : List ℕ → List ℕ
 three values = filledTo 3 0 values
 
 unfoldable pub flatPart : Part → FlatPart
-flatPart p = record { kind = p .kind; level = p .level; start = p .start; len = p .len }
+flatPart p = record { «upid_type» = p .«upid_type»; level = p .level; start = p .start; len = p .len }
 
 unfoldable pub noParts : List FlatPart
-noParts = replicate 127 (record { kind = 0; level = 0; start = 0; len = 0 })
+noParts = replicate 127 (record { «upid_type» = 0; level = 0; start = 0; len = 0 })
 
 unfoldable pub flatUpidRead : UpidRead → List ℕ → PartList → FlatUpid
 flatUpidRead (Fine k) eidr list =
-    record { refusal = 0; values = three []; kind = k; eidr = eidr; count = list .count; parts = map flatPart (list .parts) }
+    record { refusal = 0; values = three []; «upid_type» = k; eidr = eidr; count = list .count; parts = map flatPart (list .parts) }
 flatUpidRead (Refused r) eidr list =
-    record { refusal = numberOf r; values = three (valuesOf r); kind = 0; eidr = replicate 12 0; count = 0; parts = noParts }
+    record { refusal = numberOf r; values = three (valuesOf r); «upid_type» = 0; eidr = replicate 12 0; count = 0; parts = noParts }
 
 unfoldable pub flatUpid : Upid → FlatUpid
 flatUpid u = flatUpidRead (u .read) (u .eidr) (u .list)

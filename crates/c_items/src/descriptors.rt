@@ -1,10 +1,10 @@
 // What an item of a loop is.
 ghost use mathlib.Core.Path.{_≡_};
 ghost use Rattle.descriptor.specs.declared.Descriptor.the-variants.{Avail, Dtmf, Time, Reserved};
-ghost use Rattle.descriptor.specs.declared.segmentation.SegmentationDetail.the-variants.{Cancel, Insert};
-ghost use Rattle.c_items.specs.FlatItem.{flatTimeDescriptor, bareItem, segmentationItem, flatDescriptor, flatItem};
+ghost use Rattle.descriptor.specs.declared.segmentation.DescriptorDetail.the-variants.{Cancel, Active};
+ghost use Rattle.c_items.specs.FlatItem.{flatTimeDescriptor, blankItem, segmentationItem, flatDescriptor, flatItem};
 use crate::segmentations::FlatSegmentation;
-use crate::segmentations::bare_segmentation;
+use crate::segmentations::segmentation_head;
 use crate::segmentations::whole_segmentation;
 use c_section::FlatView;
 use c_section::flat_view;
@@ -12,8 +12,8 @@ use descriptor::Descriptor;
 use descriptor::plain::AvailDescriptor;
 use descriptor::plain::DTMFDescriptor;
 use descriptor::plain::TimeDescriptor;
+use descriptor::segmentation::DescriptorDetail;
 use descriptor::segmentation::SegmentationDetail;
-use descriptor::segmentation::SegmentationInsert;
 use descriptor_loop::Item;
 use table::View;
 
@@ -47,14 +47,14 @@ fn flat_time_descriptor(t: TimeDescriptor) -> FlatTimeDescriptor
 }
 
 // An item of a kind, without the parts that the others have.
-fn bare_item(kind: u64) -> FlatItem
-    ensures { λ r. ⌜ r ≡ bareItem kind ⌝ }
+fn blank_item(kind: u64) -> FlatItem
+    ensures { λ r. ⌜ r ≡ blankItem kind ⌝ }
 {
     FlatItem {
         kind,
         provider_avail_id: 0,
         preroll: 0,
-        segmentation: bare_segmentation(0, 0),
+        segmentation: segmentation_head(0, 0),
         time: FlatTimeDescriptor {
             tai_seconds: 0,
             tai_nanoseconds: 0,
@@ -68,7 +68,7 @@ fn bare_item(kind: u64) -> FlatItem
 fn avail_item(x: AvailDescriptor) -> FlatItem
     ensures { λ r. ⌜ r ≡ flatDescriptor (Avail x) ⌝ }
 {
-    let mut out = bare_item(1);
+    let mut out = blank_item(1);
     out.provider_avail_id = x.provider_avail_id as u64;
     out
 }
@@ -77,7 +77,7 @@ fn dtmf_item(x: DTMFDescriptor) -> FlatItem
     ensures { λ r. ⌜ r ≡ flatDescriptor (Dtmf x) ⌝ }
 {
     let chars = x.dtmf_chars;
-    let mut out = bare_item(2);
+    let mut out = blank_item(2);
     out.preroll = x.preroll as u64;
     out.bytes = flat_view(chars);
     out
@@ -86,17 +86,17 @@ fn dtmf_item(x: DTMFDescriptor) -> FlatItem
 fn cancelled_item(event: u64) -> FlatItem
     ensures { λ r. ⌜ r ≡ segmentationItem event Cancel ⌝ }
 {
-    let mut out = bare_item(3);
-    out.segmentation = bare_segmentation(event, 1);
+    let mut out = blank_item(3);
+    out.segmentation = segmentation_head(event, 1);
     out
 }
 
-fn insert_item(event: u64, i: SegmentationInsert) -> FlatItem
-    ensures { λ r. ⌜ r ≡ segmentationItem event (Insert i) ⌝ }
+fn insert_item(event: u64, i: SegmentationDetail) -> FlatItem
+    ensures { λ r. ⌜ r ≡ segmentationItem event (Active i) ⌝ }
 {
     let upid = i.segmentation_upid;
     let bytes = upid.bytes;
-    let mut out = bare_item(4);
+    let mut out = blank_item(4);
     out.segmentation = whole_segmentation(event, i);
     out.bytes = flat_view(bytes);
     out
@@ -105,7 +105,7 @@ fn insert_item(event: u64, i: SegmentationInsert) -> FlatItem
 fn time_item(x: TimeDescriptor) -> FlatItem
     ensures { λ r. ⌜ r ≡ flatDescriptor (Time x) ⌝ }
 {
-    let mut out = bare_item(5);
+    let mut out = blank_item(5);
     out.time = flat_time_descriptor(x);
     out
 }
@@ -113,7 +113,7 @@ fn time_item(x: TimeDescriptor) -> FlatItem
 fn reserved_item(tag: u8, private_bytes: View) -> FlatItem
     ensures { λ r. ⌜ r ≡ flatDescriptor (Reserved tag «private_bytes») ⌝ }
 {
-    let mut out = bare_item(6);
+    let mut out = blank_item(6);
     out.splice_descriptor_tag = tag as u64;
     out.bytes = flat_view(private_bytes);
     out
@@ -124,8 +124,8 @@ pub(crate) fn flat_item(item: Item) -> FlatItem
     ensures { λ r. ⌜ r ≡ flatItem item ⌝ }
 {
     match item {
-        Item::End => return bare_item(0),
-        Item::Refused(_) => return bare_item(7),
+        Item::End => return blank_item(0),
+        Item::Refused(_) => return blank_item(7),
         Item::Is(d) => match d {
             Descriptor::Avail(x) => return avail_item(x),
             Descriptor::Dtmf(x) => return dtmf_item(x),
@@ -133,8 +133,8 @@ pub(crate) fn flat_item(item: Item) -> FlatItem
                 let event = x.segmentation_event_id as u64;
                 let detail = x.descriptor_detail;
                 match detail {
-                    SegmentationDetail::Cancel => return cancelled_item(event),
-                    SegmentationDetail::Insert(i) => return insert_item(event, i),
+                    DescriptorDetail::Cancel => return cancelled_item(event),
+                    DescriptorDetail::Active(i) => return insert_item(event, i),
                 }
             }
             Descriptor::Time(x) => return time_item(x),

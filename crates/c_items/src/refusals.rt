@@ -16,9 +16,12 @@ pub(crate) fn number(r: Refusal) -> u64
             actual: _,
         } => 21,
         Refusal::UpidLengthTypeMismatch => 23,
-        Refusal::InvalidUpidContent { kind: _, bytes: _ } => 24,
+        Refusal::InvalidUpidContent {
+            upid_type: _,
+            bytes: _,
+        } => 24,
         Refusal::InvalidUpidLength {
-            kind: _,
+            upid_type: _,
             expected: _,
             actual: _,
         } => 25,
@@ -32,16 +35,16 @@ pub(crate) fn values(r: Refusal) -> [u64; 3]
         Refusal::InputTooLong => [0, 0, 0],
         Refusal::NotEnoughData { expected, actual } => [expected as u64, actual as u64, 0],
         Refusal::UpidLengthTypeMismatch => [0, 0, 0],
-        Refusal::InvalidUpidContent { kind, bytes } => [
-            kind as u64,
+        Refusal::InvalidUpidContent { upid_type, bytes } => [
+            upid_type as u64,
             bytes.at as u64,
             bytes.len as u64,
         ],
         Refusal::InvalidUpidLength {
-            kind,
+            upid_type,
             expected,
             actual,
-        } => [kind as u64, expected as u64, actual as u64],
+        } => [upid_type as u64, expected as u64, actual as u64],
     }
 }
 

@@ -1,11 +1,11 @@
 // Segmentation descriptors.
 ghost use mathlib.Core.Path.{_≡_};
 ghost use Rattle.descriptor.specs.Segmentation.{countOf, ticks};
-ghost use Rattle.c_items.specs.FlatItem.{flatRestrictions, flatSubSegments, bareSegmentation, wholeSegmentation};
+ghost use Rattle.c_items.specs.FlatItem.{flatRestrictions, flatSubSegments, segmentationHead, wholeSegmentation};
 use c_section::flat_flag;
 use descriptor::segmentation::DeliveryRestrictionFlags;
+use descriptor::segmentation::SegmentationDetail;
 use descriptor::segmentation::SegmentationDuration;
-use descriptor::segmentation::SegmentationInsert;
 use descriptor::segmentation::SegmentationMode;
 use descriptor::segmentation::SubSegments;
 
@@ -100,8 +100,8 @@ fn component_count(m: SegmentationMode) -> u64
 }
 
 // A descriptor without its detail.
-pub(crate) fn bare_segmentation(event: u64, cancel: u64) -> FlatSegmentation
-    ensures { λ r. ⌜ r ≡ bareSegmentation event cancel ⌝ }
+pub(crate) fn segmentation_head(event: u64, cancel: u64) -> FlatSegmentation
+    ensures { λ r. ⌜ r ≡ segmentationHead event cancel ⌝ }
 {
     FlatSegmentation {
         segmentation_event_id: event,
@@ -120,7 +120,7 @@ pub(crate) fn bare_segmentation(event: u64, cancel: u64) -> FlatSegmentation
     }
 }
 
-pub(crate) fn whole_segmentation(event: u64, i: SegmentationInsert) -> FlatSegmentation
+pub(crate) fn whole_segmentation(event: u64, i: SegmentationDetail) -> FlatSegmentation
     ensures { λ r. ⌜ r ≡ wholeSegmentation event i ⌝ }
 {
     let restrictions = i.delivery_restrictions;
@@ -138,7 +138,7 @@ pub(crate) fn whole_segmentation(event: u64, i: SegmentationInsert) -> FlatSegme
         delivery_restrictions: flat_restrictions(restrictions),
         component_count: component_count(mode),
         segmentation_duration: duration(lasts),
-        segmentation_upid_type: upid.kind as u64,
+        segmentation_upid_type: upid.upid_type as u64,
         segmentation_type_id: type_id.id() as u64,
         segment_num: i.segment_num as u64,
         segments_expected: i.segments_expected as u64,

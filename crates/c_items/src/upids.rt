@@ -11,7 +11,7 @@ use upid::UpidRead;
 
 #[repr(C)]
 pub struct FlatPart {
-    pub kind: u64,
+    pub upid_type: u64,
     pub level: u64,
     pub start: u64,
     pub len: u64,
@@ -22,7 +22,7 @@ pub struct FlatPart {
 pub struct FlatUpid {
     pub refusal: u64,
     pub values: [u64; 3],
-    pub kind: u64,
+    pub upid_type: u64,
     pub eidr: [u64; 12],
     pub count: u64,
     pub parts: [FlatPart; 127],
@@ -32,7 +32,7 @@ fn flat_part(p: Part) -> FlatPart
     ensures { λ r. ⌜ r ≡ flatPart p ⌝ }
 {
     FlatPart {
-        kind: p.kind as u64,
+        upid_type: p.upid_type as u64,
         level: p.level as u64,
         start: p.start as u64,
         len: p.len as u64,
@@ -43,7 +43,7 @@ fn no_parts() -> [FlatPart; 127]
     ensures { λ r. ⌜ r ≡ noParts ⌝ }
 {
     [FlatPart {
-        kind: 0,
+        upid_type: 0,
         level: 0,
         start: 0,
         len: 0,
@@ -80,14 +80,14 @@ pub fn flat_upid(u: Upid) -> FlatUpid
 {
     let read = u.read;
     match read {
-        UpidRead::Fine(kind) => {
+        UpidRead::Fine(upid_type) => {
             let eidr = u.eidr;
             let list = u.list;
             let parts = list.parts;
             FlatUpid {
                 refusal: 0,
                 values: [0, 0, 0],
-                kind: kind as u64,
+                upid_type: upid_type as u64,
                 eidr: flat_eidr(eidr),
                 count: list.count as u64,
                 parts: flat_parts(parts),
@@ -96,7 +96,7 @@ pub fn flat_upid(u: Upid) -> FlatUpid
         UpidRead::Refused(r) => FlatUpid {
             refusal: number(r),
             values: values(r),
-            kind: 0,
+            upid_type: 0,
             eidr: [0; 12],
             count: 0,
             parts: no_parts(),

@@ -2,7 +2,7 @@
 use Prim.Native.Nat.{ℕ}
 use mathlib.Core.List.{List, map}
 use lib.ListN.{replicate}
-use Rattle.command.specs.Command.{numberOf, kindOf, countIn}
+use Rattle.command.specs.Command.{numberOf, typeOf, countIn}
 use Rattle.command.specs.Insert.{insertOf}
 use Rattle.command.specs.declared.CommandRead.{CommandRead}
 use Rattle.command.specs.declared.CommandRead.the-variants.{Is, UnknownType, Malformed}
@@ -11,10 +11,10 @@ use Rattle.command.specs.declared.SpliceCommand.the-variants as command
 use Rattle.command.specs.declared.components.ComponentSplice.{ComponentSplice}
 use Rattle.command.specs.declared.insert.Break.{Break}
 use Rattle.command.specs.declared.insert.Break.the-variants.{Absent, Lasts}
-use Rattle.command.specs.declared.insert.Insert.{Insert}
-use Rattle.command.specs.declared.insert.Insertion.{Insertion}
+use Rattle.command.specs.declared.insert.InsertDetail.{InsertDetail}
 use Rattle.command.specs.declared.insert.SpliceInsert.{SpliceInsert}
-use Rattle.command.specs.declared.insert.SpliceInsert.the-variants as insert
+use Rattle.command.specs.declared.insert.SpliceDetail.{SpliceDetail}
+use Rattle.command.specs.declared.insert.SpliceDetail.the-variants as insert
 use Rattle.command.specs.declared.insert.SpliceMode.{SpliceMode}
 use Rattle.command.specs.declared.insert.SpliceMode.the-variants.{Program, Components}
 use Rattle.names.specs.Flags.{networkFlag, returnFlag}
@@ -39,7 +39,7 @@ flatBreak Absent = record { «duration_flag» = 0; «auto_return» = 0; duration
 flatBreak (Lasts d) = record { «duration_flag» = 1; «auto_return» = returnFlag (d .«return_mode»); duration = d .duration }
 
 -- with the event's id, whether it is cancelled, and the reserved bits
-unfoldable pub wholeInsert : ℕ → ℕ → ℕ → Insert → FlatInsert
+unfoldable pub wholeInsert : ℕ → ℕ → ℕ → InsertDetail → FlatInsert
 wholeInsert event cancel reserved i =
     record {
       «splice_event_id» = event;
@@ -54,22 +54,22 @@ wholeInsert event cancel reserved i =
     }
 
 -- without what follows the reserved bits
-unfoldable pub bareInsert : ℕ → ℕ → ℕ → FlatInsert
-bareInsert event cancel reserved = wholeInsert event cancel reserved (insertOf insert.Cancel)
+unfoldable pub insertHead : ℕ → ℕ → ℕ → FlatInsert
+insertHead event cancel reserved = wholeInsert event cancel reserved (insertOf insert.Cancel)
 
-abbrev pub flatDetail : ℕ → ℕ → SpliceInsert → FlatInsert
-flatDetail event reserved insert.Cancel = bareInsert event 1 reserved
+abbrev pub flatDetail : ℕ → ℕ → SpliceDetail → FlatInsert
+flatDetail event reserved insert.Cancel = insertHead event 1 reserved
 flatDetail event reserved (insert.Insert i) = wholeInsert event 0 reserved i
 
-unfoldable pub flatInsertion : Insertion → FlatInsert
+unfoldable pub flatInsertion : SpliceInsert → FlatInsert
 flatInsertion x = flatDetail (x .«splice_event_id») (x .reserved) (x .«splice_detail»)
 
 -- ---- a command
 abbrev pub commandWith : ℕ → ℕ → FlatInsert → FlatTime → ℕ → FlatView → FlatCommand
-commandWith refusal kind insert time identifier bytes =
+commandWith refusal command-type insert time identifier bytes =
     record {
       refusal = refusal;
-      «splice_command_type» = kind;
+      «splice_command_type» = command-type;
       insert = insert;
       «splice_time» = time;
       identifier = identifier;
@@ -77,14 +77,14 @@ commandWith refusal kind insert time identifier bytes =
     }
 
 unfoldable pub noCommand : ℕ → ℕ → FlatCommand
-noCommand refusal kind = commandWith refusal kind (bareInsert 0 0 0) noTime 0 (flatView noView)
+noCommand refusal command-type = commandWith refusal command-type (insertHead 0 0 0) noTime 0 (flatView noView)
 
 unfoldable pub flatCommand : SpliceCommand → FlatCommand
-flatCommand command.SpliceNull = noCommand 0 (kindOf command.SpliceNull)
-flatCommand (command.SpliceInsert x) = commandWith 0 (kindOf (command.SpliceInsert x)) (flatInsertion x) noTime 0 (flatView noView)
-flatCommand (command.TimeSignal t) = commandWith 0 (kindOf (command.TimeSignal t)) (bareInsert 0 0 0) (flatTime t) 0 (flatView noView)
-flatCommand command.BandwidthReservation = noCommand 0 (kindOf command.BandwidthReservation)
-flatCommand (command.PrivateCommand p) = commandWith 0 (kindOf (command.PrivateCommand p)) (bareInsert 0 0 0) noTime (p .identifier) (flatView (p .«private_bytes»))
+flatCommand command.SpliceNull = noCommand 0 (typeOf command.SpliceNull)
+flatCommand (command.SpliceInsert x) = commandWith 0 (typeOf (command.SpliceInsert x)) (flatInsertion x) noTime 0 (flatView noView)
+flatCommand (command.TimeSignal t) = commandWith 0 (typeOf (command.TimeSignal t)) (insertHead 0 0 0) (flatTime t) 0 (flatView noView)
+flatCommand command.BandwidthReservation = noCommand 0 (typeOf command.BandwidthReservation)
+flatCommand (command.PrivateCommand p) = commandWith 0 (typeOf (command.PrivateCommand p)) (insertHead 0 0 0) noTime (p .identifier) (flatView (p .«private_bytes»))
 
 unfoldable pub flatCommandRead : CommandRead → FlatCommand
 flatCommandRead (Is c) = flatCommand c

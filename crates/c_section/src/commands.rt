@@ -1,6 +1,6 @@
 // A splice command.
 ghost use mathlib.Core.Path.{_≡_};
-ghost use Rattle.c_section.specs.FlatCommand.{flatMode, flatBreak, bareInsert, wholeInsert, flatInsertion, noCommand, flatCommand, flatCommandRead};
+ghost use Rattle.c_section.specs.FlatCommand.{flatMode, flatBreak, insertHead, wholeInsert, flatInsertion, noCommand, flatCommand, flatCommandRead};
 use crate::FlatTime;
 use crate::FlatView;
 use crate::flat_time;
@@ -8,8 +8,8 @@ use crate::flat_view;
 use command::CommandRead;
 use command::SpliceCommand;
 use command::insert::Break;
-use command::insert::Insert;
-use command::insert::Insertion;
+use command::insert::InsertDetail;
+use command::insert::SpliceDetail;
 use command::insert::SpliceInsert;
 use command::insert::SpliceMode;
 
@@ -91,8 +91,8 @@ fn flat_break(b: Break) -> FlatBreak
 }
 
 // An insert without its detail.
-fn bare_insert(event: u64, cancel: u64, reserved: u64) -> FlatInsert
-    ensures { λ r. ⌜ r ≡ bareInsert event cancel reserved ⌝ }
+fn insert_head(event: u64, cancel: u64, reserved: u64) -> FlatInsert
+    ensures { λ r. ⌜ r ≡ insertHead event cancel reserved ⌝ }
 {
     FlatInsert {
         splice_event_id: event,
@@ -111,7 +111,7 @@ fn bare_insert(event: u64, cancel: u64, reserved: u64) -> FlatInsert
     }
 }
 
-fn whole_insert(event: u64, reserved: u64, i: Insert) -> FlatInsert
+fn whole_insert(event: u64, reserved: u64, i: InsertDetail) -> FlatInsert
     ensures { λ r. ⌜ r ≡ wholeInsert event 0 reserved i ⌝ }
 {
     let network = i.network_indicator;
@@ -130,23 +130,23 @@ fn whole_insert(event: u64, reserved: u64, i: Insert) -> FlatInsert
     }
 }
 
-fn flat_insert(x: Insertion) -> FlatInsert
+fn flat_insert(x: SpliceInsert) -> FlatInsert
     ensures { λ r. ⌜ r ≡ flatInsertion x ⌝ }
 {
     let detail = x.splice_detail;
     match detail {
-        SpliceInsert::Cancel => bare_insert(x.splice_event_id as u64, 1, x.reserved as u64),
-        SpliceInsert::Insert(i) => whole_insert(x.splice_event_id as u64, x.reserved as u64, i),
+        SpliceDetail::Cancel => insert_head(x.splice_event_id as u64, 1, x.reserved as u64),
+        SpliceDetail::Insert(i) => whole_insert(x.splice_event_id as u64, x.reserved as u64, i),
     }
 }
 
-pub(crate) fn no_command(refusal: u64, kind: u64) -> FlatCommand
-    ensures { λ r. ⌜ r ≡ noCommand refusal kind ⌝ }
+pub(crate) fn no_command(refusal: u64, command_type: u64) -> FlatCommand
+    ensures { λ r. ⌜ r ≡ noCommand refusal «command_type» ⌝ }
 {
     FlatCommand {
         refusal,
-        splice_command_type: kind,
-        insert: bare_insert(0, 0, 0),
+        splice_command_type: command_type,
+        insert: insert_head(0, 0, 0),
         splice_time: FlatTime { kind: 0, ticks: 0 },
         identifier: 0,
         private_bytes: FlatView { at: 0, len: 0 },
@@ -169,7 +169,7 @@ pub(crate) fn flat_command(c: SpliceCommand) -> FlatCommand
         SpliceCommand::TimeSignal(t) => FlatCommand {
             refusal: 0,
             splice_command_type: 6,
-            insert: bare_insert(0, 0, 0),
+            insert: insert_head(0, 0, 0),
             splice_time: flat_time(t),
             identifier: 0,
             private_bytes: FlatView { at: 0, len: 0 },
@@ -180,7 +180,7 @@ pub(crate) fn flat_command(c: SpliceCommand) -> FlatCommand
             FlatCommand {
                 refusal: 0,
                 splice_command_type: 255,
-                insert: bare_insert(0, 0, 0),
+                insert: insert_head(0, 0, 0),
                 splice_time: FlatTime { kind: 0, ticks: 0 },
                 identifier: p.identifier as u64,
                 private_bytes: flat_view(bytes),

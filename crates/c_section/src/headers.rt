@@ -64,7 +64,7 @@ fn flat_header(h: SpliceInfoHeader) -> FlatHeader
     ensures { λ r. ⌜ r ≡ flatHeader h ⌝ }
 {
     let algorithm = h.encryption_algorithm;
-    let kind = h.splice_command_type;
+    let command_type = h.splice_command_type;
     FlatHeader {
         refusal: 0,
         protocol_version: h.protocol_version as u64,
@@ -74,7 +74,7 @@ fn flat_header(h: SpliceInfoHeader) -> FlatHeader
         cw_index: h.cw_index as u64,
         tier: h.tier as u64,
         splice_command_length: h.splice_command_length as u64,
-        splice_command_type: kind.id() as u64,
+        splice_command_type: command_type.id() as u64,
     }
 }
 

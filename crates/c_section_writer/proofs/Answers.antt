@@ -13,21 +13,21 @@ use Rattle.command.specs.declared.SpliceCommand.{SpliceCommand}
 use Rattle.command.specs.declared.components.ComponentSplice.{ComponentSplice}
 use Rattle.command_measure.proofs.Making.{flag-within}
 use Rattle.command_measure.specs.Made.{commandMade}
-use Rattle.descriptor_measure.specs.Canonical.{canonicalLoop}
+use Rattle.canonical_form.specs.Descriptor.{canonicalLoop}
 use Rattle.c_section.specs.Flat.{flatHeader}
 use Rattle.c_command_writer.proofs.Answers as command
 use Rattle.c_command_writer.proofs.Answers.{Late, refused-31, refused-32, refused-33, unrefused}
 use Rattle.c_command_writer.proofs.Given.{same-at, within-at, within-same}
-use Rattle.c_command_writer.specs.CommandGiven.{commandRefusal, componentsFrom}
+use Rattle.c_command_writer.specs.CommandGiven.{wordsRefusal, commandRefusal, componentsFrom}
 use Rattle.c_command_writer.specs.CommandWords.{CommandIs, commandSeen, commandFits}
-use Rattle.c_command_writer.specs.Words.{word, within, same, refusalOf, noLess}
+use Rattle.c_command_writer.specs.Words.{word, within, same, refusalOf, seenFirst, noLess}
 use Rattle.header.specs.declared.header.SpliceInfoHeader.{SpliceInfoHeader}
 use Rattle.names.proofs.Algorithms.{algorithm-laws}
 use Rattle.bit_stores.specs.Written.{refusalIn, bytesIn}
-use Rattle.section.specs.Section.{first}
+use Rattle.section.specs.Section.{first, sectionLength}
 use Rattle.section_writer.proofs.Heads.{fitting, fits-within}
-use Rattle.section_writer.specs.Frame.{headed, head, body, frame, numbersFit, fairHead, sectionLength}
-use Rattle.section_writer.specs.Writing.{unless, sectionMade, kindOf}
+use Rattle.section_writer.specs.Frame.{headed, head, body, frame, numbersFit, writableHead}
+use Rattle.section_writer.specs.Writing.{unless, sectionMade, typeOf}
 use Rattle.table.proofs.Lists.{zero-one, and-true}
 use Rattle.table.specs.Writing.{Made, made, refused}
 use Rattle.c_section_writer.specs.SectionGiven.{headerFrom, headerRefusal, either, sectionWordsMade}
@@ -36,14 +36,17 @@ use Rattle.c_section_writer.proofs.Back.{header-back}
 use Rattle.c_section_writer.proofs.Typed.{Typed}
 
 -- ---- of two structs of words the lower refusal is that of both together
-either-is : (a b c d : Bool) → either (refusalOf a b) (refusalOf c d) ≡ refusalOf (a && c) (b && d)
-either-is true true c d = refl
-either-is true false true true = refl
-either-is true false true false = refl
-either-is true false false d = refl
-either-is false b true true = refl
-either-is false b true false = refl
-either-is false b false d = refl
+either-is : (s a b c d : Bool) → either (refusalOf a b) (seenFirst s (refusalOf c d)) ≡ seenFirst s (refusalOf (a && c) (b && d))
+either-is true true true c d = refl
+either-is true true false true true = refl
+either-is true true false true false = refl
+either-is true true false false d = refl
+either-is true false b true true = refl
+either-is true false b true false = refl
+either-is true false b false d = refl
+either-is false true true c d = refl
+either-is false true false c d = refl
+either-is false false b c d = refl
 
 -- ---- a section is refused with n at the least where its command is
 first-late : (n : ℕ) (bs : List Bool) (b : List ℕ) → Late n (unless (first n bs) b)
@@ -60,37 +63,42 @@ late-ne : (n k : ℕ) (m : Made) → 0 < k → k < n → Late n m → eqb (refus
 late-ne n k (made b) z h l = ne-eqb 0 k (λ e. omega arith)
 late-ne n k (refused j) z h l = ne-eqb j k (λ e. omega arith)
 
-module _ (h : SpliceInfoHeader) (m : Made) (kind : ℕ) (loop : List ℕ) where
+module _ (h : SpliceInfoHeader) (m : Made) (command-type : ℕ) (loop : List ℕ) where
   abbrev rest : List Bool
-  rest = (eqb (refusalIn m) 33 || not (fairHead h)) ∷ ltb 4096 (sectionLength (length (bytesIn m)) (length loop)) ∷ not (canonicalLoop loop) ∷ []
+  rest = (eqb (refusalIn m) 33 || not (writableHead h)) ∷ ltb 4096 (sectionLength (length (bytesIn m)) (length loop)) ∷ not (canonicalLoop loop) ∷ []
 
-  section-late : Late 32 m → Late 32 (sectionMade h m kind loop)
+  section-late : Late 32 m → Late 32 (sectionMade h m command-type loop)
   unfolding sectionMade
-  section-late l = rw (late-ne 32 31 m (omega arith) (omega arith) l) (first-late 32 ((eqb (refusalIn m) 32 || not (numbersFit h)) ∷ rest) (frame h kind (bytesIn m) loop))
+  section-late l = rw (late-ne 32 31 m (omega arith) (omega arith) l) (first-late 32 ((eqb (refusalIn m) 32 || not (numbersFit h)) ∷ rest) (frame h command-type (bytesIn m) loop))
 
-  section-fits : Late 33 m → numbersFit h ≡ true → Late 33 (sectionMade h m kind loop)
+  section-fits : Late 33 m → numbersFit h ≡ true → Late 33 (sectionMade h m command-type loop)
   unfolding sectionMade
-  section-fits l e = rw (late-ne 33 31 m (omega arith) (omega arith) l, late-ne 33 32 m (omega arith) (omega arith) l, e) (first-late 33 rest (frame h kind (bytesIn m) loop))
+  section-fits l e = rw (late-ne 33 31 m (omega arith) (omega arith) l, late-ne 33 32 m (omega arith) (omega arith) l, e) (first-late 33 rest (frame h command-type (bytesIn m) loop))
 
-  section-31 : m ≡ refused 31 → sectionMade h m kind loop ≡ refused 31
+  -- whatever it is of
+  any-late : Late 31 (sectionMade h m command-type loop)
+  unfolding sectionMade
+  any-late = first-late 31 (eqb (refusalIn m) 31 ∷ (eqb (refusalIn m) 32 || not (numbersFit h)) ∷ rest) (frame h command-type (bytesIn m) loop)
+
+  section-31 : m ≡ refused 31 → sectionMade h m command-type loop ≡ refused 31
   unfolding sectionMade
   section-31 e = rw e
 
-  section-32 : m ≡ refused 32 → sectionMade h m kind loop ≡ refused 32
+  section-32 : m ≡ refused 32 → sectionMade h m command-type loop ≡ refused 32
   unfolding sectionMade
   section-32 e = rw e
 
-  section-over : Late 32 m → numbersFit h ≡ false → sectionMade h m kind loop ≡ refused 32
+  section-over : Late 32 m → numbersFit h ≡ false → sectionMade h m command-type loop ≡ refused 32
   unfolding sectionMade
   section-over l e = rw (late-ne 32 31 m (omega arith) (omega arith) l, e) (go (eqb (refusalIn m) 32))
     where
-      go : (b : Bool) → unless (first 32 ((b || true) ∷ rest)) (frame h kind (bytesIn m) loop) ≡ refused 32
+      go : (b : Bool) → unless (first 32 ((b || true) ∷ rest)) (frame h command-type (bytesIn m) loop) ≡ refused 32
       go true = refl
       go false = refl
 
   -- the command's length and type, which a header says, are not looked at
-  headless : sectionMade (headed h 0 0) m kind loop ≡ sectionMade h m kind loop
-  unfolding sectionMade frame body head headed numbersFit fairHead
+  headless : sectionMade (headed h 0 0) m command-type loop ≡ sectionMade h m command-type loop
+  unfolding sectionMade frame body head headed numbersFit writableHead
   headless = refl
 
 -- ---- the header that words make
@@ -135,14 +143,14 @@ header-given words h i e =
       omega (arith, s 5 (omega arith), w 5 (omega arith)),
       omega (arith, s 6 (omega arith), w 6 (omega arith)),
     ) in
-    rw (s 1 (omega arith), s 2 (omega arith), s 3 (omega arith), s 4 (omega arith), s 5 (omega arith), s 6 (omega arith)) (header-back h typed (i .fair))
+    rw (s 1 (omega arith), s 2 (omega arith), s 3 (omega arith), s 4 (omega arith), s 5 (omega arith), s 6 (omega arith)) (header-back h typed (i .writable))
 
 module _ (header words components lent loop : List ℕ) where
   abbrev given : SpliceCommand
   given = command.given words components lent
 
   abbrev whole : Made
-  whole = sectionMade (headerFrom header) (command.whole words components lent) (kindOf given) loop
+  whole = sectionMade (headerFrom header) (command.whole words components lent) (typeOf given) loop
 
   abbrev fits : Bool
   fits = within headerWidths header && command.fits words components lent
@@ -150,9 +158,12 @@ module _ (header words components lent loop : List ℕ) where
   abbrev own : Bool
   own = same (headerWords (flatHeader (headerFrom header))) header && command.own words components lent
 
-  words-made : sectionWordsMade header words components lent loop ≡ noLess (refusalOf fits own) whole
-  unfolding sectionWordsMade headerRefusal commandRefusal componentsFrom
-  words-made = ap (λ (n : ℕ). noLess n whole) (either-is (within headerWidths header) (same (headerWords (flatHeader (headerFrom header))) header) (command.fits words components lent) (command.own words components lent))
+  words-made : sectionWordsMade header words components lent loop ≡ noLess (seenFirst (commandSeen words lent) (refusalOf fits own)) whole
+  unfolding sectionWordsMade headerRefusal commandRefusal wordsRefusal componentsFrom
+  words-made = ap (λ (n : ℕ). noLess n whole) (either-is (commandSeen words lent) (within headerWidths header) (same (headerWords (flatHeader (headerFrom header))) header) (command.fits words components lent) (command.own words components lent))
+
+  words-seen : commandSeen words lent ≡ true → sectionWordsMade header words components lent loop ≡ noLess (refusalOf fits own) whole
+  words-seen e = words-made ∙ rw e
 
   fits-are : sectionFits header words components ≡ fits
   unfolding sectionFits
@@ -162,8 +173,8 @@ module _ (header words components lent loop : List ℕ) where
   given-late e =
       let l = command.given-late words components lent e in
       let m = command.whole words components lent in (
-        section-late (headerFrom header) m (kindOf given) loop (l .0),
-        λ f. let a = and-true (within headerWidths header) (command.fits words components lent) f in section-fits (headerFrom header) m (kindOf given) loop (l .1 (a .1)) (header-fits header (a .0)),
+        section-late (headerFrom header) m (typeOf given) loop (l .0),
+        λ f. let a = and-true (within headerWidths header) (command.fits words components lent) f in section-fits (headerFrom header) m (typeOf given) loop (l .1 (a .1)) (header-fits header (a .0)),
       )
 
   -- ---- by each case
@@ -171,28 +182,27 @@ module _ (header words components lent loop : List ℕ) where
   answer = sectionWordsMade header words components lent loop
 
   pub made-outside : commandSeen words lent ≡ false → answer ≡ refused 31
-  made-outside e =
-      words-made ∙ ap (noLess (refusalOf fits own)) (section-31 (headerFrom header) (command.whole words components lent) (kindOf given) loop (command.given-unseen words components lent e)) ∙ refused-31 fits own
+  made-outside e = words-made ∙ rw e (refused-31 whole (any-late (headerFrom header) (command.whole words components lent) (typeOf given) loop))
 
   pub made-over : commandSeen words lent ≡ true → sectionFits header words components ≡ false → answer ≡ refused 32
-  made-over e f = words-made ∙ refused-32 fits own whole (sym fits-are ∙ f) (given-late e .0)
+  made-over e f = words-seen e ∙ refused-32 fits own whole (sym fits-are ∙ f) (given-late e .0)
 
   made-other : commandSeen words lent ≡ true → sectionFits header words components ≡ true → own ≡ false → answer ≡ refused 33
-  made-other e f g = words-made ∙ refused-33 fits own whole (sym fits-are ∙ f) g (given-late e .1 (sym fits-are ∙ f))
+  made-other e f g = words-seen e ∙ refused-33 fits own whole (sym fits-are ∙ f) g (given-late e .1 (sym fits-are ∙ f))
 
-  made-own : sectionFits header words components ≡ true → own ≡ true → answer ≡ whole
-  made-own f g = words-made ∙ unrefused fits own whole (sym fits-are ∙ f) g
+  made-own : commandSeen words lent ≡ true → sectionFits header words components ≡ true → own ≡ true → answer ≡ whole
+  made-own e f g = words-seen e ∙ unrefused fits own whole (sym fits-are ∙ f) g
 
   -- ---- their own values
   given-are : own ≡ true → HeaderIs header (headerFrom header) × CommandIs words components given (command.listed words components lent)
   unfolding headerFrom
   given-are e =
       let a = and-true (same (headerWords (flatHeader (headerFrom header))) header) (command.own words components lent) e in
-      (record { own = a .0; fair = algorithm-laws .is-fair (word header 3 % 256) }, command.given-is words components lent (a .1))
+      (record { own = a .0; writable = algorithm-laws .is-writable (word header 3 % 256) }, command.given-is words components lent (a .1))
 
   module _ (h : SpliceInfoHeader) (c : SpliceCommand) (cs : List ComponentSplice) (i : HeaderIs header h) (j : CommandIs words components c cs) where
     abbrev section : Made
-    section = sectionMade h (commandMade c (array cs) lent) (kindOf c) loop
+    section = sectionMade h (commandMade c (array cs) lent) (typeOf c) loop
 
     are-given : sectionFits header words components ≡ true → (section ≡ whole) × (own ≡ true)
     unfolding headerWords flatHeader headed
@@ -200,9 +210,9 @@ module _ (header words components lent loop : List ℕ) where
         let a = and-true (within headerWidths header) (command.fits words components lent) (sym fits-are ∙ f) in
         let g = command.is-given words components lent c cs j (command.fits-are words components lent ∙ a .1) in
         let e : headerFrom header ≡ headed h 0 0 = header-given header h i (a .0) in (
-          sym (headless h (commandMade c (array cs) lent) (kindOf c) loop)
-              ∙ ap₂ (λ (d : SpliceCommand) (l : List ComponentSplice). sectionMade (headed h 0 0) (commandMade d (array l) lent) (kindOf d) loop) (sym (g .0)) (sym (g .1))
-              ∙ ap (λ (x : SpliceInfoHeader). sectionMade x (command.whole words components lent) (kindOf given) loop) (sym e),
+          sym (headless h (commandMade c (array cs) lent) (typeOf c) loop)
+              ∙ ap₂ (λ (d : SpliceCommand) (l : List ComponentSplice). sectionMade (headed h 0 0) (commandMade d (array l) lent) (typeOf d) loop) (sym (g .0)) (sym (g .1))
+              ∙ ap (λ (x : SpliceInfoHeader). sectionMade x (command.whole words components lent) (typeOf given) loop) (sym e),
           ap₂ (λ (a b : Bool). a && b) (ap (λ (x : SpliceInfoHeader). same (headerWords (flatHeader x)) header) e ∙ i .own) (g .2),
         )
 
@@ -215,17 +225,17 @@ module _ (header words components lent loop : List ℕ) where
 
         -- the command's words or the header's are over their widths
         some : commandSeen words lent ≡ true → (a : Bool) → within headerWidths header ≡ a → (b : Bool) → commandFits words components ≡ b → a && b ≡ false → section ≡ refused 32
-        some e a f false g z = section-32 h m (kindOf c) loop (command.is-over words components lent short c cs j e g)
+        some e a f false g z = section-32 h m (typeOf c) loop (command.is-over words components lent short c cs j e g)
         some e true f true g z = zero-one cc
         some e false f true g z =
             let k = command.is-given words components lent c cs j g in
             let l : Late 32 m = rw (← k .0, ← k .1) (command.given-late words components lent e .0) in
-            section-over h m (kindOf c) loop l (header-unfit header h (i .own) f)
+            section-over h m (typeOf c) loop l (header-unfit header h (i .own) f)
 
         go : (s : Bool) → commandSeen words lent ≡ s → (f : Bool) → sectionFits header words components ≡ f → section ≡ answer
-        go false e f g = section-31 h m (kindOf c) loop (command.is-unseen words components lent c cs j e) ∙ sym (made-outside e)
+        go false e f g = section-31 h m (typeOf c) loop (command.is-unseen words components lent c cs j e) ∙ sym (made-outside e)
         go true e false g = some e (within headerWidths header) refl (commandFits words components) refl g ∙ sym (made-over e g)
-        go true e true g = are-given g .0 ∙ sym (made-own g (are-given g .1))
+        go true e true g = are-given g .0 ∙ sym (made-own e g (are-given g .1))
 
   pub answered : SectionAnswer header words components lent loop answer
   answered = go (commandSeen words lent) refl (sectionFits header words components) refl own refl
@@ -234,7 +244,7 @@ module _ (header words components lent loop : List ℕ) where
       go false e f g o h = rw (made-outside e) (outside e)
       go true e false g o h = rw (made-over e g) (over e g)
       go true e true g false h = rw (made-other e g h) (nobodys e g (λ x c cs i j. let z = are-given x c cs i j g .1 in zero-one cc))
-      go true e true g true h = let r = given-are h in rw (made-own g h) (its (headerFrom header) given (command.listed words components lent) (r .0) (r .1))
+      go true e true g true h = let r = given-are h in rw (made-own e g h) (its (headerFrom header) given (command.listed words components lent) (r .0) (r .1))
 
   module _ (short : length lent < 2 ^ 64) where
     pub answer-is : (m : Made) → SectionAnswer header words components lent loop m → m ≡ answer

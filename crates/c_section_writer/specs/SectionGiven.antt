@@ -11,7 +11,7 @@ use Rattle.c_command_writer.specs.Words.{word, within, same, refusalOf, lowerOf
 use Rattle.header.specs.declared.header.SpliceInfoHeader.{SpliceInfoHeader}
 use Rattle.names.specs.Algorithm.{algorithmOf}
 use Rattle.names.specs.declared.command.SpliceCommandType.{SpliceCommandType}
-use Rattle.section_writer.specs.Writing.{sectionMade, kindOf}
+use Rattle.section_writer.specs.Writing.{sectionMade, typeOf}
 use Rattle.table.specs.Bits.{pick}
 use Rattle.table.specs.Writing.{Made}
 use Rattle.c_section_writer.specs.SectionWords.{headerWords, headerWidths}
@@ -42,7 +42,7 @@ either m n = pick (eqb m 0) n (pick (eqb n 0) m (lowerOf m n))
 unfoldable pub sectionWordsMade : List ℕ → List ℕ → List ℕ → List ℕ → List ℕ → Made
 sectionWordsMade header command components lent loop =
     noLess
-    (either (headerRefusal header) (commandRefusal (commandGiven command) command components))
+    (either (headerRefusal header) (commandRefusal (commandGiven command) command components lent))
     (sectionMade (headerFrom header) (commandMade (commandGiven command) (componentsFrom (countIn (commandGiven command)) components) lent)
-    (kindOf (commandGiven command))
+    (typeOf (commandGiven command))
     loop)

@@ -13,8 +13,8 @@ use Rattle.c_section.specs.declared.headers.FlatHeader.{FlatHeader}
 use Rattle.c_command_writer.specs.CommandWords.{CommandIs, commandSeen, commandFits}
 use Rattle.c_command_writer.specs.Words.{within, same}
 use Rattle.header.specs.declared.header.SpliceInfoHeader.{SpliceInfoHeader}
-use Rattle.names.specs.Algorithm.{fairAlgorithm}
-use Rattle.section_writer.specs.Writing.{sectionMade, kindOf}
+use Rattle.names.specs.Algorithm.{writableAlgorithm}
+use Rattle.section_writer.specs.Writing.{sectionMade, typeOf}
 use Rattle.table.specs.Writing.{Made, refused}
 
 -- ---- struct scte35_header: of its words, the command's length and type, which the writer works out, are not looked at
@@ -30,7 +30,7 @@ headerWidths = 64 ∷ 8 ∷ 1 ∷ 6 ∷ 33 ∷ 8 ∷ 12 ∷ []
 -- the words are those of h. (A reserved algorithm whose number has a name has the words of that name.)
 pub record HeaderIs (words : List ℕ) (h : SpliceInfoHeader) : Type 0 where
   pub own : same (headerWords (flatHeader h)) words ≡ true
-  pub fair : fairAlgorithm (h .«encryption_algorithm») ≡ true
+  pub writable : writableAlgorithm (h .«encryption_algorithm») ≡ true
 
 -- refusal 32: "a number or count handed in exceeds its field"
 unfoldable pub sectionFits : List ℕ → List ℕ → List ℕ → Bool
@@ -44,4 +44,4 @@ pub data SectionAnswer (header command components lent loop : List ℕ) : Made �
       → ((h : SpliceInfoHeader) (c : SpliceCommand) (cs : List ComponentSplice) → HeaderIs header h → CommandIs command components c cs → ⊥)
       → SectionAnswer header command components lent loop (refused 33)
   its : (h : SpliceInfoHeader) (c : SpliceCommand) (cs : List ComponentSplice) → HeaderIs header h → CommandIs command components c cs
-      → SectionAnswer header command components lent loop (sectionMade h (commandMade c (array cs) lent) (kindOf c) loop)
+      → SectionAnswer header command components lent loop (sectionMade h (commandMade c (array cs) lent) (typeOf c) loop)

@@ -9,14 +9,14 @@ ghost use Rattle.c_section_writer.specs.SectionWords.{headerWords};
 ghost use Rattle.c_command_writer.specs.CommandGiven.{componentsFrom};
 ghost use Rattle.c_command_writer.specs.Words.{flatWritten, noLess};
 ghost use Rattle.bit_stores.specs.Written.{answerOf, laterOf};
-ghost use Rattle.section_writer.specs.Writing.{sectionMade, kindOf};
+ghost use Rattle.section_writer.specs.Writing.{sectionMade, typeOf};
 use c_command_writer::FlatWritten;
 use c_command_writer::are_same;
 use c_command_writer::are_within;
 use c_command_writer::commands::command_given;
 use c_command_writer::commands::command_refusal;
 use c_command_writer::commands::components_given;
-use c_command_writer::commands::count_in;
+use c_command_writer::commands::count_in_command;
 use c_command_writer::flat_written;
 use c_command_writer::lower_refusal;
 use c_command_writer::word_at;
@@ -27,8 +27,8 @@ use header::header::HeaderRead;
 use header::header::SpliceInfoHeader;
 use names::algorithm::EncryptionAlgorithm;
 use names::command::SpliceCommandType;
-use section_writer::write_bare_section;
 use section_writer::write_section;
+use section_writer::write_section_without_components;
 
 // The header that words make. Its command length and type are the writer's to work out.
 fn header_from(words: &[u64]) -> SpliceInfoHeader
@@ -88,7 +88,7 @@ fn either_refusal(m: u64, n: u64) -> u64
 }
 
 // A section whose command has no components; its words have a refusal of their own, or 0.
-fn write_bare_words(
+fn write_words_without_components(
     refusal: u64,
     header: SpliceInfoHeader,
     command: SpliceCommand,
@@ -97,15 +97,21 @@ fn write_bare_words(
     target: &mut [u8],
 ) -> FlatWritten
     requires { ⌜ refusal ≤ 36 ⌝ }
-    ensures answer { λ r. ⌜ r ≡ flatWritten (answerOf (noLess refusal (sectionMade header (commandMade command (array []) (now (lent .entry))) (kindOf command) (now (descriptors .entry)))) (now (target .entry))) ⌝ }
-    ensures bytes { λ _. ⌜ now (target .exit) ≡ laterOf (noLess refusal (sectionMade header (commandMade command (array []) (now (lent .entry))) (kindOf command) (now (descriptors .entry)))) (now (target .entry)) ⌝ }
+    ensures answer { λ r. ⌜ r ≡ flatWritten (answerOf (noLess refusal (sectionMade header (commandMade command (array []) (now (lent .entry))) (typeOf command) (now (descriptors .entry)))) (now (target .entry))) ⌝ }
+    ensures bytes { λ _. ⌜ now (target .exit) ≡ laterOf (noLess refusal (sectionMade header (commandMade command (array []) (now (lent .entry))) (typeOf command) (now (descriptors .entry)))) (now (target .entry)) ⌝ }
 {
     if refusal == 0 {
-        return flat_written(write_bare_section(header, command, lent, descriptors, target));
+        return flat_written(write_section_without_components(
+            header,
+            command,
+            lent,
+            descriptors,
+            target,
+        ));
     }
     lower_refusal(
         refusal,
-        write_bare_section(header, command, lent, descriptors, &mut target[0..0]),
+        write_section_without_components(header, command, lent, descriptors, &mut target[0..0]),
     )
 }
 
@@ -120,8 +126,8 @@ fn write_listed_words(
     target: &mut [u8],
 ) -> FlatWritten
     requires { ⌜ refusal ≤ 36 ⌝ }
-    ensures answer { λ r. ⌜ r ≡ flatWritten (answerOf (noLess refusal (sectionMade header (commandMade command (componentsFrom (countIn command) (now (components .entry))) (now (lent .entry))) (kindOf command) (now (descriptors .entry)))) (now (target .entry))) ⌝ }
-    ensures bytes { λ _. ⌜ now (target .exit) ≡ laterOf (noLess refusal (sectionMade header (commandMade command (componentsFrom (countIn command) (now (components .entry))) (now (lent .entry))) (kindOf command) (now (descriptors .entry)))) (now (target .entry)) ⌝ }
+    ensures answer { λ r. ⌜ r ≡ flatWritten (answerOf (noLess refusal (sectionMade header (commandMade command (componentsFrom (countIn command) (now (components .entry))) (now (lent .entry))) (typeOf command) (now (descriptors .entry)))) (now (target .entry))) ⌝ }
+    ensures bytes { λ _. ⌜ now (target .exit) ≡ laterOf (noLess refusal (sectionMade header (commandMade command (componentsFrom (countIn command) (now (components .entry))) (now (lent .entry))) (typeOf command) (now (descriptors .entry)))) (now (target .entry)) ⌝ }
 {
     let places = components_given(command, components);
     if 0 < refusal {
@@ -156,10 +162,10 @@ pub fn write_section_words(
     let c = command_given(command);
     let refusal = either_refusal(
         header_refusal(header),
-        command_refusal(c, command, components),
+        command_refusal(c, command, components, lent),
     );
-    if count_in(c) == 0 {
-        return write_bare_words(refusal, h, c, lent, descriptors, target);
+    if count_in_command(c) == 0 {
+        return write_words_without_components(refusal, h, c, lent, descriptors, target);
     }
     write_listed_words(refusal, h, c, components, lent, descriptors, target)
 }

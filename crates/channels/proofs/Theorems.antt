@@ -1,6 +1,6 @@
 -- What Q-8 asks for, of the functions' contracts as the checker makes them.
 use Prim.Native.Nat.{ℕ, _≤_, _<_}
-use mathlib.Core.Bool.{Bool, true, false, cond}
+use mathlib.Core.Bool.{Bool, true, false, cond as pick}
 use mathlib.Core.List.{List, [], _∷_, map}
 use mathlib.Core.Path.{_≡_, refl, sym, _∙_, ap, ap₂, subst}
 use native.Mathlib.Omega.{arith}
@@ -81,7 +81,7 @@ said-alone : (c : ℕ) (os : List On) (ls : ℕ → Breaks) → heardBy c os (li
 unfolding heardBy askedBy listReplies listAnswers
 said-alone c [] ls = go (noChannel c)
   where
-    go : (n : Bool) → [] ≡ cond n (map (λ (q : Call). NoSuchChannel) []) (map Is (listAnswers 16 [] (ls c)))
+    go : (n : Bool) → [] ≡ pick n (map (λ (q : Call). NoSuchChannel) []) (map Is (listAnswers 16 [] (ls c)))
     go true = refl
     go false = refl
 said-alone c (o ∷ os) ls = go (λ x. said-alone x os (saidOf o ls .lists)) (eqb (o .channel) c) refl

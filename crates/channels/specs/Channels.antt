@@ -1,6 +1,6 @@
 -- What each function of the shared board answers, for any board, also one that no calls make.
 use Prim.Native.Nat.{ℕ}
-use mathlib.Core.Bool.{Bool, cond, _||_}
+use mathlib.Core.Bool.{Bool, _||_, cond as pick}
 use mathlib.Core.List.{List, [], _∷_}
 use lib.Dec.{leb, eqb}
 use lib.ListN.{length, getD, set, replicate}
@@ -26,7 +26,7 @@ emptyShared = record { places = replicate 32 blankPlace; whose = replicate 32 0;
 
 -- "Ids are looked up per channel": a place, and the places, as a channel sees them
 abbrev pub seenAs : ℕ → Place → ℕ → Place
-seenAs channel p whose = cond (eqb whose channel) p blankPlace
+seenAs channel p whose = pick (eqb whose channel) p blankPlace
 
 unfoldable pub seenBy : ℕ → List Place → List ℕ → List Place
 seenBy channel [] whose = []
@@ -49,8 +49,8 @@ unfoldable pub openOf : SharedBoard → ℕ → ℕ → Turn
 openOf b channel provider =
     let id : ℕ = freeFrom 16 (breaksBy channel b) (getD (b .next) channel 0) in
     let at : ℕ = before isFree (b .places) in
-    cond (noChannel channel) (asFound NoSuchChannel b)
-    (cond (leb 16 (length (breaksBy channel b)) || leb 32 (length (breaksOf (b .places)))) (asFound (Is (answer.Refused BoardFull)) b)
+    pick (noChannel channel) (asFound NoSuchChannel b)
+    (pick (leb 16 (length (breaksBy channel b)) || leb 32 (length (breaksOf (b .places)))) (asFound (Is (answer.Refused BoardFull)) b)
     (record {
       reply = Is (answer.Is id);
       board = record { places = set (b .places) at (takenBy id provider); whose = set (b .whose) at channel; next = set (b .next) channel (after id) };
@@ -59,8 +59,8 @@ openOf b channel provider =
 -- "62 as before, per channel"
 unfoldable pub closeOf : SharedBoard → ℕ → ℕ → Turn
 closeOf b channel id =
-    cond (noChannel channel) (asFound NoSuchChannel b)
-    (cond (isOpen id (breaksBy channel b))
+    pick (noChannel channel) (asFound NoSuchChannel b)
+    (pick (isOpen id (breaksBy channel b))
     (record {
       reply = Is (answer.Is (providerOf id (breaksBy channel b)));
       board = record { places = set (b .places) (before (holds id) (seenBy channel (b .places) (b .whose))) blankPlace; whose = b .whose; next = b .next };

@@ -1,6 +1,6 @@
 -- Calls on any channel one after the other, as the contracts of the functions allow them, and on a list for each channel.
 use Prim.Native.Nat.{ℕ}
-use mathlib.Core.Bool.{cond}
+use mathlib.Core.Bool.{cond as pick}
 use mathlib.Core.List.{List, [], _∷_, map}
 use lib.Dec.{eqb}
 use Rattle.board.specs.Breaks.{Breaks, Told, noBreaks}
@@ -37,7 +37,7 @@ noLists c = noBreaks
 
 -- the lists with another in a channel's place
 abbrev pub withList : ℕ → Breaks → (ℕ → Breaks) → ℕ → Breaks
-withList channel l ls c = cond (eqb c channel) l (ls c)
+withList channel l ls c = pick (eqb c channel) l (ls c)
 
 pub record Said : Type 0 where
   pub reply : Reply
@@ -46,7 +46,7 @@ pub record Said : Type 0 where
 abbrev pub saidOf : On → (ℕ → Breaks) → Said
 saidOf o ls =
     let t : Told = toldOf 16 (o .call) (ls (o .channel)) in
-    cond (noChannel (o .channel)) (record { reply = NoSuchChannel; lists = ls }) (record { reply = Is (t .answer); lists = withList (o .channel) (t .breaks) ls })
+    pick (noChannel (o .channel)) (record { reply = NoSuchChannel; lists = ls }) (record { reply = Is (t .answer); lists = withList (o .channel) (t .breaks) ls })
 
 unfoldable pub listReplies : List On → (ℕ → Breaks) → List Reply
 listReplies [] ls = []
@@ -56,14 +56,14 @@ listReplies (o ∷ os) ls = saidOf o ls .reply ∷ listReplies os (saidOf o ls .
 
 unfoldable pub askedBy : ℕ → List On → List Call
 askedBy c [] = []
-askedBy c (o ∷ os) = cond (eqb (o .channel) c) (o .call ∷ askedBy c os) (askedBy c os)
+askedBy c (o ∷ os) = pick (eqb (o .channel) c) (o .call ∷ askedBy c os) (askedBy c os)
 
 -- of what all calls are told, what a channel's are
 unfoldable pub heardBy : ℕ → List On → List Reply → List Reply
 heardBy c [] told = []
 heardBy c (o ∷ os) [] = []
-heardBy c (o ∷ os) (r ∷ told) = cond (eqb (o .channel) c) (r ∷ heardBy c os told) (heardBy c os told)
+heardBy c (o ∷ os) (r ∷ told) = pick (eqb (o .channel) c) (r ∷ heardBy c os told) (heardBy c os told)
 
 -- What Q-7's list with room for 16 says to a channel's own calls; to one of another number, 63 each time. No other channel is named, no place, and no total.
 abbrev pub alone : ℕ → List Call → Breaks → List Reply
-alone c calls l = cond (noChannel c) (map (λ (q : Call). NoSuchChannel) calls) (map Is (listAnswers 16 calls l))
+alone c calls l = pick (noChannel c) (map (λ (q : Call). NoSuchChannel) calls) (map Is (listAnswers 16 calls l))

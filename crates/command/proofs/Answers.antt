@@ -16,8 +16,8 @@ use Rattle.command.specs.declared.insert.ActiveRead.{ActiveRead}
 use Rattle.command.specs.declared.insert.Break.{Break}
 use Rattle.command.specs.declared.insert.BreakRead.{BreakRead}
 use Rattle.command.specs.declared.insert.Broken.{Broken}
-use Rattle.command.specs.declared.insert.Insert.{Insert}
-use Rattle.command.specs.declared.insert.Insertion.{Insertion}
+use Rattle.command.specs.declared.insert.InsertDetail.{InsertDetail}
+use Rattle.command.specs.declared.insert.SpliceInsert.{SpliceInsert}
 use Rattle.command.specs.declared.insert.InsertRead.{InsertRead}
 use Rattle.command.specs.declared.insert.Moded.{Moded}
 use Rattle.command.specs.declared.insert.ModedRead.{ModedRead}
@@ -129,36 +129,36 @@ lacks-mode (got y m) x f = zero-one cc
 lacks-mode (short e a) x f = cc
 
 -- ---- what is not cancelled
-pub active-got : (r : Answer (WithComponents Insert)) (y : Insert) (cs : List ComponentSplice) (m : ℕ) → r ≡ got (record { value = y; components = cs }) m → ActiveRead.Got y ≡ activeRead r
+pub active-got : (r : Answer (WithComponents InsertDetail)) (y : InsertDetail) (cs : List ComponentSplice) (m : ℕ) → r ≡ got (record { value = y; components = cs }) m → ActiveRead.Got y ≡ activeRead r
 unfolding activeRead
 active-got r y cs m e = rw e
 
-pub active-lacks : (r : Answer (WithComponents Insert)) (x : Short) → r ≡ short (x .expected) (x .actual) → ActiveRead.Lacks x ≡ activeRead r
+pub active-lacks : (r : Answer (WithComponents InsertDetail)) (x : Short) → r ≡ short (x .expected) (x .actual) → ActiveRead.Lacks x ≡ activeRead r
 unfolding activeRead
 active-lacks r x e = rw e
 
-pub record Actives (r : Answer (WithComponents Insert)) (y : Insert) : Type 0 where
+pub record Actives (r : Answer (WithComponents InsertDetail)) (y : InsertDetail) : Type 0 where
   pub list : List ComponentSplice
   pub end : ℕ
   pub is : r ≡ got (record { value = y; components = list }) end
 
-pub got-active : (r : Answer (WithComponents Insert)) (y : Insert) → ActiveRead.Got y ≡ activeRead r → Actives r y
+pub got-active : (r : Answer (WithComponents InsertDetail)) (y : InsertDetail) → ActiveRead.Got y ≡ activeRead r → Actives r y
 unfolding activeRead
 got-active (got x m) y f =
     let e : y ≡ x .value = cc in
     record { list = x .components; end = m; is = rw e }
 got-active (short e a) y f = zero-one cc
 
-pub lacks-active : (r : Answer (WithComponents Insert)) (x : Short) → ActiveRead.Lacks x ≡ activeRead r → r ≡ short (x .expected) (x .actual)
+pub lacks-active : (r : Answer (WithComponents InsertDetail)) (x : Short) → ActiveRead.Lacks x ≡ activeRead r → r ≡ short (x .expected) (x .actual)
 unfolding activeRead
 lacks-active (got y m) x f = zero-one cc
 lacks-active (short e a) x f = cc
 
 -- ---- an insert
-pub insert-got : (r : Answer (WithComponents Insertion)) (y : Insertion) (cs : List ComponentSplice) (m : ℕ) → r ≡ got (record { value = y; components = cs }) m → InsertRead.Got y ≡ insertRead r
+pub insert-got : (r : Answer (WithComponents SpliceInsert)) (y : SpliceInsert) (cs : List ComponentSplice) (m : ℕ) → r ≡ got (record { value = y; components = cs }) m → InsertRead.Got y ≡ insertRead r
 unfolding insertRead
 insert-got r y cs m e = rw e
 
-pub insert-lacks : (r : Answer (WithComponents Insertion)) (x : Short) → r ≡ short (x .expected) (x .actual) → InsertRead.Lacks x ≡ insertRead r
+pub insert-lacks : (r : Answer (WithComponents SpliceInsert)) (x : Short) → r ≡ short (x .expected) (x .actual) → InsertRead.Lacks x ≡ insertRead r
 unfolding insertRead
 insert-lacks r x e = rw e

@@ -9,23 +9,23 @@ use native.Mathlib.Omega.{arith}
 use lib.Dec.{eqb}
 use lib.ListN.{length, drop, set, replicate, length-replicate}
 use lib.Seq.{sets, sets-eq}
-use Rattle.splice_time.specs.declared.SpliceTime.{SpliceTime}
 use Rattle.table.specs.Bits.{pick, bitsOf, field}
 use Rattle.table.specs.Table.{Table, done, inside, list, Answer, got, short, parse}
 use Rattle.table.specs.declared.cursor.Short.{Short}
 use Rattle.table.proofs.Lists.{zero-one}
 use Rattle.table.proofs.Reading.{bits-are}
 use Rattle.table.proofs.Steps.{onward, list-turn, list-short, list-none, reads-in, reads-number, reads-flag, reads-ones}
-use Rattle.command.specs.Command.{array, componentsIn, componentsOf}
-use Rattle.command.specs.Insert.{WithComponents, timeUnless, component, blank, moded, modeOf, breakDuration, ending, active, activeOf, insert}
-use Rattle.command.specs.Private.{componentRead, listIn, filled, insertRead}
+use Rattle.command.specs.Command.{read, commandOf, insertCount, array, componentsIn, componentsOf}
+use Rattle.command.specs.Insert.{WithComponents, count, timeUnless, component, blank, moded, modeOf, breakDuration, ending, active, activeOf, insert}
+use Rattle.command.specs.Private.{componentRead, listIn, filled, countRead}
+use Rattle.command.specs.declared.CommandRead.{CommandRead}
+use Rattle.command.specs.declared.SpliceCommand.{SpliceCommand}
 use Rattle.command.specs.declared.components.Component.{Component}
 use Rattle.command.specs.declared.components.ComponentRead.{ComponentRead}
 use Rattle.command.specs.declared.components.ComponentSplice.{ComponentSplice}
-use Rattle.command.specs.declared.insert.Insert.{Insert}
-use Rattle.command.specs.declared.insert.Insertion.{Insertion}
-use Rattle.command.specs.declared.insert.InsertRead.{InsertRead}
+use Rattle.command.specs.declared.insert.InsertDetail.{InsertDetail}
 use Rattle.command.specs.declared.insert.SpliceInsert.{SpliceInsert}
+use Rattle.command.specs.declared.insert.SpliceDetail.{SpliceDetail}
 use Rattle.command.specs.declared.insert.SpliceMode.{SpliceMode}
 use Rattle.command.proofs.Answers.{lacks-component}
 use Rattle.command.proofs.Walking.{component-there}
@@ -92,9 +92,9 @@ abbrev modeFor : SpliceMode → (ℕ → List ComponentSplice) → List Componen
 modeFor (SpliceMode.Program t) f = []
 modeFor (SpliceMode.Components n) f = f n
 
-abbrev pub detailFor : SpliceInsert → (ℕ → List ComponentSplice) → List ComponentSplice
-detailFor SpliceInsert.Cancel f = []
-detailFor (SpliceInsert.Insert i) f = modeFor (i .«splice_mode») f
+abbrev pub detailFor : SpliceDetail → (ℕ → List ComponentSplice) → List ComponentSplice
+detailFor SpliceDetail.Cancel f = []
+detailFor (SpliceDetail.Insert i) f = modeFor (i .«splice_mode») f
 
 -- the first n components from byte 7 on
 abbrev pub listed : List ℕ → Bool → ℕ → List ComponentSplice
@@ -111,7 +111,7 @@ mode-keeps s false b m e h =
     subst (λ (x : Mode). x .components ≡ modeFor (x .value) (listed s b)) (same-reading _ m _ e (r .back)) (sym (ap listIn (r .front)))
 
 -- what follows the mode leaves it as it is
-ending-keeps : (s : List ℕ) (at : ℕ) (o : Bool) (m : Mode) (d : Bool) (a : WithComponents Insert) (e : ℕ) → parse (ending o m d) (bitsOf s) at ≡ got a e → modeOf a ≡ m
+ending-keeps : (s : List ℕ) (at : ℕ) (o : Bool) (m : Mode) (d : Bool) (a : WithComponents InsertDetail) (e : ℕ) → parse (ending o m d) (bitsOf s) at ≡ got a e → modeOf a ≡ m
 unfolding ending
 ending-keeps s at o m d a e h =
     let r = reads-in (breakDuration d) _ _ (bitsOf s) at a e h in
@@ -123,7 +123,7 @@ ending-keeps s at o m d a e h =
 abbrev pub immediateBit : List ℕ → Bool
 immediateBit s = eqb (field (bitsOf s) 43 1) 1
 
-active-keeps : (s : List ℕ) (a : WithComponents Insert) (e : ℕ) → parse active (bitsOf s) 40 ≡ got a e → a .components ≡ modeFor (a .value .«splice_mode») (listed s (immediateBit s))
+active-keeps : (s : List ℕ) (a : WithComponents InsertDetail) (e : ℕ) → parse active (bitsOf s) 40 ≡ got a e → a .components ≡ modeFor (a .value .«splice_mode») (listed s (immediateBit s))
 unfolding active
 active-keeps s a e h =
     let h₁ = reads-flag s 40 _ _ a e h .1 in
@@ -135,7 +135,7 @@ active-keeps s a e h =
     subst (λ (m : Mode). m .components ≡ modeFor (m .value) (listed s (immediateBit s))) (sym (ending-keeps s (r .seam) _ (r .inner) _ a e (r .back)))
     (mode-keeps s _ _ (r .inner) (r .seam) (r .front))
 
-insert-keeps : (s : List ℕ) (x : WithComponents Insertion) (e : ℕ) → parse insert (bitsOf s) 0 ≡ got x e → x .components ≡ detailFor (x .value .«splice_detail») (listed s (immediateBit s))
+insert-keeps : (s : List ℕ) (x : WithComponents SpliceInsert) (e : ℕ) → parse insert (bitsOf s) 0 ≡ got x e → x .components ≡ detailFor (x .value .«splice_detail») (listed s (immediateBit s))
 unfolding insert
 insert-keeps s x e h =
     let h₁ = reads-number s 0 32 _ _ x e h .1 in
@@ -144,58 +144,55 @@ insert-keeps s x e h =
   where
     go : (c : Bool) → parse (pick c
         (done (record {
-          value = record { «splice_event_id» = field (bitsOf s) 0 32; reserved = field (bitsOf s) 33 7; «splice_detail» = SpliceInsert.Cancel };
+          value = record { «splice_event_id» = field (bitsOf s) 0 32; reserved = field (bitsOf s) 33 7; «splice_detail» = SpliceDetail.Cancel };
           components = [];
         }))
         (inside active activeOf λ a.
         done (record {
-          value = record { «splice_event_id» = field (bitsOf s) 0 32; reserved = field (bitsOf s) 33 7; «splice_detail» = SpliceInsert.Insert (a .value) };
+          value = record { «splice_event_id» = field (bitsOf s) 0 32; reserved = field (bitsOf s) 33 7; «splice_detail» = SpliceDetail.Insert (a .value) };
           components = a .components;
         }))) (bitsOf s) 40 ≡ got x e
         → x .components ≡ detailFor (x .value .«splice_detail») (listed s (immediateBit s))
-    go true f = subst (λ (y : WithComponents Insertion). y .components ≡ detailFor (y .value .«splice_detail») (listed s (immediateBit s))) (same-reading _ x _ e f) refl
+    go true f = subst (λ (y : WithComponents SpliceInsert). y .components ≡ detailFor (y .value .«splice_detail») (listed s (immediateBit s))) (same-reading _ x _ e f) refl
     go false f =
         let r = reads-in active activeOf _ (bitsOf s) 40 x e f in
-        subst (λ (y : WithComponents Insertion). y .components ≡ detailFor (y .value .«splice_detail») (listed s (immediateBit s))) (same-reading _ x _ e (r .back))
+        subst (λ (y : WithComponents SpliceInsert). y .components ≡ detailFor (y .value .«splice_detail») (listed s (immediateBit s))) (same-reading _ x _ e (r .back))
         (active-keeps s (r .inner) (r .seam) (r .front))
 
 -- ---- what the reader on demand answers
+none-listed : (s : List ℕ) (b : Bool) → listed s b 0 ≡ []
+none-listed s b = ap listIn (list-none blank (component b) (bitsOf s) 56)
+
+-- as many as the mode, and the insert, says: where there is no mode by components, none
+mode-counts : (s : List ℕ) (b : Bool) (m : SpliceMode) → listed s b (count m) ≡ modeFor m (listed s b)
+mode-counts s b (SpliceMode.Program t) = none-listed s b
+mode-counts s b (SpliceMode.Components n) = refl
+
+detail-counts : (s : List ℕ) (b : Bool) (d : SpliceDetail) → listed s b (insertCount d) ≡ detailFor d (listed s b)
+detail-counts s b SpliceDetail.Cancel = none-listed s b
+detail-counts s b (SpliceDetail.Insert i) = mode-counts s b (i .«splice_mode»)
+
+-- the count of an insert that was read
+pub counted : (r : CommandRead) (c : SpliceCommand) (i : SpliceInsert) (x : InsertDetail) (m : SpliceMode) → r ≡ CommandRead.Is c → c ≡ SpliceCommand.SpliceInsert i
+    → i .«splice_detail» ≡ SpliceDetail.Insert x → x .«splice_mode» ≡ m → count m ≡ countRead r
+counted r c i x m e₁ e₂ e₃ e₄ = rw (e₁, e₂, e₃, e₄)
+
+-- as many as the insert of a payload says are all that it has
 module _ (s : List ℕ) where
-  pub none-malformed : (x : Short) → InsertRead.Lacks x ≡ insertRead (parse insert (bitsOf s) 0) → array [] ≡ componentsOf s
-  unfolding componentsOf insertRead
-  none-malformed x e = go (parse insert (bitsOf s) 0) e
+  as-counted : (b : Bool) → b ≡ immediateBit s → array (listed s b (countRead (commandOf 5 s))) ≡ componentsOf s
+  unfolding componentsOf commandOf
+  as-counted b z = go (parse insert (bitsOf s) 0) refl
     where
-      go : (r : Answer (WithComponents Insertion)) → InsertRead.Lacks x ≡ insertRead r → array [] ≡ array (componentsIn r)
-      go (got y m) f = zero-one cc
-      go (short y a) f = refl
+      go : (r : Answer (WithComponents SpliceInsert)) → parse insert (bitsOf s) 0 ≡ r
+          → array (listed s b (countRead (read (λ x. SpliceCommand.SpliceInsert (x .value)) r))) ≡ array (componentsIn r)
+      go (got x m) p = ap array (detail-counts s b (x .value .«splice_detail») ∙ rw z (sym (insert-keeps s x m p)))
+      go (short e a) p = ap array (none-listed s b)
 
-  pub some-components : (i : Insertion) → InsertRead.Got i ≡ insertRead (parse insert (bitsOf s) 0) → array (detailFor (i .«splice_detail») (listed s (immediateBit s))) ≡ componentsOf s
-  unfolding componentsOf insertRead
-  some-components i e = go (parse insert (bitsOf s) 0) refl e
-    where
-      go : (r : Answer (WithComponents Insertion)) → parse insert (bitsOf s) 0 ≡ r → InsertRead.Got i ≡ insertRead r → array (detailFor (i .«splice_detail») (listed s (immediateBit s))) ≡ array (componentsIn r)
-      go (got x m) p f =
-          let z : x .value ≡ i = cc in
-          ap array (sym (insert-keeps s x m p ∙ ap (λ (j : Insertion). detailFor (j .«splice_detail») (listed s (immediateBit s))) z))
-      go (short y a) p f = zero-one cc
-
-  module _ (i : Insertion) (ei : InsertRead.Got i ≡ insertRead (parse insert (bitsOf s) 0)) where
-    pub of-cancel : i .«splice_detail» ≡ SpliceInsert.Cancel → array [] ≡ componentsOf s
-    of-cancel d = ap (λ (x : SpliceInsert). array (detailFor x (listed s (immediateBit s)))) (sym d) ∙ some-components i ei
-
-    module _ (x : Insert) (d : i .«splice_detail» ≡ SpliceInsert.Insert x) where
-      of-mode : (m : SpliceMode) → x .«splice_mode» ≡ m → array (modeFor m (listed s (immediateBit s))) ≡ componentsOf s
-      of-mode m e =
-          ap (λ (y : SpliceMode). array (modeFor y (listed s (immediateBit s)))) (sym e)
-          ∙ ap (λ (y : SpliceInsert). array (detailFor y (listed s (immediateBit s)))) (sym d) ∙ some-components i ei
-
-      pub of-program : (t : SpliceTime) → x .«splice_mode» ≡ SpliceMode.Program t → array [] ≡ componentsOf s
-      of-program t e = of-mode (SpliceMode.Program t) e
-
-      pub of-components : (n v : ℕ) (r : List ComponentSplice) → x .«splice_mode» ≡ SpliceMode.Components n → v ≡ field (bitsOf s) 43 1 % 2 ^ 64
-          → r ≡ array (listIn (parse (list n blank (component (eqb v 1))) (bitsOf s) 56)) → r ≡ componentsOf s
-      of-components n v r e f g =
-          g ∙ ap (λ (b : ℕ). array (listed s (eqb b 1) n)) (bits-are s 43 1 v (omega arith) f .0) ∙ of-mode (SpliceMode.Components n) e
+  pub all-components : (c : CommandRead) (n v : ℕ) (r : List ComponentSplice) → c ≡ commandOf 5 s → n ≡ countRead c → v ≡ field (bitsOf s) 43 1 % 2 ^ 64
+      → r ≡ array (listIn (parse (list n blank (component (eqb v 1))) (bitsOf s) 56)) → r ≡ componentsOf s
+  all-components c n v r e f g h =
+      h ∙ ap (λ (k : ℕ). array (listed s (eqb v 1) k)) (f ∙ ap countRead e)
+      ∙ as-counted (eqb v 1) (ap (λ (k : ℕ). eqb k 1) (bits-are s 43 1 v (omega arith) g .0))
 
 pub blank-length : length (array []) ≡ 255
 unfolding array

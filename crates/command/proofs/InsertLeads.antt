@@ -12,7 +12,7 @@ use Rattle.table.specs.Bits.{pick}
 use Rattle.table.specs.Table.{Table, done, inside}
 use Rattle.table.proofs.Leading.{Leads, leads-in, leads-done, leads-number, leads-flag, leads-ones}
 use Rattle.table.proofs.Lists.{and-true}
-use Rattle.command.specs.Fair.{unmixed, fairInsert}
+use Rattle.command.specs.Writable.{unmixed, writableInsert}
 use Rattle.command.specs.Insert.{
   WithComponents,
   byProgram,
@@ -32,9 +32,9 @@ use Rattle.command.specs.Insert.{
 }
 use Rattle.command.specs.declared.components.ComponentSplice.{ComponentSplice}
 use Rattle.command.specs.declared.insert.Break.{Break}
-use Rattle.command.specs.declared.insert.Insert.{Insert}
-use Rattle.command.specs.declared.insert.Insertion.{Insertion}
+use Rattle.command.specs.declared.insert.InsertDetail.{InsertDetail}
 use Rattle.command.specs.declared.insert.SpliceInsert.{SpliceInsert}
+use Rattle.command.specs.declared.insert.SpliceDetail.{SpliceDetail}
 use Rattle.command.specs.declared.insert.SpliceMode.{SpliceMode}
 use Rattle.command.proofs.ModeLeads.{modeBytes, leads-must, moded-leads}
 
@@ -43,14 +43,14 @@ abbrev pub breakBytes : Break → ℕ
 breakBytes Break.Absent = 0
 breakBytes (Break.Lasts d) = 5
 
-abbrev pub activeBytes : Insert → List ComponentSplice → ℕ
+abbrev pub activeBytes : InsertDetail → List ComponentSplice → ℕ
 activeBytes i cs = 1 + modeBytes (i .«splice_mode») cs + breakBytes (i .duration) + 4
 
-abbrev pub detailBytes : SpliceInsert → List ComponentSplice → ℕ
-detailBytes SpliceInsert.Cancel cs = 0
-detailBytes (SpliceInsert.Insert i) cs = activeBytes i cs
+abbrev pub detailBytes : SpliceDetail → List ComponentSplice → ℕ
+detailBytes SpliceDetail.Cancel cs = 0
+detailBytes (SpliceDetail.Insert i) cs = activeBytes i cs
 
-abbrev pub insertBytes : WithComponents Insertion → ℕ
+abbrev pub insertBytes : WithComponents SpliceInsert → ℕ
 insertBytes x = 5 + detailBytes (x .value .«splice_detail») (x .components)
 
 -- ---- the duration, and what is after it
@@ -71,7 +71,7 @@ network-again : (n : NetworkIndicator) → pick (outOfNetwork n) NetworkIndicato
 network-again NetworkIndicator.Out = refl
 network-again NetworkIndicator.In = refl
 
-ending-leads : (x : WithComponents Insert) (at m : ℕ)
+ending-leads : (x : WithComponents InsertDetail) (at m : ℕ)
     → Leads (ending (outOfNetwork (x .value .«network_indicator»)) (modeOf x) (lasting (x .value .duration))) x x at (at + (breakBytes (x .value .duration) + 4) * 8) m
 unfolding ending
 ending-leads x at m =
@@ -84,7 +84,7 @@ ending-leads x at m =
     (leads-done x _ _ _ _ m (rw (network-again (x .value .«network_indicator»))) (omega arith)))))
 
 -- ---- an insert
-active-leads : (x : WithComponents Insert) (at m : ℕ) → length (x .components) ≡ count (x .value .«splice_mode») → unmixed (x .components) ≡ true
+active-leads : (x : WithComponents InsertDetail) (at m : ℕ) → length (x .components) ≡ count (x .value .«splice_mode») → unmixed (x .components) ≡ true
     → Leads active x x at (at + activeBytes (x .value) (x .components) * 8) m
 unfolding active
 active-leads x at m e f =
@@ -101,22 +101,22 @@ active-leads x at m e f =
     (moded-leads (x .value .«splice_mode») (x .components) b _ e f)
     (ending-leads x (b + k * 8) m)))))))
 
-insert-leads : (event kept : ℕ) (d : SpliceInsert) (cs : List ComponentSplice) (m : ℕ) → length cs ≡ count (insertOf d .«splice_mode») → eqb kept 127 ≡ true → unmixed cs ≡ true
-    → (let x : WithComponents Insertion = record { value = record { «splice_event_id» = event; reserved = kept; «splice_detail» = d }; components = cs } in
+insert-leads : (event kept : ℕ) (d : SpliceDetail) (cs : List ComponentSplice) (m : ℕ) → length cs ≡ count (insertOf d .«splice_mode») → eqb kept 127 ≡ true → unmixed cs ≡ true
+    → (let x : WithComponents SpliceInsert = record { value = record { «splice_event_id» = event; reserved = kept; «splice_detail» = d }; components = cs } in
     Leads insert x x 0 ((5 + detailBytes d cs) * 8) m)
 unfolding insert
-insert-leads event kept SpliceInsert.Cancel [] m e k f =
-    let x : WithComponents Insertion = record { value = record { «splice_event_id» = event; reserved = kept; «splice_detail» = SpliceInsert.Cancel }; components = [] } in
+insert-leads event kept SpliceDetail.Cancel [] m e k f =
+    let x : WithComponents SpliceInsert = record { value = record { «splice_event_id» = event; reserved = kept; «splice_detail» = SpliceDetail.Cancel }; components = [] } in
     leads-number 32 _ _ x x 0 40 m
     (leads-flag _ _ x x 32 40 m
     (leads-number 7 _ _ x x 33 40 m
     (leads-must (eqb kept 127) (done x) x x 40 40 m k (leads-done x x x 40 40 m refl refl))))
-insert-leads event kept SpliceInsert.Cancel (c ∷ cs) m e k f = absurd (omega arith)
-insert-leads event kept (SpliceInsert.Insert i) cs m e k f =
-    let x : WithComponents Insertion = record { value = record { «splice_event_id» = event; reserved = kept; «splice_detail» = SpliceInsert.Insert i }; components = cs } in
-    let y : WithComponents Insert = record { value = i; components = cs } in
-    let g : WithComponents Insert → Table (WithComponents Insertion) =
-    λ u. done (record { value = record { «splice_event_id» = event; reserved = kept; «splice_detail» = SpliceInsert.Insert (u .value) }; components = u .components }) in
+insert-leads event kept SpliceDetail.Cancel (c ∷ cs) m e k f = absurd (omega arith)
+insert-leads event kept (SpliceDetail.Insert i) cs m e k f =
+    let x : WithComponents SpliceInsert = record { value = record { «splice_event_id» = event; reserved = kept; «splice_detail» = SpliceDetail.Insert i }; components = cs } in
+    let y : WithComponents InsertDetail = record { value = i; components = cs } in
+    let g : WithComponents InsertDetail → Table (WithComponents SpliceInsert) =
+    λ u. done (record { value = record { «splice_event_id» = event; reserved = kept; «splice_detail» = SpliceDetail.Insert (u .value) }; components = u .components }) in
     let a = (5 + activeBytes i cs) * 8 in
     let z = 40 + activeBytes i cs * 8 in
     let w : z ≡ a = omega arith in
@@ -127,11 +127,11 @@ insert-leads event kept (SpliceInsert.Insert i) cs m e k f =
     (leads-in active activeOf g x x y 40 z a m (active-leads y 40 (a - z + m) e f) (leads-done x x x z a m refl w)))))
 
 -- as many components as the mode says; none where the insert is cancelled
-abbrev pub Counted : WithComponents Insertion → Type 0
+abbrev pub Counted : WithComponents SpliceInsert → Type 0
 Counted x = length (x .components) ≡ count (activeOf x .value .«splice_mode»)
 
-pub insert-ends : (x : WithComponents Insertion) (m : ℕ) → Counted x → fairInsert x ≡ true → Leads insert x x 0 (insertBytes x * 8) m
-unfolding fairInsert
+pub insert-ends : (x : WithComponents SpliceInsert) (m : ℕ) → Counted x → writableInsert x ≡ true → Leads insert x x 0 (insertBytes x * 8) m
+unfolding writableInsert
 insert-ends x m h f =
     let a = and-true (eqb (x .value .reserved) 127) _ f in
     insert-leads (x .value .«splice_event_id») (x .value .reserved) (x .value .«splice_detail») (x .components) m h (a .0) (a .1)

@@ -17,7 +17,7 @@ use Rattle.table.specs.Table.{list}
 use Rattle.table.proofs.Laws.{Tells}
 use Rattle.table.proofs.Lists.{zero-one}
 use Rattle.table.proofs.Telling.{Each, tells-mono, tells-in, tells-number, tells-flag, tells-either, tells-pick, tells-ones, tells-list}
-use Rattle.command.specs.Fair.{alike, unmixed, fairInsert}
+use Rattle.command.specs.Writable.{alike, unmixed, writableInsert}
 use Rattle.command.specs.Insert.{
   WithComponents,
   immediate,
@@ -138,8 +138,8 @@ active-tells at e =
     ))
     (ending-tells out m d a (g .0))))
 
-pub insert-tells : Tells insert 0 (λ a y. (a % 8 ≡ 0) × (fairInsert y ≡ true))
-unfolding insert fairInsert
+pub insert-tells : Tells insert 0 (λ a y. (a % 8 ≡ 0) × (writableInsert y ≡ true))
+unfolding insert writableInsert
 insert-tells =
     tells-number 32 _ _ 0 _ λ event h₁.
     tells-flag _ _ 32 _ λ cancel.

@@ -1,3 +1,4 @@
+pub mod Arrays
 pub mod Wholes
 pub mod Answers
 pub mod Walking

@@ -15,7 +15,7 @@ use Rattle.table.specs.Table.{Table, done, must, inside, list}
 use Rattle.table.proofs.Leading.{Leads, leads-in, leads-done, leads-number, leads-list, total}
 use Rattle.table.proofs.Lists.{zero-one, and-true}
 use Rattle.table.proofs.Telling.{Each}
-use Rattle.command.specs.Fair.{alike, unmixed}
+use Rattle.command.specs.Writable.{alike, unmixed}
 use Rattle.command.specs.Insert.{WithComponents, immediate, timeUnless, component, blank, byProgram, count, allImmediate, moded}
 use Rattle.command.specs.declared.components.ComponentSplice.{ComponentSplice}
 use Rattle.command.specs.declared.insert.SpliceMode.{SpliceMode}

@@ -24,7 +24,7 @@ use Rattle.command.specs.Private.{insertRead}
 use Rattle.command.specs.declared.CommandRead.{CommandRead}
 use Rattle.command.specs.declared.Private.{Private}
 use Rattle.command.specs.declared.SpliceCommand.{SpliceCommand}
-use Rattle.command.specs.declared.insert.Insertion.{Insertion}
+use Rattle.command.specs.declared.insert.SpliceInsert.{SpliceInsert}
 use Rattle.command.specs.declared.insert.InsertRead.{InsertRead}
 
 -- ---- an empty payload
@@ -42,13 +42,13 @@ pub no-signal : (r : Answer SpliceTime) (x : Short) → TimeRead.Lacks x ≡ tim
 no-signal r x e = rw (timed-lacks r x e)
 
 -- ---- an insert
-pub insertion : (r : Answer (WithComponents Insertion)) (i : Insertion) → InsertRead.Got i ≡ insertRead r
+pub insertion : (r : Answer (WithComponents SpliceInsert)) (i : SpliceInsert) → InsertRead.Got i ≡ insertRead r
     → CommandRead.Is (SpliceCommand.SpliceInsert i) ≡ read (λ x. SpliceCommand.SpliceInsert (x .value)) r
 unfolding insertRead
 insertion (got x m) i e = cc
 insertion (short x a) i e = zero-one cc
 
-pub no-insertion : (r : Answer (WithComponents Insertion)) (x : Short) → InsertRead.Lacks x ≡ insertRead r → CommandRead.Malformed ≡ read (λ x. SpliceCommand.SpliceInsert (x .value)) r
+pub no-insertion : (r : Answer (WithComponents SpliceInsert)) (x : Short) → InsertRead.Lacks x ≡ insertRead r → CommandRead.Malformed ≡ read (λ x. SpliceCommand.SpliceInsert (x .value)) r
 unfolding insertRead
 no-insertion (got y m) x e = zero-one cc
 no-insertion (short y a) x e = refl

@@ -37,7 +37,7 @@ ends x m e =
 
 abbrev structure : laws.Structure private
 structure = record {
-  fair = λ x. true;
+  writable = λ x. true;
   size = λ x. 4 + x .«private_bytes» .len;
   moved = moved;
   Shape = λ x. Unit {0};
@@ -63,4 +63,4 @@ private-read-write s x a e c = laws.read-write-all private structure s x a e c
 -- bytes of equal readings are equal
 pub private-one : (s r : List ℕ) (x y : Private) → AllBytes s → AllBytes r → parse private (bitsOf s) 0 ≡ got x (length s * 8) → parse private (bitsOf r) 0 ≡ got y (length r * 8)
     → canonical private (bitsOf s) 0 ≡ true → canonical private (bitsOf r) 0 ≡ true → Same private s x r y → s ≡ r
-private-one s r x y a b p q c d h = laws.one-encoding private structure s r x y a b p q c d h
+private-one s r x y a b p q c d h = laws.write-one private structure s r x y a b p q c d h

@@ -11,8 +11,8 @@ use Rattle.table.specs.Table.{number, bit, reserved, part, remaining, list, got
 use Rattle.command.specs.Command.{private, array}
 use Rattle.command.specs.Insert.{WithComponents, timeUnless, component, moded, breakDuration, ending, active, insert}
 use Rattle.command.specs.declared.insert.Break.{Break}
-use Rattle.command.specs.declared.insert.Insertion.{Insertion}
 use Rattle.command.specs.declared.insert.SpliceInsert.{SpliceInsert}
+use Rattle.command.specs.declared.insert.SpliceDetail.{SpliceDetail}
 use Rattle.command.specs.declared.insert.SpliceMode.{SpliceMode}
 
 -- ---- m: by components with count 0, not immediate and immediate
@@ -22,12 +22,12 @@ timed = 0x00 ∷ 0x00 ∷ 0x00 ∷ 0x01 ∷ 0x7f ∷ 0x0f ∷ 0x00 ∷ 0x00 ∷ 
 abbrev immediate : List ℕ
 immediate = 0x00 ∷ 0x00 ∷ 0x00 ∷ 0x01 ∷ 0x7f ∷ 0x1f ∷ 0x00 ∷ 0x00 ∷ 0x00 ∷ 0x00 ∷ 0x00 ∷ []
 
-abbrev empty : WithComponents Insertion
+abbrev empty : WithComponents SpliceInsert
 empty = record {
   value = record {
     «splice_event_id» = 1;
     reserved = 127;
-    «splice_detail» = SpliceInsert.Insert (record {
+    «splice_detail» = SpliceDetail.Insert (record {
       «network_indicator» = NetworkIndicator.In;
       «splice_mode» = SpliceMode.Components 0;
       duration = Break.Absent;

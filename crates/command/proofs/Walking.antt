@@ -33,11 +33,11 @@ use Rattle.command.specs.declared.insert.ActiveRead.{ActiveRead}
 use Rattle.command.specs.declared.insert.Break.{Break}
 use Rattle.command.specs.declared.insert.BreakRead.{BreakRead}
 use Rattle.command.specs.declared.insert.Broken.{Broken}
-use Rattle.command.specs.declared.insert.Insert.{Insert}
+use Rattle.command.specs.declared.insert.InsertDetail.{InsertDetail}
 use Rattle.command.specs.declared.insert.InsertRead.{InsertRead}
 use Rattle.command.specs.declared.insert.Moded.{Moded}
 use Rattle.command.specs.declared.insert.ModedRead.{ModedRead}
-use Rattle.command.specs.declared.insert.SpliceInsert.{SpliceInsert}
+use Rattle.command.specs.declared.insert.SpliceDetail.{SpliceDetail}
 use Rattle.command.specs.declared.insert.SpliceMode.{SpliceMode}
 use Rattle.command.proofs.Answers.{component-got, component-lacks, got-component, lacks-component, skim-got, skim-lacks, got-skim, lacks-skim, break-got, break-lacks, got-break, lacks-break, mode-got, mode-lacks, Modes, got-mode, lacks-mode, active-got, active-lacks, got-active, lacks-active, insert-got, insert-lacks}
 use Rattle.command.proofs.Wholes.{whole-time-unless, whole-component, whole-list, whole-mode, whole-break}
@@ -317,7 +317,7 @@ module _ (s : List ℕ) where
     cancel c e = ap (λ (x : ℕ). eqb x 1) (sym (first-bit s 4 (getD s 4 0) (omega arith) refl byte)) ∙ e
 
     pub a-cancel : 128 ≤ getD s 4 0
-        → InsertRead.Got (record { «splice_event_id» = v; reserved = getD s 4 0 % 128; «splice_detail» = SpliceInsert.Cancel }) ≡ insertRead (parse insert (bitsOf s) 0)
+        → InsertRead.Got (record { «splice_event_id» = v; reserved = getD s 4 0 % 128; «splice_detail» = SpliceDetail.Cancel }) ≡ insertRead (parse insert (bitsOf s) 0)
     unfolding insert
     a-cancel on =
         let z : getD s 4 0 / 128 ≡ 1 = omega arith in
@@ -325,7 +325,7 @@ module _ (s : List ℕ) where
 
     module _ (off : getD s 4 0 < 128) where
       fronted : parse insert (bitsOf s) 0 ≡ parse (inside active activeOf λ a. done (record {
-        value = record { «splice_event_id» = v; reserved = getD s 4 0 % 128; «splice_detail» = SpliceInsert.Insert (a .value) };
+        value = record { «splice_event_id» = v; reserved = getD s 4 0 % 128; «splice_detail» = SpliceDetail.Insert (a .value) };
         components = a .components;
       })) (bitsOf s) 40
       unfolding insert
@@ -336,8 +336,8 @@ module _ (s : List ℕ) where
       pub no-active : (x : Short) → ActiveRead.Lacks x ≡ activeRead (parse active (bitsOf s) 40) → InsertRead.Lacks x ≡ insertRead (parse insert (bitsOf s) 0)
       no-active x e = insert-lacks _ x (fronted ∙ lacks-in active activeOf _ (bitsOf s) _ _ _ (lacks-active _ x e))
 
-      pub an-insert : (i : Insert) → ActiveRead.Got i ≡ activeRead (parse active (bitsOf s) 40)
-          → InsertRead.Got (record { «splice_event_id» = v; reserved = getD s 4 0 % 128; «splice_detail» = SpliceInsert.Insert i }) ≡ insertRead (parse insert (bitsOf s) 0)
+      pub an-insert : (i : InsertDetail) → ActiveRead.Got i ≡ activeRead (parse active (bitsOf s) 40)
+          → InsertRead.Got (record { «splice_event_id» = v; reserved = getD s 4 0 % 128; «splice_detail» = SpliceDetail.Insert i }) ≡ insertRead (parse insert (bitsOf s) 0)
       an-insert i e =
           let g = got-active (parse active (bitsOf s) 40) i e in
           insert-got _ _ (g .list) (g .end) (fronted ∙ takes-in active activeOf _ (bitsOf s) _ _ _ (g .is))

@@ -14,8 +14,9 @@ use Rattle.command.specs.declared.CommandRead.{CommandRead}
 use Rattle.command.specs.declared.Private.{Private}
 use Rattle.command.specs.declared.SpliceCommand.{SpliceCommand}
 use Rattle.command.specs.declared.components.ComponentSplice.{ComponentSplice}
-use Rattle.command.specs.declared.insert.Insertion.{Insertion}
+use Rattle.command.specs.declared.components.ListedCommand.{ListedCommand}
 use Rattle.command.specs.declared.insert.SpliceInsert.{SpliceInsert}
+use Rattle.command.specs.declared.insert.SpliceDetail.{SpliceDetail}
 
 -- "Private: identifier 32, the rest as a view."
 unfoldable pub private : Table Private
@@ -36,16 +37,16 @@ empty command payload = pick (eqb (length payload) 0) (CommandRead.Is command) C
 
 -- by a command's type: "none of 0x00, 0x05, 0x06, 0x07, 0xFF" is another
 abbrev pub byType {ℓ} : {A : Type ℓ} → ℕ → A → A → A → A → A → A → A
-byType kind null insert time bandwidth private another =
-    pick (eqb kind 0x00) null
-    (pick (eqb kind 0x05) insert
-    (pick (eqb kind 0x06) time
-    (pick (eqb kind 0x07) bandwidth
-    (pick (eqb kind 0xff) private
+byType command-type null insert time bandwidth private another =
+    pick (eqb command-type 0x00) null
+    (pick (eqb command-type 0x05) insert
+    (pick (eqb command-type 0x06) time
+    (pick (eqb command-type 0x07) bandwidth
+    (pick (eqb command-type 0xff) private
     another))))
 
 -- by a command: what is made of each kind
-abbrev pub byCommand : {A : Type 0} → A → (Insertion → A) → (SpliceTime → A) → A → (Private → A) → SpliceCommand → A
+abbrev pub byCommand : {A : Type 0} → A → (SpliceInsert → A) → (SpliceTime → A) → A → (Private → A) → SpliceCommand → A
 byCommand null insert time bandwidth private SpliceCommand.SpliceNull = null
 byCommand null insert time bandwidth private (SpliceCommand.SpliceInsert i) = insert i
 byCommand null insert time bandwidth private (SpliceCommand.TimeSignal t) = time t
@@ -53,13 +54,13 @@ byCommand null insert time bandwidth private SpliceCommand.BandwidthReservation 
 byCommand null insert time bandwidth private (SpliceCommand.PrivateCommand p) = private p
 
 -- the type that a command has
-abbrev pub kindOf : SpliceCommand → ℕ
-kindOf c = byCommand 0x00 (λ i. 0x05) (λ t. 0x06) 0x07 (λ p. 0xff) c
+abbrev pub typeOf : SpliceCommand → ℕ
+typeOf c = byCommand 0x00 (λ i. 0x05) (λ t. 0x06) 0x07 (λ p. 0xff) c
 
 -- refusal 10: "command type is none of ..", the last; refusal 11: "command payload malformed"
 unfoldable pub commandOf : ℕ → List ℕ → CommandRead
-commandOf kind payload =
-    byType kind
+commandOf command-type payload =
+    byType command-type
     (empty SpliceCommand.SpliceNull payload)
     (read (λ x. SpliceCommand.SpliceInsert (x .value)) (parse insert (bitsOf payload) 0))
     (read SpliceCommand.TimeSignal (parse spliceTime (bitsOf payload) 0))
@@ -74,11 +75,11 @@ numberOf CommandRead.UnknownType = 10
 numberOf CommandRead.Malformed = 11
 
 -- ---- f of one kind of command, and `none` of any other
-abbrev pub ofInsert : {A : Type 0} → (Insertion → A) → A → SpliceCommand → A
+abbrev pub ofInsert : {A : Type 0} → (SpliceInsert → A) → A → SpliceCommand → A
 ofInsert f none c = byCommand none f (λ t. none) none (λ p. none) c
 
 -- how many components an insert and a command have
-abbrev pub insertCount : SpliceInsert → ℕ
+abbrev pub insertCount : SpliceDetail → ℕ
 insertCount d = count (insertOf d .«splice_mode»)
 
 abbrev pub countIn : SpliceCommand → ℕ
@@ -100,9 +101,13 @@ abbrev pub Tags : List ComponentSplice → Type 0
 Tags cs = AllBytes (map (λ c. c .«component_tag») cs)
 
 -- the components of an insert's payload, none where it is malformed
-abbrev pub componentsIn : Answer (WithComponents Insertion) → List ComponentSplice
+abbrev pub componentsIn : Answer (WithComponents SpliceInsert) → List ComponentSplice
 componentsIn (got x at) = x .components
 componentsIn (short expected actual) = []
 
 unfoldable pub componentsOf : List ℕ → List ComponentSplice
 componentsOf payload = array (componentsIn (parse insert (bitsOf payload) 0))
+
+-- an insert's payload as it is read, or its refusal, and the components beside it
+unfoldable pub listedOf : List ℕ → ListedCommand
+listedOf payload = record { read = commandOf 0x05 payload; components = componentsOf payload }

@@ -15,9 +15,9 @@ use Rattle.table.specs.Bits.{pick}
 use Rattle.table.specs.Table.{Table, done, must, inside, uimsbf, flag, ones, list}
 use Rattle.command.specs.declared.components.ComponentSplice.{ComponentSplice}
 use Rattle.command.specs.declared.insert.Break.{Break}
-use Rattle.command.specs.declared.insert.Insert.{Insert}
-use Rattle.command.specs.declared.insert.Insertion.{Insertion}
+use Rattle.command.specs.declared.insert.InsertDetail.{InsertDetail}
 use Rattle.command.specs.declared.insert.SpliceInsert.{SpliceInsert}
+use Rattle.command.specs.declared.insert.SpliceDetail.{SpliceDetail}
 use Rattle.command.specs.declared.insert.SpliceMode.{SpliceMode}
 
 -- a reading whose components stand beside it, as many as its mode says
@@ -96,11 +96,11 @@ breakDuration duration-flag =
 abbrev pub outOfNetwork : NetworkIndicator → Bool
 outOfNetwork x = eqb (networkFlag x) 1
 
-abbrev pub modeOf : WithComponents Insert → WithComponents SpliceMode
+abbrev pub modeOf : WithComponents InsertDetail → WithComponents SpliceMode
 modeOf x = record { value = x .value .«splice_mode»; components = x .components }
 
 -- from the duration on
-unfoldable pub ending : Bool → WithComponents SpliceMode → Bool → Table (WithComponents Insert)
+unfoldable pub ending : Bool → WithComponents SpliceMode → Bool → Table (WithComponents InsertDetail)
 ending out-of-network mode duration-flag =
     inside (breakDuration duration-flag) (λ x. x .value .duration) λ duration.
     uimsbf 16 (λ x. x .value .«unique_program_id») λ unique-program-id.
@@ -118,7 +118,7 @@ ending out-of-network mode duration-flag =
       components = mode .components;
     })
 
-unfoldable pub active : Table (WithComponents Insert)
+unfoldable pub active : Table (WithComponents InsertDetail)
 active =
     flag (λ x. outOfNetwork (x .value .«network_indicator»)) λ out-of-network.
     flag (λ x. byProgram (x .value .«splice_mode»)) λ program-flag.
@@ -128,13 +128,13 @@ active =
     inside (moded program-flag immediate-flag) modeOf λ mode.
     ending out-of-network mode duration-flag)
 
--- ---- "Insert: event id 32, cancel 1, reserved 7 (kept in the reading)."
-abbrev pub cancelled : SpliceInsert → Bool
-cancelled SpliceInsert.Cancel = true
-cancelled (SpliceInsert.Insert i) = false
+-- ---- "InsertDetail: event id 32, cancel 1, reserved 7 (kept in the reading)."
+abbrev pub cancelled : SpliceDetail → Bool
+cancelled SpliceDetail.Cancel = true
+cancelled (SpliceDetail.Insert i) = false
 
-abbrev pub insertOf : SpliceInsert → Insert
-insertOf SpliceInsert.Cancel = record {
+abbrev pub insertOf : SpliceDetail → InsertDetail
+insertOf SpliceDetail.Cancel = record {
   «network_indicator» = NetworkIndicator.In;
   «splice_mode» = SpliceMode.Components 0;
   duration = Break.Absent;
@@ -142,12 +142,12 @@ insertOf SpliceInsert.Cancel = record {
   «avail_num» = 0;
   «avails_expected» = 0;
 }
-insertOf (SpliceInsert.Insert i) = i
+insertOf (SpliceDetail.Insert i) = i
 
-abbrev pub activeOf : WithComponents Insertion → WithComponents Insert
+abbrev pub activeOf : WithComponents SpliceInsert → WithComponents InsertDetail
 activeOf x = record { value = insertOf (x .value .«splice_detail»); components = x .components }
 
-unfoldable pub insert : Table (WithComponents Insertion)
+unfoldable pub insert : Table (WithComponents SpliceInsert)
 insert =
     uimsbf 32 (λ x. x .value .«splice_event_id») λ splice-event-id.
     flag (λ x. cancelled (x .value .«splice_detail»)) λ cancel.
@@ -155,11 +155,11 @@ insert =
     must (eqb kept 127) (
     pick cancel
     (done (record {
-      value = record { «splice_event_id» = splice-event-id; reserved = kept; «splice_detail» = SpliceInsert.Cancel };
+      value = record { «splice_event_id» = splice-event-id; reserved = kept; «splice_detail» = SpliceDetail.Cancel };
       components = [];
     }))
     (inside active activeOf λ a.
     done (record {
-      value = record { «splice_event_id» = splice-event-id; reserved = kept; «splice_detail» = SpliceInsert.Insert (a .value) };
+      value = record { «splice_event_id» = splice-event-id; reserved = kept; «splice_detail» = SpliceDetail.Insert (a .value) };
       components = a .components;
     })))

@@ -1,4 +1,4 @@
 pub mod Insert
 pub mod Command
 pub mod Private
-pub mod Fair
+pub mod Writable

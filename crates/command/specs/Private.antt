@@ -1,18 +1,20 @@
 -- What the private readers of an insert answer, and `insertRead`, which `read_insert` answers. No other public contract cites this.
 use Prim.Native.Nat.{ℕ, _/_}
 use mathlib.Core.List.{List, []}
+use mathlib.Core.Path.{_≡_}
 use Rattle.table.specs.Table.{Answer, got, short}
 use lib.Seq.{sets}
-use Rattle.command.specs.Command.{array}
+use Rattle.command.specs.Command.{array, countIn}
 use Rattle.command.specs.Insert.{WithComponents}
+use Rattle.command.specs.declared.CommandRead.{CommandRead}
 use Rattle.command.specs.declared.components.ComponentSplice.{ComponentSplice}
 use Rattle.command.specs.declared.components.ComponentRead.{ComponentRead}
 use Rattle.command.specs.declared.components.Skimmed.{Skimmed}
 use Rattle.command.specs.declared.insert.ActiveRead.{ActiveRead}
 use Rattle.command.specs.declared.insert.Break.{Break}
 use Rattle.command.specs.declared.insert.BreakRead.{BreakRead}
-use Rattle.command.specs.declared.insert.Insert.{Insert}
-use Rattle.command.specs.declared.insert.Insertion.{Insertion}
+use Rattle.command.specs.declared.insert.InsertDetail.{InsertDetail}
+use Rattle.command.specs.declared.insert.SpliceInsert.{SpliceInsert}
 use Rattle.command.specs.declared.insert.InsertRead.{InsertRead}
 use Rattle.command.specs.declared.insert.ModedRead.{ModedRead}
 use Rattle.command.specs.declared.insert.SpliceMode.{SpliceMode}
@@ -33,11 +35,11 @@ unfoldable pub modedRead : Answer (WithComponents SpliceMode) → ModedRead
 modedRead (got m at) = ModedRead.Got (record { mode = m .value; next = at / 8 })
 modedRead (short expected actual) = ModedRead.Lacks (record { expected = expected; actual = actual })
 
-unfoldable pub activeRead : Answer (WithComponents Insert) → ActiveRead
+unfoldable pub activeRead : Answer (WithComponents InsertDetail) → ActiveRead
 activeRead (got i at) = ActiveRead.Got (i .value)
 activeRead (short expected actual) = ActiveRead.Lacks (record { expected = expected; actual = actual })
 
-unfoldable pub insertRead : Answer (WithComponents Insertion) → InsertRead
+unfoldable pub insertRead : Answer (WithComponents SpliceInsert) → InsertRead
 insertRead (got i at) = InsertRead.Got (i .value)
 insertRead (short expected actual) = InsertRead.Lacks (record { expected = expected; actual = actual })
 
@@ -50,3 +52,13 @@ listIn (short expected actual) = []
 unfoldable pub filled : List ComponentSplice → ℕ → Answer (List ComponentSplice) → List ComponentSplice
 filled places i (got cs at) = sets places i cs
 filled places i (short expected actual) = array []
+
+-- a type whose command is not read at once: neither a null's nor a time signal's
+abbrev pub Apart : ℕ → Type 0
+Apart command-type = (command-type ≡ 0x00 → ⊥) × (command-type ≡ 0x06 → ⊥)
+
+-- how many components a reading says that there are: none where it has no insert
+abbrev pub countRead : CommandRead → ℕ
+countRead (CommandRead.Is c) = countIn c
+countRead CommandRead.UnknownType = 0
+countRead CommandRead.Malformed = 0

@@ -3,15 +3,17 @@ ghost use mathlib.Core.Path.{_≡_};
 ghost use Rattle.command.specs.Insert.{blank, component};
 ghost use mathlib.Core.List.{[]};
 ghost use Prim.Native.Nat.{_*_, _≤_};
-ghost use Rattle.command.specs.Command.{array, componentsOf};
-ghost use Rattle.command.specs.Private.{componentRead, skimmedOf, listIn};
+ghost use Rattle.command.specs.Command.{array, componentsOf, listedOf};
+ghost use Rattle.command.specs.Private.{componentRead, skimmedOf, listIn, countRead};
 ghost use Rattle.table.specs.Bits.{bitsOf};
 ghost use Rattle.table.specs.Table.{list, parse};
-use crate::insert::InsertRead;
-use crate::insert::SpliceInsert;
+use crate::CommandRead;
+use crate::SpliceCommand;
+use crate::insert::SpliceDetail;
 use crate::insert::SpliceMode;
-use crate::insert::read_insert;
 use crate::insert::read_time_unless;
+use crate::read_command;
+use crate::read_other;
 use splice_time::SpliceTime;
 use splice_time::TimeRead;
 use table::cursor::Short;
@@ -20,6 +22,12 @@ use table::numbers::bits;
 pub struct ComponentSplice {
     pub component_tag: u8,
     pub splice_time: SpliceTime,
+}
+
+// A command as it was read, or its refusal, and its components: blank past their count.
+pub struct ListedCommand {
+    pub read: CommandRead,
+    pub components: [ComponentSplice; 255],
 }
 
 // A component and the place of the byte after it.
@@ -115,23 +123,48 @@ fn fill(s: &[u8], first: usize, count: usize, immediate: bool) -> [ComponentSpli
     out
 }
 
-// The components of an insert's payload, blank past their count; none where the payload is malformed.
-pub fn read_components(payload: &[u8]) -> [ComponentSplice; 255]
-    ensures { λ r. ⌜ r ≡ componentsOf (now (payload .entry)) ⌝ }
+// How many components a command says that it has.
+fn count_of(read: CommandRead) -> u8
+    ensures { λ r. ⌜ r ≡ countRead read ⌝ }
 {
-    let insertion = match read_insert(payload) {
-        InsertRead::Got(i) => i,
-        InsertRead::Lacks(_) => return blanks(),
+    let command = match read {
+        CommandRead::Is(c) => c,
+        CommandRead::UnknownType => return 0,
+        CommandRead::Malformed => return 0,
+    };
+    let insertion = match command {
+        SpliceCommand::SpliceNull => return 0,
+        SpliceCommand::SpliceInsert(i) => i,
+        SpliceCommand::TimeSignal(_) => return 0,
+        SpliceCommand::BandwidthReservation => return 0,
+        SpliceCommand::PrivateCommand(_) => return 0,
     };
     let detail = insertion.splice_detail;
     let insert = match detail {
-        SpliceInsert::Insert(i) => i,
-        SpliceInsert::Cancel => return blanks(),
+        SpliceDetail::Insert(i) => i,
+        SpliceDetail::Cancel => return 0,
     };
     let mode = insert.splice_mode;
-    let count = match mode {
-        SpliceMode::Components(n) => n,
-        SpliceMode::Program(_) => return blanks(),
-    };
+    match mode {
+        SpliceMode::Components(n) => return n,
+        SpliceMode::Program(_) => return 0,
+    }
+}
+
+// The components of an insert's payload, blank past their count; none where the payload is malformed.
+fn list_components(payload: &[u8]) -> [ComponentSplice; 255]
+    ensures { λ r. ⌜ r ≡ componentsOf (now (payload .entry)) ⌝ }
+{
+    let count = count_of(read_other(5, payload));
     fill(payload, 7, count as usize, bits(payload, 5, 3, 1) == 1)
+}
+
+// An insert's payload read, with its components beside the reading: where it is refused (11), they are blank.
+pub fn read_components(payload: &[u8]) -> ListedCommand
+    ensures { λ r. ⌜ r ≡ listedOf (now (payload .entry)) ⌝ }
+{
+    ListedCommand {
+        read: read_command(0x05, payload),
+        components: list_components(payload),
+    }
 }

@@ -42,7 +42,7 @@ pub enum Break {
     Lasts(SpliceDuration),
 }
 
-pub struct Insert {
+pub struct InsertDetail {
     pub network_indicator: NetworkIndicator,
     pub splice_mode: SpliceMode,
     pub duration: Break,
@@ -51,19 +51,19 @@ pub struct Insert {
     pub avails_expected: u8,
 }
 
-pub enum SpliceInsert {
+pub enum SpliceDetail {
     Cancel,
-    Insert(Insert),
+    Insert(InsertDetail),
 }
 
-pub struct Insertion {
+pub struct SpliceInsert {
     pub splice_event_id: u32,
     pub reserved: u8,
-    pub splice_detail: SpliceInsert,
+    pub splice_detail: SpliceDetail,
 }
 
 pub enum InsertRead {
-    Got(Insertion),
+    Got(SpliceInsert),
     Lacks(Short),
 }
 
@@ -89,7 +89,7 @@ enum BreakRead {
 }
 
 enum ActiveRead {
-    Got(Insert),
+    Got(InsertDetail),
     Lacks(Short),
 }
 
@@ -219,7 +219,7 @@ fn read_ending(s: &[u8], at: usize, out: bool, mode: SpliceMode, flagged: bool) 
             actual: 0,
         });
     }
-    ActiveRead::Got(Insert {
+    ActiveRead::Got(InsertDetail {
         network_indicator: indicator(out),
         splice_mode: mode,
         duration,
@@ -271,17 +271,17 @@ pub fn read_insert(s: &[u8]) -> InsertRead
     let flags = s[4];
     let reserved = flags % 128;
     if 128 <= flags {
-        return InsertRead::Got(Insertion {
+        return InsertRead::Got(SpliceInsert {
             splice_event_id,
             reserved,
-            splice_detail: SpliceInsert::Cancel,
+            splice_detail: SpliceDetail::Cancel,
         });
     }
     match read_active(s, 5) {
-        ActiveRead::Got(i) => InsertRead::Got(Insertion {
+        ActiveRead::Got(i) => InsertRead::Got(SpliceInsert {
             splice_event_id,
             reserved,
-            splice_detail: SpliceInsert::Insert(i),
+            splice_detail: SpliceDetail::Insert(i),
         }),
         ActiveRead::Lacks(e) => InsertRead::Lacks(e),
     }

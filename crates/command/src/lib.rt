@@ -2,12 +2,13 @@
 ghost use mathlib.Core.Path.{_≡_};
 ghost use Rattle.command.specs.Command.{private, read, empty, commandOf};
 ghost use Rattle.command.specs.Insert.{insert};
+ghost use Rattle.command.specs.Private.{Apart};
 ghost use Rattle.command.specs.declared.SpliceCommand.{SpliceCommand};
 ghost use Rattle.splice_time.specs.Time.{spliceTime};
 ghost use Rattle.table.specs.Bits.{bitsOf};
 ghost use Rattle.table.specs.Table.{parse};
 use crate::insert::InsertRead;
-use crate::insert::Insertion;
+use crate::insert::SpliceInsert;
 use crate::insert::read_insert;
 use splice_time::SpliceTime;
 use splice_time::TimeRead;
@@ -25,7 +26,7 @@ pub struct Private {
 
 pub enum SpliceCommand {
     SpliceNull,
-    SpliceInsert(Insertion),
+    SpliceInsert(SpliceInsert),
     TimeSignal(SpliceTime),
     BandwidthReservation,
     PrivateCommand(Private),
@@ -84,17 +85,35 @@ fn read_splice_insert(s: &[u8]) -> CommandRead
     }
 }
 
-// The command of a type, in its payload.
-pub fn read_command(kind: u8, payload: &[u8]) -> CommandRead
-    ensures { λ r. ⌜ r ≡ commandOf kind (now (payload .entry)) ⌝ }
+// The command of a type other than the two that `read_command` reads itself. It is long, and not only `read_apart` calls it: so the compiler leaves it a call.
+pub(crate) fn read_other(command_type: u8, payload: &[u8]) -> CommandRead
+    requires { ⌜ Apart «command_type» ⌝ }
+    ensures { λ r. ⌜ r ≡ commandOf «command_type» (now (payload .entry)) ⌝ }
 {
     // A return in each arm: answers that meet behind a match are copied there.
-    match kind {
-        0x00 => return read_empty(payload, SpliceCommand::SpliceNull),
+    match command_type {
         0x05 => return read_splice_insert(payload),
-        0x06 => return read_time_signal(payload),
         0x07 => return read_empty(payload, SpliceCommand::BandwidthReservation),
         0xFF => return read_private(payload),
         _ => return CommandRead::UnknownType,
+    }
+}
+
+// The same, with an answer of its own: one that `read_other` is handed stays in memory as a whole, and `read_command`'s is taken apart.
+fn read_apart(command_type: u8, payload: &[u8]) -> CommandRead
+    requires { ⌜ Apart «command_type» ⌝ }
+    ensures { λ r. ⌜ r ≡ commandOf «command_type» (now (payload .entry)) ⌝ }
+{
+    read_other(command_type, payload)
+}
+
+// The command of a type, in its payload. It is short, so that the compiler puts it in place of its calls.
+pub fn read_command(command_type: u8, payload: &[u8]) -> CommandRead
+    ensures { λ r. ⌜ r ≡ commandOf «command_type» (now (payload .entry)) ⌝ }
+{
+    match command_type {
+        0x00 => return read_empty(payload, SpliceCommand::SpliceNull),
+        0x06 => return read_time_signal(payload),
+        _ => return read_apart(command_type, payload),
     }
 }

@@ -14,7 +14,7 @@ use Rattle.splice_time.specs.Time.{spliceTime}
 use Rattle.table.specs.Bits.{bitsOf, field}
 use Rattle.table.specs.Table.{number, part, remaining, got, canonical, canonicalBy}
 use Rattle.table.proofs.Steps.{takes-number, takes-remaining, takes-part}
-use Rattle.command_canonical.specs.Canonical.{canonicalCommand}
+use Rattle.canonical_form.specs.Command.{canonicalCommand}
 use Rattle.command_canonical.specs.Private.{Stands, Fails}
 use Rattle.command_canonical.proofs.Walks.{lacks-number, by-table, not-by-table}
 
@@ -46,27 +46,27 @@ module _ (s : List ℕ) where
   is-private false e = not-by-table private s (no-identifier (leb-false 4 (length s) e))
 
 -- ---- the answers
-module _ (kind : ℕ) (s : List ℕ) where
-  pub of-null : kind ≡ 0x00 → eqb (length s) 0 ≡ canonicalCommand kind s
+module _ (command-type : ℕ) (s : List ℕ) where
+  pub of-null : command-type ≡ 0x00 → eqb (length s) 0 ≡ canonicalCommand command-type s
   unfolding canonicalCommand
   of-null k = rw k
 
-  pub of-insert : (r : Bool) → kind ≡ 0x05 → r ≡ canonicalBy insert s → r ≡ canonicalCommand kind s
+  pub of-insert : (r : Bool) → command-type ≡ 0x05 → r ≡ canonicalBy insert s → r ≡ canonicalCommand command-type s
   unfolding canonicalCommand
   of-insert r k e = rw k e
 
-  pub of-signal : (r : Bool) → kind ≡ 0x06 → r ≡ canonicalBy spliceTime s → r ≡ canonicalCommand kind s
+  pub of-signal : (r : Bool) → command-type ≡ 0x06 → r ≡ canonicalBy spliceTime s → r ≡ canonicalCommand command-type s
   unfolding canonicalCommand
   of-signal r k e = rw k e
 
-  pub of-reservation : kind ≡ 0x07 → eqb (length s) 0 ≡ canonicalCommand kind s
+  pub of-reservation : command-type ≡ 0x07 → eqb (length s) 0 ≡ canonicalCommand command-type s
   unfolding canonicalCommand
   of-reservation k = rw k
 
-  pub of-private : kind ≡ 0xff → leb 4 (length s) ≡ canonicalCommand kind s
+  pub of-private : command-type ≡ 0xff → leb 4 (length s) ≡ canonicalCommand command-type s
   unfolding canonicalCommand
   of-private k = rw k (is-private s (leb 4 (length s)) refl)
 
-  pub of-none : (kind ≡ 0x00 → ⊥) → (kind ≡ 0x05 → ⊥) → (kind ≡ 0x06 → ⊥) → (kind ≡ 0x07 → ⊥) → (kind ≡ 0xff → ⊥) → false ≡ canonicalCommand kind s
+  pub of-none : (command-type ≡ 0x00 → ⊥) → (command-type ≡ 0x05 → ⊥) → (command-type ≡ 0x06 → ⊥) → (command-type ≡ 0x07 → ⊥) → (command-type ≡ 0xff → ⊥) → false ≡ canonicalCommand command-type s
   unfolding canonicalCommand
-  of-none a b c d e = rw (ne-eqb kind 0x00 a, ne-eqb kind 0x05 b, ne-eqb kind 0x06 c, ne-eqb kind 0x07 d, ne-eqb kind 0xff e)
+  of-none a b c d e = rw (ne-eqb command-type 0x00 a, ne-eqb command-type 0x05 b, ne-eqb command-type 0x06 c, ne-eqb command-type 0x07 d, ne-eqb command-type 0xff e)

@@ -10,7 +10,7 @@ use borrow.Author.Tests.{ne-eqb, lt-ltb, not-true, not-false}
 use Rattle.command.specs.Insert.{WithComponents, timeUnless, component, blank, moded, breakDuration, ending, active, insert, modeOf, activeOf, autoReturn, breakTicks}
 use Rattle.command.specs.declared.components.ComponentSplice.{ComponentSplice}
 use Rattle.command.specs.declared.insert.Break.{Break}
-use Rattle.command.specs.declared.insert.Insert.{Insert}
+use Rattle.command.specs.declared.insert.InsertDetail.{InsertDetail}
 use Rattle.command.specs.declared.insert.SpliceMode.{SpliceMode}
 use Rattle.splice_time.specs.Time.{spliceTime}
 use Rattle.splice_time.specs.declared.SpliceTime.the-variants.{Immediate}
@@ -189,7 +189,7 @@ module _ (s : List ℕ) where
     immediate = eqb (getD s 5 0 / 16 % 2) 1
 
     -- what follows the flags
-    abbrev after : Table (WithComponents Insert)
+    abbrev after : Table (WithComponents InsertDetail)
     after = inside (moded program immediate) modeOf λ mode. ending out mode lasting
 
     is-bit : (j k : ℕ) → j + 1 + k ≡ 8 → eqb (field (bitsOf s) (40 + j) 1) 1 ≡ eqb (getD s 5 0 / 2 ^ k % 2) 1

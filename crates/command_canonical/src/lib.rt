@@ -1,7 +1,7 @@
 // Whether a command's payload is canonical: by byte positions, as the tables have their fields.
 ghost use mathlib.Core.Path.{_≡_};
 ghost use lib.ListN.{length};
-ghost use Rattle.command_canonical.specs.Canonical.{canonicalCommand};
+ghost use Rattle.canonical_form.specs.Command.{canonicalCommand};
 ghost use Rattle.command_canonical.specs.Private.{Told, whole};
 ghost use Rattle.command.specs.Insert.{timeUnless, component, blank, moded, breakDuration, active, insert};
 ghost use Rattle.splice_time.specs.Time.{spliceTime};
@@ -168,10 +168,10 @@ fn is_canonical_insert(s: &[u8]) -> bool
 // ---- a command, by its type
 
 // Is the payload of a command of this type canonical?
-pub fn is_canonical_command(kind: u8, payload: &[u8]) -> bool
-    ensures { λ r. ⌜ r ≡ canonicalCommand kind (now (payload .entry)) ⌝ }
+pub fn is_canonical_command(command_type: u8, payload: &[u8]) -> bool
+    ensures { λ r. ⌜ r ≡ canonicalCommand «command_type» (now (payload .entry)) ⌝ }
 {
-    match kind {
+    match command_type {
         0x00 => payload.len() == 0,
         0x05 => is_canonical_insert(payload),
         0x06 => is_canonical_time(payload),

@@ -13,16 +13,16 @@ use denote.Enum.Declared.{tagOf}
 use types.Run.{OneOf}
 use borrow.Author.Tests.{lt-ltb, le-leb, lt-leb}
 use Rattle.command.specs.Command.{array, countIn, private, Tags}
-use Rattle.command.specs.Fair.{alike, unmixed, fairInsert}
+use Rattle.command.specs.Writable.{alike, unmixed, writableInsert}
 use Rattle.command.specs.Insert as insert
 use Rattle.command.specs.Insert.{WithComponents, immediate, blank, byProgram, programTime, count, lasting, outOfNetwork, insertOf}
 use Rattle.command.specs.declared.Private.{Private}
 use Rattle.command.specs.declared.SpliceCommand.{SpliceCommand}
 use Rattle.command.specs.declared.components.ComponentSplice.{ComponentSplice}
 use Rattle.command.specs.declared.insert.Break.{Break}
-use Rattle.command.specs.declared.insert.Insert.{Insert}
-use Rattle.command.specs.declared.insert.Insertion.{Insertion}
+use Rattle.command.specs.declared.insert.InsertDetail.{InsertDetail}
 use Rattle.command.specs.declared.insert.SpliceInsert.{SpliceInsert}
+use Rattle.command.specs.declared.insert.SpliceDetail.{SpliceDetail}
 use Rattle.command.specs.declared.insert.SpliceMode.{SpliceMode}
 use Rattle.command.proofs.Filling.{blank-length}
 use Rattle.command.proofs.SpliceCommand.{the-type}
@@ -58,8 +58,8 @@ measured-pick true true p n e =
 measured-pick true false p n e = refl
 measured-pick false f p n e = refl
 
-measured-make : (fair : Bool) (lent : List ℕ) (fs : List Field) (n : ℕ) → seen lent fs ≡ true → length (print (contents lent fs)) ≡ n * 8 → measuredOf (makeOf fair lent fs) ≡ measured (within fs) fair n
-measured-make fair lent fs n s e = rw s (measured-pick (within fs) fair (print (contents lent fs)) n e)
+measured-make : (writable : Bool) (lent : List ℕ) (fs : List Field) (n : ℕ) → seen lent fs ≡ true → length (print (contents lent fs)) ≡ n * 8 → measuredOf (makeOf writable lent fs) ≡ measured (within fs) writable n
+measured-make writable lent fs n s e = rw s (measured-pick (within fs) writable (print (contents lent fs)) n e)
 
 pub measured-same : {u v a b : Bool} {n k : ℕ} → u ≡ v → a ≡ b → n ≡ k → measured u a n ≡ measured v b k
 measured-same {u} {v} {a} {b} {n} {k} e f g = rw (e, f, g)
@@ -90,8 +90,8 @@ contents-plain lent (run n from ∷ fs) h = absurd h
 contents-plain lent (rest m ∷ fs) h = ap (λ (l : List Content). writing.count m ∷ l) (contents-plain lent fs h)
 
 -- fields without a view are made the same of any lent bytes
-make-plain : (fair : Bool) (lent : List ℕ) (fs : List Field) → Plain fs → makeOf fair lent fs ≡ makeOf fair [] fs
-make-plain fair lent fs h = rw (plain-seen lent fs h, plain-seen [] fs h, contents-plain lent fs h)
+make-plain : (writable : Bool) (lent : List ℕ) (fs : List Field) → Plain fs → makeOf writable lent fs ≡ makeOf writable [] fs
+make-plain writable lent fs h = rw (plain-seen lent fs h, plain-seen [] fs h, contents-plain lent fs h)
 
 pub within-append : (fs gs : List Field) → within (fs ++ gs) ≡ within fs && within gs
 within-append [] gs = refl
@@ -179,7 +179,7 @@ past-break : (d : Break) (at : ℕ) → past (breakFields d) at ≡ at + breakBy
 past-break Break.Absent at = omega arith
 past-break (Break.Lasts d) at = omega arith
 
-module _ (i : Insert) (cs : List ComponentSplice) where
+module _ (i : InsertDetail) (cs : List ComponentSplice) where
   past-mode : (k : SpliceMode) (b : Bool) (at : ℕ) → b ≡ insert.allImmediate (record { value = k; components = cs }) → past (modeFields b k cs) at ≡ at + modeBytes k (surveyed b cs .bytes) * 8
   past-mode (SpliceMode.Program t) b at e = ap (λ (x : Bool). past (unlessFields x t) at) e ∙ past-unless (immediate t) t at
   past-mode (SpliceMode.Components n) b at e = past-list b cs (at + 8) ∙ omega arith
@@ -216,7 +216,7 @@ module _ (i : Insert) (cs : List ComponentSplice) where
       (within-append (breakFields (i .duration)) t ∙ ap₂ (λ (u v : Bool). u && v) (within-break (i .duration)) w ∙ and-one (ltb (insert.breakTicks (i .duration)) (2 ^ 33))))
 
 -- ---- are all as the first is?
-alike-first : (i : Insert) (cs : List ComponentSplice) → length cs ≡ count (i .«splice_mode») → alike (immediateIn i cs) cs ≡ unmixed cs
+alike-first : (i : InsertDetail) (cs : List ComponentSplice) → length cs ≡ count (i .«splice_mode») → alike (immediateIn i cs) cs ≡ unmixed cs
 alike-first i cs e = go (i .«splice_mode») cs e
   where
     go : (k : SpliceMode) (cs : List ComponentSplice) → length cs ≡ count k → alike (insert.allImmediate (record { value = k; components = cs })) cs ≡ unmixed cs
@@ -231,37 +231,37 @@ measured-either true w f m n e = sym (e refl)
 measured-either false w f m n e = refl
 
 pub measured-cancel : (event kept : ℕ) → event < 2 ^ 32
-    → (let x : WithComponents Insertion = record { value = record { «splice_event_id» = event; reserved = kept; «splice_detail» = SpliceInsert.Cancel }; components = [] } in
+    → (let x : WithComponents SpliceInsert = record { value = record { «splice_event_id» = event; reserved = kept; «splice_detail» = SpliceDetail.Cancel }; components = [] } in
     measured (ltb kept 128) (eqb kept 127) 5 ≡ measuredOf (insertMade x))
-unfolding insertMade fairInsert
+unfolding insertMade writableInsert
 measured-cancel event kept h =
-    let x : WithComponents Insertion = record { value = record { «splice_event_id» = event; reserved = kept; «splice_detail» = SpliceInsert.Cancel }; components = [] } in
+    let x : WithComponents SpliceInsert = record { value = record { «splice_event_id» = event; reserved = kept; «splice_detail» = SpliceDetail.Cancel }; components = [] } in
     let w : within (insertFields x) ≡ ltb kept 128 = rw (lt-ltb event (2 ^ 32) h) (and-one (ltb kept 128)) in
-    sym (ap (λ (fs : List Field). measuredOf (makeOf (fairInsert x) [] fs)) (insert-fields event kept SpliceInsert.Cancel [] refl)
-    ∙ measured-make (fairInsert x) [] (insertFields x) 5 refl refl
+    sym (ap (λ (fs : List Field). measuredOf (makeOf (writableInsert x) [] fs)) (insert-fields event kept SpliceDetail.Cancel [] refl)
+    ∙ measured-make (writableInsert x) [] (insertFields x) 5 refl refl
     ∙ ap₂ (λ (a b : Bool). measured a b 5) w (and-one (eqb kept 127)))
 
-module _ (event kept : ℕ) (i : Insert) (cs : List ComponentSplice) (counts : length cs ≡ count (i .«splice_mode»)) where
+module _ (event kept : ℕ) (i : InsertDetail) (cs : List ComponentSplice) (counts : length cs ≡ count (i .«splice_mode»)) where
   pub measured-active : event < 2 ^ 32 → count (i .«splice_mode») < 256 → i .«unique_program_id» < 2 ^ 16 → i .«avail_num» < 256 → i .«avails_expected» < 256 → Tags cs
-      → (let x : WithComponents Insertion = record { value = record { «splice_event_id» = event; reserved = kept; «splice_detail» = SpliceInsert.Insert i }; components = cs } in
+      → (let x : WithComponents SpliceInsert = record { value = record { «splice_event_id» = event; reserved = kept; «splice_detail» = SpliceDetail.Insert i }; components = cs } in
       activeMeasured kept (i .«splice_mode») (i .duration) (surveyed (immediateIn i cs) cs) ≡ measuredOf (insertMade x))
-  unfolding insertMade fairInsert activeMeasured
+  unfolding insertMade writableInsert activeMeasured
   measured-active ev n p a e h =
-      let x : WithComponents Insertion = record { value = record { «splice_event_id» = event; reserved = kept; «splice_detail» = SpliceInsert.Insert i }; components = cs } in
+      let x : WithComponents SpliceInsert = record { value = record { «splice_event_id» = event; reserved = kept; «splice_detail» = SpliceDetail.Insert i }; components = cs } in
       let b = immediateIn i cs in
       let s = surveyed b cs in
       let w = ltb kept 128 && (ltb (ticks (programTime (i .«splice_mode»))) (2 ^ 33) && ltb (insert.breakTicks (i .duration)) (2 ^ 33)) in
       let size = 10 + modeBytes (i .«splice_mode») (s .bytes) + breakBytes (i .duration) in
       let l : length (print (contents [] (insertFields x))) ≡ size * 8 =
       sym (zero-add (length (print (contents [] (insertFields x))))) ∙ print-length [] (insertFields x) 0 (plain-seen [] (insertFields x) (plain-active i cs)) ∙ past-active i cs 40 ∙ omega arith in
-      let fair : fairInsert x ≡ eqb kept 127 && s .alike = ap (λ (y : Bool). eqb kept 127 && y) (sym (survey-alike b cs ∙ alike-first i cs counts)) in
+      let writable : writableInsert x ≡ eqb kept 127 && s .alike = ap (λ (y : Bool). eqb kept 127 && y) (sym (survey-alike b cs ∙ alike-first i cs counts)) in
       let wide : timesFit cs ≡ true → within (insertFields x) ≡ w = λ f. rw (lt-ltb event (2 ^ 32) ev) (ap (λ (y : Bool). ltb kept 128 && y) (within-active i cs n p a e h f)) in
-      let made-so : timesFit cs ≡ true → measuredOf (makeOf (fairInsert x) [] (walk insert.insert x 0 .fields)) ≡ measured w (eqb kept 127 && s .alike) size = λ f.
-      ap (λ (fs : List Field). measuredOf (makeOf (fairInsert x) [] fs)) (insert-fields event kept (SpliceInsert.Insert i) cs counts)
-      ∙ measured-make (fairInsert x) [] (insertFields x) size (plain-seen [] (insertFields x) (plain-active i cs)) l
-      ∙ ap₂ (λ (u v : Bool). measured u v size) (wide f) fair in
+      let made-so : timesFit cs ≡ true → measuredOf (makeOf (writableInsert x) [] (walk insert.insert x 0 .fields)) ≡ measured w (eqb kept 127 && s .alike) size = λ f.
+      ap (λ (fs : List Field). measuredOf (makeOf (writableInsert x) [] fs)) (insert-fields event kept (SpliceDetail.Insert i) cs counts)
+      ∙ measured-make (writableInsert x) [] (insertFields x) size (plain-seen [] (insertFields x) (plain-active i cs)) l
+      ∙ ap₂ (λ (u v : Bool). measured u v size) (wide f) writable in
       ap (λ (t : Bool). measured (t && w) (eqb kept 127 && s .alike) size) (survey-fits b cs)
-      ∙ measured-either (timesFit cs) w (eqb kept 127 && s .alike) (makeOf (fairInsert x) [] (walk insert.insert x 0 .fields)) size made-so
+      ∙ measured-either (timesFit cs) w (eqb kept 127 && s .alike) (makeOf (writableInsert x) [] (walk insert.insert x 0 .fields)) size made-so
 
 -- ---- the first place of the array says whether all is immediate
 pub getD-any : {A : Type 0} (l : List A) (i : ℕ) (d e : A) → i < length l → getD l i d ≡ getD l i e
@@ -317,10 +317,10 @@ module _ (p : Private) (lent : List ℕ) where
       ∙ ap (λ (a : Bool). measured a true (4 + p .«private_bytes» .len)) w)
 
 -- ---- as they are handed in
-pub cancel-count : (d : SpliceInsert) → d ≡ SpliceInsert.Cancel → count (insertOf d .«splice_mode») ≤ 255
+pub cancel-count : (d : SpliceDetail) → d ≡ SpliceDetail.Cancel → count (insertOf d .«splice_mode») ≤ 255
 cancel-count d e = rw e (omega arith)
 
-pub active-count : (d : SpliceInsert) (x : Insert) → d ≡ SpliceInsert.Insert x → count (x .«splice_mode») ≤ 255 → count (insertOf d .«splice_mode») ≤ 255
+pub active-count : (d : SpliceDetail) (x : InsertDetail) → d ≡ SpliceDetail.Insert x → count (x .«splice_mode») ≤ 255 → count (insertOf d .«splice_mode») ≤ 255
 active-count d x e h = rw e h
 
 pub measured-parts : (r : Measured) (m : Made) → r ≡ measuredOf m → (r .refusal ≡ refusalIn m) × (r .size ≡ length (bytesIn m))
@@ -330,27 +330,27 @@ measured-parts r m e = rw e (refl, refl)
 pub countable : (c d : SpliceCommand) → c ≡ d → countIn d ≤ 255 → countIn c ≤ 255
 countable c d e h = rw e h
 
-pub insert-cancelled : (i : Insertion) (places : List ComponentSplice) → i .«splice_detail» ≡ SpliceInsert.Cancel → i .«splice_event_id» < 2 ^ 32
+pub insert-cancelled : (i : SpliceInsert) (places : List ComponentSplice) → i .«splice_detail» ≡ SpliceDetail.Cancel → i .«splice_event_id» < 2 ^ 32
     → measured (ltb (i .reserved) 128) (eqb (i .reserved) 127) 5 ≡ measuredOf (insertMade (counted i places))
 insert-cancelled i places e h = go (i .«splice_event_id») (i .reserved) (i .«splice_detail») e h
   where
-    go : (event kept : ℕ) (d : SpliceInsert) → d ≡ SpliceInsert.Cancel → event < 2 ^ 32
+    go : (event kept : ℕ) (d : SpliceDetail) → d ≡ SpliceDetail.Cancel → event < 2 ^ 32
         → measured (ltb kept 128) (eqb kept 127) 5 ≡ measuredOf (insertMade (counted (record { «splice_event_id» = event; reserved = kept; «splice_detail» = d }) places))
     go event kept d e h = rw e (measured-cancel event kept h)
 
-module _ (i : Insertion) (x : Insert) (places : List ComponentSplice) (is : i .«splice_detail» ≡ SpliceInsert.Insert x) (there : count (x .«splice_mode») ≤ length places) where
+module _ (i : SpliceInsert) (x : InsertDetail) (places : List ComponentSplice) (is : i .«splice_detail» ≡ SpliceDetail.Insert x) (there : count (x .«splice_mode») ≤ length places) where
   pub insert-active : i .«splice_event_id» < 2 ^ 32 → count (x .«splice_mode») < 256 → x .«unique_program_id» < 2 ^ 16 → x .«avail_num» < 256 → x .«avails_expected» < 256
       → (let cs = take (count (x .«splice_mode»)) places in
       Tags cs → activeMeasured (i .reserved) (x .«splice_mode») (x .duration) (surveyed (immediateIn x cs) cs) ≡ measuredOf (insertMade (counted i places)))
   insert-active ev n p a e h = go (i .«splice_event_id») (i .reserved) (i .«splice_detail») is ev
     where
-      go : (event kept : ℕ) (d : SpliceInsert) → d ≡ SpliceInsert.Insert x → event < 2 ^ 32
+      go : (event kept : ℕ) (d : SpliceDetail) → d ≡ SpliceDetail.Insert x → event < 2 ^ 32
           → (let cs = take (count (x .«splice_mode»)) places in
           activeMeasured kept (x .«splice_mode») (x .duration) (surveyed (immediateIn x cs) cs) ≡ measuredOf (insertMade (counted (record { «splice_event_id» = event; reserved = kept; «splice_detail» = d }) places)))
       go event kept d is ev = rw is (measured-active event kept x (take (count (x .«splice_mode»)) places) (length-take-le (count (x .«splice_mode»)) places there) ev n p a e h)
 
 -- whose components are all blank
-pub blanks-active : (i : Insertion) (x : Insert) → i .«splice_detail» ≡ SpliceInsert.Insert x → count (x .«splice_mode») ≤ 255
+pub blanks-active : (i : SpliceInsert) (x : InsertDetail) → i .«splice_detail» ≡ SpliceDetail.Insert x → count (x .«splice_mode») ≤ 255
     → i .«splice_event_id» < 2 ^ 32 → x .«unique_program_id» < 2 ^ 16 → x .«avail_num» < 256 → x .«avails_expected» < 256
     → activeMeasured (i .reserved) (x .«splice_mode») (x .duration) (blanksOf (x .«splice_mode»)) ≡ measuredOf (insertMade (counted i (array [])))
 blanks-active i x is n ev p a e =
@@ -359,30 +359,30 @@ blanks-active i x is n ev p a e =
     ∙ insert-active i x (array []) is (omega (arith, blank-length)) ev (omega arith) p a e (s .1)
 
 -- ---- an insert that counts no component is the same with any array, and so is a command that is no insert
-pub none-counted : (i : Insertion) (p q : List ComponentSplice) → count (insertOf (i .«splice_detail») .«splice_mode») ≡ 0 → counted i p ≡ counted i q
+pub none-counted : (i : SpliceInsert) (p q : List ComponentSplice) → count (insertOf (i .«splice_detail») .«splice_mode») ≡ 0 → counted i p ≡ counted i q
 none-counted i p q e =
-    let c : List ComponentSplice → ℕ → WithComponents Insertion = λ l n. record { value = i; components = take n l } in
+    let c : List ComponentSplice → ℕ → WithComponents SpliceInsert = λ l n. record { value = i; components = take n l } in
     ap (c p) e ∙ sym (ap (c q) e)
 
-pub cancel-none : (d : SpliceInsert) → d ≡ SpliceInsert.Cancel → count (insertOf d .«splice_mode») ≡ 0
+pub cancel-none : (d : SpliceDetail) → d ≡ SpliceDetail.Cancel → count (insertOf d .«splice_mode») ≡ 0
 cancel-none d e = rw e
 
-pub program-none : (d : SpliceInsert) (x : Insert) (t : SpliceTime) → d ≡ SpliceInsert.Insert x → x .«splice_mode» ≡ SpliceMode.Program t → count (insertOf d .«splice_mode») ≡ 0
+pub program-none : (d : SpliceDetail) (x : InsertDetail) (t : SpliceTime) → d ≡ SpliceDetail.Insert x → x .«splice_mode» ≡ SpliceMode.Program t → count (insertOf d .«splice_mode») ≡ 0
 program-none d x t e k = rw e (ap count k)
 
 no-insert : OneOf (0 ∷ 2 ∷ 3 ∷ 4 ∷ []) 1 → ⊥
 no-insert o = ⊎-elim (λ e. omega (arith, e)) (λ p. ⊎-elim (λ e. omega (arith, e)) (λ q. ⊎-elim (λ e. omega (arith, e)) (λ e. omega (arith, e)) q) p) o
 
-pub bare-made : (c : SpliceCommand) (p q : List ComponentSplice) (lent : List ℕ) → OneOf (0 ∷ 2 ∷ 3 ∷ 4 ∷ []) (tagOf the-type c) → commandMade c p lent ≡ commandMade c q lent
+pub made-without-components : (c : SpliceCommand) (p q : List ComponentSplice) (lent : List ℕ) → OneOf (0 ∷ 2 ∷ 3 ∷ 4 ∷ []) (tagOf the-type c) → commandMade c p lent ≡ commandMade c q lent
 unfolding commandMade
-bare-made SpliceCommand.SpliceNull p q lent o = refl
-bare-made (SpliceCommand.SpliceInsert i) p q lent o = absurd (no-insert o)
-bare-made (SpliceCommand.TimeSignal t) p q lent o = refl
-bare-made SpliceCommand.BandwidthReservation p q lent o = refl
-bare-made (SpliceCommand.PrivateCommand x) p q lent o = refl
+made-without-components SpliceCommand.SpliceNull p q lent o = refl
+made-without-components (SpliceCommand.SpliceInsert i) p q lent o = absurd (no-insert o)
+made-without-components (SpliceCommand.TimeSignal t) p q lent o = refl
+made-without-components SpliceCommand.BandwidthReservation p q lent o = refl
+made-without-components (SpliceCommand.PrivateCommand x) p q lent o = refl
 
 module _ (c : SpliceCommand) (places : List ComponentSplice) (lent : List ℕ) where
-  pub insert-is : (i : Insertion) → c ≡ SpliceCommand.SpliceInsert i → insertMade (counted i places) ≡ commandMade c places lent
+  pub insert-is : (i : SpliceInsert) → c ≡ SpliceCommand.SpliceInsert i → insertMade (counted i places) ≡ commandMade c places lent
   unfolding commandMade
   insert-is i e = rw e
 
@@ -394,7 +394,7 @@ module _ (c : SpliceCommand) (places : List ComponentSplice) (lent : List ℕ) w
   unfolding commandMade measuredOf bytesIn
   command-bandwidth e = rw e
 
-  pub command-insert : (i : Insertion) → c ≡ SpliceCommand.SpliceInsert i → measuredOf (insertMade (counted i places)) ≡ measuredOf (commandMade c places lent)
+  pub command-insert : (i : SpliceInsert) → c ≡ SpliceCommand.SpliceInsert i → measuredOf (insertMade (counted i places)) ≡ measuredOf (commandMade c places lent)
   command-insert i e = ap measuredOf (insert-is i e)
 
   pub command-time : (t : SpliceTime) → c ≡ SpliceCommand.TimeSignal t → measuredOf (make spliceTime (notImmediate t) [] t) ≡ measuredOf (commandMade c places lent)
@@ -411,12 +411,12 @@ time-whole Immediate = (1, refl)
 time-whole Unspecified = (1, refl)
 time-whole (At t) = (5, refl)
 
-pub insert-whole : (event kept : ℕ) (d : SpliceInsert) (cs : List ComponentSplice)
-    → (let x : WithComponents Insertion = record { value = record { «splice_event_id» = event; reserved = kept; «splice_detail» = d }; components = cs } in
+pub insert-whole : (event kept : ℕ) (d : SpliceDetail) (cs : List ComponentSplice)
+    → (let x : WithComponents SpliceInsert = record { value = record { «splice_event_id» = event; reserved = kept; «splice_detail» = d }; components = cs } in
     (n : ℕ) × (length (ink (insertFields x)) ≡ n * 8))
-insert-whole event kept SpliceInsert.Cancel cs = (5, refl)
-insert-whole event kept (SpliceInsert.Insert i) cs =
-    let x : WithComponents Insertion = record { value = record { «splice_event_id» = event; reserved = kept; «splice_detail» = SpliceInsert.Insert i }; components = cs } in
+insert-whole event kept SpliceDetail.Cancel cs = (5, refl)
+insert-whole event kept (SpliceDetail.Insert i) cs =
+    let x : WithComponents SpliceInsert = record { value = record { «splice_event_id» = event; reserved = kept; «splice_detail» = SpliceDetail.Insert i }; components = cs } in
     let n = 10 + modeBytes (i .«splice_mode») (surveyed (immediateIn i cs) cs .bytes) + breakBytes (i .duration) in
     (n, sym (zero-add (length (ink (insertFields x)))) ∙ print-length [] (insertFields x) 0 (plain-seen [] (insertFields x) (plain-active i cs)) ∙ past-active i cs 40 ∙ omega arith)
 
@@ -425,14 +425,14 @@ pub time-made : (t : SpliceTime) (lent : List ℕ) → make spliceTime (notImmed
 time-made t lent =
     ap (makeOf (notImmediate t) lent) (time-fields t 0) ∙ make-plain (notImmediate t) lent (timeFields t) (plain-unless false t) ∙ sym (ap (makeOf (notImmediate t) []) (time-fields t 0))
 
-pub insert-made-of : (event kept : ℕ) (d : SpliceInsert) (cs : List ComponentSplice) (lent : List ℕ) → length cs ≡ count (insertOf d .«splice_mode»)
-    → (let x : WithComponents Insertion = record { value = record { «splice_event_id» = event; reserved = kept; «splice_detail» = d }; components = cs } in
-    make insert.insert (fairInsert x) lent x ≡ make insert.insert (fairInsert x) [] x)
+pub insert-made-of : (event kept : ℕ) (d : SpliceDetail) (cs : List ComponentSplice) (lent : List ℕ) → length cs ≡ count (insertOf d .«splice_mode»)
+    → (let x : WithComponents SpliceInsert = record { value = record { «splice_event_id» = event; reserved = kept; «splice_detail» = d }; components = cs } in
+    make insert.insert (writableInsert x) lent x ≡ make insert.insert (writableInsert x) [] x)
 insert-made-of event kept d cs lent e =
-    let x : WithComponents Insertion = record { value = record { «splice_event_id» = event; reserved = kept; «splice_detail» = d }; components = cs } in
+    let x : WithComponents SpliceInsert = record { value = record { «splice_event_id» = event; reserved = kept; «splice_detail» = d }; components = cs } in
     let f = insert-fields event kept d cs e in
-    ap (makeOf (fairInsert x) lent) f ∙ make-plain (fairInsert x) lent (insertFields x) (plain d) ∙ sym (ap (makeOf (fairInsert x) []) f)
+    ap (makeOf (writableInsert x) lent) f ∙ make-plain (writableInsert x) lent (insertFields x) (plain d) ∙ sym (ap (makeOf (writableInsert x) []) f)
   where
-    plain : (d : SpliceInsert) → Plain (insertFields (record { value = record { «splice_event_id» = event; reserved = kept; «splice_detail» = d }; components = cs }))
-    plain SpliceInsert.Cancel = tt
-    plain (SpliceInsert.Insert i) = plain-active i cs
+    plain : (d : SpliceDetail) → Plain (insertFields (record { value = record { «splice_event_id» = event; reserved = kept; «splice_detail» = d }; components = cs }))
+    plain SpliceDetail.Cancel = tt
+    plain (SpliceDetail.Insert i) = plain-active i cs

@@ -8,7 +8,7 @@ use lib.Dec.{ltb}
 use lib.ListN.{length, take, drop, getD, replicate}
 use lib.Seq.{drop-cons}
 use Rattle.command.specs.Command.{Tags}
-use Rattle.command.specs.Fair.{alike}
+use Rattle.command.specs.Writable.{alike}
 use Rattle.command.specs.Insert.{immediate, blank}
 use Rattle.command.specs.declared.components.ComponentSplice.{ComponentSplice}
 use Rattle.splice_time.specs.Time.{ticks}

@@ -7,9 +7,9 @@ use lib.ListN.{length, getD, drop}
 use Rattle.command.specs.Insert.{WithComponents, timeUnless, component, blank, byProgram, count, allImmediate, moded, lasting, breakDuration, outOfNetwork, modeOf, ending, active, cancelled, insertOf, activeOf, insert}
 use Rattle.command.specs.declared.components.ComponentSplice.{ComponentSplice}
 use Rattle.command.specs.declared.insert.Break.{Break}
-use Rattle.command.specs.declared.insert.Insert.{Insert}
-use Rattle.command.specs.declared.insert.Insertion.{Insertion}
+use Rattle.command.specs.declared.insert.InsertDetail.{InsertDetail}
 use Rattle.command.specs.declared.insert.SpliceInsert.{SpliceInsert}
+use Rattle.command.specs.declared.insert.SpliceDetail.{SpliceDetail}
 use Rattle.command.specs.declared.insert.SpliceMode.{SpliceMode}
 use Rattle.splice_time.specs.Time.{spliceTime}
 use Rattle.splice_time.specs.declared.SpliceTime.{SpliceTime}
@@ -80,20 +80,20 @@ unfolding breakDuration number bit reserved
 break-fields Break.Absent at = refl
 break-fields (Break.Lasts d) at = refl
 
-ending-fields : (out : Bool) (m : WithComponents SpliceMode) (x : WithComponents Insert) (at : ℕ) → walk (ending out m (lasting (x .value .duration))) x at .fields ≡ endFields (x .value)
+ending-fields : (out : Bool) (m : WithComponents SpliceMode) (x : WithComponents InsertDetail) (at : ℕ) → walk (ending out m (lasting (x .value .duration))) x at .fields ≡ endFields (x .value)
 unfolding ending number
 ending-fields out m x at =
-    fields-in x at (breakDuration (lasting (x .value .duration))) (λ (x : WithComponents Insert). x .value .duration) _
+    fields-in x at (breakDuration (lasting (x .value .duration))) (λ (x : WithComponents InsertDetail). x .value .duration) _
     ∙ ap (λ (fs : List Field). fs ++ tailFields (x .value .«unique_program_id») (x .value .«avail_num») (x .value .«avails_expected»)) (break-fields (x .value .duration) at)
 
-active-fields : (x : WithComponents Insert) (at : ℕ) → length (x .components) ≡ count (x .value .«splice_mode») → walk active x at .fields ≡ activeFields (x .value) (x .components)
+active-fields : (x : WithComponents InsertDetail) (at : ℕ) → length (x .components) ≡ count (x .value .«splice_mode») → walk active x at .fields ≡ activeFields (x .value) (x .components)
 unfolding active
 active-fields x at e =
     let i = x .value in
     let b = immediateIn i (x .components) in
     let a = at + 1 + 1 + 1 + 1 + 4 in
     let m = moded (byProgram (i .«splice_mode»)) b in
-    let k : WithComponents SpliceMode → Table (WithComponents Insert) = λ y. ending (outOfNetwork (i .«network_indicator»)) y (lasting (i .duration)) in
+    let k : WithComponents SpliceMode → Table (WithComponents InsertDetail) = λ y. ending (outOfNetwork (i .«network_indicator»)) y (lasting (i .duration)) in
     fields-flag x at _ _
     ∙ ap (λ (fs : List Field). bits 1 (flagNumber (outOfNetwork (i .«network_indicator»))) ∷ fs)
     (fields-flag x (at + 1) _ _
@@ -108,12 +108,12 @@ active-fields x at e =
     ∙ ap₂ (λ (fs gs : List Field). fs ++ gs) (moded-fields b (i .«splice_mode») (x .components) a e)
     (ending-fields (outOfNetwork (i .«network_indicator»)) (walk m (modeOf x) a .value) x (past (walk m (modeOf x) a .fields) a)))))))
 
-pub insert-fields : (event kept : ℕ) (d : SpliceInsert) (cs : List ComponentSplice) → length cs ≡ count (insertOf d .«splice_mode»)
-    → (let x : WithComponents Insertion = record { value = record { «splice_event_id» = event; reserved = kept; «splice_detail» = d }; components = cs } in
+pub insert-fields : (event kept : ℕ) (d : SpliceDetail) (cs : List ComponentSplice) → length cs ≡ count (insertOf d .«splice_mode»)
+    → (let x : WithComponents SpliceInsert = record { value = record { «splice_event_id» = event; reserved = kept; «splice_detail» = d }; components = cs } in
     walk insert x 0 .fields ≡ insertFields x)
 unfolding insert number bit
-insert-fields event kept SpliceInsert.Cancel cs e = refl
-insert-fields event kept (SpliceInsert.Insert i) cs e =
-    let x : WithComponents Insertion = record { value = record { «splice_event_id» = event; reserved = kept; «splice_detail» = SpliceInsert.Insert i }; components = cs } in
+insert-fields event kept SpliceDetail.Cancel cs e = refl
+insert-fields event kept (SpliceDetail.Insert i) cs e =
+    let x : WithComponents SpliceInsert = record { value = record { «splice_event_id» = event; reserved = kept; «splice_detail» = SpliceDetail.Insert i }; components = cs } in
     ap (λ (fs : List Field). bits 32 event ∷ bits 1 0 ∷ bits 7 kept ∷ fs)
     (last-in active activeOf _ x 40 ∙ active-fields (record { value = i; components = cs }) 40 e)

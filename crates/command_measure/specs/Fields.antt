@@ -7,9 +7,9 @@ use Rattle.command.specs.Insert.{WithComponents, byProgram, count, allImmediate
 use Rattle.command.specs.declared.Private.{Private}
 use Rattle.command.specs.declared.components.ComponentSplice.{ComponentSplice}
 use Rattle.command.specs.declared.insert.Break.{Break}
-use Rattle.command.specs.declared.insert.Insert.{Insert}
-use Rattle.command.specs.declared.insert.Insertion.{Insertion}
+use Rattle.command.specs.declared.insert.InsertDetail.{InsertDetail}
 use Rattle.command.specs.declared.insert.SpliceInsert.{SpliceInsert}
+use Rattle.command.specs.declared.insert.SpliceDetail.{SpliceDetail}
 use Rattle.command.specs.declared.insert.SpliceMode.{SpliceMode}
 use Rattle.names.specs.declared.flags.ReturnMode.{ReturnMode}
 use Rattle.splice_time.specs.Time.{specified, ticks}
@@ -50,30 +50,30 @@ breakFields (Break.Lasts d) = bits 1 (flagNumber (automatic (d .«return_mode»)
 abbrev pub tailFields : ℕ → ℕ → ℕ → List Field
 tailFields id avail expected = bits 16 id ∷ bits 8 avail ∷ bits 8 expected ∷ []
 
-abbrev pub endFields : Insert → List Field
+abbrev pub endFields : InsertDetail → List Field
 endFields i = breakFields (i .duration) ++ tailFields (i .«unique_program_id») (i .«avail_num») (i .«avails_expected»)
 
-abbrev pub immediateIn : Insert → List ComponentSplice → Bool
+abbrev pub immediateIn : InsertDetail → List ComponentSplice → Bool
 immediateIn i cs = allImmediate (record { value = i .«splice_mode»; components = cs })
 
 abbrev pub flagFields : Bool → Bool → Bool → Bool → List Field
 flagFields out program lasts now = bits 1 (flagNumber out) ∷ bits 1 (flagNumber program) ∷ bits 1 (flagNumber lasts) ∷ bits 1 (flagNumber now) ∷ bits 4 15 ∷ []
 
-abbrev pub insertFlags : Insert → Bool → List Field
+abbrev pub insertFlags : InsertDetail → Bool → List Field
 insertFlags i now = flagFields (outOfNetwork (i .«network_indicator»)) (byProgram (i .«splice_mode»)) (lasting (i .duration)) now
 
 -- the components of an array, as many as the mode says
-abbrev pub placesOf : Insert → List ComponentSplice → List ComponentSplice
+abbrev pub placesOf : InsertDetail → List ComponentSplice → List ComponentSplice
 placesOf i places = take (count (i .«splice_mode»)) places
 
-abbrev pub activeFields : Insert → List ComponentSplice → List Field
+abbrev pub activeFields : InsertDetail → List ComponentSplice → List Field
 activeFields i cs = insertFlags i (immediateIn i cs) ++ (modeFields (immediateIn i cs) (i .«splice_mode») cs ++ endFields i)
 
-abbrev pub detailFields : SpliceInsert → List ComponentSplice → List Field
-detailFields SpliceInsert.Cancel cs = []
-detailFields (SpliceInsert.Insert i) cs = activeFields i cs
+abbrev pub detailFields : SpliceDetail → List ComponentSplice → List Field
+detailFields SpliceDetail.Cancel cs = []
+detailFields (SpliceDetail.Insert i) cs = activeFields i cs
 
-abbrev pub insertFields : WithComponents Insertion → List Field
+abbrev pub insertFields : WithComponents SpliceInsert → List Field
 insertFields x =
     bits 32 (x .value .«splice_event_id») ∷ bits 1 (flagNumber (cancelled (x .value .«splice_detail»))) ∷ bits 7 (x .value .reserved)
     ∷ detailFields (x .value .«splice_detail») (x .components)

@@ -5,11 +5,11 @@ use mathlib.Core.List.{List, [], _∷_}
 use lib.Dec.{ltb}
 use lib.ListN.{length, take}
 use Rattle.command.specs.Command.{private, countIn}
-use Rattle.command.specs.Fair.{fairInsert}
+use Rattle.command.specs.Writable.{writableInsert}
 use Rattle.command.specs.Insert.{WithComponents, insert}
 use Rattle.command.specs.declared.SpliceCommand.{SpliceCommand}
 use Rattle.command.specs.declared.components.ComponentSplice.{ComponentSplice}
-use Rattle.command.specs.declared.insert.Insertion.{Insertion}
+use Rattle.command.specs.declared.insert.SpliceInsert.{SpliceInsert}
 use Rattle.splice_time.specs.Time.{spliceTime, ticks, notImmediate}
 use Rattle.bit_stores.specs.Written.{refusalIn, bytesIn}
 use Rattle.table.specs.Bits.{pick}
@@ -17,7 +17,7 @@ use Rattle.table.specs.Writing.{Made, made, refused, make}
 use Rattle.command_measure.specs.declared.Measured.{Measured}
 
 -- an insert with its components: the first places of the array, as many as the mode says. No other place is looked at
-abbrev pub counted : Insertion → List ComponentSplice → WithComponents Insertion
+abbrev pub counted : SpliceInsert → List ComponentSplice → WithComponents SpliceInsert
 counted i places = record { value = i; components = take (countIn (SpliceCommand.SpliceInsert i)) places }
 
 -- refusal 32, "a number .. exceeds its field", of each component's time: the table does not come to one that stands beside an immediate first
@@ -26,8 +26,8 @@ timesFit [] = true
 timesFit (c ∷ cs) = ltb (ticks (c .«splice_time»)) (2 ^ 33) && timesFit cs
 
 -- neither an insert nor a time has a view, so the lent bytes are none
-unfoldable pub insertMade : WithComponents Insertion → Made
-insertMade x = pick (timesFit (x .components)) (make insert (fairInsert x) [] x) (refused 32)
+unfoldable pub insertMade : WithComponents SpliceInsert → Made
+insertMade x = pick (timesFit (x .components)) (make insert (writableInsert x) [] x) (refused 32)
 
 unfoldable pub commandMade : SpliceCommand → List ComponentSplice → List ℕ → Made
 commandMade SpliceCommand.SpliceNull places lent = made []

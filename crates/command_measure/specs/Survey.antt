@@ -45,9 +45,9 @@ breakBytes (Break.Lasts d) = 5
 
 -- by what 32 asks, by what 33 asks, and the size
 abbrev pub measured : Bool → Bool → ℕ → Measured
-measured fits fair size =
+measured fits writable size =
     pick fits
-    (pick fair (record { refusal = 0; size = size })
+    (pick writable (record { refusal = 0; size = size })
     (record { refusal = 33; size = 0 }))
     (record { refusal = 32; size = 0 })
 

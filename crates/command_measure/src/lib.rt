@@ -6,8 +6,8 @@ ghost use mathlib.Core.List.{[]};
 ghost use Rattle.command.specs.Command.{array, countIn, private};
 ghost use Rattle.command_measure.specs.Made.{commandMade, measuredOf};
 ghost use Rattle.table.specs.Writing.{make};
-use crate::measure::measure_bare_insert;
 use crate::measure::measure_insert;
+use crate::measure::measure_insert_without_components;
 use crate::measure::measure_time;
 use command::Private;
 use command::SpliceCommand;
@@ -46,7 +46,7 @@ fn measure_private(p: Private, lent: &[u8]) -> Measured
 }
 
 // Of a command whose components are all blank, if it has any: which refusal it has, 31 to 33, and how many bytes its payload has.
-pub fn measure_bare(command: SpliceCommand, lent: &[u8]) -> Measured
+pub fn measure_without_components(command: SpliceCommand, lent: &[u8]) -> Measured
     ensures { λ r. ⌜ (r ≡ measuredOf (commandMade command (array []) (now (lent .entry)))) × (countIn command ≤ 255) ⌝ }
 {
     match command {
@@ -54,7 +54,7 @@ pub fn measure_bare(command: SpliceCommand, lent: &[u8]) -> Measured
             refusal: 0,
             size: 0,
         },
-        SpliceCommand::SpliceInsert(i) => measure_bare_insert(i),
+        SpliceCommand::SpliceInsert(i) => measure_insert_without_components(i),
         SpliceCommand::TimeSignal(t) => measure_time(t),
         SpliceCommand::BandwidthReservation => Measured {
             refusal: 0,
@@ -74,6 +74,6 @@ pub fn measure_command(
 {
     match command {
         SpliceCommand::SpliceInsert(i) => measure_insert(i, components),
-        _ => measure_bare(command, lent),
+        _ => measure_without_components(command, lent),
     }
 }

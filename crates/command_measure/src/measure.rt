@@ -16,8 +16,8 @@ ghost use Rattle.table.specs.Writing.{make};
 use crate::Measured;
 use command::components::ComponentSplice;
 use command::insert::Break;
-use command::insert::Insert;
-use command::insert::Insertion;
+use command::insert::InsertDetail;
+use command::insert::SpliceDetail;
 use command::insert::SpliceInsert;
 use command::insert::SpliceMode;
 use splice_time::SpliceTime;
@@ -32,11 +32,11 @@ fn both(a: bool, b: bool) -> bool
 }
 
 // By what 32 and 33 ask.
-fn verdict(fits: bool, fair: bool, size: usize) -> Measured
-    ensures { λ r. ⌜ r ≡ measured fits fair size ⌝ }
+fn verdict(fits: bool, writable: bool, size: usize) -> Measured
+    ensures { λ r. ⌜ r ≡ measured fits writable size ⌝ }
 {
     if fits {
-        if fair {
+        if writable {
             return Measured { refusal: 0, size };
         }
         return Measured {
@@ -222,7 +222,7 @@ fn break_size(duration: Break) -> usize
 }
 
 // What is not cancelled, of whose components s is said.
-fn measure_active(reserved: u8, insert: Insert, s: Survey) -> Measured
+fn measure_active(reserved: u8, insert: InsertDetail, s: Survey) -> Measured
     requires { ⌜ s .bytes ≤ 1530 ⌝ }
     ensures { λ r. ⌜ (r ≡ activeMeasured reserved (insert .«splice_mode») (insert .duration) s) × (insert .«unique_program_id» < 2 ^ 16) × (insert .«avail_num» < 256) × (insert .«avails_expected» < 256) ⌝ }
 {
@@ -231,21 +231,21 @@ fn measure_active(reserved: u8, insert: Insert, s: Survey) -> Measured
     let times = both(mode_fits(mode), break_fits(duration));
     let numbers = both(reserved < 128, times);
     let fits = both(s.fits, numbers);
-    let fair = both(reserved == 127, s.alike);
+    let writable = both(reserved == 127, s.alike);
     let first = mode_size(mode, s.bytes);
     let second = break_size(duration);
-    verdict(fits, fair, 10 + first + second)
+    verdict(fits, writable, 10 + first + second)
 }
 
 // An insert whose components are all blank, if it has any.
-pub(crate) fn measure_bare_insert(i: Insertion) -> Measured
+pub(crate) fn measure_insert_without_components(i: SpliceInsert) -> Measured
     ensures { λ r. ⌜ (r ≡ measuredOf (insertMade (counted i (array [])))) × (insert.count (insert.insertOf (i .«splice_detail») .«splice_mode») ≤ 255) ⌝ }
 {
     let reserved = i.reserved;
     let detail = i.splice_detail;
     let insert = match detail {
-        SpliceInsert::Insert(x) => x,
-        SpliceInsert::Cancel => return verdict(reserved < 128, reserved == 127, 5),
+        SpliceDetail::Insert(x) => x,
+        SpliceDetail::Cancel => return verdict(reserved < 128, reserved == 127, 5),
     };
     let mode = insert.splice_mode;
     let s = blanks_of(mode);
@@ -253,19 +253,19 @@ pub(crate) fn measure_bare_insert(i: Insertion) -> Measured
 }
 
 // An insert with its components: only one by components looks at them.
-pub fn measure_insert(i: Insertion, components: [ComponentSplice; 255]) -> Measured
+pub fn measure_insert(i: SpliceInsert, components: [ComponentSplice; 255]) -> Measured
     ensures { λ r. ⌜ (r ≡ measuredOf (insertMade (counted i components))) × (insert.count (insert.insertOf (i .«splice_detail») .«splice_mode») ≤ 255) ⌝ }
 {
     let reserved = i.reserved;
     let detail = i.splice_detail;
     let insert = match detail {
-        SpliceInsert::Insert(x) => x,
-        SpliceInsert::Cancel => return measure_bare_insert(i),
+        SpliceDetail::Insert(x) => x,
+        SpliceDetail::Cancel => return measure_insert_without_components(i),
     };
     let mode = insert.splice_mode;
     let n = match mode {
         SpliceMode::Components(k) => k,
-        SpliceMode::Program(_) => return measure_bare_insert(i),
+        SpliceMode::Program(_) => return measure_insert_without_components(i),
     };
     let at_once = are_immediate(n, components);
     let s = look(components, n as usize, at_once);

@@ -10,13 +10,13 @@ use lib.ListN.{length, take, drop, length-append}
 use lib.Seq.{length-take-le}
 use borrow.Author.Tests.{leb-true, leb-false, eqb-true, ne-eqb, le-leb}
 use Rattle.command.specs.Command.{private, countIn}
-use Rattle.command.specs.Fair.{fairInsert}
+use Rattle.command.specs.Writable.{writableInsert}
 use Rattle.command.specs.Insert.{WithComponents, count, insertOf, insert}
 use Rattle.command.specs.declared.Private.{Private}
 use Rattle.command.specs.declared.SpliceCommand.{SpliceCommand}
 use Rattle.command.specs.declared.components.ComponentSplice.{ComponentSplice}
-use Rattle.command.specs.declared.insert.Insertion.{Insertion}
 use Rattle.command.specs.declared.insert.SpliceInsert.{SpliceInsert}
+use Rattle.command.specs.declared.insert.SpliceDetail.{SpliceDetail}
 use Rattle.splice_time.specs.Time.{spliceTime, notImmediate}
 use Rattle.splice_time.specs.declared.SpliceTime.{SpliceTime}
 use Rattle.bit_stores.specs.Pen.{Pens, penned}
@@ -41,7 +41,7 @@ use Rattle.table.proofs.Walks.{print-bits, print-length}
 use Rattle.command_measure.specs.Fields.{ink, timeFields, insertFields, privateInk}
 use Rattle.command_measure.specs.Made.{counted, timesFit, insertMade, commandMade, measuredOf}
 use Rattle.command_measure.specs.declared.Measured.{Measured}
-use Rattle.command_writer.specs.Private.{hasRoom, answerTo}
+use Rattle.command_writer.specs.Private.{hasRoom, answerMeasured}
 use Rattle.command_measure.proofs.Making.{measured-parts, time-whole, insert-whole, private-fields}
 use Rattle.command_measure.proofs.Ties.{time-fields, insert-fields}
 
@@ -65,24 +65,24 @@ pick-payload true true false p n e z = absurd (omega arith)
 pick-payload true false f p n e z = absurd (omega arith)
 pick-payload false w f p n e z = absurd (omega arith)
 
-make-payload : (fair : Bool) (lent : List ℕ) (fs : List Field) (n : ℕ) → length (print (contents lent fs)) ≡ n * 8 → refusalIn (makeOf fair lent fs) ≡ 0 → Payload (makeOf fair lent fs) (print (contents lent fs))
-make-payload fair lent fs n e z = pick-payload (seen lent fs) (within fs) fair (print (contents lent fs)) n e z
+make-payload : (writable : Bool) (lent : List ℕ) (fs : List Field) (n : ℕ) → length (print (contents lent fs)) ≡ n * 8 → refusalIn (makeOf writable lent fs) ≡ 0 → Payload (makeOf writable lent fs) (print (contents lent fs))
+make-payload writable lent fs n e z = pick-payload (seen lent fs) (within fs) writable (print (contents lent fs)) n e z
 
 late-payload : (t : Bool) (m : Made) (p : List ℕ) → (refusalIn m ≡ 0 → Payload m p) → refusalIn (pick t m (refused 32)) ≡ 0 → Payload (pick t m (refused 32)) p
 late-payload true m p h z = h z
 late-payload false m p h z = absurd (omega arith)
 
-insert-payload : (event kept : ℕ) (d : SpliceInsert) (cs : List ComponentSplice) → length cs ≡ count (insertOf d .«splice_mode»)
-    → (let x : WithComponents Insertion = record { value = record { «splice_event_id» = event; reserved = kept; «splice_detail» = d }; components = cs } in
+insert-payload : (event kept : ℕ) (d : SpliceDetail) (cs : List ComponentSplice) → length cs ≡ count (insertOf d .«splice_mode»)
+    → (let x : WithComponents SpliceInsert = record { value = record { «splice_event_id» = event; reserved = kept; «splice_detail» = d }; components = cs } in
     refusalIn (insertMade x) ≡ 0 → Payload (insertMade x) (ink (insertFields x)))
 unfolding insertMade
 insert-payload event kept d cs e z =
-    let x : WithComponents Insertion = record { value = record { «splice_event_id» = event; reserved = kept; «splice_detail» = d }; components = cs } in
+    let x : WithComponents SpliceInsert = record { value = record { «splice_event_id» = event; reserved = kept; «splice_detail» = d }; components = cs } in
     let f = insert-fields event kept d cs e in
     let w = insert-whole event kept d cs in
-    late-payload (timesFit cs) (makeOf (fairInsert x) [] (walk insert x 0 .fields)) (ink (insertFields x)) (rw f (make-payload (fairInsert x) [] (insertFields x) (w .0) (w .1))) z
+    late-payload (timesFit cs) (makeOf (writableInsert x) [] (walk insert x 0 .fields)) (ink (insertFields x)) (rw f (make-payload (writableInsert x) [] (insertFields x) (w .0) (w .1))) z
 
-pub counted-payload : (i : Insertion) (places : List ComponentSplice) → length places ≡ 255 → count (insertOf (i .«splice_detail») .«splice_mode») ≤ 255 → refusalIn (insertMade (counted i places)) ≡ 0
+pub counted-payload : (i : SpliceInsert) (places : List ComponentSplice) → length places ≡ 255 → count (insertOf (i .«splice_detail») .«splice_mode») ≤ 255 → refusalIn (insertMade (counted i places)) ≡ 0
     → Payload (insertMade (counted i places)) (ink (insertFields (counted i places)))
 counted-payload i places n l z =
     let k = count (insertOf (i .«splice_detail») .«splice_mode») in
@@ -115,7 +115,7 @@ private-payload p lent z = rw (private-fields p lent) (go (leb (at + n) (length 
         payload-same (makeOf true lent fs) (print (contents lent fs)) (privateInk p lent) w (make-payload true lent fs (4 + length v) l z)
 
 module _ (c : SpliceCommand) (places : List ComponentSplice) (lent : List ℕ) where
-  pub command-insert-payload : (i : Insertion) → c ≡ SpliceCommand.SpliceInsert i → length places ≡ 255 → count (insertOf (i .«splice_detail») .«splice_mode») ≤ 255 → refusalIn (commandMade c places lent) ≡ 0
+  pub command-insert-payload : (i : SpliceInsert) → c ≡ SpliceCommand.SpliceInsert i → length places ≡ 255 → count (insertOf (i .«splice_detail») .«splice_mode») ≤ 255 → refusalIn (commandMade c places lent) ≡ 0
       → Payload (commandMade c places lent) (ink (insertFields (counted i places)))
   unfolding commandMade
   command-insert-payload i e n l z = rw e (counted-payload i places n l (rw e at z))
@@ -169,11 +169,11 @@ module _ (m : Made) (r : Measured) (is : r ≡ measuredOf m) where
       go (refused n) e = sym (stored-nil t at)
 
 module _ (m : Made) (t : List ℕ) where
-  pub answered : (r : Measured) → r ≡ measuredOf m → (refusalIn m ≡ 0 → m ≡ made (bytesIn m)) → answerTo r (length t) ≡ answerOf m t
+  pub answered : (r : Measured) → r ≡ measuredOf m → (refusalIn m ≡ 0 → m ≡ made (bytesIn m)) → answerMeasured r (length t) ≡ answerOf m t
   unfolding measuredOf bytesIn answerOf
-  answered r is h = ap (λ (x : Measured). answerTo x (length t)) is ∙ go m h
+  answered r is h = ap (λ (x : Measured). answerMeasured x (length t)) is ∙ go m h
     where
-      go : (m : Made) → (refusalIn m ≡ 0 → m ≡ made (bytesIn m)) → answerTo (measuredOf m) (length t) ≡ answerOf m t
+      go : (m : Made) → (refusalIn m ≡ 0 → m ≡ made (bytesIn m)) → answerMeasured (measuredOf m) (length t) ≡ answerOf m t
       go (made b) h = refl
       go (refused zero) h = let e = h refl in zero-one cc
       go (refused (suc n)) h = rw (ne-eqb (suc n) 0 (λ e. omega (arith, e)))

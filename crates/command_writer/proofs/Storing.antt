@@ -10,10 +10,10 @@ use lib.Seq.{take-suc}
 use Rattle.command.specs.Insert.{immediate, count, outOfNetwork}
 use Rattle.command.specs.declared.components.ComponentSplice.{ComponentSplice}
 use Rattle.command.specs.declared.insert.Break.{Break}
-use Rattle.command.specs.declared.insert.Insert.{Insert}
-use Rattle.command.specs.declared.insert.Insertion.{Insertion}
-use Rattle.command.specs.declared.insert.SpliceDuration.{SpliceDuration}
+use Rattle.command.specs.declared.insert.InsertDetail.{InsertDetail}
 use Rattle.command.specs.declared.insert.SpliceInsert.{SpliceInsert}
+use Rattle.command.specs.declared.insert.SpliceDuration.{SpliceDuration}
+use Rattle.command.specs.declared.insert.SpliceDetail.{SpliceDetail}
 use Rattle.command.specs.declared.insert.SpliceMode.{SpliceMode}
 use Rattle.splice_time.specs.declared.SpliceTime.{SpliceTime}
 use Rattle.splice_time.specs.declared.SpliceTime.the-variants.{Immediate, Unspecified, At}
@@ -200,30 +200,30 @@ module _ (b : Bool) (k : SpliceMode) (cs : List ComponentSplice) where
   pub mode-list : (n : ℕ) → k ≡ SpliceMode.Components n → modeFields b k cs ≡ bits 8 n ∷ listFields b cs
   mode-list n e = rw e
 
-pub cancel-fields : (i : Insertion) (places : List ComponentSplice) → i .«splice_detail» ≡ SpliceInsert.Cancel
+pub cancel-fields : (i : SpliceInsert) (places : List ComponentSplice) → i .«splice_detail» ≡ SpliceDetail.Cancel
     → insertFields (counted i places) ≡ bits 32 (i .«splice_event_id») ∷ bits 1 1 ∷ bits 7 (i .reserved) ∷ []
 cancel-fields i places e = go (i .«splice_event_id») (i .reserved) (i .«splice_detail») e
   where
-    go : (event kept : ℕ) (d : SpliceInsert) → d ≡ SpliceInsert.Cancel
+    go : (event kept : ℕ) (d : SpliceDetail) → d ≡ SpliceDetail.Cancel
         → insertFields (counted (record { «splice_event_id» = event; reserved = kept; «splice_detail» = d }) places) ≡ bits 32 event ∷ bits 1 1 ∷ bits 7 kept ∷ []
     go event kept d e = rw e
 
-pub active-insert : (i : Insertion) (x : Insert) (places : List ComponentSplice) → i .«splice_detail» ≡ SpliceInsert.Insert x
+pub active-insert : (i : SpliceInsert) (x : InsertDetail) (places : List ComponentSplice) → i .«splice_detail» ≡ SpliceDetail.Insert x
     → insertFields (counted i places) ≡ bits 32 (i .«splice_event_id») ∷ bits 1 0 ∷ bits 7 (i .reserved) ∷ activeFields x (placesOf x places)
 active-insert i x places e = go (i .«splice_event_id») (i .reserved) (i .«splice_detail») e
   where
-    go : (event kept : ℕ) (d : SpliceInsert) → d ≡ SpliceInsert.Insert x
+    go : (event kept : ℕ) (d : SpliceDetail) → d ≡ SpliceDetail.Insert x
         → insertFields (counted (record { «splice_event_id» = event; reserved = kept; «splice_detail» = d }) places) ≡ bits 32 event ∷ bits 1 0 ∷ bits 7 kept ∷ activeFields x (placesOf x places)
     go event kept d e = rw e
 
 -- that counts no component
-pub none-active : (x : Insert) (places : List ComponentSplice) → count (x .«splice_mode») ≡ 0 → activeFields x (placesOf x places) ≡ activeFields x []
+pub none-active : (x : InsertDetail) (places : List ComponentSplice) → count (x .«splice_mode») ≡ 0 → activeFields x (placesOf x places) ≡ activeFields x []
 none-active x places e = ap (λ (n : ℕ). activeFields x (take n places)) e
 
-pub none-now : (x : Insert) → x .«splice_mode» ≡ SpliceMode.Components 0 → immediateIn x [] ≡ false
+pub none-now : (x : InsertDetail) → x .«splice_mode» ≡ SpliceMode.Components 0 → immediateIn x [] ≡ false
 none-now x e = rw e
 
-pub program-now : (i : Insert) (t : SpliceTime) → i .«splice_mode» ≡ SpliceMode.Program t → immediate t ≡ immediateIn i []
+pub program-now : (i : InsertDetail) (t : SpliceTime) → i .«splice_mode» ≡ SpliceMode.Program t → immediate t ≡ immediateIn i []
 program-now i t e = rw e
 
 -- the same bits, said otherwise
@@ -234,7 +234,7 @@ pub goes-bits : (t : List ℕ) (c : Cursor) (b r u : List ℕ) (d : Cursor) (m :
 goes-bits t c b r u d m e g = rw (← e) g
 
 -- the event of an insert that is not cancelled, and what stands behind it
-pub after-event : (t : List ℕ) (c : Cursor) (u : List ℕ) (d : Cursor) (i : Insertion) (x : Insert) (places : List ComponentSplice) (y : ℕ) → i .«splice_detail» ≡ SpliceInsert.Insert x
+pub after-event : (t : List ℕ) (c : Cursor) (u : List ℕ) (d : Cursor) (i : SpliceInsert) (x : InsertDetail) (places : List ComponentSplice) (y : ℕ) → i .«splice_detail» ≡ SpliceDetail.Insert x
     → y ≡ i .«splice_event_id» * 256 + i .reserved % 128 → Fits t c (ink (insertFields (counted i places))) → Pens t c (bitsOfNum 40 y) u d
     → (let more = activeFields x (placesOf x places) in
     Goes t c (ink (bits 32 (i .«splice_event_id») ∷ bits 1 0 ∷ bits 7 (i .reserved) ∷ more)) u d (ink more))

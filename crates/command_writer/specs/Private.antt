@@ -11,5 +11,5 @@ abbrev pub hasRoom : Measured → ℕ → ℕ → Bool
 hasRoom m at room = eqb (m .refusal) 0 && leb (at + m .size) room
 
 -- what is answered where the target has `room` bytes
-abbrev pub answerTo : Measured → ℕ → Written
-answerTo m room = pick (eqb (m .refusal) 0) (pick (leb (m .size) room) (Written.Wrote (m .size)) (Written.Refused 36)) (Written.Refused (m .refusal))
+abbrev pub answerMeasured : Measured → ℕ → Written
+answerMeasured m room = pick (eqb (m .refusal) 0) (pick (leb (m .size) room) (Written.Wrote (m .size)) (Written.Refused 36)) (Written.Refused (m .refusal))

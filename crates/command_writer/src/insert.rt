@@ -18,8 +18,8 @@ use bit_stores::put_bits;
 use command::components::ComponentSplice;
 use command::components::blanks;
 use command::insert::Break;
-use command::insert::Insert;
-use command::insert::Insertion;
+use command::insert::InsertDetail;
+use command::insert::SpliceDetail;
 use command::insert::SpliceDuration;
 use command::insert::SpliceInsert;
 use command::insert::SpliceMode;
@@ -83,7 +83,7 @@ fn lasts(duration: Break) -> bool
 }
 
 // Four flags and four reserved bits.
-fn store_flags(out: &mut [u8], c: Cursor, insert: Insert, at_once: bool) -> Cursor
+fn store_flags(out: &mut [u8], c: Cursor, insert: InsertDetail, at_once: bool) -> Cursor
     requires { ⌜ Fits (now out) c (ink (insertFlags insert «at_once»)) ⌝ }
     ensures { λ r. ⌜ Pens (now (out .entry)) c (ink (insertFlags insert «at_once»)) (now (out .exit)) r ⌝ }
 {
@@ -131,7 +131,7 @@ fn store_tail(out: &mut [u8], c: Cursor, program_id: u16, avail: u8, expected: u
 }
 
 // From the duration on.
-fn store_end(out: &mut [u8], c: Cursor, insert: Insert) -> Cursor
+fn store_end(out: &mut [u8], c: Cursor, insert: InsertDetail) -> Cursor
     requires { ⌜ Fits (now out) c (ink (endFields insert)) ⌝ }
     ensures { λ r. ⌜ Pens (now (out .entry)) c (ink (endFields insert)) (now (out .exit)) r ⌝ }
 {
@@ -161,7 +161,7 @@ fn store_end(out: &mut [u8], c: Cursor, insert: Insert) -> Cursor
 fn store_listed(
     out: &mut [u8],
     c: Cursor,
-    insert: Insert,
+    insert: InsertDetail,
     n: u8,
     components: [ComponentSplice; 255],
 ) -> Cursor
@@ -176,7 +176,7 @@ fn store_listed(
 }
 
 // By program.
-fn store_by_program(out: &mut [u8], c: Cursor, insert: Insert, time: SpliceTime) -> Cursor
+fn store_by_program(out: &mut [u8], c: Cursor, insert: InsertDetail, time: SpliceTime) -> Cursor
     requires { ⌜ (insert .«splice_mode» ≡ SpliceMode.Program time) × Fits (now out) c (ink (activeFields insert [])) ⌝ }
     ensures { λ r. ⌜ Pens (now (out .entry)) c (ink (activeFields insert [])) (now (out .exit)) r ⌝ }
 {
@@ -190,7 +190,7 @@ fn store_by_program(out: &mut [u8], c: Cursor, insert: Insert, time: SpliceTime)
 }
 
 // By no component: their count alone.
-fn store_by_none(out: &mut [u8], c: Cursor, insert: Insert) -> Cursor
+fn store_by_none(out: &mut [u8], c: Cursor, insert: InsertDetail) -> Cursor
     requires { ⌜ (insert .«splice_mode» ≡ SpliceMode.Components 0) × Fits (now out) c (ink (activeFields insert [])) ⌝ }
     ensures { λ r. ⌜ Pens (now (out .entry)) c (ink (activeFields insert [])) (now (out .exit)) r ⌝ }
 {
@@ -200,7 +200,7 @@ fn store_by_none(out: &mut [u8], c: Cursor, insert: Insert) -> Cursor
 }
 
 // With blank components, if it has any: only then is there an array.
-fn store_active(out: &mut [u8], c: Cursor, insert: Insert) -> Cursor
+fn store_active(out: &mut [u8], c: Cursor, insert: InsertDetail) -> Cursor
     requires { ⌜ Fits (now out) c (ink (activeFields insert (placesOf insert (array [])))) ⌝ }
     ensures { λ r. ⌜ Pens (now (out .entry)) c (ink (activeFields insert (placesOf insert (array [])))) (now (out .exit)) r ⌝ }
 {
@@ -217,22 +217,22 @@ fn store_active(out: &mut [u8], c: Cursor, insert: Insert) -> Cursor
 }
 
 // The event, a cancel bit that is clear and the reserved bits, as one number.
-fn event_number(i: Insertion) -> u64
+fn event_number(i: SpliceInsert) -> u64
     ensures { λ r. ⌜ (r ≡ i .«splice_event_id» * 256 + i .reserved % 128) × (r < 2 ^ 40) ⌝ }
 {
     i.splice_event_id as u64 * 256 + wide(i.reserved) % 128
 }
 
 // An insert whose components are all blank, if it has any.
-pub(crate) fn store_bare_insert(out: &mut [u8], c: Cursor, i: Insertion) -> Cursor
+pub(crate) fn store_insert_without_components(out: &mut [u8], c: Cursor, i: SpliceInsert) -> Cursor
     requires { ⌜ Fits (now out) c (ink (insertFields (counted i (array [])))) ⌝ }
     ensures { λ r. ⌜ Pens (now (out .entry)) c (ink (insertFields (counted i (array [])))) (now (out .exit)) r ⌝ }
 {
     let detail = i.splice_detail;
     let event = event_number(i);
     match detail {
-        SpliceInsert::Cancel => put_bits(out, c, 40, event + 128),
-        SpliceInsert::Insert(insert) => {
+        SpliceDetail::Cancel => put_bits(out, c, 40, event + 128),
+        SpliceDetail::Insert(insert) => {
             let c = put_bits(out, c, 40, event);
             store_active(out, c, insert)
         }
@@ -243,7 +243,7 @@ pub(crate) fn store_bare_insert(out: &mut [u8], c: Cursor, i: Insertion) -> Curs
 pub(crate) fn store_insert(
     out: &mut [u8],
     c: Cursor,
-    i: Insertion,
+    i: SpliceInsert,
     components: [ComponentSplice; 255],
 ) -> Cursor
     requires { ⌜ Fits (now out) c (ink (insertFields (counted i components))) ⌝ }
@@ -251,13 +251,13 @@ pub(crate) fn store_insert(
 {
     let detail = i.splice_detail;
     let insert = match detail {
-        SpliceInsert::Insert(x) => x,
-        SpliceInsert::Cancel => return store_bare_insert(out, c, i),
+        SpliceDetail::Insert(x) => x,
+        SpliceDetail::Cancel => return store_insert_without_components(out, c, i),
     };
     let mode = insert.splice_mode;
     let n = match mode {
         SpliceMode::Components(k) => k,
-        SpliceMode::Program(_) => return store_bare_insert(out, c, i),
+        SpliceMode::Program(_) => return store_insert_without_components(out, c, i),
     };
     let event = event_number(i);
     let c = put_bits(out, c, 40, event);

@@ -6,14 +6,14 @@ ghost use lib.ListN.{length};
 ghost use Rattle.command_measure.specs.Made.{counted, insertMade, commandMade};
 ghost use Rattle.command.specs.Command.{array, countIn};
 ghost use Rattle.command_measure.specs.Fields.{privateInk};
-ghost use Rattle.command_writer.specs.Private.{hasRoom, answerTo};
+ghost use Rattle.command_writer.specs.Private.{hasRoom, answerMeasured};
 ghost use Rattle.bit_stores.specs.Pen.{Pens};
 ghost use Rattle.bit_stores.specs.Private.{Fits};
 ghost use Rattle.bit_stores.specs.Written.{answerOf, laterOf, refusalIn, bytesIn};
 ghost use Rattle.table.specs.Bits.{AllBytes};
 ghost use Rattle.table.specs.Lent.{stored};
-use crate::insert::store_bare_insert;
 use crate::insert::store_insert;
+use crate::insert::store_insert_without_components;
 use crate::time::store_time;
 use bit_stores::Written;
 use bit_stores::put_bits;
@@ -21,10 +21,10 @@ use bit_stores::put_run;
 use command::Private;
 use command::SpliceCommand;
 use command::components::ComponentSplice;
-use command::insert::Insertion;
+use command::insert::SpliceInsert;
 use command_measure::Measured;
 use command_measure::measure::measure_insert;
-use command_measure::measure_bare;
+use command_measure::measure_without_components;
 use table::cursor::Cursor;
 use table::lent::view;
 
@@ -41,7 +41,7 @@ fn store_private(out: &mut [u8], c: Cursor, p: Private, lent: &[u8]) -> Cursor
 }
 
 // A payload for which there is room, and no refusal.
-fn store_bare(out: &mut [u8], at: usize, command: SpliceCommand, lent: &[u8])
+fn store_without_components(out: &mut [u8], at: usize, command: SpliceCommand, lent: &[u8])
     requires { ⌜ AllBytes (now out) × (refusalIn (commandMade command (array []) (now lent)) ≡ 0) × (at + length (bytesIn (commandMade command (array []) (now lent))) ≤ length (now out)) × (countIn command ≤ 255) ⌝ }
     ensures { λ _. ⌜ now (out .exit) ≡ stored (now (out .entry)) at (bytesIn (commandMade command (array []) (now (lent .entry)))) ⌝ }
 {
@@ -49,7 +49,7 @@ fn store_bare(out: &mut [u8], at: usize, command: SpliceCommand, lent: &[u8])
     match command {
         SpliceCommand::SpliceNull => {}
         SpliceCommand::SpliceInsert(i) => {
-            let _ = store_bare_insert(out, c, i);
+            let _ = store_insert_without_components(out, c, i);
         }
         SpliceCommand::TimeSignal(t) => {
             let _ = store_time(out, c, t);
@@ -78,17 +78,17 @@ fn has_room(measured: Measured, at: usize, room: usize) -> bool
 }
 
 // The payload from a byte of the target on; nothing where it is refused or does not fit.
-pub fn put_bare(out: &mut [u8], at: usize, command: SpliceCommand, lent: &[u8])
+pub fn put_without_components(out: &mut [u8], at: usize, command: SpliceCommand, lent: &[u8])
     ensures { λ _. ⌜ now (out .exit) ≡ stored (now (out .entry)) at (bytesIn (commandMade command (array []) (now (lent .entry)))) ⌝ }
 {
-    if has_room(measure_bare(command, lent), at, out.len()) {
-        store_bare(out, at, command, lent);
+    if has_room(measure_without_components(command, lent), at, out.len()) {
+        store_without_components(out, at, command, lent);
     }
 }
 
 // What is answered where the target has `room` bytes.
-fn answer_to(measured: Measured, room: usize) -> Written
-    ensures { λ r. ⌜ r ≡ answerTo measured room ⌝ }
+fn answer_measured(measured: Measured, room: usize) -> Written
+    ensures { λ r. ⌜ r ≡ answerMeasured measured room ⌝ }
 {
     let refusal = measured.refusal;
     let size = measured.size;
@@ -102,13 +102,17 @@ fn answer_to(measured: Measured, room: usize) -> Written
 }
 
 // The payload from the target's first byte on, or a refusal: 31, 32, 33 or 36.
-pub fn write_bare_command(command: SpliceCommand, lent: &[u8], target: &mut [u8]) -> Written
+pub fn write_command_without_components(
+    command: SpliceCommand,
+    lent: &[u8],
+    target: &mut [u8],
+) -> Written
     ensures answer { λ r. ⌜ r ≡ answerOf (commandMade command (array []) (now (lent .entry))) (now (target .entry)) ⌝ }
     ensures bytes { λ _. ⌜ now (target .exit) ≡ laterOf (commandMade command (array []) (now (lent .entry))) (now (target .entry)) ⌝ }
 {
-    let answer = answer_to(measure_bare(command, lent), target.len());
+    let answer = answer_measured(measure_without_components(command, lent), target.len());
     match answer {
-        Written::Wrote(_) => store_bare(target, 0, command, lent),
+        Written::Wrote(_) => store_without_components(target, 0, command, lent),
         Written::Refused(_) => {}
     }
     answer
@@ -117,7 +121,7 @@ pub fn write_bare_command(command: SpliceCommand, lent: &[u8], target: &mut [u8]
 // ---- with an array of components, which only an insert has
 
 // Of an insert, the payload from a byte on.
-fn put_insert(out: &mut [u8], at: usize, i: Insertion, components: [ComponentSplice; 255])
+fn put_insert(out: &mut [u8], at: usize, i: SpliceInsert, components: [ComponentSplice; 255])
     ensures { λ _. ⌜ now (out .exit) ≡ stored (now (out .entry)) at (bytesIn (insertMade (counted i components))) ⌝ }
 {
     if has_room(measure_insert(i, components), at, out.len()) {
@@ -137,16 +141,16 @@ pub fn put_command(
 {
     match command {
         SpliceCommand::SpliceInsert(i) => put_insert(out, at, i, components),
-        _ => put_bare(out, at, command, lent),
+        _ => put_without_components(out, at, command, lent),
     }
 }
 
 // Of an insert, the payload from the first byte on.
-fn write_insert(i: Insertion, components: [ComponentSplice; 255], target: &mut [u8]) -> Written
+fn write_insert(i: SpliceInsert, components: [ComponentSplice; 255], target: &mut [u8]) -> Written
     ensures answer { λ r. ⌜ r ≡ answerOf (insertMade (counted i components)) (now (target .entry)) ⌝ }
     ensures bytes { λ _. ⌜ now (target .exit) ≡ laterOf (insertMade (counted i components)) (now (target .entry)) ⌝ }
 {
-    let answer = answer_to(measure_insert(i, components), target.len());
+    let answer = answer_measured(measure_insert(i, components), target.len());
     match answer {
         Written::Wrote(_) => {
             let _ = store_insert(target, Cursor { byte: 0, bit: 0 }, i, components);
@@ -168,6 +172,6 @@ pub fn write_command(
 {
     match command {
         SpliceCommand::SpliceInsert(i) => write_insert(i, components, target),
-        _ => write_bare_command(command, lent, target),
+        _ => write_command_without_components(command, lent, target),
     }
 }

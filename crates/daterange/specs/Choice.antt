@@ -2,8 +2,8 @@
 use Prim.Native.Nat.{ℕ}
 use mathlib.Core.List.{List}
 use Rattle.command.specs.declared.SpliceCommand.{SpliceCommand}
-use Rattle.command.specs.declared.insert.Insert.{Insert}
-use Rattle.command.specs.declared.insert.SpliceInsert.{SpliceInsert}
+use Rattle.command.specs.declared.insert.InsertDetail.{InsertDetail}
+use Rattle.command.specs.declared.insert.SpliceDetail.{SpliceDetail}
 use Rattle.daterange_line.specs.declared.Cue.{Cue}
 use Rattle.daterange_line.specs.declared.Cue.the-variants.{Cmd, Out, In}
 use Rattle.daterange_writer.specs.Writing.{lineMade}
@@ -18,9 +18,9 @@ leaving NetworkIndicator.Out = Out
 leaving NetworkIndicator.In = In
 
 -- "cancelled inserts included": they are among all else
-abbrev pub inserted : SpliceInsert → Cue
-inserted SpliceInsert.Cancel = Cmd
-inserted (SpliceInsert.Insert i) = leaving (i .«network_indicator»)
+abbrev pub inserted : SpliceDetail → Cue
+inserted SpliceDetail.Cancel = Cmd
+inserted (SpliceDetail.Insert i) = leaving (i .«network_indicator»)
 
 -- "SCTE35-CMD for all else"
 unfoldable pub cueFor : SpliceCommand → Cue

@@ -4,7 +4,7 @@ ghost use Rattle.daterange.specs.Choice.{leaving, inserted, cueFor, date
 ghost use Rattle.bit_stores.specs.Written.{answerOf, laterOf};
 use bit_stores::Written;
 use command::SpliceCommand;
-use command::insert::SpliceInsert;
+use command::insert::SpliceDetail;
 use daterange_line::Cue;
 use daterange_writer::write_line;
 use names::flags::NetworkIndicator;
@@ -20,12 +20,12 @@ fn leaving(n: NetworkIndicator) -> Cue
     }
 }
 
-fn inserted(d: SpliceInsert) -> Cue
+fn inserted(d: SpliceDetail) -> Cue
     ensures { λ r. ⌜ r ≡ inserted d ⌝ }
 {
     match d {
-        SpliceInsert::Cancel => Cue::Cmd,
-        SpliceInsert::Insert(i) => {
+        SpliceDetail::Cancel => Cue::Cmd,
+        SpliceDetail::Insert(i) => {
             let network = i.network_indicator;
             leaving(network)
         }

@@ -44,7 +44,7 @@ use Rattle.descriptor.specs.declared.back.Back.{Back}
 use Rattle.descriptor.specs.declared.front.Component.{Component}
 use Rattle.descriptor.specs.declared.front.Front.{Front}
 use Rattle.descriptor.specs.declared.segmentation.ModeComponent.{ModeComponent}
-use Rattle.descriptor.specs.declared.segmentation.SegmentationDetail.the-variants.{Cancel, Insert}
+use Rattle.descriptor.specs.declared.segmentation.DescriptorDetail.the-variants.{Cancel, Active}
 use Rattle.descriptor.specs.declared.segmentation.SegmentationMode.{SegmentationMode}
 use Rattle.descriptor.specs.declared.segmentation.SegmentationUpid.{SegmentationUpid}
 use Rattle.descriptor.specs.declared.whole.Beside.{Beside}
@@ -118,7 +118,7 @@ module _ (s : List ℕ) (f : Front) (cs : List ModeComponent) (m : ℕ) (e : par
   components-from n is = let t : (m : ℕ) × (parse (list n blankComponent component) (bitsOf s) 56 ≡ got cs m) × (n < 256) × (56 ≤ length s * 8) = there-as (SegmentationMode.Component n) is in omega (arith, t .3)
 
 -- the EIDR of a UPID, by whichever name it has
-pub eidr-as : (s : List ℕ) {u v : SegmentationUpid} → u ≡ v → eidrOf (v .kind) (viewed s (v .bytes)) ≡ eidrOf (u .kind) (viewed s (u .bytes))
+pub eidr-as : (s : List ℕ) {u v : SegmentationUpid} → u ≡ v → eidrOf (v .«upid_type») (viewed s (v .bytes)) ≡ eidrOf (u .«upid_type») (viewed s (u .bytes))
 eidr-as s e = rw e
 
 -- ---- an array that is filled
@@ -226,12 +226,12 @@ module _ (s : List ℕ) where
             ∙ lacks-in back _ _ (bitsOf s) j (x .expected) (x .actual) e))
 
         module _ (b : Back) (m : ℕ) (eb : parse back (bitsOf s) j ≡ got b m) (held : List ℕ)
-            (eheld : held ≡ eidrOf (f .«segmentation_upid» .kind) (viewed s (f .«segmentation_upid» .bytes))) where
+            (eheld : held ≡ eidrOf (f .«segmentation_upid» .«upid_type») (viewed s (f .«segmentation_upid» .bytes))) where
           beside : (all : List ModeComponent) → all ≡ filled cs → record { components = all; eidr = held } ≡ besideOf s
           unfolding segmentation besideOf besideIn
           beside all e =
               let g : parse segmentation (bitsOf s) 0 ≡ got (record {
-                descriptor = record { «segmentation_event_id» = h .event; «descriptor_detail» = Insert (insertFrom f (f .«segmentation_upid») b) };
+                descriptor = record { «segmentation_event_id» = h .event; «descriptor_detail» = Active (insertFrom f (f .«segmentation_upid») b) };
                 components = cs;
               }) m =
               takes-in head _ _ (bitsOf s) 0 h 40 eh

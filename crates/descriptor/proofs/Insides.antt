@@ -1,6 +1,6 @@
 -- The views of a descriptor, and of a refusal, lie in its payload.
 use Prim.Native.Nat.{ℕ, _+_, _*_, _/_, _<_, _≤_}
-use mathlib.Core.Bool.{Bool, true, false, cond, _||_}
+use mathlib.Core.Bool.{Bool, true, false, _||_}
 use mathlib.Core.List.{List, [], _∷_}
 use mathlib.Core.Path.{_≡_, refl, ap, sym, _∙_}
 use native.Mathlib.Omega.{arith}
@@ -118,7 +118,7 @@ viewed-length : (s : List ℕ) (v : View) → Inside s v → length (viewed s v)
 unfolding viewed
 viewed-length s v h = rw (le-leb (v .at + v .len) (length s) h) (omega (arith, length-take (v .len) (drop (v .at) s)))
 
-reported-inside : (s : List ℕ) (v : View) (b : Bool) → Inside s v → All (Inside s) (cond b [] (pick b (record { at = 0; len = 0 }) v ∷ []))
+reported-inside : (s : List ℕ) (v : View) (b : Bool) → Inside s v → All (Inside s) (pick b [] (pick b (record { at = 0; len = 0 }) v ∷ []))
 reported-inside s v true h = none
 reported-inside s v false h = more h none
 

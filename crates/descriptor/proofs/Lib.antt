@@ -11,3 +11,4 @@ pub mod SegmentationLaws
 pub mod Insides
 pub mod Besides
 pub mod Longer
+pub mod Heads

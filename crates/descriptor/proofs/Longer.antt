@@ -27,9 +27,9 @@ use Rattle.descriptor.specs.declared.DescriptorRead.the-variants.{Is, Re
 use Rattle.descriptor.specs.declared.back.Back.{Back}
 use Rattle.descriptor.specs.declared.front.Front.{Front}
 use Rattle.descriptor.specs.declared.segmentation.SegmentationDescriptor.{SegmentationDescriptor}
+use Rattle.descriptor.specs.declared.segmentation.DescriptorDetail.{DescriptorDetail}
+use Rattle.descriptor.specs.declared.segmentation.DescriptorDetail.the-variants.{Cancel, Active}
 use Rattle.descriptor.specs.declared.segmentation.SegmentationDetail.{SegmentationDetail}
-use Rattle.descriptor.specs.declared.segmentation.SegmentationDetail.the-variants.{Cancel, Insert}
-use Rattle.descriptor.specs.declared.segmentation.SegmentationInsert.{SegmentationInsert}
 use Rattle.descriptor.specs.declared.segmentation.SegmentationUpid.{SegmentationUpid}
 use Rattle.descriptor.specs.declared.segmentation.SubSegment.{SubSegment}
 use Rattle.descriptor.specs.declared.segmentation.SubSegments.{SubSegments}
@@ -64,21 +64,21 @@ unfolding timeOf time number
 time-on s more d e = long-on 12 s more _ _ d (then-on Time time (λ v n o. tt) s more d) e
 
 -- ---- a segmentation descriptor: bytes behind the head of a cancelled one, and behind sub-segments
-blind-head : Blind head
+pub blind-head : Blind head
 unfolding head number bit reserved
 blind-head = λ event cancel kept. tt
 
-blind-delivery : (free : Bool) → Blind (deliveryRestrictions free)
+pub blind-delivery : (free : Bool) → Blind (deliveryRestrictions free)
 unfolding deliveryRestrictions number bit reserved
 blind-delivery free = blind-pick free _ _ (λ kept. tt) (λ web blackout archive device. tt)
 
-blind-mode : (program : Bool) → Blind (mode program)
+pub blind-mode : (program : Bool) → Blind (mode program)
 unfolding mode component number reserved
 blind-mode program =
     blind-pick program _ _ tt
     λ n. blind-inside (list n blankComponent component) _ _ (blind-list n blankComponent component (λ tag kept offset. tt)) λ cs. tt
 
-blind-duration : (flagged : Bool) → Blind (duration flagged)
+pub blind-duration : (flagged : Bool) → Blind (duration flagged)
 unfolding duration number
 blind-duration flagged = blind-pick flagged _ _ (λ t. tt) tt
 
@@ -87,7 +87,7 @@ unfolding parts writtenUpid number part
 blind-parts program lasting free =
     blind-inside (deliveryRestrictions free) _ _ (blind-delivery free) λ r.
     blind-inside (mode program) _ _ (blind-mode program) λ m.
-    blind-inside (duration lasting) _ _ (blind-duration lasting) λ d kind n at. tt
+    blind-inside (duration lasting) _ _ (blind-duration lasting) λ d upid-type n at. tt
 
 blind-front : Blind front
 unfolding front bit
@@ -129,14 +129,14 @@ back-on : (bs more : List ℕ) (at : ℕ) (b : Back) (x : SubSegment) (m : ℕ) 
 unfolding back
 back-on bs more at b x m is e =
     on-number 8 _ _ bs more at b m
-    (λ kind. on-number 8 _ _ bs more (at + 8) b m
+    (λ type-id. on-number 8 _ _ bs more (at + 8) b m
     (λ n. on-number 8 _ _ bs more (at + 8 + 8) b m
     (λ of. sub-last _ _ bs more (at + 8 + 8 + 8) b x m (λ y. refl) is))) e
 
 -- cancelled, or with sub-segments
-abbrev Closed : SegmentationDetail → Type 0
+abbrev Closed : DescriptorDetail → Type 0
 Closed Cancel = Unit {0}
-Closed (Insert i) = (x : SubSegment) × (i .«sub_segments» ≡ SubSegments.Is x)
+Closed (Active i) = (x : SubSegment) × (i .«sub_segments» ≡ SubSegments.Is x)
 
 module _ (s more : List ℕ) (x : SegmentationDescriptor) (closed : Closed (x .«descriptor_detail»)) where
   abbrev Reads : DescriptorRead → Type 0
@@ -149,18 +149,18 @@ module _ (s more : List ℕ) (x : SegmentationDescriptor) (closed : Closed (x .�
     where
       go : (r : Answer Back) → parse back (bitsOf s) at ≡ r → Reads (r andThen λ b m. inserted event f u b) → Reads (parse back (bitsOf (s ++ more)) at andThen λ b m. inserted event f u b)
       go (got b m) i e =
-          let z : x .«descriptor_detail» ≡ Insert (insertFrom f u b) = cc e in
-          let c : Closed (Insert (insertFrom f u b)) = rw z at closed in
+          let z : x .«descriptor_detail» ≡ Active (insertFrom f u b) = cc e in
+          let c : Closed (Active (insertFrom f u b)) = rw z at closed in
           rw (bits-append s more, back-on (bitsOf s) (bitsOf more) at b (c .0) m (c .1) i) e
       go (short expected actual) i e = zero-one cc
 
   fine-then : (event : ℕ) (f : Front) (at : ℕ) (a : UpidRead) → Reads (ifFine a (f .«segmentation_upid» .bytes) λ u. parse back (bitsOf s) at andThen λ b m. inserted event f u b)
       → Reads (ifFine a (f .«segmentation_upid» .bytes) λ u. parse back (bitsOf (s ++ more)) at andThen λ b m. inserted event f u b)
-  fine-then event f at (UpidRead.Fine kind) e = back-then event f (reportedUpid kind (f .«segmentation_upid» .bytes)) at e
+  fine-then event f at (UpidRead.Fine upid-type) e = back-then event f (reportedUpid upid-type (f .«segmentation_upid» .bytes)) at e
   fine-then event f at (UpidRead.Refused r) e = zero-one cc
 
   abbrev verdict : Fore → UpidRead
-  verdict f = checkOf (f .front .«segmentation_upid» .kind) (viewed s (f .front .«segmentation_upid» .bytes))
+  verdict f = checkOf (f .front .«segmentation_upid» .«upid_type») (viewed s (f .front .«segmentation_upid» .bytes))
 
   front-then : (event at : ℕ) → Reads (insertOf s event at) → Reads (insertOf (s ++ more) event at)
   unfolding insertOf
@@ -192,6 +192,6 @@ module _ (s more : List ℕ) (x : SegmentationDescriptor) (closed : Closed (x .�
 pub cancelled-on : (s more : List ℕ) (x : SegmentationDescriptor) → descriptorOf 2 cuei s ≡ Is (Segmentation x) → x .«descriptor_detail» ≡ Cancel → descriptorOf 2 cuei (s ++ more) ≡ descriptorOf 2 cuei s
 cancelled-on s more x e c = segmentation-on s more x (rw c tt) e
 
-pub sub-segments-on : (s more : List ℕ) (x : SegmentationDescriptor) (i : SegmentationInsert) (sub : SubSegment) → descriptorOf 2 cuei s ≡ Is (Segmentation x) → x .«descriptor_detail» ≡ Insert i
+pub sub-segments-on : (s more : List ℕ) (x : SegmentationDescriptor) (i : SegmentationDetail) (sub : SubSegment) → descriptorOf 2 cuei s ≡ Is (Segmentation x) → x .«descriptor_detail» ≡ Active i
     → i .«sub_segments» ≡ SubSegments.Is sub → descriptorOf 2 cuei (s ++ more) ≡ descriptorOf 2 cuei s
 sub-segments-on s more x i sub e c is = segmentation-on s more x (rw c (sub, is)) e

@@ -229,7 +229,7 @@ module _ (s : List ℕ) (i : ℕ) where
         takes-number s (i * 8) 8 _ _ _ (omega arith) refl ∙ takes-number s (i * 8 + 8) 8 n _ _ (omega arith) length-at
         ∙ lacks-part s (i * 8 + 8 + 8) n _ _ (omega arith)
 
-    pub upid-at : n ≤ length s - i - 2 → parse writtenUpid (bitsOf s) (i * 8) ≡ got (record { kind = getD s i 0; bytes = record { at = i + 2; len = n } }) ((i + 2 + n) * 8)
+    pub upid-at : n ≤ length s - i - 2 → parse writtenUpid (bitsOf s) (i * 8) ≡ got (record { «upid_type» = getD s i 0; bytes = record { at = i + 2; len = n } }) ((i + 2 + n) * 8)
     unfolding writtenUpid
     upid-at h =
         let a : (i * 8 + 8 + 8) / 8 ≡ i + 2 = omega arith in
@@ -237,5 +237,5 @@ module _ (s : List ℕ) (i : ℕ) where
         takes-number s (i * 8) 8 (getD s i 0) _ _ (omega arith) (sym (byte-field s i (omega arith) (bytes i)))
         ∙ takes-number s (i * 8 + 8) 8 n _ _ (omega arith) length-at
         ∙ takes-part s (i * 8 + 8 + 8) n _ _ (omega arith)
-        ∙ ap (λ (x : ℕ). got (record { kind = getD s i 0; bytes = record { at = x; len = n } }) (i * 8 + 8 + 8 + n * 8)) a
-        ∙ ap (got (record { kind = getD s i 0; bytes = record { at = i + 2; len = n } })) z
+        ∙ ap (λ (x : ℕ). got (record { «upid_type» = getD s i 0; bytes = record { at = x; len = n } }) (i * 8 + 8 + 8 + n * 8)) a
+        ∙ ap (got (record { «upid_type» = getD s i 0; bytes = record { at = i + 2; len = n } })) z

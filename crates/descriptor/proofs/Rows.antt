@@ -16,7 +16,7 @@ use Rattle.descriptor.specs.declared.Descriptor.the-variants.{Dtmf, Segm
 use Rattle.descriptor.specs.declared.DescriptorRead.{DescriptorRead}
 use Rattle.descriptor.specs.declared.DescriptorRead.the-variants.{Is, Refused}
 use Rattle.descriptor.specs.declared.segmentation.DeliveryRestrictionFlags.{DeliveryRestrictionFlags}
-use Rattle.descriptor.specs.declared.segmentation.SegmentationDetail.the-variants.{Insert}
+use Rattle.descriptor.specs.declared.segmentation.DescriptorDetail.the-variants.{Active}
 use Rattle.descriptor.specs.declared.segmentation.SegmentationDuration.{SegmentationDuration}
 use Rattle.descriptor.specs.declared.segmentation.SegmentationMode.{SegmentationMode}
 use Rattle.descriptor.specs.declared.segmentation.SubSegments.{SubSegments}
@@ -37,7 +37,7 @@ row-g = refl
 abbrev start : SubSegments → DescriptorRead
 start sub = Is (Segmentation (record {
   «segmentation_event_id» = 42;
-  «descriptor_detail» = Insert (record {
+  «descriptor_detail» = Active (record {
     «program_segmentation_flag» = true;
     «segmentation_duration_flag» = false;
     «delivery_not_restricted_flag» = true;

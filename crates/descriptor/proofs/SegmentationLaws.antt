@@ -7,7 +7,7 @@ use native.Mathlib.Nat.{zero-add}
 use native.Mathlib.Omega.{arith}
 use lib.ListN.{length}
 use Rattle.names.specs.Flags.{restrictionsBits, restrictionsOf}
-use Rattle.names.specs.Segmentation.{fairSegmentation}
+use Rattle.names.specs.Segmentation.{writableSegmentation}
 use Rattle.names.specs.declared.flags.DeviceRestrictions.{DeviceRestrictions}
 use Rattle.names.proofs.Segmentations.{segmentation-laws}
 use Rattle.table.specs.Table.{list}
@@ -45,18 +45,18 @@ use Rattle.descriptor.specs.Segmentation.{
   byProgram,
   lasting,
   unrestricted,
-  fairFront,
-  fairDetail,
+  writableFront,
+  writableDetail,
 }
 use Rattle.descriptor.specs.declared.back.Back.{Back}
 use Rattle.descriptor.specs.declared.front.Front.{Front}
 use Rattle.descriptor.specs.declared.segmentation.DeliveryRestrictionFlags.{DeliveryRestrictionFlags}
 use Rattle.descriptor.specs.declared.segmentation.ModeComponent.{ModeComponent}
 use Rattle.descriptor.specs.declared.segmentation.SegmentationDescriptor.{SegmentationDescriptor}
-use Rattle.descriptor.specs.declared.segmentation.SegmentationDetail.{SegmentationDetail}
-use Rattle.descriptor.specs.declared.segmentation.SegmentationDetail.the-variants.{Cancel, Insert}
+use Rattle.descriptor.specs.declared.segmentation.DescriptorDetail.{DescriptorDetail}
+use Rattle.descriptor.specs.declared.segmentation.DescriptorDetail.the-variants.{Cancel, Active}
 use Rattle.descriptor.specs.declared.segmentation.SegmentationDuration.{SegmentationDuration}
-use Rattle.descriptor.specs.declared.segmentation.SegmentationInsert.{SegmentationInsert}
+use Rattle.descriptor.specs.declared.segmentation.SegmentationDetail.{SegmentationDetail}
 use Rattle.descriptor.specs.declared.segmentation.SegmentationMode.{SegmentationMode}
 use Rattle.descriptor.specs.declared.segmentation.SegmentationUpid.{SegmentationUpid}
 use Rattle.descriptor.specs.declared.segmentation.SubSegments.{SubSegments}
@@ -119,7 +119,7 @@ duration-leads (SegmentationDuration.Ticks t) at m = leads-number 40 _ _ _ _ at 
 
 -- a UPID at a new place
 abbrev pub upidAt : ℕ → SegmentationUpid → SegmentationUpid
-upidAt at u = record { kind = u .kind; bytes = record { at = at; len = u .bytes .len } }
+upidAt at u = record { «upid_type» = u .«upid_type»; bytes = record { at = at; len = u .bytes .len } }
 
 upid-leads : (u : SegmentationUpid) (at m : ℕ) → Leads writtenUpid u (upidAt ((at + 8 + 8) / 8) u) at (at + (2 + u .bytes .len) * 8) m
 unfolding writtenUpid
@@ -138,7 +138,7 @@ sub-leads (SubSegments.Is x) at m e =
     (leads-number 8 _ _ _ _ (at + 8) _ m
     (leads-done (SubSegments.Is x) _ _ _ _ m refl (omega arith))))
 
-back-leads : (x : Back) (at m : ℕ) → fairSegmentation (x .«segmentation_type_id») ≡ true → m ≡ 0 → Leads back x x at (at + (3 + subBytes (x .«sub_segments»)) * 8) m
+back-leads : (x : Back) (at m : ℕ) → writableSegmentation (x .«segmentation_type_id») ≡ true → m ≡ 0 → Leads back x x at (at + (3 + subBytes (x .«sub_segments»)) * 8) m
 unfolding back
 back-leads x at m f e =
     leads-number 8 _ _ _ _ at _ m
@@ -208,8 +208,8 @@ module _ (x : Fore) (m : ℕ) (fits : length (x .components) ≡ countOf (x .fro
       (upid-leads (x .front .«segmentation_upid») at _)
       (leads-done x _ _ _ _ m (rw z) (omega arith))))))
 
-  front-lead : fairFront (x .front) ≡ true → Leads front x (record { front = frontMoved (x .front); components = x .components }) 40 (frontBytes (x .front) * 8) m
-  unfolding front fairFront
+  front-lead : writableFront (x .front) ≡ true → Leads front x (record { front = frontMoved (x .front); components = x .components }) 40 (frontBytes (x .front) * 8) m
+  unfolding front writableFront
   front-lead f =
       let a = and-true (agrees (x .front .«program_segmentation_flag») (byProgram (x .front .«segmentation_mode»))) _ f in
       let b = and-true (agrees (x .front .«segmentation_duration_flag») (lasting (x .front .«segmentation_duration»))) _ (a .1) in
@@ -219,9 +219,9 @@ module _ (x : Fore) (m : ℕ) (fits : length (x .components) ≡ countOf (x .fro
       (parts-lead (x .front .«program_segmentation_flag») (x .front .«segmentation_duration_flag») (x .front .«delivery_not_restricted_flag») (agreed _ _ (a .0)) (agreed _ _ (b .0)) (agreed _ _ (b .1)))))
 
 -- ---- the structure
-abbrev pub detailMoved : SegmentationDetail → SegmentationDetail
+abbrev pub detailMoved : DescriptorDetail → DescriptorDetail
 detailMoved Cancel = Cancel
-detailMoved (Insert i) = Insert (insertFrom (frontMoved (frontOf (Insert i))) (upidAt (upidPlace (frontOf (Insert i))) (i .«segmentation_upid»)) (backOf (Insert i)))
+detailMoved (Active i) = Active (insertFrom (frontMoved (frontOf (Active i))) (upidAt (upidPlace (frontOf (Active i))) (i .«segmentation_upid»)) (backOf (Active i)))
 
 abbrev pub segmentationMoved : Segmentation → Segmentation
 segmentationMoved x = record {
@@ -229,38 +229,38 @@ segmentationMoved x = record {
   components = x .components;
 }
 
-abbrev pub detailBytes : SegmentationDetail → ℕ
+abbrev pub detailBytes : DescriptorDetail → ℕ
 detailBytes Cancel = 5
-detailBytes (Insert i) = frontBytes (frontOf (Insert i)) + (3 + subBytes (i .«sub_segments»))
+detailBytes (Active i) = frontBytes (frontOf (Active i)) + (3 + subBytes (i .«sub_segments»))
 
 -- as many components as the count says
 abbrev pub Counted : Segmentation → Type 0
 Counted x = length (x .components) ≡ countOf (frontOf (x .descriptor .«descriptor_detail») .«segmentation_mode»)
 
-segmentation-leads : (event : ℕ) (d : SegmentationDetail) (cs : List ModeComponent) (m : ℕ) → length cs ≡ countOf (frontOf d .«segmentation_mode») → fairDetail d ≡ true → m ≡ 0
+segmentation-leads : (event : ℕ) (d : DescriptorDetail) (cs : List ModeComponent) (m : ℕ) → length cs ≡ countOf (frontOf d .«segmentation_mode») → writableDetail d ≡ true → m ≡ 0
     → (let x : Segmentation = record { descriptor = record { «segmentation_event_id» = event; «descriptor_detail» = d }; components = cs } in
     Leads segmentation x (segmentationMoved x) 0 (detailBytes d * 8) m)
-unfolding segmentation fairDetail
+unfolding segmentation writableDetail
 segmentation-leads event Cancel [] m h f e =
     leads-in head _ _ _ _ (record { event = event; cancel = true }) 0 40 40 m (head-leads _ _) (leads-done (record { descriptor = record { «segmentation_event_id» = event; «descriptor_detail» = Cancel }; components = [] }) _ _ _ _ m refl refl)
 segmentation-leads event Cancel (c ∷ cs) m h f e = absurd (omega arith)
-segmentation-leads event (Insert i) cs m h f e =
-    let a = and-true (fairFront (frontOf (Insert i))) _ f in
-    let x : Fore = record { front = frontOf (Insert i); components = cs } in
+segmentation-leads event (Active i) cs m h f e =
+    let a = and-true (writableFront (frontOf (Active i))) _ f in
+    let x : Fore = record { front = frontOf (Active i); components = cs } in
     leads-in head _ _ _ _ (record { event = event; cancel = false }) 0 40 _ m (head-leads _ _)
-    (leads-in front _ _ _ _ (record { front = frontMoved (frontOf (Insert i)); components = cs }) 40 (frontBytes (frontOf (Insert i)) * 8) _ m
+    (leads-in front _ _ _ _ (record { front = frontMoved (frontOf (Active i)); components = cs }) 40 (frontBytes (frontOf (Active i)) * 8) _ m
     (front-lead x _ h (a .0))
-    (leads-in back _ _ _ _ (backOf (Insert i)) (frontBytes (frontOf (Insert i)) * 8) (frontBytes (frontOf (Insert i)) * 8 + (3 + subBytes (i .«sub_segments»)) * 8) _ m
-    (back-leads (backOf (Insert i)) (frontBytes (frontOf (Insert i)) * 8) _ (a .1) (omega arith))
-    (leads-done (record { descriptor = record { «segmentation_event_id» = event; «descriptor_detail» = Insert i }; components = cs }) _ _ _ _ m refl (omega arith))))
+    (leads-in back _ _ _ _ (backOf (Active i)) (frontBytes (frontOf (Active i)) * 8) (frontBytes (frontOf (Active i)) * 8 + (3 + subBytes (i .«sub_segments»)) * 8) _ m
+    (back-leads (backOf (Active i)) (frontBytes (frontOf (Active i)) * 8) _ (a .1) (omega arith))
+    (leads-done (record { descriptor = record { «segmentation_event_id» = event; «descriptor_detail» = Active i }; components = cs }) _ _ _ _ m refl (omega arith))))
 
-pub segmentation-ends : (x : Segmentation) (m : ℕ) → Counted x → fairDetail (x .descriptor .«descriptor_detail») ≡ true → m ≡ 0
+pub segmentation-ends : (x : Segmentation) (m : ℕ) → Counted x → writableDetail (x .descriptor .«descriptor_detail») ≡ true → m ≡ 0
     → Leads segmentation x (segmentationMoved x) 0 (detailBytes (x .descriptor .«descriptor_detail») * 8) m
 segmentation-ends x m h f e = segmentation-leads (x .descriptor .«segmentation_event_id») (x .descriptor .«descriptor_detail») (x .components) m h f e
 
 abbrev pub segmentationStructure : laws.Structure segmentation
 segmentationStructure = record {
-  fair = λ x. fairDetail (x .descriptor .«descriptor_detail»);
+  writable = λ x. writableDetail (x .descriptor .«descriptor_detail»);
   size = λ x. detailBytes (x .descriptor .«descriptor_detail»);
   moved = segmentationMoved;
   Shape = Counted;

@@ -7,7 +7,7 @@ use native.Mathlib.Omega.{arith}
 use lib.Dec.{eqb}
 use borrow.Author.Tests.{eqb-true}
 use Rattle.names.specs.Flags.{restrictionsBits, restrictionsOf}
-use Rattle.names.specs.Segmentation.{fairSegmentation}
+use Rattle.names.specs.Segmentation.{writableSegmentation}
 use Rattle.names.proofs.Segmentations.{segmentation-laws}
 use Rattle.table.specs.Table.{list}
 use Rattle.table.proofs.Laws.{Tells}
@@ -31,8 +31,8 @@ use Rattle.descriptor.specs.Segmentation.{
   byProgram,
   lasting,
   unrestricted,
-  fairFront,
-  fairDetail,
+  writableFront,
+  writableDetail,
 }
 
 device-there : (n : ℕ) → n < 2 ^ 2 → restrictionsBits (deviceOf n) ≡ n
@@ -78,7 +78,7 @@ duration-tells false at e = (e, refl)
 upid-tells : (at : ℕ) → at % 8 ≡ 0 → Tells writtenUpid at (λ a y. a % 8 ≡ 0)
 unfolding writtenUpid
 upid-tells at e =
-    tells-number 8 _ _ at _ λ kind h₁.
+    tells-number 8 _ _ at _ λ upid-type h₁.
     tells-number 8 _ _ (at + 8) _ λ n h₂.
     tells-part n _ _ (at + 8 + 8) _ (omega arith) (((let z : (at + 8 + 8 + n * 8) % 8 ≡ 0 = omega arith in z, refl), refl), refl)
 
@@ -87,9 +87,9 @@ agrees-same true = refl
 agrees-same false = refl
 
 parts-tells : (p l f : Bool) (at : ℕ) → (at + 5) % 8 ≡ 0 → Tells (parts p l f) at (λ a y.
-    ((((a % 8 ≡ 0) × (fairFront (y .front) ≡ true)) × (byProgram (y .front .«segmentation_mode») ≡ p)) × (lasting (y .front .«segmentation_duration») ≡ l))
+    ((((a % 8 ≡ 0) × (writableFront (y .front) ≡ true)) × (byProgram (y .front .«segmentation_mode») ≡ p)) × (lasting (y .front .«segmentation_duration») ≡ l))
     × (unrestricted (y .front .«delivery_restrictions») ≡ f))
-unfolding parts fairFront
+unfolding parts writableFront
 parts-tells p l f at e =
     tells-in (deliveryRestrictions f) _ _ at _ _ (delivery-tells f at) λ a r g.
     tells-in (mode p) _ _ a _ _ (mode-tells p a (omega arith)) λ b m h.
@@ -97,7 +97,7 @@ parts-tells p l f at e =
     tells-in writtenUpid _ _ c _ _ (upid-tells c (i .0)) λ z u j.
     ((((((((j, rw (g .1, h .1, i .1, agrees-same p, agrees-same l, agrees-same f)), h .1), i .1), g .1), refl), refl), refl), refl)
 
-front-tells : (at : ℕ) → at % 8 ≡ 0 → Tells front at (λ a y. (a % 8 ≡ 0) × (fairFront (y .front) ≡ true))
+front-tells : (at : ℕ) → at % 8 ≡ 0 → Tells front at (λ a y. (a % 8 ≡ 0) × (writableFront (y .front) ≡ true))
 unfolding front
 front-tells at e =
     tells-flag _ _ at _ λ p.
@@ -114,21 +114,21 @@ sub-tells at e =
     (λ z two. tells-number 8 _ _ at _ λ n h. tells-number 8 _ _ (at + 8) _ λ x i.
     (((let z : (at + 8 + 8) % 8 ≡ 0 = omega arith in z, sym (eqb-true m 2 two)), refl), refl))
 
-back-tells : (at : ℕ) → at % 8 ≡ 0 → Tells back at (λ a y. (a % 8 ≡ 0) × (fairSegmentation (y .«segmentation_type_id») ≡ true))
+back-tells : (at : ℕ) → at % 8 ≡ 0 → Tells back at (λ a y. (a % 8 ≡ 0) × (writableSegmentation (y .«segmentation_type_id») ≡ true))
 unfolding back
 back-tells at e =
-    tells-number 8 _ _ at _ λ kind h₁.
+    tells-number 8 _ _ at _ λ type-id h₁.
     tells-number 8 _ _ (at + 8) _ λ number h₂.
     tells-number 8 _ _ (at + 8 + 8) _ λ expected h₃.
     tells-in subSegments _ _ (at + 8 + 8 + 8) _ _ (sub-tells (at + 8 + 8 + 8) (omega arith)) λ a s g.
-    (((((g, segmentation-laws .is-fair kind), segmentation-laws .there kind), refl), refl), refl)
+    (((((g, segmentation-laws .is-writable type-id), segmentation-laws .there type-id), refl), refl), refl)
 
 head-tells : Tells head 0 (λ a y. a ≡ 40)
 unfolding head
 head-tells = tells-number 32 _ _ 0 _ λ event h. tells-flag _ _ 32 _ λ cancel. tells-ones 7 _ 33 _ ((refl, refl), refl)
 
-pub segmentation-tells : Tells segmentation 0 (λ a y. (a % 8 ≡ 0) × (fairDetail (y .descriptor .«descriptor_detail») ≡ true))
-unfolding segmentation fairDetail
+pub segmentation-tells : Tells segmentation 0 (λ a y. (a % 8 ≡ 0) × (writableDetail (y .descriptor .«descriptor_detail») ≡ true))
+unfolding segmentation writableDetail
 segmentation-tells =
     tells-in head _ _ 0 _ _ head-tells λ a h e.
     tells-pick (h .cancel) _ _ a _

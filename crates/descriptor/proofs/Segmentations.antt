@@ -29,7 +29,7 @@ use Rattle.descriptor.specs.declared.back.Back.{Back}
 use Rattle.descriptor.specs.declared.front.Front.{Front}
 use Rattle.descriptor.specs.declared.segmentation.DeliveryRestrictionFlags.{DeliveryRestrictionFlags}
 use Rattle.descriptor.specs.declared.segmentation.ModeComponent.{ModeComponent}
-use Rattle.descriptor.specs.declared.segmentation.SegmentationDetail.the-variants.{Cancel}
+use Rattle.descriptor.specs.declared.segmentation.DescriptorDetail.the-variants.{Cancel}
 use Rattle.descriptor.specs.declared.segmentation.SegmentationDuration.{SegmentationDuration}
 use Rattle.descriptor.specs.declared.segmentation.SegmentationMode.{SegmentationMode}
 use Rattle.descriptor.specs.declared.segmentation.SegmentationUpid.{SegmentationUpid}
@@ -114,7 +114,7 @@ front-inside s i n x e =
     ends-inside front s i n x (omega arith) e
 
 -- ---- a UPID that is checked
-module _ (s : List ℕ) (u : SegmentationUpid) (b : List ℕ) (a : UpidRead) (eb : b ≡ viewed s (u .bytes)) (ea : a ≡ checkOf (u .kind) b) where
+module _ (s : List ℕ) (u : SegmentationUpid) (b : List ℕ) (a : UpidRead) (eb : b ≡ viewed s (u .bytes)) (ea : a ≡ checkOf (u .«upid_type») b) where
   answered : upidChecked s u ≡ upidAnswer a (u .bytes)
   unfolding upidChecked
   answered = rw (← eb, ← ea)
@@ -135,21 +135,21 @@ module _ (s : List ℕ) (u : SegmentationUpid) (b : List ℕ) (a : UpidRead) (eb
       viewing = refl
 
       inside : t .at + t .len ≤ length b
-      inside = view-of-24-lies-inside (u .kind) b k t (sym ea ∙ e)
+      inside = view-of-24-lies-inside (u .«upid_type») b k t (sym ea ∙ e)
 
       none : b ≡ [] → ⊥
-      none z = let w : UpidRead.Refused (Refusal.InvalidUpidContent k t) ≡ UpidRead.Fine 0 = sym e ∙ ea ∙ ap (checkOf (u .kind)) z in zero-one cc
+      none z = let w : UpidRead.Refused (Refusal.InvalidUpidContent k t) ≡ UpidRead.Fine 0 = sym e ∙ ea ∙ ap (checkOf (u .«upid_type»)) z in zero-one cc
 
       text : (x : Bool) → leb (u .bytes .at + u .bytes .len) (length s) ≡ x → b ≡ pick x (take (u .bytes .len) (drop (u .bytes .at) s)) [] → u .bytes .at + t .at ≤ length s
       text true h z = omega (arith, inside, ap length z, length-take (u .bytes .len) (drop (u .bytes .at) s), leb-true (u .bytes .at + u .bytes .len) (length s) h)
       text false h z = absurd (none z)
 
 checked-is : (a : UpidRead) (v : View) (k : SegmentationUpid → DescriptorRead) (u : SegmentationUpid) → UpidChecked.Is u ≡ upidAnswer a v → ifFine a v k ≡ k u
-checked-is (UpidRead.Fine kind) v k u e = let z : u ≡ reportedUpid kind v = cc in rw z
+checked-is (UpidRead.Fine upid-type) v k u e = let z : u ≡ reportedUpid upid-type v = cc in rw z
 checked-is (UpidRead.Refused r) v k u e = zero-one cc
 
 checked-refused : (a : UpidRead) (v : View) (k : SegmentationUpid → DescriptorRead) (r : Refusal) → UpidChecked.Refused r ≡ upidAnswer a v → Refused r ≡ ifFine a v k
-checked-refused (UpidRead.Fine kind) v k r e = zero-one cc
+checked-refused (UpidRead.Fine upid-type) v k r e = zero-one cc
 checked-refused (UpidRead.Refused q) v k r e = let z : r ≡ movedRefusal (v .at) q = cc in rw z
 
 -- ---- what follows the head, step by step
@@ -166,7 +166,7 @@ module _ (s : List ℕ) (event at : ℕ) where
     bytes = f .«segmentation_upid» .bytes
 
     abbrev verdict : UpidRead
-    verdict = checkOf (f .«segmentation_upid» .kind) (viewed s bytes)
+    verdict = checkOf (f .«segmentation_upid» .«upid_type») (viewed s bytes)
 
     fronted : insertOf s event at ≡ ifFine verdict bytes after
     unfolding insertOf

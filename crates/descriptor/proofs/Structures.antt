@@ -21,16 +21,16 @@ use Rattle.descriptor.specs.declared.plain.TimeDescriptor.{TimeDescripto
 -- ---- the three laws of a structure
 pub record RoundTrips {X : Type 0} (t : Table X) (st : laws.Structure t) : Type 0 where
   -- what is written of x reads as x, its views at their new places, and is canonical
-  pub write-read : (lent : List ℕ) (x : X) (b r : List ℕ) → st .Shape x → make t (st .fair x) lent x ≡ made b → st .After (length r * 8)
+  pub write-read : (lent : List ℕ) (x : X) (b r : List ℕ) → st .Shape x → make t (st .writable x) lent x ≡ made b → st .After (length r * 8)
       → (parse t (bitsOf (b ++ r)) 0 ≡ got (st .moved x) (length b * 8)) × (canonical t (bitsOf (b ++ r)) 0 ≡ true)
   -- canonical bytes without a spare one are what is written of their reading
-  pub read-write : (s : List ℕ) (x : X) → AllBytes s → parse t (bitsOf s) 0 ≡ got x (length s * 8) → canonical t (bitsOf s) 0 ≡ true → make t (st .fair x) s x ≡ made s
+  pub read-write : (s : List ℕ) (x : X) → AllBytes s → parse t (bitsOf s) 0 ≡ got x (length s * 8) → canonical t (bitsOf s) 0 ≡ true → make t (st .writable x) s x ≡ made s
   -- of equal readings they are equal
-  pub one-encoding : (s r : List ℕ) (x y : X) → AllBytes s → AllBytes r → parse t (bitsOf s) 0 ≡ got x (length s * 8) → parse t (bitsOf r) 0 ≡ got y (length r * 8)
+  pub write-one : (s r : List ℕ) (x y : X) → AllBytes s → AllBytes r → parse t (bitsOf s) 0 ≡ got x (length s * 8) → parse t (bitsOf r) 0 ≡ got y (length r * 8)
       → canonical t (bitsOf s) 0 ≡ true → canonical t (bitsOf r) 0 ≡ true → Same t s x r y → s ≡ r
 
 pub round-trips : {X : Type 0} (t : Table X) (st : laws.Structure t) → RoundTrips t st
-round-trips t st = record { write-read = laws.write-read t st; read-write = laws.read-write-all t st; one-encoding = laws.one-encoding t st }
+round-trips t st = record { write-read = laws.write-read t st; read-write = laws.read-write-all t st; write-one = laws.write-one t st }
 
 -- ---- avail
 pub avail-tells : Tells avail 0 (λ a y. (a % 8 ≡ 0) × (true ≡ true))
@@ -43,7 +43,7 @@ avail-leads x m = leads-number 32 _ _ _ _ 0 32 m (leads-done x _ _ _ _ m refl re
 
 abbrev pub availStructure : laws.Structure avail
 availStructure = record {
-  fair = λ x. true;
+  writable = λ x. true;
   size = λ x. 4;
   moved = λ x. x;
   Shape = λ x. Unit {0};
@@ -79,7 +79,7 @@ dtmf-leads x m =
 
 abbrev pub dtmfStructure : laws.Structure dtmf
 dtmfStructure = record {
-  fair = λ x. true;
+  writable = λ x. true;
   size = λ x. 2 + x .«dtmf_chars» .len;
   moved = dtmfMoved;
   Shape = λ x. Unit {0};
@@ -111,7 +111,7 @@ time-leads x m =
 
 abbrev pub timeStructure : laws.Structure time
 timeStructure = record {
-  fair = λ x. true;
+  writable = λ x. true;
   size = λ x. 12;
   moved = λ x. x;
   Shape = λ x. Unit {0};
@@ -140,7 +140,7 @@ private-leads x m e =
 
 abbrev pub privateStructure : laws.Structure privateBytes
 privateStructure = record {
-  fair = λ x. true;
+  writable = λ x. true;
   size = λ x. x .len;
   moved = λ x. record { at = 0; len = x .len };
   Shape = λ x. Unit {0};

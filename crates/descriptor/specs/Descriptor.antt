@@ -21,7 +21,7 @@ use Rattle.descriptor.specs.declared.DescriptorRead.{DescriptorRead}
 use Rattle.descriptor.specs.declared.DescriptorRead.the-variants.{Is, Refused}
 use Rattle.descriptor.specs.declared.back.Back.{Back}
 use Rattle.descriptor.specs.declared.front.Front.{Front}
-use Rattle.descriptor.specs.declared.segmentation.SegmentationDetail.the-variants.{Cancel, Insert}
+use Rattle.descriptor.specs.declared.segmentation.DescriptorDetail.the-variants.{Cancel, Active}
 use Rattle.descriptor.specs.declared.segmentation.SegmentationUpid.{SegmentationUpid}
 
 -- what a table reads, and then what is made of it; "the first fault stands"
@@ -53,25 +53,25 @@ abbrev pub movedRefusal : ℕ → Refusal → Refusal
 movedRefusal at InputTooLong = InputTooLong
 movedRefusal at (NotEnoughData expected actual) = NotEnoughData expected actual
 movedRefusal at UpidLengthTypeMismatch = UpidLengthTypeMismatch
-movedRefusal at (InvalidUpidContent kind text) = InvalidUpidContent kind (shifted at text)
-movedRefusal at (InvalidUpidLength kind expected actual) = InvalidUpidLength kind expected actual
+movedRefusal at (InvalidUpidContent upid-type text) = InvalidUpidContent upid-type (shifted at text)
+movedRefusal at (InvalidUpidLength upid-type expected actual) = InvalidUpidLength upid-type expected actual
 
 -- "Length 0 at top level is None"; "The EIDR identifier of 12 bytes is held by value. Else an item's UPID is its reported type and one view of its bytes"
 abbrev pub reportedUpid : ℕ → View → SegmentationUpid
-reportedUpid kind bytes = record { kind = kind; bytes = pick (withoutView kind) noView bytes }
+reportedUpid upid-type bytes = record { «upid_type» = upid-type; bytes = pick (withoutView upid-type) noView bytes }
 
 abbrev pub ifFine : UpidRead → View → (SegmentationUpid → DescriptorRead) → DescriptorRead
-ifFine (UpidRead.Fine kind) bytes k = k (reportedUpid kind bytes)
+ifFine (UpidRead.Fine upid-type) bytes k = k (reportedUpid upid-type bytes)
 ifFine (UpidRead.Refused r) bytes k = Refused (movedRefusal (bytes .at) r)
 
 unfoldable pub inserted : ℕ → Front → SegmentationUpid → Back → DescriptorRead
-inserted event f upid b = Is (Segmentation (record { «segmentation_event_id» = event; «descriptor_detail» = Insert (insertFrom f upid b) }))
+inserted event f upid b = Is (Segmentation (record { «segmentation_event_id» = event; «descriptor_detail» = Active (insertFrom f upid b) }))
 
 unfoldable pub insertOf : List ℕ → ℕ → ℕ → DescriptorRead
 insertOf s event at =
     parse front (bitsOf s) at andThen λ f at.
     let written = f .front .«segmentation_upid» in
-    ifFine (checkOf (written .kind) (viewed s (written .bytes))) (written .bytes) λ upid.
+    ifFine (checkOf (written .«upid_type») (viewed s (written .bytes))) (written .bytes) λ upid.
     parse back (bitsOf s) at andThen λ b at.
     inserted event (f .front) upid b
 

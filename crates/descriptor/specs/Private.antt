@@ -27,7 +27,7 @@ use Rattle.descriptor.specs.declared.front.ComponentsPassed.{ComponentsP
 use Rattle.descriptor.specs.declared.front.DurationRead.{DurationRead}
 use Rattle.descriptor.specs.declared.front.Front.{Front}
 use Rattle.descriptor.specs.declared.front.FrontRead.{FrontRead}
-use Rattle.descriptor.specs.declared.front.MainRead.{MainRead}
+use Rattle.descriptor.specs.declared.front.ModeAndUpidRead.{ModeAndUpidRead}
 use Rattle.descriptor.specs.declared.front.ModeRead.{ModeRead}
 use Rattle.descriptor.specs.declared.front.WrittenRead.{WrittenRead}
 use Rattle.descriptor.specs.declared.octet.Octet.{Octet}
@@ -94,10 +94,10 @@ frontRead (FrontRead.Got x) r = (cs : List ModeComponent) × (r ≡ got (record 
 frontRead (FrontRead.Lacks e) r = r ≡ short (e .expected) (e .actual)
 
 -- of the same reading the mode and the UPID alone
-abbrev pub mainRead : MainRead → Answer Fore → Type 0
-mainRead (MainRead.Got x) r =
+abbrev pub modeAndUpidRead : ModeAndUpidRead → Answer Fore → Type 0
+modeAndUpidRead (ModeAndUpidRead.Got x) r =
     (f : Front) × (cs : List ModeComponent) × (r ≡ got (record { front = f; components = cs }) (x .next * 8)) × (f .«segmentation_mode» ≡ x .mode) × (f .«segmentation_upid» ≡ x .upid)
-mainRead MainRead.Lacks r = (expected : ℕ) × (actual : ℕ) × (r ≡ short expected actual)
+modeAndUpidRead ModeAndUpidRead.Lacks r = (expected : ℕ) × (actual : ℕ) × (r ≡ short expected actual)
 
 abbrev pub headRead : HeadRead → Answer Head → Type 0
 headRead (HeadRead.Got x) r = r ≡ got (record { event = x .event; cancel = x .cancel }) 40
@@ -114,11 +114,11 @@ backRead (BackRead.Lacks e) r = r ≡ short (e .expected) (e .actual)
 
 -- a UPID that is checked
 abbrev pub upidAnswer : UpidRead → View → UpidChecked
-upidAnswer (UpidRead.Fine kind) bytes = UpidChecked.Is (reportedUpid kind bytes)
+upidAnswer (UpidRead.Fine upid-type) bytes = UpidChecked.Is (reportedUpid upid-type bytes)
 upidAnswer (UpidRead.Refused r) bytes = UpidChecked.Refused (movedRefusal (bytes .at) r)
 
 unfoldable pub upidChecked : List ℕ → SegmentationUpid → UpidChecked
-upidChecked s u = upidAnswer (checkOf (u .kind) (viewed s (u .bytes))) (u .bytes)
+upidChecked s u = upidAnswer (checkOf (u .«upid_type») (viewed s (u .bytes))) (u .bytes)
 
 -- components stored in an array from place i on; the blank array where they are not all there
 unfoldable pub filling : List ModeComponent → ℕ → Answer (List ModeComponent) → List ModeComponent

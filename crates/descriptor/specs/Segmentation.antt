@@ -1,10 +1,10 @@
 -- The payload of a segmentation descriptor. 01, "Loop items". The rules of its UPID are not the table's: here it has the type that is written.
-use Prim.Native.Nat.{ℕ, _+_, _*_}
+use Prim.Native.Nat.{ℕ, _+_, _*_, _/_, _%_}
 use mathlib.Core.Bool.{Bool, true, false, not, _&&_}
 use mathlib.Core.List.{List, []}
 use lib.Dec.{eqb}
 use Rattle.names.specs.Flags.{Answer, gives, refuses, restrictionsBits, restrictionsOf}
-use Rattle.names.specs.Segmentation.{segmentationNumber, segmentationOf, fairSegmentation}
+use Rattle.names.specs.Segmentation.{segmentationNumber, segmentationOf, writableSegmentation}
 use Rattle.names.specs.declared.flags.DeviceRestrictions.{DeviceRestrictions}
 use Rattle.table.specs.Bits.{pick}
 use Rattle.table.specs.Lent.{noView}
@@ -15,11 +15,11 @@ use Rattle.descriptor.specs.declared.segmentation.DeliveryRestrictionFla
 use Rattle.descriptor.specs.declared.segmentation.DeliveryRestrictions.{DeliveryRestrictions}
 use Rattle.descriptor.specs.declared.segmentation.ModeComponent.{ModeComponent}
 use Rattle.descriptor.specs.declared.segmentation.SegmentationDescriptor.{SegmentationDescriptor}
-use Rattle.descriptor.specs.declared.segmentation.SegmentationDetail.{SegmentationDetail}
-use Rattle.descriptor.specs.declared.segmentation.SegmentationDetail.the-variants.{Cancel, Insert}
+use Rattle.descriptor.specs.declared.segmentation.DescriptorDetail.{DescriptorDetail}
+use Rattle.descriptor.specs.declared.segmentation.DescriptorDetail.the-variants.{Cancel, Active}
 use Rattle.descriptor.specs.declared.segmentation.SegmentationDuration.{SegmentationDuration}
 use Rattle.descriptor.specs.declared.segmentation.SegmentationDuration.the-variants.{Ticks}
-use Rattle.descriptor.specs.declared.segmentation.SegmentationInsert.{SegmentationInsert}
+use Rattle.descriptor.specs.declared.segmentation.SegmentationDetail.{SegmentationDetail}
 use Rattle.descriptor.specs.declared.segmentation.SegmentationMode.{SegmentationMode}
 use Rattle.descriptor.specs.declared.segmentation.SegmentationMode.the-variants.{Program, Component}
 use Rattle.descriptor.specs.declared.segmentation.SegmentationUpid.{SegmentationUpid}
@@ -124,14 +124,18 @@ abbrev pub durationSize : SegmentationDuration → ℕ
 durationSize SegmentationDuration.Absent = 0
 durationSize (Ticks t) = 5
 
+-- how many bytes both take, by the byte of flags and the byte after it
+abbrev pub fieldsBefore : ℕ → ℕ → ℕ
+fieldsBefore flags count = pick (eqb (flags / 128 % 2) 1) 0 (1 + count * 6) + pick (eqb (flags / 64 % 2) 1) 5 0
+
 -- ---- "UPID type 8, length 8, bytes"
 
 unfoldable pub writtenUpid : Table SegmentationUpid
 writtenUpid =
-    uimsbf 8 (λ x. x .kind) λ kind.
+    uimsbf 8 (λ x. x .«upid_type») λ upid-type.
     uimsbf 8 (λ x. x .bytes .len) λ length.
     inside (part length) (λ x. x .bytes) λ bytes.
-    done (record { kind = kind; bytes = bytes })
+    done (record { «upid_type» = upid-type; bytes = bytes })
 
 -- ---- "program 1, duration 1, not-restricted 1", and all up to the UPID
 
@@ -158,7 +162,7 @@ parts program lasting free =
       components = moded .components;
     })
 
--- Each flag is written as its part says, so that every number handed in is looked at. Where a flag says otherwise, that is refusal 33 (`fairDetail`).
+-- Each flag is written as its part says, so that every number handed in is looked at. Where a flag says otherwise, that is refusal 33 (`writableDetail`).
 unfoldable pub front : Table Fore
 front =
     flag (λ x. byProgram (x .front .«segmentation_mode»)) λ program-segmentation.
@@ -220,7 +224,7 @@ pub record Segmentation : Type 0 where
   pub descriptor : SegmentationDescriptor
   pub components : List ModeComponent
 
-abbrev pub insertFrom : Front → SegmentationUpid → Back → SegmentationInsert
+abbrev pub insertFrom : Front → SegmentationUpid → Back → SegmentationDetail
 insertFrom f upid b = record {
   «program_segmentation_flag» = f .«program_segmentation_flag»;
   «segmentation_duration_flag» = f .«segmentation_duration_flag»;
@@ -236,7 +240,7 @@ insertFrom f upid b = record {
 }
 
 abbrev pub blankUpid : SegmentationUpid
-blankUpid = record { kind = 0; bytes = noView }
+blankUpid = record { «upid_type» = 0; bytes = noView }
 
 abbrev pub blankFront : Front
 blankFront = record {
@@ -257,13 +261,13 @@ blankBack = record {
   «sub_segments» = SubSegments.Absent;
 }
 
-abbrev pub cancelled : SegmentationDetail → Bool
+abbrev pub cancelled : DescriptorDetail → Bool
 cancelled Cancel = true
-cancelled (Insert i) = false
+cancelled (Active i) = false
 
-abbrev pub frontOf : SegmentationDetail → Front
+abbrev pub frontOf : DescriptorDetail → Front
 frontOf Cancel = blankFront
-frontOf (Insert i) = record {
+frontOf (Active i) = record {
   «program_segmentation_flag» = i .«program_segmentation_flag»;
   «segmentation_duration_flag» = i .«segmentation_duration_flag»;
   «delivery_not_restricted_flag» = i .«delivery_not_restricted_flag»;
@@ -273,9 +277,9 @@ frontOf (Insert i) = record {
   «segmentation_upid» = i .«segmentation_upid»;
 }
 
-abbrev pub backOf : SegmentationDetail → Back
+abbrev pub backOf : DescriptorDetail → Back
 backOf Cancel = blankBack
-backOf (Insert i) = record {
+backOf (Active i) = record {
   «segmentation_type_id» = i .«segmentation_type_id»;
   «segment_num» = i .«segment_num»;
   «segments_expected» = i .«segments_expected»;
@@ -283,17 +287,17 @@ backOf (Insert i) = record {
 }
 
 -- the UPID of a detail, and how many components it has
-abbrev pub detailUpid : SegmentationDetail → SegmentationUpid
+abbrev pub detailUpid : DescriptorDetail → SegmentationUpid
 detailUpid d = frontOf d .«segmentation_upid»
 
-abbrev pub detailCount : SegmentationDetail → ℕ
+abbrev pub detailCount : DescriptorDetail → ℕ
 detailCount d = countOf (frontOf d .«segmentation_mode»)
 
 abbrev pub componentCount : SegmentationDescriptor → ℕ
 componentCount x = detailCount (x .«descriptor_detail»)
 
 -- the same with another UPID
-abbrev pub withUpid : SegmentationInsert → SegmentationUpid → SegmentationInsert
+abbrev pub withUpid : SegmentationDetail → SegmentationUpid → SegmentationDetail
 withUpid i upid = record {
   «program_segmentation_flag» = i .«program_segmentation_flag»;
   «segmentation_duration_flag» = i .«segmentation_duration_flag»;
@@ -319,7 +323,7 @@ segmentation =
     (inside front (λ x. record { front = frontOf (x .descriptor .«descriptor_detail»); components = x .components }) λ f.
     inside back (λ x. backOf (x .descriptor .«descriptor_detail»)) λ b.
     done (record {
-      descriptor = record { «segmentation_event_id» = h .event; «descriptor_detail» = Insert (insertFrom (f .front) (f .front .«segmentation_upid») b) };
+      descriptor = record { «segmentation_event_id» = h .event; «descriptor_detail» = Active (insertFrom (f .front) (f .front .«segmentation_upid») b) };
       components = f .components;
     }))
 
@@ -330,12 +334,12 @@ abbrev pub agrees : Bool → Bool → Bool
 agrees true b = b
 agrees false b = not b
 
-unfoldable pub fairFront : Front → Bool
-fairFront f =
+unfoldable pub writableFront : Front → Bool
+writableFront f =
     agrees (f .«program_segmentation_flag») (byProgram (f .«segmentation_mode»))
     && (agrees (f .«segmentation_duration_flag») (lasting (f .«segmentation_duration»))
     && agrees (f .«delivery_not_restricted_flag») (unrestricted (f .«delivery_restrictions»)))
 
-unfoldable pub fairDetail : SegmentationDetail → Bool
-fairDetail Cancel = true
-fairDetail (Insert i) = fairFront (frontOf (Insert i)) && fairSegmentation (i .«segmentation_type_id»)
+unfoldable pub writableDetail : DescriptorDetail → Bool
+writableDetail Cancel = true
+writableDetail (Active i) = writableFront (frontOf (Active i)) && writableSegmentation (i .«segmentation_type_id»)

@@ -14,20 +14,20 @@ use Rattle.descriptor.specs.declared.plain.AvailDescriptor.{AvailDescrip
 use Rattle.descriptor.specs.declared.plain.DTMFDescriptor.{DTMFDescriptor}
 use Rattle.descriptor.specs.declared.plain.TimeDescriptor.{TimeDescriptor}
 use Rattle.descriptor.specs.declared.segmentation.SegmentationDescriptor.{SegmentationDescriptor}
-use Rattle.descriptor.specs.declared.segmentation.SegmentationDetail.{SegmentationDetail}
-use Rattle.descriptor.specs.declared.segmentation.SegmentationDetail.the-variants.{Cancel, Insert}
+use Rattle.descriptor.specs.declared.segmentation.DescriptorDetail.{DescriptorDetail}
+use Rattle.descriptor.specs.declared.segmentation.DescriptorDetail.the-variants.{Cancel, Active}
 use Rattle.descriptor.specs.declared.segmentation.SegmentationUpid.{SegmentationUpid}
 
 -- the types of a UPID that have no view: None (type 0) has no bytes, and of EIDR (type 10) "The EIDR identifier of 12 bytes is held by value"
 abbrev pub withoutView : ℕ → Bool
-withoutView kind = eqb kind 0 || eqb kind 10
+withoutView upid-type = eqb upid-type 0 || eqb upid-type 10
 
 abbrev pub upidViews : SegmentationUpid → List View
-upidViews u = pick (withoutView (u .kind)) [] (u .bytes ∷ [])
+upidViews u = pick (withoutView (u .«upid_type»)) [] (u .bytes ∷ [])
 
-abbrev pub detailViews : SegmentationDetail → List View
+abbrev pub detailViews : DescriptorDetail → List View
 detailViews Cancel = []
-detailViews (Insert i) = upidViews (i .«segmentation_upid»)
+detailViews (Active i) = upidViews (i .«segmentation_upid»)
 
 -- by a descriptor: what is made of each kind
 abbrev pub byDescriptor : {A : Type 0} → (AvailDescriptor → A) → (DTMFDescriptor → A) → (SegmentationDescriptor → A) → (TimeDescriptor → A) → (ℕ → View → A) → Descriptor → A
@@ -46,13 +46,13 @@ abbrev pub refusalViews : Refusal → List View
 refusalViews InputTooLong = []
 refusalViews (NotEnoughData expected actual) = []
 refusalViews UpidLengthTypeMismatch = []
-refusalViews (InvalidUpidContent kind bytes) = bytes ∷ []
-refusalViews (InvalidUpidLength kind expected actual) = []
+refusalViews (InvalidUpidContent upid-type bytes) = bytes ∷ []
+refusalViews (InvalidUpidLength upid-type expected actual) = []
 
 -- ---- the same descriptor with another UPID, or, of a DTMF or reserved one, with another view
-abbrev pub withUpids : (SegmentationUpid → SegmentationUpid) → SegmentationDetail → SegmentationDetail
+abbrev pub withUpids : (SegmentationUpid → SegmentationUpid) → DescriptorDetail → DescriptorDetail
 withUpids f Cancel = Cancel
-withUpids f (Insert i) = Insert (withUpid i (f (i .«segmentation_upid»)))
+withUpids f (Active i) = Active (withUpid i (f (i .«segmentation_upid»)))
 
 abbrev pub withViews : (SegmentationUpid → SegmentationUpid) → (View → View) → Descriptor → Descriptor
 withViews f g (Avail x) = Avail x

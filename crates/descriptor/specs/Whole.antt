@@ -37,7 +37,7 @@ blankBeside = record { components = filled []; eidr = replicate 12 0 }
 unfoldable pub besideIn : List ℕ → Answer table.Segmentation → Beside
 besideIn s (got x at) =
     let upid = detailUpid (x .descriptor .«descriptor_detail») in
-    record { components = filled (x .components); eidr = eidrOf (upid .kind) (viewed s (upid .bytes)) }
+    record { components = filled (x .components); eidr = eidrOf (upid .«upid_type») (viewed s (upid .bytes)) }
 besideIn s (short expected actual) = blankBeside
 
 unfoldable pub besideOf : List ℕ → Beside

@@ -3,11 +3,10 @@ ghost use mathlib.Core.Path.{_≡_};
 ghost use Prim.Native.Nat.{_+_, _*_, _≤_, _<_};
 ghost use lib.ListN.{length};
 ghost use Rattle.descriptor.specs.Segmentation.{deviceOf, blankComponent, component, mode, duration, writtenUpid, front};
-ghost use Rattle.descriptor.specs.Private.{restrictionsIn, lackedOf, componentRead, componentsPassed, modeRead, durationRead, upidRead, mainRead, frontRead};
+ghost use Rattle.descriptor.specs.Private.{restrictionsIn, lackedOf, componentRead, componentsPassed, modeRead, durationRead, upidRead, modeAndUpidRead, frontRead};
 ghost use Rattle.table.specs.Bits.{bitsOf};
 ghost use Rattle.table.specs.Table.{list, parse};
 use crate::octet::number40;
-use crate::octet::size;
 use crate::segmentation::DeliveryRestrictionFlags;
 use crate::segmentation::DeliveryRestrictions;
 use crate::segmentation::ModeComponent;
@@ -18,6 +17,7 @@ use names::flags::DeviceRestrictions;
 use names::flags::RestrictionsRead;
 use table::View;
 use table::cursor::Short;
+use table::numbers::size;
 use table::numbers::time33;
 
 // Each part with the byte after it.
@@ -88,14 +88,14 @@ pub(crate) enum FrontRead {
 }
 
 // What stands beside a descriptor goes by these.
-pub(crate) struct Main {
+pub(crate) struct ModeAndUpid {
     pub mode: SegmentationMode,
     pub upid: SegmentationUpid,
     pub next: usize,
 }
 
-pub(crate) enum MainRead {
-    Got(Main),
+pub(crate) enum ModeAndUpidRead {
+    Got(ModeAndUpid),
     Lacks,
 }
 
@@ -247,7 +247,7 @@ fn read_written_upid(s: &[u8], at: usize) -> WrittenRead
     }
     WrittenRead::Got(Written {
         upid: SegmentationUpid {
-            kind: s[at],
+            upid_type: s[at],
             bytes: View { at: start, len },
         },
         next: start + len,
@@ -255,28 +255,28 @@ fn read_written_upid(s: &[u8], at: usize) -> WrittenRead
 }
 
 // Of these fields the mode and the UPID as it is written, for those who ask for no more.
-pub(crate) fn read_main(s: &[u8], at: usize) -> MainRead
-    ensures { λ r. ⌜ mainRead r (parse front (bitsOf (now (s .entry))) (at * 8)) ⌝ }
+pub(crate) fn read_mode_and_upid(s: &[u8], at: usize) -> ModeAndUpidRead
+    ensures { λ r. ⌜ modeAndUpidRead r (parse front (bitsOf (now (s .entry))) (at * 8)) ⌝ }
 {
     if s.len() <= at {
-        return MainRead::Lacks;
+        return ModeAndUpidRead::Lacks;
     }
     let flags = s[at];
     let moded = match read_mode(s, at + 1, flags / 128 % 2 == 1) {
         ModeRead::Got(m) => m,
-        ModeRead::Lacks(_) => return MainRead::Lacks,
+        ModeRead::Lacks(_) => return ModeAndUpidRead::Lacks,
     };
     let lasting = match read_duration(s, moded.next, flags / 64 % 2 == 1) {
         DurationRead::Got(d) => d,
-        DurationRead::Lacks(_) => return MainRead::Lacks,
+        DurationRead::Lacks(_) => return ModeAndUpidRead::Lacks,
     };
     let written = match read_written_upid(s, lasting.next) {
         WrittenRead::Got(u) => u,
-        WrittenRead::Lacks(_) => return MainRead::Lacks,
+        WrittenRead::Lacks(_) => return ModeAndUpidRead::Lacks,
     };
     let mode = moded.mode;
     let upid = written.upid;
-    MainRead::Got(Main {
+    ModeAndUpidRead::Got(ModeAndUpid {
         mode,
         upid,
         next: written.next,

@@ -57,12 +57,6 @@ pub(crate) fn number40(s: &[u8], at: usize) -> u64
     number32(s, at) * 256 + wide(s[at + 4])
 }
 
-pub(crate) fn size(b: u8) -> usize
-    ensures { λ r. ⌜ r ≡ b ⌝ }
-{
-    b as usize
-}
-
 // Refusal 21.
 pub(crate) fn lacks(e: Short) -> DescriptorRead
     ensures { λ r. ⌜ r ≡ lacking e ⌝ }

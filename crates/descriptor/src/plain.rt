@@ -5,13 +5,13 @@ use crate::Descriptor;
 use crate::DescriptorRead;
 use crate::octet::Octet;
 use crate::octet::lacks;
-use crate::octet::size;
 use crate::octet::take_octet;
 use table::View;
 use table::cursor::Cursor;
 use table::cursor::Passed;
 use table::cursor::Skipped;
 use table::numbers::big_endian;
+use table::numbers::size;
 use upid::Refusal;
 
 pub struct AvailDescriptor {

@@ -55,7 +55,7 @@ pub enum SegmentationDuration {
 
 // The type of a UPID and its bytes. None (type 0) and EIDR (type 10), whose bytes stand beside a descriptor, have the blank view.
 pub struct SegmentationUpid {
-    pub kind: u8,
+    pub upid_type: u8,
     pub bytes: View,
 }
 
@@ -70,7 +70,7 @@ pub enum SubSegments {
 }
 
 // The three flags say what their parts say.
-pub struct SegmentationInsert {
+pub struct SegmentationDetail {
     pub program_segmentation_flag: bool,
     pub segmentation_duration_flag: bool,
     pub delivery_not_restricted_flag: bool,
@@ -84,14 +84,14 @@ pub struct SegmentationInsert {
     pub sub_segments: SubSegments,
 }
 
-pub enum SegmentationDetail {
+pub enum DescriptorDetail {
     Cancel,
-    Insert(SegmentationInsert),
+    Active(SegmentationDetail),
 }
 
 pub struct SegmentationDescriptor {
     pub segmentation_event_id: u32,
-    pub descriptor_detail: SegmentationDetail,
+    pub descriptor_detail: DescriptorDetail,
 }
 
 // What a UPID is read as.
@@ -101,15 +101,15 @@ enum UpidChecked {
 }
 
 // A UPID that its rules accept. Where there are no bytes to view, or they stand beside the descriptor, the view is blank.
-fn reported(kind: u8, bytes: View) -> SegmentationUpid
-    ensures { λ r. ⌜ r ≡ reportedUpid kind bytes ⌝ }
+fn reported(upid_type: u8, bytes: View) -> SegmentationUpid
+    ensures { λ r. ⌜ r ≡ reportedUpid «upid_type» bytes ⌝ }
 {
-    match kind {
+    match upid_type {
         0 | 10 => SegmentationUpid {
-            kind,
+            upid_type,
             bytes: View { at: 0, len: 0 },
         },
-        _ => SegmentationUpid { kind, bytes },
+        _ => SegmentationUpid { upid_type, bytes },
     }
 }
 
@@ -119,8 +119,8 @@ fn checked_upid(payload: &[u8], written: SegmentationUpid) -> UpidChecked
 {
     let bytes = written.bytes;
     let part = view(payload, bytes);
-    match check_upid(written.kind, part) {
-        UpidRead::Fine(kind) => UpidChecked::Is(reported(kind, bytes)),
+    match check_upid(written.upid_type, part) {
+        UpidRead::Fine(upid_type) => UpidChecked::Is(reported(upid_type, bytes)),
         UpidRead::Refused(refusal) => match refusal {
             Refusal::InputTooLong => UpidChecked::Refused(refusal),
             Refusal::NotEnoughData {
@@ -128,16 +128,18 @@ fn checked_upid(payload: &[u8], written: SegmentationUpid) -> UpidChecked
                 actual: _,
             } => UpidChecked::Refused(refusal),
             Refusal::UpidLengthTypeMismatch => UpidChecked::Refused(refusal),
-            Refusal::InvalidUpidContent { kind, bytes: text } =>
-                UpidChecked::Refused(Refusal::InvalidUpidContent {
-                    kind,
-                    bytes: View {
-                        at: bytes.at + text.at,
-                        len: text.len,
-                    },
-                }),
+            Refusal::InvalidUpidContent {
+                upid_type,
+                bytes: text,
+            } => UpidChecked::Refused(Refusal::InvalidUpidContent {
+                upid_type,
+                bytes: View {
+                    at: bytes.at + text.at,
+                    len: text.len,
+                },
+            }),
             Refusal::InvalidUpidLength {
-                kind: _,
+                upid_type: _,
                 expected: _,
                 actual: _,
             } => UpidChecked::Refused(refusal),
@@ -161,7 +163,7 @@ fn insert(
     let sub_segments = back.sub_segments;
     DescriptorRead::Is(Descriptor::Segmentation(SegmentationDescriptor {
         segmentation_event_id: event,
-        descriptor_detail: SegmentationDetail::Insert(SegmentationInsert {
+        descriptor_detail: DescriptorDetail::Active(SegmentationDetail {
             program_segmentation_flag: front.program_segmentation_flag,
             segmentation_duration_flag: front.segmentation_duration_flag,
             delivery_not_restricted_flag: front.delivery_not_restricted_flag,
@@ -242,7 +244,7 @@ pub fn read_segmentation(payload: &[u8]) -> DescriptorRead
     if head.cancel {
         return DescriptorRead::Is(Descriptor::Segmentation(SegmentationDescriptor {
             segmentation_event_id: head.event,
-            descriptor_detail: SegmentationDetail::Cancel,
+            descriptor_detail: DescriptorDetail::Cancel,
         }));
     }
     read_insert(payload, 5, head.event)

@@ -13,16 +13,16 @@ use crate::DescriptorRead;
 use crate::back::BackRead;
 use crate::back::read_back;
 use crate::front::ComponentRead;
-use crate::front::MainRead;
+use crate::front::ModeAndUpidRead;
 use crate::front::read_component;
-use crate::front::read_main;
-use crate::octet::size;
+use crate::front::read_mode_and_upid;
 use crate::read_descriptor;
 use crate::segmentation::HeadRead;
 use crate::segmentation::ModeComponent;
 use crate::segmentation::SegmentationMode;
 use crate::segmentation::read_head;
 use table::lent::view;
+use table::numbers::size;
 use upid::eidr;
 
 // The components, blank past their count, and the EIDR identifier, all zero where the UPID is no EIDR.
@@ -80,8 +80,9 @@ fn list_components(s: &[u8], from: usize, n: u8) -> [ModeComponent; 255]
     out
 }
 
-// What stands beside a segmentation descriptor; nothing where its payload lacks a field.
-pub fn read_beside(payload: &[u8]) -> Beside
+// What stands beside a segmentation descriptor; nothing where its payload lacks a field. A UPID that is refused is none of its tests, so only who has read the
+// descriptor calls it.
+fn read_beside(payload: &[u8]) -> Beside
     ensures { λ r. ⌜ r ≡ besideOf (now (payload .entry)) ⌝ }
 {
     let head = match read_head(payload) {
@@ -91,19 +92,19 @@ pub fn read_beside(payload: &[u8]) -> Beside
     if head.cancel {
         return blank_beside();
     }
-    let main = match read_main(payload, 5) {
-        MainRead::Got(f) => f,
-        MainRead::Lacks => return blank_beside(),
+    let fields = match read_mode_and_upid(payload, 5) {
+        ModeAndUpidRead::Got(f) => f,
+        ModeAndUpidRead::Lacks => return blank_beside(),
     };
-    match read_back(payload, main.next) {
+    match read_back(payload, fields.next) {
         BackRead::Got(_) => {}
         BackRead::Lacks(_) => return blank_beside(),
     }
-    let written = main.upid;
+    let written = fields.upid;
     let bytes = written.bytes;
     let part = view(payload, bytes);
-    let eidr = eidr(written.kind, part);
-    let mode = main.mode;
+    let eidr = eidr(written.upid_type, part);
+    let mode = fields.mode;
     match mode {
         SegmentationMode::Program => Beside {
             components: no_components(),

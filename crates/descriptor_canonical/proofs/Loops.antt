@@ -11,7 +11,7 @@ use lib.Dec.{leb}
 use lib.ListN.{length, getD, take, drop, length-take, length-drop, drop-of-length-le}
 use lib.Seq.{drop-drop, getD-drop, getD-take}
 use borrow.Author.Tests.{lt-leb, ne-eqb, not-true, not-false}
-use Rattle.descriptor_measure.specs.Canonical.{canonicalDescriptor, canonicalFrom, canonicalLoop}
+use Rattle.canonical_form.specs.Descriptor.{canonicalDescriptor, canonicalFrom, canonicalLoop}
 
 pub from-any : (n m : ℕ) (l : List ℕ) → length l ≤ n → length l ≤ m → canonicalFrom n l ≡ canonicalFrom m l
 unfolding canonicalFrom

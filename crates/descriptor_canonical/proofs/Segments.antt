@@ -13,55 +13,16 @@ use Rattle.table.specs.Table.{Table, done, inside, list, uimsbf, Answer, got, s
 use Rattle.table.proofs.Fields.{byte-field, field-in}
 use Rattle.table.proofs.Lists.{zero-one, and-true}
 use Rattle.upid.specs.Upid.{checkOf}
-use Rattle.descriptor.specs.Segmentation.{
-  deliveryRestrictions,
-  component,
-  blankComponent,
-  Moded,
-  mode,
-  duration,
-  writtenUpid,
-  Fore,
-  parts,
-  front,
-  subSegment,
-  subSegments,
-  back,
-  Head,
-  head,
-  blankUpid,
-  Segmentation,
-  segmentation,
-}
+use Rattle.descriptor.specs.Segmentation.{deliveryRestrictions, component, blankComponent, Moded, mode, duration, writtenUpid, Fore, parts, front, subSegment, subSegments, back, Head, head, blankUpid, Segmentation, segmentation}
 use Rattle.descriptor.specs.declared.segmentation.DeliveryRestrictionFlags.{DeliveryRestrictionFlags}
 use Rattle.descriptor.specs.declared.segmentation.ModeComponent.{ModeComponent}
 use Rattle.descriptor.specs.declared.segmentation.SegmentationDuration.{SegmentationDuration}
 use Rattle.descriptor.specs.declared.segmentation.SegmentationUpid.{SegmentationUpid}
 use Rattle.descriptor.specs.declared.segmentation.SubSegments.{SubSegments}
-use Rattle.descriptor_measure.specs.Canonical.{canonicalUpid, upidCanonical, canonicalSegmentation}
+use Rattle.canonical_form.specs.Descriptor.{canonicalUpid, upidCanonical, canonicalSegmentation}
 use Rattle.descriptor_measure.specs.Writing.{accepts, upidIn}
 use Rattle.descriptor_canonical.specs.Private.{flagsOnes, lastingBytes, componentsOnes, endsAt, upidAt, componentsAt, insertFits, segmentationFits}
-use Rattle.descriptor_canonical.proofs.Through.{
-  joined,
-  through,
-  through-in,
-  through-same,
-  through-must,
-  through-list,
-  through-none,
-  through-number,
-  through-flag,
-  through-ones,
-  through-part,
-  through-remaining,
-  implied,
-  guarded,
-  under,
-  over,
-  drops,
-  leb-bytes,
-  eqb-bytes,
-}
+use Rattle.descriptor_canonical.proofs.Through.{joined, through, through-in, through-same, through-must, through-list, through-none, through-number, through-flag, through-ones, through-part, through-remaining, implied, guarded, under, over, drops, leb-bytes, eqb-bytes}
 
 and-tt : (b : Bool) → b && true ≡ b
 and-tt true = refl
@@ -156,7 +117,7 @@ module _ (s : List ℕ) where
   none-read k t e = rw e
 
   upid-test : (k n at : ℕ) → at + n ≤ length s
-      → canonicalUpid s (record { kind = k; bytes = record { at = at; len = n } }) ≡ pick (eqb n 0) (eqb k 0) (accepts (checkOf k (take n (drop at s))))
+      → canonicalUpid s (record { «upid_type» = k; bytes = record { at = at; len = n } }) ≡ pick (eqb n 0) (eqb k 0) (accepts (checkOf k (take n (drop at s))))
   unfolding canonicalUpid viewed
   upid-test k n at h = rw (le-leb (at + n) (length s) h) (go (eqb n 0) refl)
     where
@@ -178,12 +139,12 @@ module _ (s : List ℕ) where
         let n : ℕ = length s * 8 in
         let p : ℕ = at * 8 in
         let l : ℕ = getD s (at + 1) 0 in
-        let kind : ℕ = getD s at 0 in
-        let test : ℕ → ℕ → ℕ → ℕ → Bool = λ kind len start end. leb end n && through (k (record { kind = kind; bytes = record { at = start; len = len } })) (bitsOf s) end G in
-        let tests : Bool = pick (eqb l 0) (eqb kind 0) (accepts (checkOf kind (take l (drop (at + 2) s)))) in
+        let upid-type : ℕ = getD s at 0 in
+        let test : ℕ → ℕ → ℕ → ℕ → Bool = λ upid-type len start end. leb end n && through (k (record { «upid_type» = upid-type; bytes = record { at = start; len = len } })) (bitsOf s) end G in
+        let tests : Bool = pick (eqb l 0) (eqb upid-type 0) (accepts (checkOf upid-type (take l (drop (at + 2) s)))) in
         let a : Bool = leb (p + 8 + 8) n in
         let there : a ≡ true → at + 2 ≤ length s = λ e. omega (arith, leb-true (p + 8 + 8) n e) in
-        let kinds : a ≡ true → field (bitsOf s) p 8 ≡ kind = λ e. byte-at p at refl (omega (arith, there e)) in
+        let kinds : a ≡ true → field (bitsOf s) p 8 ≡ upid-type = λ e. byte-at p at refl (omega (arith, there e)) in
         let sizes : a ≡ true → field (bitsOf s) (p + 8) 8 ≡ l = λ e. byte-at (p + 8) (at + 1) (omega arith) (omega (arith, there e)) in
         let ends : Bool = endsAt (length s) (at + 2 + l) in
         through-in writtenUpid q k (bitsOf s) p G
@@ -193,9 +154,9 @@ module _ (s : List ℕ) where
         ∙ guarded a _ (ends && tests) (λ e.
         four test (kinds e) (sizes e) (omega arith) (ap (λ (i : ℕ). p + 8 + 8 + i * 8) (sizes e) ∙ (let z : p + 8 + 8 + l * 8 ≡ (at + 2 + l) * 8 = omega arith in z))
         ∙ under (leb ((at + 2 + l) * 8) n) (rest _ (at + 2 + l))
-        ∙ implied (leb ((at + 2 + l) * 8) n) (ends && canonicalUpid s (record { kind = kind; bytes = record { at = at + 2; len = l } }))
+        ∙ implied (leb ((at + 2 + l) * 8) n) (ends && canonicalUpid s (record { «upid_type» = upid-type; bytes = record { at = at + 2; len = l } }))
         (λ f. le-leb ((at + 2 + l) * 8) n (omega (arith, ends-there-at (at + 2 + l) (at + 2 + l) (and-true ends _ f .0) (omega arith))))
-        ∙ guarded ends _ tests (λ f. upid-test kind l (at + 2) (ends-there-at (at + 2 + l) (at + 2 + l) f (omega arith))))
+        ∙ guarded ends _ tests (λ f. upid-test upid-type l (at + 2) (ends-there-at (at + 2 + l) (at + 2 + l) f (omega arith))))
         ∙ implied a (ends && tests) (λ f. le-leb (p + 8 + 8) n (omega (arith, ends-there-at (at + 5) (at + 2 + l) (and-true ends tests f .0) (omega arith))))
         ∙ sym (implied (leb (at + 5) (length s)) (ends && tests) (λ f. le-leb (at + 5) (length s) (ends-there-at (at + 5) (at + 2 + l) (and-true ends tests f .0) (omega arith))))
       where

@@ -11,7 +11,7 @@ use borrow.Author.Tests.{le-leb, lt-leb, eq-eqb, ne-eqb, not-true, not-false}
 use Rattle.upid.specs.Upid.{checkOf}
 use Rattle.descriptor.specs.Descriptor.{isCuei}
 use Rattle.descriptor.specs.Plain.{dtmf}
-use Rattle.descriptor_measure.specs.Canonical.{canonicalSegmentation, canonicalPayload, canonicalDescriptor}
+use Rattle.canonical_form.specs.Descriptor.{canonicalSegmentation, canonicalPayload, canonicalDescriptor}
 use Rattle.descriptor_measure.specs.Writing.{accepts}
 use Rattle.table.specs.Table.{canonicalBy}
 use Rattle.descriptor_canonical.specs.Private.{flagsOnes, lastingBytes, componentsOnes, endsAt, upidAt, componentsAt, insertFits, segmentationFits}

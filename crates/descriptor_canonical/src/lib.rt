@@ -1,20 +1,14 @@
 // Whether the bytes of a descriptor and of a loop are canonical (document 01, "Canonical form and writer"): a walk by byte places that writes nothing.
 ghost use mathlib.Core.Path.{_≡_};
 ghost use Prim.Native.Nat.{_<_};
-ghost use Rattle.descriptor_measure.specs.Canonical.{canonicalPayload, canonicalDescriptor, canonicalLoop};
+ghost use Rattle.canonical_form.specs.Descriptor.{canonicalPayload, canonicalDescriptor, canonicalLoop};
 use crate::payload::is_canonical_dtmf;
 use crate::segment::is_canonical_segmentation;
 use descriptor::is_cuei;
+use table::numbers::size;
 
 mod payload;
 mod segment;
-
-// A byte as a size.
-pub(crate) fn size(b: u8) -> usize
-    ensures { λ r. ⌜ (r ≡ b) × (r < 256) ⌝ }
-{
-    b as usize
-}
 
 // By identifier and tag. Every payload of a reserved descriptor is canonical.
 fn is_canonical_payload(tag: u8, identifier: [u8; 4], payload: &[u8]) -> bool

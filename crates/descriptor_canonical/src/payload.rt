@@ -2,7 +2,7 @@
 ghost use mathlib.Core.Path.{_≡_};
 ghost use Rattle.descriptor.specs.Plain.{dtmf};
 ghost use Rattle.table.specs.Table.{canonicalBy};
-use crate::size;
+use table::numbers::size;
 
 // Preroll, count and five reserved bits, and as many bytes as the count says.
 pub(crate) fn is_canonical_dtmf(s: &[u8]) -> bool

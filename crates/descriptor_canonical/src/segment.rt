@@ -2,11 +2,11 @@
 ghost use mathlib.Core.Path.{_≡_};
 ghost use Prim.Native.Nat.{_+_, _*_, _≤_};
 ghost use lib.ListN.{length};
-ghost use Rattle.descriptor_measure.specs.Canonical.{canonicalSegmentation};
+ghost use Rattle.canonical_form.specs.Descriptor.{canonicalSegmentation};
 ghost use Rattle.descriptor_measure.specs.Writing.{accepts};
 ghost use Rattle.upid.specs.Upid.{checkOf};
 ghost use Rattle.descriptor_canonical.specs.Private.{flagsOnes, lastingBytes, componentsOnes, endsAt, upidAt, componentsAt, insertFits};
-use crate::size;
+use table::numbers::size;
 use upid::UpidRead;
 use upid::check_upid;
 
@@ -57,10 +57,10 @@ fn ends_at(len: usize, at: usize) -> bool
 }
 
 // Whether its reader takes a UPID.
-fn is_accepted(kind: u8, bytes: &[u8]) -> bool
-    ensures { λ r. ⌜ r ≡ accepts (checkOf kind (now (bytes .entry))) ⌝ }
+fn is_accepted(upid_type: u8, bytes: &[u8]) -> bool
+    ensures { λ r. ⌜ r ≡ accepts (checkOf «upid_type» (now (bytes .entry))) ⌝ }
 {
-    match check_upid(kind, bytes) {
+    match check_upid(upid_type, bytes) {
         UpidRead::Fine(_) => true,
         UpidRead::Refused(_) => false,
     }
@@ -75,7 +75,7 @@ fn is_canonical_upid(s: &[u8], at: usize) -> bool
     if end < at + 5 {
         return false;
     }
-    let kind = s[at];
+    let upid_type = s[at];
     let n = size(s[at + 1]);
     let start = at + 2;
     let next = start + n;
@@ -83,9 +83,9 @@ fn is_canonical_upid(s: &[u8], at: usize) -> bool
         return false;
     }
     if n == 0 {
-        return kind == 0;
+        return upid_type == 0;
     }
-    is_accepted(kind, &s[start..next])
+    is_accepted(upid_type, &s[start..next])
 }
 
 // From the count of components at byte 6 to the payload's end, where the duration takes some bytes.

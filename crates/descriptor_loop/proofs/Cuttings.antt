@@ -1,6 +1,6 @@
 -- Cuttings of a loop.
---     one-cutting                                         no two fair lists of pieces join to the same bytes
---     joined-walk, fair-walk, follow-walk, once-follow    the items of a loop cover it
+--     one-cutting                                         no two lists of such pieces join to the same bytes
+--     joined-walk, by-items-walk, follow-walk, once-follow    the items of a loop cover it
 --     runs-walk                                           and the views of an item are runs of its bytes
 use Prim.Native.Nat.{ℕ, suc, _+_, _-_, _≤_, _<_}
 use mathlib.Core.Path.{_≡_, refl, sym, ap, subst, _∙_}
@@ -15,7 +15,7 @@ use Rattle.table.specs.Lent.{viewed}
 use Rattle.table.specs.declared.View.{View}
 use Rattle.upid.proofs.Laws.{by-cases}
 use Rattle.upid.specs.Cover as all
-use Rattle.descriptor_loop.specs.Cover.{Ends, few, over, full, Whole, joined, Fair, none, rest, item, runOf, Follow, done, follows, lies, times}
+use Rattle.descriptor_loop.specs.Cover.{Ends, few, over, full, Whole, joined, ByItems, none, rest, item, runOf, Follow, done, follows, lies, times}
 use Rattle.descriptor_loop.specs.Items.{Listed, stepOf, listed}
 use Rattle.descriptor_loop.specs.Place.{viewsOf}
 use Rattle.descriptor_loop.proofs.Lists.{Walked, stop, step, at-end}
@@ -60,19 +60,19 @@ some (few a b) = a
 some (over a b) = omega arith
 some (full a b) = omega arith
 
-none-is : {qs : List (List ℕ)} → Fair qs → [] ≡ joined qs → [] ≡ qs
+none-is : {qs : List (List ℕ)} → ByItems qs → [] ≡ joined qs → [] ≡ qs
 unfolding joined
 none-is none e = refl
 none-is (rest {r = r} x) e = absurd (omega (arith, some x, ap length e, length-append r []))
 none-is (item {p = q} {ps = qs} w g) e = absurd (omega (arith, w .left, ap length e, length-append q (joined qs)))
 
-rest-is : {r : List ℕ} {qs : List (List ℕ)} → Ends r → Fair qs → r ≡ joined qs → r ∷ [] ≡ qs
+rest-is : {r : List ℕ} {qs : List (List ℕ)} → Ends r → ByItems qs → r ≡ joined qs → r ∷ [] ≡ qs
 unfolding joined
 rest-is x none e = absurd (omega (arith, some x, ap length e))
 rest-is x (rest {r = t} y) e = ap (λ (l : List ℕ). l ∷ []) (e ∙ append-nil t)
 rest-is x (item {ps = qs} w g) e = absurd (no-ending (joined qs) x w e)
 
-pub one-cutting : {ps qs : List (List ℕ)} → Fair ps → Fair qs → joined ps ≡ joined qs → ps ≡ qs
+pub one-cutting : {ps qs : List (List ℕ)} → ByItems ps → ByItems qs → joined ps ≡ joined qs → ps ≡ qs
 unfolding joined
 one-cutting none g e = none-is g e
 one-cutting (rest {r = r} x) g e = rest-is x g (sym (append-nil r) ∙ e)
@@ -119,15 +119,15 @@ stands-whole {loop} {offset} {L} s after h =
       left = omega (arith, whole, h, s .six, s .there);
     }
 
-pub fair-walk : {loop : List ℕ} {offset : ℕ} {xs : List Listed} → Walked loop offset xs → Fair (map (runOf loop) xs)
-fair-walk stop = none
-fair-walk {loop} (step {offset = offset} inside e (ends x) w) =
+pub by-items-walk : {loop : List ℕ} {offset : ℕ} {xs : List Listed} → Walked loop offset xs → ByItems (map (runOf loop) xs)
+by-items-walk stop = none
+by-items-walk {loop} (step {offset = offset} inside e (ends x) w) =
     let all-left : take (length loop - offset) (drop offset loop) ≡ drop offset loop = take-all (length loop - offset) (drop offset loop) (omega (arith, length-drop offset loop)) in
     rw (e, all-left, at-end w refl) (rest x)
-fair-walk {loop} (step {offset = offset} {xs = xs} inside e (goes L s) w) =
+by-items-walk {loop} (step {offset = offset} {xs = xs} inside e (goes L s) w) =
     let n : offset + (L + 2) - offset ≡ L + 2 = omega arith in
     let after : length (joined (map (runOf loop) xs)) ≡ length loop - (offset + (L + 2)) = ap length (joined-walk w) ∙ length-drop (offset + (L + 2)) loop in
-    rw (e, n) (item (stands-whole s (length (joined (map (runOf loop) xs))) after) (fair-walk w))
+    rw (e, n) (item (stands-whole s (length (joined (map (runOf loop) xs))) after) (by-items-walk w))
 
 pub follow-walk : {loop : List ℕ} {offset : ℕ} {xs : List Listed} → Walked loop offset xs → Follow offset (length loop) xs
 follow-walk stop = done

@@ -3,7 +3,7 @@
 --     upid-none .. text-first         the answers of the functions that move
 --     item-views                      the views of an item are those of its payload's reading, moved
 use Prim.Native.Nat.{ℕ, _+_, _^_, _<_}
-use mathlib.Core.Bool.{Bool, true, false, cond, _||_}
+use mathlib.Core.Bool.{Bool, true, false, _||_, cond as pick}
 use mathlib.Core.List.{List, [], _∷_, map}
 use mathlib.Core.Path.{_≡_, refl, ap, sym}
 use lib.Dec.{eqb}
@@ -20,11 +20,11 @@ use Rattle.descriptor.specs.declared.Descriptor.{Descriptor}
 use Rattle.descriptor.specs.declared.Descriptor.the-variants.{Avail, Dtmf, Segmentation, Time, Reserved}
 use Rattle.descriptor.specs.declared.DescriptorRead.{DescriptorRead}
 use Rattle.descriptor.specs.declared.DescriptorRead.the-variants as read
-use Rattle.descriptor.specs.declared.segmentation.SegmentationDetail.{SegmentationDetail}
-use Rattle.descriptor.specs.declared.segmentation.SegmentationDetail.the-variants.{Cancel, Insert}
+use Rattle.descriptor.specs.declared.segmentation.DescriptorDetail.{DescriptorDetail}
+use Rattle.descriptor.specs.declared.segmentation.DescriptorDetail.the-variants.{Cancel, Active}
 use Rattle.descriptor.specs.declared.plain.DTMFDescriptor.{DTMFDescriptor}
 use Rattle.descriptor.specs.declared.segmentation.SegmentationDescriptor.{SegmentationDescriptor}
-use Rattle.descriptor.specs.declared.segmentation.SegmentationInsert.{SegmentationInsert}
+use Rattle.descriptor.specs.declared.segmentation.SegmentationDetail.{SegmentationDetail}
 use Rattle.descriptor.specs.declared.segmentation.SegmentationUpid.{SegmentationUpid}
 use Rattle.descriptor.specs.Segmentation.{withUpid}
 use Rattle.descriptor_loop.specs.Place.{viewsOf, movedUpid, movedDescriptor}
@@ -43,27 +43,27 @@ module _ {A : Type 0} {P : A → Type 0} where
   all-map f none = none
   all-map f (more p ps) = more p (all-map f ps)
 
-pub upid-view : (u : SegmentationUpid) → (u .kind ≡ 0 → ⊥) → (u .kind ≡ 10 → ⊥) → upidViews u ≡ u .bytes ∷ []
+pub upid-view : (u : SegmentationUpid) → (u .«upid_type» ≡ 0 → ⊥) → (u .«upid_type» ≡ 10 → ⊥) → upidViews u ≡ u .bytes ∷ []
 upid-view u some plain = rw (ne-eqb _ _ some, ne-eqb _ _ plain)
 
 -- ---- the answers of the functions that move
 
 module _ (base : ℕ) (u : SegmentationUpid) where
-  pub upid-none : u .kind ≡ 0 → u ≡ movedUpid base u
+  pub upid-none : u .«upid_type» ≡ 0 → u ≡ movedUpid base u
   upid-none h = rw (eq-eqb _ _ h)
 
-  module _ (some : u .kind ≡ 0 → ⊥) where
-    pub upid-eidr : u .kind ≡ 10 → u ≡ movedUpid base u
+  module _ (some : u .«upid_type» ≡ 0 → ⊥) where
+    pub upid-eidr : u .«upid_type» ≡ 10 → u ≡ movedUpid base u
     upid-eidr h = rw (ne-eqb _ _ some, eq-eqb _ _ h)
 
-    module _ (plain : u .kind ≡ 10 → ⊥) where
+    module _ (plain : u .«upid_type» ≡ 10 → ⊥) where
       pub upid-first : Movable base (upidViews u) → base + u .bytes .at < 2 ^ 64
       upid-first m = all-first (rw (upid-view u some plain) at m)
 
-      pub upid-there : (v : View) → v ≡ shifted base (u .bytes) → _≡_ {A = SegmentationUpid} (record { kind = u .kind; bytes = v }) (movedUpid base u)
+      pub upid-there : (v : View) → v ≡ shifted base (u .bytes) → _≡_ {A = SegmentationUpid} (record { «upid_type» = u .«upid_type»; bytes = v }) (movedUpid base u)
       upid-there v e = rw (ne-eqb _ _ some, ne-eqb _ _ plain, e)
 
-pub insert-there : (base : ℕ) (i : SegmentationInsert) (u : SegmentationUpid) → u ≡ movedUpid base (i .«segmentation_upid») → withUpid i u ≡ movedInsert base i
+pub insert-there : (base : ℕ) (i : SegmentationDetail) (u : SegmentationUpid) → u ≡ movedUpid base (i .«segmentation_upid») → withUpid i u ≡ movedInsert base i
 insert-there base i u e = rw e
 
 module _ (base : ℕ) (d : Descriptor) where
@@ -73,42 +73,42 @@ module _ (base : ℕ) (d : Descriptor) where
   pub private-first : (tag : ℕ) (v : View) → d ≡ Reserved tag v → Movable base (descriptorViews d) → base + v .at < 2 ^ 64
   private-first tag v e m = all-first (rw e at m)
 
-  pub insert-all : (s : SegmentationDescriptor) (i : SegmentationInsert) → d ≡ Segmentation s → s .«descriptor_detail» ≡ Insert i
+  pub insert-all : (s : SegmentationDescriptor) (i : SegmentationDetail) → d ≡ Segmentation s → s .«descriptor_detail» ≡ Active i
       → Movable base (descriptorViews d) → Movable base (upidViews (i .«segmentation_upid»))
   insert-all s i e f m = let n : Movable base (detailViews (s .«descriptor_detail»)) = rw e at m in rw f at n
 
   pub cancel-stays : (s : SegmentationDescriptor) → d ≡ Segmentation s → s .«descriptor_detail» ≡ Cancel → Segmentation s ≡ movedDescriptor base d
   cancel-stays s e f =
       let g : movedDetail base (s .«descriptor_detail») ≡ s .«descriptor_detail» = rw f in
-      rw e (ap (λ (x : SegmentationDetail). Segmentation (record { «segmentation_event_id» = s .«segmentation_event_id»; «descriptor_detail» = x })) (sym g))
+      rw e (ap (λ (x : DescriptorDetail). Segmentation (record { «segmentation_event_id» = s .«segmentation_event_id»; «descriptor_detail» = x })) (sym g))
 
-  pub insert-moves : (s : SegmentationDescriptor) (i j : SegmentationInsert) → d ≡ Segmentation s → s .«descriptor_detail» ≡ Insert i → j ≡ movedInsert base i
-      → Segmentation (record { «segmentation_event_id» = s .«segmentation_event_id»; «descriptor_detail» = Insert j }) ≡ movedDescriptor base d
+  pub insert-moves : (s : SegmentationDescriptor) (i j : SegmentationDetail) → d ≡ Segmentation s → s .«descriptor_detail» ≡ Active i → j ≡ movedInsert base i
+      → Segmentation (record { «segmentation_event_id» = s .«segmentation_event_id»; «descriptor_detail» = Active j }) ≡ movedDescriptor base d
   insert-moves s i j e f g = rw (e, f, g)
 
-pub text-first : (base : ℕ) (r : Refusal) (kind : ℕ) (v : View) → r ≡ InvalidUpidContent kind v → Movable base (refusalViews r) → base + v .at < 2 ^ 64
-text-first base r kind v e m = all-first (rw e at m)
+pub text-first : (base : ℕ) (r : Refusal) (upid-type : ℕ) (v : View) → r ≡ InvalidUpidContent upid-type v → Movable base (refusalViews r) → base + v .at < 2 ^ 64
+text-first base r upid-type v e m = all-first (rw e at m)
 
 -- ---- the views of what is moved
 
 by-test : (t : Bool) (base : ℕ) (u : SegmentationUpid)
-    → let there : SegmentationUpid = cond t u (record { kind = u .kind; bytes = shifted base (u .bytes) }) in
-    cond t [] (there .bytes ∷ []) ≡ map (shifted base) (cond t [] (u .bytes ∷ []))
+    → let there : SegmentationUpid = pick t u (record { «upid_type» = u .«upid_type»; bytes = shifted base (u .bytes) }) in
+    pick t [] (there .bytes ∷ []) ≡ map (shifted base) (pick t [] (u .bytes ∷ []))
 by-test true base u = refl
 by-test false base u = refl
 
-same-kind : (t : Bool) (base : ℕ) (u : SegmentationUpid) → (let there : SegmentationUpid = cond t u (record { kind = u .kind; bytes = shifted base (u .bytes) }) in there .kind) ≡ u .kind
-same-kind true base u = refl
-same-kind false base u = refl
+same-type : (t : Bool) (base : ℕ) (u : SegmentationUpid) → (let there : SegmentationUpid = pick t u (record { «upid_type» = u .«upid_type»; bytes = shifted base (u .bytes) }) in there .«upid_type») ≡ u .«upid_type»
+same-type true base u = refl
+same-type false base u = refl
 
 upid-views : (base : ℕ) (u : SegmentationUpid) → upidViews (movedUpid base u) ≡ map (shifted base) (upidViews u)
 upid-views base u =
-    let t : Bool = withoutView (u .kind) in
-    rw (same-kind t base u) (by-test t base u)
+    let t : Bool = withoutView (u .«upid_type») in
+    rw (same-type t base u) (by-test t base u)
 
-detail-views : (base : ℕ) (d : SegmentationDetail) → detailViews (movedDetail base d) ≡ map (shifted base) (detailViews d)
+detail-views : (base : ℕ) (d : DescriptorDetail) → detailViews (movedDetail base d) ≡ map (shifted base) (detailViews d)
 detail-views base Cancel = refl
-detail-views base (Insert i) = upid-views base (i .«segmentation_upid»)
+detail-views base (Active i) = upid-views base (i .«segmentation_upid»)
 
 descriptor-views : (base : ℕ) (d : Descriptor) → descriptorViews (movedDescriptor base d) ≡ map (shifted base) (descriptorViews d)
 descriptor-views base (Avail x) = refl
@@ -121,10 +121,17 @@ refusal-views : (base : ℕ) (r : Refusal) → refusalViews (movedRefusal base r
 refusal-views base InputTooLong = refl
 refusal-views base (NotEnoughData expected actual) = refl
 refusal-views base UpidLengthTypeMismatch = refl
-refusal-views base (InvalidUpidContent kind bytes) = refl
-refusal-views base (InvalidUpidLength kind expected actual) = refl
+refusal-views base (InvalidUpidContent upid-type bytes) = refl
+refusal-views base (InvalidUpidLength upid-type expected actual) = refl
 
 -- the views of an item are those of its payload's reading, moved
 pub item-views : (base : ℕ) (d : DescriptorRead) → viewsOf (itemAt base d) ≡ map (shifted base) (readViews d)
 item-views base (read.Is d) = descriptor-views base d
 item-views base (read.Refused r) = refusal-views base r
+
+pub type-stays : (base : ℕ) (u : SegmentationUpid) → movedUpid base u .«upid_type» ≡ u .«upid_type»
+type-stays base u = go (withoutView (u .«upid_type»))
+  where
+    go : (t : Bool) → (let there : SegmentationUpid = pick t u (record { «upid_type» = u .«upid_type»; bytes = shifted base (u .bytes) }) in there .«upid_type») ≡ u .«upid_type»
+    go true = refl
+    go false = refl

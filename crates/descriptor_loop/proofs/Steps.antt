@@ -17,7 +17,7 @@ use Rattle.descriptor.specs.declared.DescriptorRead.{DescriptorRead}
 use Rattle.descriptor.specs.declared.DescriptorRead.the-variants as read
 use Rattle.descriptor.proofs.Insides.{read-inside}
 use Rattle.descriptor_loop.specs.Cover.{Ends, few, over, full, TakesRest}
-use Rattle.descriptor_loop.specs.Items.{short, bare, itemAt, readAt, wholeAt, stepOf, unlessEnd, Listed}
+use Rattle.descriptor_loop.specs.Items.{short, withoutIdentifier, itemAt, readAt, wholeAt, stepOf, unlessEnd, Listed}
 use Rattle.table.specs.Lent.{shifted}
 use Rattle.descriptor_loop.specs.Place.{viewsOf}
 use Rattle.descriptor_loop.specs.declared.Item.the-variants.{End, Refused, Is}
@@ -27,33 +27,33 @@ use Rattle.descriptor_loop.specs.declared.Step.{Step}
 use Rattle.descriptor_loop.proofs.Places.{all-into, all-map, item-views}
 
 module _ (loop : List ℕ) (offset : ℕ) where
-  pub step-long : 4076 < length loop → stepOf loop offset ≡ bare (Refused (Other InputTooLong)) (length loop)
+  pub step-long : 4076 < length loop → stepOf loop offset ≡ withoutIdentifier (Refused (Other InputTooLong)) (length loop)
   unfolding stepOf
   step-long h = rw (lt-ltb _ _ h)
 
   module _ (fits : length loop ≤ 4076) where
-    pub step-end : length loop ≤ offset → stepOf loop offset ≡ bare End (length loop)
+    pub step-end : length loop ≤ offset → stepOf loop offset ≡ withoutIdentifier End (length loop)
     unfolding stepOf
     step-end h = rw (le-ltb _ _ fits, le-leb _ _ h)
 
     module _ (inside : offset < length loop) where
-      pub step-few : length loop - offset < 6 → stepOf loop offset ≡ bare (short 2 0) (length loop)
+      pub step-few : length loop - offset < 6 → stepOf loop offset ≡ withoutIdentifier (short 2 0) (length loop)
       unfolding stepOf
       step-few h = rw (le-ltb _ _ fits, lt-leb _ _ inside, lt-ltb _ _ h)
 
       -- the length L
       module _ (L : ℕ) (is : L ≡ getD loop (offset + 1) 0) (six : 6 ≤ length loop - offset) where
-        pub step-over : length loop - offset < L + 2 → stepOf loop offset ≡ bare (short (L + 2) 0) (length loop)
+        pub step-over : length loop - offset < L + 2 → stepOf loop offset ≡ withoutIdentifier (short (L + 2) 0) (length loop)
         unfolding stepOf
         step-over h = rw (le-ltb _ _ fits, lt-leb _ _ inside, le-ltb _ _ six, ← is, lt-ltb _ _ h)
 
         module _ (there : L + 2 ≤ length loop - offset) where
-          pub step-full : 254 < L → stepOf loop offset ≡ bare (Refused InvalidDescriptorLength) (length loop)
+          pub step-full : 254 < L → stepOf loop offset ≡ withoutIdentifier (Refused InvalidDescriptorLength) (length loop)
           unfolding stepOf
           step-full h = rw (le-ltb _ _ fits, lt-leb _ _ inside, le-ltb _ _ six, ← is, le-ltb _ _ there, lt-ltb _ _ h)
 
           module _ (right : L ≤ 254) where
-            pub step-small : L < 4 → stepOf loop offset ≡ bare (short 6 (L + 2)) (offset + (L + 2))
+            pub step-small : L < 4 → stepOf loop offset ≡ withoutIdentifier (short 6 (L + 2)) (offset + (L + 2))
             unfolding stepOf
             step-small h = rw (le-ltb _ _ fits, lt-leb _ _ inside, le-ltb _ _ six, ← is, le-ltb _ _ there, le-ltb _ _ right, lt-ltb _ _ h)
 
@@ -72,10 +72,10 @@ pub record Stands (loop : List ℕ) (offset L : ℕ) : Type 0 where
   pub right : L ≤ 254
 
 pub data Clause (loop : List ℕ) (offset : ℕ) : Step → Type 0 where
-  long : 4076 < length loop → Clause loop offset (bare (Refused (Other InputTooLong)) (length loop))
-  ended : length loop ≤ offset → Clause loop offset (bare End (length loop))
-  last : (r : ItemRefusal) → viewsOf (Refused r) ≡ [] → Ends (drop offset loop) → Clause loop offset (bare (Refused r) (length loop))
-  small : (L : ℕ) → Stands loop offset L → Clause loop offset (bare (short 6 (L + 2)) (offset + (L + 2)))
+  long : 4076 < length loop → Clause loop offset (withoutIdentifier (Refused (Other InputTooLong)) (length loop))
+  ended : length loop ≤ offset → Clause loop offset (withoutIdentifier End (length loop))
+  last : (r : ItemRefusal) → viewsOf (Refused r) ≡ [] → Ends (drop offset loop) → Clause loop offset (withoutIdentifier (Refused r) (length loop))
+  small : (L : ℕ) → Stands loop offset L → Clause loop offset (withoutIdentifier (short 6 (L + 2)) (offset + (L + 2)))
   entire : (L : ℕ) → Stands loop offset L → 4 ≤ L → Clause loop offset (wholeAt loop offset L)
 
 module _ (loop : List ℕ) (offset : ℕ) where

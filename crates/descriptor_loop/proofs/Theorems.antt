@@ -12,7 +12,7 @@ use Rattle.upid.specs.declared.Refusal.the-variants.{InputTooLong}
 use Rattle.descriptor.specs.Whole.{wholeOf}
 use Rattle.descriptor_loop.specs.Private.{Run}
 use Rattle.descriptor_loop.specs.Cover.{Ends, Cutting, TakesRest, Covered, times}
-use Rattle.descriptor_loop.specs.Items.{bare, stepOf, readingOf, Listed, itemsOf, countOf}
+use Rattle.descriptor_loop.specs.Items.{withoutIdentifier, stepOf, readingOf, Listed, itemsOf, countOf}
 use Rattle.descriptor_loop.specs.Place.{viewsOf}
 use Rattle.descriptor_loop.specs.declared.Item.the-variants.{Refused}
 use Rattle.descriptor_loop.specs.declared.ItemRefusal.the-variants.{Other}
@@ -30,8 +30,8 @@ pub items-cover-the-loop : (loop : List ℕ) → length loop ≤ 4076 → Covere
 items-cover-the-loop loop fits =
     let w = lists.walked loop fits in
     record {
-      cutting = record { joins = cuttings.joined-walk w; fair = cuttings.fair-walk w };
-      only = λ other c. cuttings.one-cutting (c .fair) (cuttings.fair-walk w) (c .joins ∙ sym (cuttings.joined-walk w));
+      cutting = record { joins = cuttings.joined-walk w; by-items = cuttings.by-items-walk w };
+      only = λ other c. cuttings.one-cutting (c .by-items) (cuttings.by-items-walk w) (c .joins ∙ sym (cuttings.joined-walk w));
       follow = cuttings.follow-walk w;
     }
 
@@ -41,7 +41,7 @@ every-byte-lies-in-one-item loop fits i h = cuttings.once-follow i (cuttings.fol
 
 -- Two cuttings of one loop are equal.
 pub no-other-cutting : (loop : List ℕ) (ps qs : List (List ℕ)) → Cutting loop ps → Cutting loop qs → ps ≡ qs
-no-other-cutting loop ps qs c d = cuttings.one-cutting (c .fair) (d .fair) (c .joins ∙ sym (d .joins))
+no-other-cutting loop ps qs c d = cuttings.one-cutting (c .by-items) (d .by-items) (c .joins ∙ sym (d .joins))
 
 -- Every identifier of an item (DTMF characters, UPID, private bytes), and the text of refusal 24, is one run of the loop, inside the item's own bytes.
 pub every-identifier-is-one-run : (loop : List ℕ) → length loop ≤ 4076 → All (λ (x : Listed). All (Run loop x) (viewsOf (x .step .item))) (itemsOf loop)
@@ -63,7 +63,7 @@ pub at-most-2037-items : (loop : List ℕ) → length (itemsOf loop) ≤ 2037
 at-most-2037-items = lists.few-items
 
 -- A loop over 4,076 bytes is refused at any offset, also past its end.
-pub too-long-before-ended : (loop : List ℕ) (offset : ℕ) → 4076 < length loop → stepOf loop offset ≡ bare (Refused (Other InputTooLong)) (length loop)
+pub too-long-before-ended : (loop : List ℕ) (offset : ℕ) → 4076 < length loop → stepOf loop offset ≡ withoutIdentifier (Refused (Other InputTooLong)) (length loop)
 too-long-before-ended = steps.step-long
 
 -- ---- the full reading

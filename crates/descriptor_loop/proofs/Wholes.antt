@@ -23,7 +23,7 @@ use Rattle.descriptor.specs.declared.plain.DTMFDescriptor.{DTMFDescriptor}
 use Rattle.descriptor.specs.declared.plain.TimeDescriptor.{TimeDescriptor}
 use Rattle.descriptor.specs.declared.segmentation.SegmentationDescriptor.{SegmentationDescriptor}
 use Rattle.descriptor.proofs.Insides.{read-inside}
-use Rattle.descriptor_loop.specs.Items.{bare, itemAt, readAt, wholeAt}
+use Rattle.descriptor_loop.specs.Items.{withoutIdentifier, itemAt, readAt, wholeAt}
 use Rattle.descriptor_loop.specs.Place.{movedDescriptor}
 use Rattle.descriptor_loop.specs.Private.{Movable}
 use Rattle.descriptor_loop.specs.declared.Item.{Item}
@@ -84,22 +84,22 @@ module _ (loop : List ℕ) (offset L : ℕ) (h : 4 ≤ L) (there : offset + (L +
       → _≡_ {A = Step} (record { item = Is m; identifier = id; next = offset + (L + 2) }) (wholeAt loop offset L)
   placed d m id e f g = answer (Is m) id (ap Is f ∙ sym (ap (itemAt (offset + 6)) e)) (g ∙ sym (ap (λ (x : DescriptorRead). identifierRead x name) e))
 
-  pub avail-is : (d : Descriptor) (x : AvailDescriptor) → r ≡ read.Is d → d ≡ Avail x → bare (Is d) (offset + (L + 2)) ≡ wholeAt loop offset L
+  pub avail-is : (d : Descriptor) (x : AvailDescriptor) → r ≡ read.Is d → d ≡ Avail x → withoutIdentifier (Is d) (offset + (L + 2)) ≡ wholeAt loop offset L
   avail-is d x e f = placed d d _ e (f ∙ sym (ap (movedDescriptor (offset + 6)) f)) (sym (ap (λ (y : Descriptor). identifierRead (read.Is y) name) f))
 
-  pub dtmf-is : (d m : Descriptor) (x : DTMFDescriptor) → r ≡ read.Is d → d ≡ Dtmf x → m ≡ movedDescriptor (offset + 6) d → bare (Is m) (offset + (L + 2)) ≡ wholeAt loop offset L
+  pub dtmf-is : (d m : Descriptor) (x : DTMFDescriptor) → r ≡ read.Is d → d ≡ Dtmf x → m ≡ movedDescriptor (offset + 6) d → withoutIdentifier (Is m) (offset + (L + 2)) ≡ wholeAt loop offset L
   dtmf-is d m x e f g = placed d m _ e g (sym (ap (λ (y : Descriptor). identifierRead (read.Is y) name) f))
 
-  pub segmentation-is : (d m : Descriptor) (x : SegmentationDescriptor) → r ≡ read.Is d → d ≡ Segmentation x → m ≡ movedDescriptor (offset + 6) d → bare (Is m) (offset + (L + 2)) ≡ wholeAt loop offset L
+  pub segmentation-is : (d m : Descriptor) (x : SegmentationDescriptor) → r ≡ read.Is d → d ≡ Segmentation x → m ≡ movedDescriptor (offset + 6) d → withoutIdentifier (Is m) (offset + (L + 2)) ≡ wholeAt loop offset L
   segmentation-is d m x e f g = placed d m _ e g (sym (ap (λ (y : Descriptor). identifierRead (read.Is y) name) f))
 
-  pub time-is : (d : Descriptor) (x : TimeDescriptor) → r ≡ read.Is d → d ≡ Time x → bare (Is d) (offset + (L + 2)) ≡ wholeAt loop offset L
+  pub time-is : (d : Descriptor) (x : TimeDescriptor) → r ≡ read.Is d → d ≡ Time x → withoutIdentifier (Is d) (offset + (L + 2)) ≡ wholeAt loop offset L
   time-is d x e f = placed d d _ e (f ∙ sym (ap (movedDescriptor (offset + 6)) f)) (sym (ap (λ (y : Descriptor). identifierRead (read.Is y) name) f))
 
   pub reserved-is : (d m : Descriptor) (tag : ℕ) (v : View) → r ≡ read.Is d → d ≡ Reserved tag v → m ≡ movedDescriptor (offset + 6) d
       → _≡_ {A = Step} (record { item = Is m; identifier = name; next = offset + (L + 2) }) (wholeAt loop offset L)
   reserved-is d m tag v e f g = placed d m name e g (sym (ap (λ (y : Descriptor). identifierRead (read.Is y) name) f))
 
-  pub whole-refused : (q m : Refusal) → r ≡ read.Refused q → m ≡ movedRefusal (offset + 6) q → bare (Refused (Other m)) (offset + (L + 2)) ≡ wholeAt loop offset L
+  pub whole-refused : (q m : Refusal) → r ≡ read.Refused q → m ≡ movedRefusal (offset + 6) q → withoutIdentifier (Refused (Other m)) (offset + (L + 2)) ≡ wholeAt loop offset L
   whole-refused q m e f =
       answer (Refused (Other m)) _ (ap (λ (x : Refusal). Refused (Other x)) f ∙ sym (ap (itemAt (offset + 6)) e)) (sym (ap (λ (x : DescriptorRead). identifierRead x name) e))

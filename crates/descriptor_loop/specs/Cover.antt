@@ -6,7 +6,7 @@ use mathlib.Core.Path.{_≡_}
 use lib.Dec.{leb, ltb}
 use lib.ListN.{length, take, drop, getD}
 use Rattle.table.specs.Bits.{pick}
-use Rattle.descriptor_loop.specs.Items.{bare, Listed}
+use Rattle.descriptor_loop.specs.Items.{withoutIdentifier, Listed}
 use Rattle.descriptor_loop.specs.declared.Item.the-variants.{Refused}
 use Rattle.descriptor_loop.specs.declared.ItemRefusal.{ItemRefusal}
 use Rattle.descriptor_loop.specs.declared.Step.{Step}
@@ -33,15 +33,15 @@ joined [] = []
 joined (p ∷ ps) = p ++ joined ps
 
 -- Every piece is a whole item, but a last one may be what an ending rule leaves.
-pub data Fair : List (List ℕ) → Type 0 where
-  none : Fair []
-  rest : {r : List ℕ} → Ends r → Fair (r ∷ [])
-  item : {p : List ℕ} {ps : List (List ℕ)} → Whole p (length (joined ps)) → Fair ps → Fair (p ∷ ps)
+pub data ByItems : List (List ℕ) → Type 0 where
+  none : ByItems []
+  rest : {r : List ℕ} → Ends r → ByItems (r ∷ [])
+  item : {p : List ℕ} {ps : List (List ℕ)} → Whole p (length (joined ps)) → ByItems ps → ByItems (p ∷ ps)
 
 -- A cutting of a loop: pieces by these rules whose join is the loop.
 pub record Cutting (loop : List ℕ) (pieces : List (List ℕ)) : Type 0 where
   pub joins : joined pieces ≡ loop
-  pub fair : Fair pieces
+  pub by-items : ByItems pieces
 
 -- ---- a loop and its items
 
@@ -59,7 +59,7 @@ pub data Follow : ℕ → ℕ → List Listed → Type 0 where
 -- the step refuses the item and takes the rest: the next offset is the loop's length
 pub record TakesRest (loop : List ℕ) (s : Step) : Type 0 where
   pub refusal : ItemRefusal
-  pub is : s ≡ bare (Refused refusal) (length loop)
+  pub is : s ≡ withoutIdentifier (Refused refusal) (length loop)
 
 -- The items' bytes are one cutting of the loop, in order from its start to its end; and no other cutting meets the rules.
 pub record Covered (loop : List ℕ) (xs : List Listed) : Type 0 where

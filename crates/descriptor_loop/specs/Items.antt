@@ -37,8 +37,8 @@ abbrev pub short : ℕ → ℕ → Item
 short expected actual = Refused (Other (NotEnoughData expected actual))
 
 -- an item without an identifier, and the next offset
-abbrev pub bare : Item → ℕ → Step
-bare item next = record { item = item; identifier = replicate 4 0; next = next }
+abbrev pub withoutIdentifier : Item → ℕ → Step
+withoutIdentifier item next = record { item = item; identifier = replicate 4 0; next = next }
 
 -- what the payload was read as, at `base` of the loop
 abbrev pub itemAt : ℕ → DescriptorRead → Item
@@ -62,17 +62,17 @@ stepOf loop offset =
     let R : ℕ = length loop - offset in
     let L : ℕ = getD loop (offset + 1) 0 in
     -- refusal 2: "loop over 4,076"
-    pick (ltb 4076 (length loop)) (bare (Refused (Other InputTooLong)) (length loop))
+    pick (ltb 4076 (length loop)) (withoutIdentifier (Refused (Other InputTooLong)) (length loop))
     -- "At or past the end it says so, next offset the length. With R bytes left:"
-    (pick (leb (length loop) offset) (bare End (length loop))
+    (pick (leb (length loop) offset) (withoutIdentifier End (length loop))
     -- "R from 1 to 5: refusal 21 (2, 0); the loop ends, next offset its length"
-    (pick (ltb R 6) (bare (short 2 0) (length loop))
+    (pick (ltb R 6) (withoutIdentifier (short 2 0) (length loop))
     -- "R at least 6, length L, L + 2 > R: 21 (L + 2, 0); ends"
-    (pick (ltb R (L + 2)) (bare (short (L + 2) 0) (length loop))
+    (pick (ltb R (L + 2)) (withoutIdentifier (short (L + 2) 0) (length loop))
     -- "L = 255 that fits: 22; ends" (no byte is over 255)
-    (pick (ltb 254 L) (bare (Refused InvalidDescriptorLength) (length loop))
+    (pick (ltb 254 L) (withoutIdentifier (Refused InvalidDescriptorLength) (length loop))
     -- "L from 0 to 3: 21 (6, L + 2); the next item follows after L + 2 bytes"
-    (pick (ltb L 4) (bare (short 6 (L + 2)) (offset + (L + 2)))
+    (pick (ltb L 4) (withoutIdentifier (short 6 (L + 2)) (offset + (L + 2)))
     -- "Else tag, L, identifier of 4", and the payload
     (wholeAt loop offset L))))))
 

@@ -31,7 +31,7 @@ viewOf item = firstView (viewsOf item)
 
 -- blank views stay blank
 abbrev pub movedUpid : ℕ → SegmentationUpid → SegmentationUpid
-movedUpid base u = pick (withoutView (u .kind)) u (record { kind = u .kind; bytes = shifted base (u .bytes) })
+movedUpid base u = pick (withoutView (u .«upid_type»)) u (record { «upid_type» = u .«upid_type»; bytes = shifted base (u .bytes) })
 
 abbrev pub movedDescriptor : ℕ → Descriptor → Descriptor
 movedDescriptor base d = withViews (movedUpid base) (shifted base) d

@@ -8,8 +8,8 @@ use Rattle.table.specs.declared.View.{View}
 use Rattle.upid.specs.Cover.{All}
 use Rattle.descriptor.specs.Segmentation.{withUpid}
 use Rattle.descriptor.specs.Views.{withUpids}
+use Rattle.descriptor.specs.declared.segmentation.DescriptorDetail.{DescriptorDetail}
 use Rattle.descriptor.specs.declared.segmentation.SegmentationDetail.{SegmentationDetail}
-use Rattle.descriptor.specs.declared.segmentation.SegmentationInsert.{SegmentationInsert}
 use Rattle.descriptor_loop.specs.Items.{Listed}
 use Rattle.descriptor_loop.specs.Place.{movedUpid}
 
@@ -18,10 +18,10 @@ abbrev pub Movable : ℕ → List View → Type 0
 Movable base vs = All (λ (v : View). base + v .at < 2 ^ 64) vs
 
 -- an insert, and a detail, with the UPID moved
-abbrev pub movedInsert : ℕ → SegmentationInsert → SegmentationInsert
+abbrev pub movedInsert : ℕ → SegmentationDetail → SegmentationDetail
 movedInsert base i = withUpid i (movedUpid base (i .«segmentation_upid»))
 
-abbrev pub movedDetail : ℕ → SegmentationDetail → SegmentationDetail
+abbrev pub movedDetail : ℕ → DescriptorDetail → DescriptorDetail
 movedDetail base d = withUpids (movedUpid base) d
 
 -- a view lies in the bytes of its item, behind their head and identifier, and what it hands back is that run of the loop

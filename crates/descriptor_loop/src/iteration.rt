@@ -2,26 +2,22 @@
 ghost use mathlib.Core.Path.{_≡_};
 ghost use Prim.Native.Nat.{_+_, _≤_, _<_};
 ghost use lib.ListN.{length};
-ghost use Rattle.descriptor_loop.specs.Items.{bare, short, wholeAt, stepOf, countOf};
+ghost use Rattle.descriptor_loop.specs.Items.{withoutIdentifier, short, wholeAt, stepOf, countOf};
 use crate::Item;
 use crate::ItemRefusal;
+use crate::MAX_LOOP;
 use crate::Step;
 use crate::place::move_descriptor;
 use crate::place::move_refusal;
 use descriptor::Descriptor;
 use descriptor::DescriptorRead;
 use descriptor::read_descriptor;
+use table::numbers::size;
 use upid::Refusal;
-
-fn wide(b: u8) -> usize
-    ensures { λ r. ⌜ (r ≡ b) × (r < 256) ⌝ }
-{
-    b as usize
-}
 
 // An item without an identifier.
 fn plain(item: Item, next: usize) -> Step
-    ensures { λ r. ⌜ r ≡ bare item next ⌝ }
+    ensures { λ r. ⌜ r ≡ withoutIdentifier item next ⌝ }
 {
     Step {
         item,
@@ -82,7 +78,7 @@ fn by_length(bytes: &[u8], offset: usize) -> Step
 {
     let end = bytes.len();
     let left = end - offset;
-    let len = wide(bytes[offset + 1]);
+    let len = size(bytes[offset + 1]);
     if left < len + 2 {
         return plain(lacks(len + 2, 0), end);
     }
@@ -100,7 +96,7 @@ pub fn step(bytes: &[u8], offset: usize) -> Step
     ensures { λ r. ⌜ r ≡ stepOf (now (bytes .entry)) offset ⌝ }
 {
     let end = bytes.len();
-    if 4076 < end {
+    if MAX_LOOP < end {
         return plain(
             Item::Refused(ItemRefusal::Other(Refusal::InputTooLong)),
             end,
@@ -125,7 +121,7 @@ pub enum Counted {
 pub fn count_items(bytes: &[u8]) -> Counted
     ensures { λ r. ⌜ r ≡ countOf (now (bytes .entry)) ⌝ }
 {
-    if 4076 < bytes.len() {
+    if MAX_LOOP < bytes.len() {
         return Counted::Refused(ItemRefusal::Other(Refusal::InputTooLong));
     }
     let mut count: usize = 0;

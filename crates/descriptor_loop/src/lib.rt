@@ -6,6 +6,9 @@ pub mod iteration;
 pub mod place;
 pub mod reading;
 
+// A loop has at most so many bytes: a section's 4,096 less the 20 around command and loop.
+pub const MAX_LOOP: usize = 4076;
+
 // Refusals 2 and 21 to 25: 22, and those that a UPID has too.
 pub enum ItemRefusal {
     InvalidDescriptorLength,

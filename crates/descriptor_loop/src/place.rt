@@ -10,9 +10,9 @@ use crate::Item;
 use crate::ItemRefusal;
 use descriptor::Descriptor;
 use descriptor::plain::DTMFDescriptor;
+use descriptor::segmentation::DescriptorDetail;
 use descriptor::segmentation::SegmentationDescriptor;
 use descriptor::segmentation::SegmentationDetail;
-use descriptor::segmentation::SegmentationInsert;
 use descriptor::segmentation::SegmentationUpid;
 use table::View;
 use table::lent::view;
@@ -34,21 +34,21 @@ fn move_upid(u: SegmentationUpid, base: usize) -> SegmentationUpid
     requires { ⌜ Movable base (upidViews u) ⌝ }
     ensures { λ r. ⌜ r ≡ movedUpid base u ⌝ }
 {
-    let kind = u.kind;
+    let upid_type = u.upid_type;
     let bytes = u.bytes;
-    if kind == 0 {
+    if upid_type == 0 {
         return u;
     }
-    if kind == 10 {
+    if upid_type == 10 {
         return u;
     }
     SegmentationUpid {
-        kind,
+        upid_type,
         bytes: move_view(bytes, base),
     }
 }
 
-fn move_insert(insert: SegmentationInsert, base: usize) -> SegmentationInsert
+fn move_insert(insert: SegmentationDetail, base: usize) -> SegmentationDetail
     requires { ⌜ Movable base (upidViews (insert .«segmentation_upid»)) ⌝ }
     ensures { λ r. ⌜ r ≡ movedInsert base insert ⌝ }
 {
@@ -58,7 +58,7 @@ fn move_insert(insert: SegmentationInsert, base: usize) -> SegmentationInsert
     let segmentation_duration = insert.segmentation_duration;
     let segmentation_type_id = insert.segmentation_type_id;
     let sub_segments = insert.sub_segments;
-    SegmentationInsert {
+    SegmentationDetail {
         program_segmentation_flag: insert.program_segmentation_flag,
         segmentation_duration_flag: insert.segmentation_duration_flag,
         delivery_not_restricted_flag: insert.delivery_not_restricted_flag,
@@ -90,9 +90,9 @@ pub(crate) fn move_descriptor(d: Descriptor, base: usize) -> Descriptor
         Descriptor::Segmentation(segmentation) => {
             let detail = segmentation.descriptor_detail;
             match detail {
-                SegmentationDetail::Cancel => d,
-                SegmentationDetail::Insert(insert) => {
-                    let there = SegmentationDetail::Insert(move_insert(insert, base));
+                DescriptorDetail::Cancel => d,
+                DescriptorDetail::Active(insert) => {
+                    let there = DescriptorDetail::Active(move_insert(insert, base));
                     Descriptor::Segmentation(SegmentationDescriptor {
                         segmentation_event_id: segmentation.segmentation_event_id,
                         descriptor_detail: there,
@@ -120,12 +120,12 @@ pub(crate) fn move_refusal(r: Refusal, base: usize) -> Refusal
             actual: _,
         } => r,
         Refusal::UpidLengthTypeMismatch => r,
-        Refusal::InvalidUpidContent { kind, bytes } => Refusal::InvalidUpidContent {
-            kind,
+        Refusal::InvalidUpidContent { upid_type, bytes } => Refusal::InvalidUpidContent {
+            upid_type,
             bytes: move_view(bytes, base),
         },
         Refusal::InvalidUpidLength {
-            kind: _,
+            upid_type: _,
             expected: _,
             actual: _,
         } => r,
@@ -142,9 +142,12 @@ fn refusal_view(r: Refusal) -> View
             actual: _,
         } => View { at: 0, len: 0 },
         Refusal::UpidLengthTypeMismatch => View { at: 0, len: 0 },
-        Refusal::InvalidUpidContent { kind: _, bytes } => bytes,
+        Refusal::InvalidUpidContent {
+            upid_type: _,
+            bytes,
+        } => bytes,
         Refusal::InvalidUpidLength {
-            kind: _,
+            upid_type: _,
             expected: _,
             actual: _,
         } => View { at: 0, len: 0 },
@@ -154,10 +157,10 @@ fn refusal_view(r: Refusal) -> View
 fn upid_view(u: SegmentationUpid) -> View
     ensures { λ v. ⌜ v ≡ firstView (upidViews u) ⌝ }
 {
-    if u.kind == 0 {
+    if u.upid_type == 0 {
         return View { at: 0, len: 0 };
     }
-    if u.kind == 10 {
+    if u.upid_type == 10 {
         return View { at: 0, len: 0 };
     }
     u.bytes
@@ -172,8 +175,8 @@ fn descriptor_view(d: Descriptor) -> View
         Descriptor::Segmentation(segmentation) => {
             let detail = segmentation.descriptor_detail;
             match detail {
-                SegmentationDetail::Cancel => View { at: 0, len: 0 },
-                SegmentationDetail::Insert(insert) => {
+                DescriptorDetail::Cancel => View { at: 0, len: 0 },
+                DescriptorDetail::Active(insert) => {
                     let upid = insert.segmentation_upid;
                     upid_view(upid)
                 }

@@ -41,10 +41,10 @@ use Rattle.descriptor.specs.Segmentation.{
 }
 use Rattle.descriptor.specs.declared.segmentation.DeliveryRestrictionFlags.{DeliveryRestrictionFlags}
 use Rattle.descriptor.specs.declared.segmentation.ModeComponent.{ModeComponent}
-use Rattle.descriptor.specs.declared.segmentation.SegmentationDetail.{SegmentationDetail}
-use Rattle.descriptor.specs.declared.segmentation.SegmentationDetail.the-variants.{Cancel, Insert}
+use Rattle.descriptor.specs.declared.segmentation.DescriptorDetail.{DescriptorDetail}
+use Rattle.descriptor.specs.declared.segmentation.DescriptorDetail.the-variants.{Cancel, Active}
 use Rattle.descriptor.specs.declared.segmentation.SegmentationDuration.{SegmentationDuration}
-use Rattle.descriptor.specs.declared.segmentation.SegmentationInsert.{SegmentationInsert}
+use Rattle.descriptor.specs.declared.segmentation.SegmentationDetail.{SegmentationDetail}
 use Rattle.descriptor.specs.declared.segmentation.SegmentationMode.{SegmentationMode}
 use Rattle.descriptor.specs.declared.segmentation.SegmentationUpid.{SegmentationUpid}
 use Rattle.descriptor.specs.declared.segmentation.SubSegments.{SubSegments}
@@ -105,9 +105,9 @@ flag-fields p k x at fs e = ap (λ (b : Bool). bits 1 (flagNumber (p x)) ∷ wal
     again true = refl
     again false = refl
 
-module _ (i : SegmentationInsert) (upid : SegmentationUpid) (cs : List ModeComponent) (fits : length cs ≡ countOf (i .«segmentation_mode»)) where
+module _ (i : SegmentationDetail) (upid : SegmentationUpid) (cs : List ModeComponent) (fits : length cs ≡ countOf (i .«segmentation_mode»)) where
   abbrev fore : Fore
-  fore = record { front = frontOf (Insert (withUpid i upid)); components = cs }
+  fore = record { front = frontOf (Active (withUpid i upid)); components = cs }
 
   parts-fields : (at : ℕ) → walk (parts (byProgram (i .«segmentation_mode»)) (lasting (i .«segmentation_duration»)) (unrestricted (i .«delivery_restrictions»))) fore at .fields
       ≡ deliveryFields (i .«delivery_restrictions»)
@@ -134,13 +134,13 @@ module _ (i : SegmentationInsert) (upid : SegmentationUpid) (cs : List ModeCompo
       (flag-fields _ _ fore (at + 1 + 1) _
       (parts-fields (at + 1 + 1 + 1))))
 
-  back-fields : (at : ℕ) → walk back (backOf (Insert (withUpid i upid))) at .fields ≡ backFields i
+  back-fields : (at : ℕ) → walk back (backOf (Active (withUpid i upid))) at .fields ≡ backFields i
   unfolding back number
   back-fields at =
       ap (λ (l : List Field). bits 8 (segmentationNumber (i .«segmentation_type_id»)) ∷ (bits 8 (i .«segment_num») ∷ (bits 8 (i .«segments_expected») ∷ l)))
-      (in-fields subSegments _ _ (backOf (Insert (withUpid i upid))) (at + 8 + 8 + 8) _ _ (sub-fields (i .«sub_segments») _) refl ∙ append-nil (subFields (i .«sub_segments»)))
+      (in-fields subSegments _ _ (backOf (Active (withUpid i upid))) (at + 8 + 8 + 8) _ _ (sub-fields (i .«sub_segments») _) refl ∙ append-nil (subFields (i .«sub_segments»)))
 
-  all-fields : (event : ℕ) → (let x : Segmentation = record { descriptor = record { «segmentation_event_id» = event; «descriptor_detail» = Insert (withUpid i upid) }; components = cs } in
+  all-fields : (event : ℕ) → (let x : Segmentation = record { descriptor = record { «segmentation_event_id» = event; «descriptor_detail» = Active (withUpid i upid) }; components = cs } in
       walk segmentation x 0 .fields
       ≡ headFields event false
       ++ (flagFields (byProgram (i .«segmentation_mode»)) (lasting (i .«segmentation_duration»)) (unrestricted (i .«delivery_restrictions»))
@@ -149,26 +149,26 @@ module _ (i : SegmentationInsert) (upid : SegmentationUpid) (cs : List ModeCompo
       ++ (durationFields (i .«segmentation_duration») ++ (upidFields upid ++ backFields i))))))
   unfolding segmentation head number bit reserved
   all-fields event =
-      let x : Segmentation = record { descriptor = record { «segmentation_event_id» = event; «descriptor_detail» = Insert (withUpid i upid) }; components = cs } in
+      let x : Segmentation = record { descriptor = record { «segmentation_event_id» = event; «descriptor_detail» = Active (withUpid i upid) }; components = cs } in
       ap (λ (l : List Field). headFields event false ++ l)
       (in-fields front _ _ x 40 _ _ (front-fields 40) (in-fields back _ _ x _ _ _ (back-fields _) refl ∙ append-nil (backFields i))
       ∙ simp (append-assoc, append-nil))
 
 -- the fields before the UPID's
-abbrev pub foreFields : ℕ → SegmentationInsert → List ModeComponent → List Field
+abbrev pub foreFields : ℕ → SegmentationDetail → List ModeComponent → List Field
 foreFields event i cs =
     headFields event false
     ++ (flagFields (byProgram (i .«segmentation_mode»)) (lasting (i .«segmentation_duration»)) (unrestricted (i .«delivery_restrictions»))
     ++ (deliveryFields (i .«delivery_restrictions») ++ (modeFields (i .«segmentation_mode») cs ++ durationFields (i .«segmentation_duration»))))
 
-pub insert-fields : (event : ℕ) (i : SegmentationInsert) (upid : SegmentationUpid) (cs : List ModeComponent) → length cs ≡ countOf (i .«segmentation_mode»)
-    → (let x : Segmentation = record { descriptor = record { «segmentation_event_id» = event; «descriptor_detail» = Insert (withUpid i upid) }; components = cs } in
+pub insert-fields : (event : ℕ) (i : SegmentationDetail) (upid : SegmentationUpid) (cs : List ModeComponent) → length cs ≡ countOf (i .«segmentation_mode»)
+    → (let x : Segmentation = record { descriptor = record { «segmentation_event_id» = event; «descriptor_detail» = Active (withUpid i upid) }; components = cs } in
     walk segmentation x 0 .fields ≡ foreFields event i cs ++ (upidFields upid ++ backFields i))
 insert-fields event i upid cs e = all-fields i upid cs e event ∙ simp append-assoc
 
-pub fields-are : (event : ℕ) (d : SegmentationDetail) (cs : List ModeComponent) → length cs ≡ countOf (frontOf d .«segmentation_mode»)
+pub fields-are : (event : ℕ) (d : DescriptorDetail) (cs : List ModeComponent) → length cs ≡ countOf (frontOf d .«segmentation_mode»)
     → (let x : Segmentation = record { descriptor = record { «segmentation_event_id» = event; «descriptor_detail» = writtenDetail d }; components = cs } in
     walk segmentation x 0 .fields ≡ segmentFields event d cs)
 unfolding segmentation segmentFields head number bit reserved
 fields-are event Cancel cs e = refl
-fields-are event (Insert i) cs e = all-fields i (writing.writtenUpid (i .«segmentation_upid»)) cs e event
+fields-are event (Active i) cs e = all-fields i (writing.writtenUpid (i .«segmentation_upid»)) cs e event

@@ -16,18 +16,18 @@ use Rattle.table.specs.Writing.{Field, walk, seen, within, contents, print, Mad
 use Rattle.table.proofs.Lists.{zero-one, and-true}
 use Rattle.table.proofs.Structure.{Wrote, wrote, write-size}
 use Rattle.table.proofs.Walks.{print-length}
-use Rattle.descriptor.specs.Segmentation.{componentCount, countOf, fairDetail, fairFront, frontOf, segmentation}
+use Rattle.descriptor.specs.Segmentation.{componentCount, countOf, writableDetail, writableFront, frontOf, segmentation}
 use Rattle.descriptor.specs.declared.segmentation.ModeComponent.{ModeComponent}
 use Rattle.descriptor.specs.declared.segmentation.SegmentationDescriptor.{SegmentationDescriptor}
-use Rattle.descriptor.specs.declared.segmentation.SegmentationDetail.{SegmentationDetail}
-use Rattle.descriptor.specs.declared.segmentation.SegmentationDetail.the-variants.{Cancel, Insert}
+use Rattle.descriptor.specs.declared.segmentation.DescriptorDetail.{DescriptorDetail}
+use Rattle.descriptor.specs.declared.segmentation.DescriptorDetail.the-variants.{Cancel, Active}
 use Rattle.descriptor.specs.declared.segmentation.SegmentationDuration.{SegmentationDuration}
 use Rattle.descriptor.specs.declared.segmentation.SegmentationMode.{SegmentationMode}
 use Rattle.descriptor.specs.declared.segmentation.SegmentationUpid.{SegmentationUpid}
 use Rattle.descriptor.specs.declared.whole.Beside.{Beside}
 use Rattle.descriptor.proofs.SegmentationLaws.{detailBytes, segmentation-ends, segmentationStructure}
 use Rattle.descriptor_measure.specs.Private.{segmentFields, payloadSize}
-use Rattle.descriptor_measure.specs.Writing.{allZero, fairUpid, fairSegment, segmentationMade, upidIn, upidSource, written, writtenDetail}
+use Rattle.descriptor_measure.specs.Writing.{allZero, writableUpid, writableSegment, segmentationMade, upidIn, upidSource, written, writtenDetail}
 use Rattle.descriptor_measure.proofs.Fields.{fields-are}
 
 -- ---- what is made, undone
@@ -39,27 +39,27 @@ if-zero : (b : Bool) (m : Made) (n : ℕ) → 0 < n → refusalIn (pick b m (ref
 if-zero true m n h e = (refl, e)
 if-zero false m n h e = absurd (omega arith)
 
-makes : (fair : Bool) (l : List ℕ) (fs : List Field) → refusalIn (makeOf fair l fs) ≡ 0 → makeOf fair l fs ≡ made (bytesOf (print (contents l fs)))
-makes fair l fs e =
+makes : (writable : Bool) (l : List ℕ) (fs : List Field) → refusalIn (makeOf writable l fs) ≡ 0 → makeOf writable l fs ≡ made (bytesOf (print (contents l fs)))
+makes writable l fs e =
     let i = if-zero (seen l fs) _ 31 (omega arith) e in
     let j = if-zero (within fs) _ 32 (omega arith) (i .1) in
-    let k = if-zero fair _ 33 (omega arith) (j .1) in
+    let k = if-zero writable _ 33 (omega arith) (j .1) in
     rw (i .0, j .0, k .0)
 
-fair-written : (d : SegmentationDetail) → fairDetail d ≡ true → fairDetail (writtenDetail d) ≡ true
-unfolding fairDetail fairFront
-fair-written Cancel e = e
-fair-written (Insert i) e = e
+writable-written : (d : DescriptorDetail) → writableDetail d ≡ true → writableDetail (writtenDetail d) ≡ true
+unfolding writableDetail writableFront
+writable-written Cancel e = e
+writable-written (Active i) e = e
 
-pub count-written : (d : SegmentationDetail) → countOf (frontOf (writtenDetail d) .«segmentation_mode») ≡ countOf (frontOf d .«segmentation_mode»)
+pub count-written : (d : DescriptorDetail) → countOf (frontOf (writtenDetail d) .«segmentation_mode») ≡ countOf (frontOf d .«segmentation_mode»)
 count-written Cancel = refl
-count-written (Insert i) = refl
+count-written (Active i) = refl
 
 -- ---- the bytes of a payload
-size-is : (d : SegmentationDetail) → detailBytes (writtenDetail d) ≡ payloadSize d
+size-is : (d : DescriptorDetail) → detailBytes (writtenDetail d) ≡ payloadSize d
 unfolding payloadSize
 size-is Cancel = refl
-size-is (Insert i) = refl
+size-is (Active i) = refl
 
 -- no refusal: a UPID's view in the lent bytes, and not too long
 pub zero-view : (x : SegmentationDescriptor) (id : List ℕ) (beside : Beside) (lent : List ℕ) → refusalIn (segmentationMade x id beside lent) ≡ 0
@@ -86,33 +86,33 @@ module _ (x : SegmentationDescriptor) (id : List ℕ) (beside : Beside) (lent : 
   made-zero e =
       let i = if-zero (leb (upidIn x .bytes .at + upidIn x .bytes .len) (length lent)) _ 31 (omega arith) e in
       let j = if-zero (leb (upidIn x .bytes .len) 255) _ 32 (omega arith) (i .1) in
-      let k = makes (fairSegment x id (beside .eidr) lent) source (walk segmentation (written x (beside .components)) 0 .fields) (j .1) in
+      let k = makes (writableSegment x id (beside .eidr) lent) source (walk segmentation (written x (beside .components)) 0 .fields) (j .1) in
       rw (i .0, j .0) (k ∙ ap (λ (l : List Field). made (bytesOf (print (contents source l)))) (fields-are (x .«segmentation_event_id») (x .«descriptor_detail») cs counted))
 
   module _ (b : List ℕ) (e : segmentationMade x id beside lent ≡ made b) where
     undone : (leb (upidIn x .bytes .at + upidIn x .bytes .len) (length lent) ≡ true)
         × (leb (upidIn x .bytes .len) 255 ≡ true)
-        × (make segmentation (fairSegment x id (beside .eidr) lent) source (written x (beside .components)) ≡ made b)
+        × (make segmentation (writableSegment x id (beside .eidr) lent) source (written x (beside .components)) ≡ made b)
     unfolding segmentationMade
     undone =
         let i = if-made (leb (upidIn x .bytes .at + upidIn x .bytes .len) (length lent)) _ 31 b e in
         let j = if-made (leb (upidIn x .bytes .len) 255) _ 32 b (i .1) in
         (i .0, j .0, j .1)
 
-    told : Wrote (fairSegment x id (beside .eidr) lent) source (walk segmentation (written x (beside .components)) 0 .fields) b
-    told = wrote (fairSegment x id (beside .eidr) lent) source (walk segmentation (written x (beside .components)) 0 .fields) b (undone .2)
+    told : Wrote (writableSegment x id (beside .eidr) lent) source (walk segmentation (written x (beside .components)) 0 .fields) b
+    told = wrote (writableSegment x id (beside .eidr) lent) source (walk segmentation (written x (beside .components)) 0 .fields) b (undone .2)
 
     -- 33 as a whole
-    pub all-fair : (allZero id ≡ true) × (fairDetail (x .«descriptor_detail») ≡ true) × (fairUpid (upidIn x) (beside .eidr) lent ≡ true)
-    unfolding fairSegment
-    all-fair =
+    pub all-writable : (allZero id ≡ true) × (writableDetail (x .«descriptor_detail») ≡ true) × (writableUpid (upidIn x) (beside .eidr) lent ≡ true)
+    unfolding writableSegment
+    all-writable =
         let i = and-true (allZero id) _ (told .fit) in
-        let j = and-true (fairDetail (x .«descriptor_detail»)) _ (i .1) in
+        let j = and-true (writableDetail (x .«descriptor_detail»)) _ (i .1) in
         (i .0, j .0, j .1)
 
-    pub by-table : make segmentation (fairDetail (writtenDetail (x .«descriptor_detail»))) source (written x (beside .components)) ≡ made b
+    pub by-table : make segmentation (writableDetail (writtenDetail (x .«descriptor_detail»))) source (written x (beside .components)) ≡ made b
     by-table =
-        ap (λ (f : Bool). makeOf f source (walk segmentation (written x (beside .components)) 0 .fields)) (fair-written (x .«descriptor_detail») (all-fair .1) ∙ sym (told .fit))
+        ap (λ (f : Bool). makeOf f source (walk segmentation (written x (beside .components)) 0 .fields)) (writable-written (x .«descriptor_detail») (all-writable .1) ∙ sym (told .fit))
         ∙ undone .2
 
     pub made-size : length b ≡ payloadSize (x .«descriptor_detail»)
@@ -124,7 +124,7 @@ module _ (x : SegmentationDescriptor) (id : List ℕ) (beside : Beside) (lent : 
     pub made-bits : length (print (contents source (segmentFields (x .«segmentation_event_id») (x .«descriptor_detail») cs))) ≡ payloadSize (x .«descriptor_detail») * 8
     made-bits =
         let fs = walk segmentation (written x (beside .components)) 0 .fields in
-        let l = segmentation-ends (written x (beside .components)) 0 (counted ∙ sym (count-written (x .«descriptor_detail»))) (fair-written (x .«descriptor_detail») (all-fair .1)) refl in
+        let l = segmentation-ends (written x (beside .components)) 0 (counted ∙ sym (count-written (x .«descriptor_detail»))) (writable-written (x .«descriptor_detail») (all-writable .1)) refl in
         let p : length (print (contents source fs)) ≡ payloadSize (x .«descriptor_detail») * 8 =
         omega (arith, print-length source fs 0 (told .views), l .2, size-is (x .«descriptor_detail»)) in
         rw (fields-are (x .«segmentation_event_id») (x .«descriptor_detail») cs counted) at p

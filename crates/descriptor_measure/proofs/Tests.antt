@@ -10,25 +10,25 @@ use lib.Dec.{leb, ltb, eqb}
 use lib.ListN.{length, getD, take, drop, replicate, length-take, length-replicate}
 use lib.Seq.{drop-cons, drop-length, length-take-le}
 use borrow.Author.Tests.{ltb-true, ltb-false, eqb-true, not-true, not-false, lt-ltb, le-ltb, eq-eqb, ne-eqb}
-use Rattle.names.specs.Segmentation.{segmentationNumber, fairSegmentation}
+use Rattle.names.specs.Segmentation.{segmentationNumber, writableSegmentation}
 use Rattle.table.specs.Bits.{pick}
 use Rattle.table.specs.Lent.{viewed}
 use Rattle.table.specs.Writing.{Field, within}
 use Rattle.upid.specs.Upid.{checkOf}
 use Rattle.upid.specs.declared.UpidRead.{UpidRead}
 use Rattle.descriptor.specs.Descriptor.{isCuei}
-use Rattle.descriptor.specs.Segmentation.{agrees, blankComponent, byProgram, countOf, lasting, unrestricted, fairFront, fairDetail}
+use Rattle.descriptor.specs.Segmentation.{agrees, blankComponent, byProgram, countOf, lasting, unrestricted, writableFront, writableDetail}
 use Rattle.descriptor.specs.Whole.{filled}
 use Rattle.descriptor.specs.declared.segmentation.ModeComponent.{ModeComponent}
-use Rattle.descriptor.specs.declared.segmentation.SegmentationDetail.the-variants.{Insert}
+use Rattle.descriptor.specs.declared.segmentation.DescriptorDetail.the-variants.{Active}
 use Rattle.descriptor.specs.declared.segmentation.SegmentationDuration.{SegmentationDuration}
-use Rattle.descriptor.specs.declared.segmentation.SegmentationInsert.{SegmentationInsert}
+use Rattle.descriptor.specs.declared.segmentation.SegmentationDetail.{SegmentationDetail}
 use Rattle.descriptor.specs.declared.segmentation.SegmentationMode.{SegmentationMode}
 use Rattle.descriptor.specs.declared.segmentation.SegmentationUpid.{SegmentationUpid}
 use Rattle.descriptor.specs.declared.segmentation.SubSegment.{SubSegment}
 use Rattle.descriptor.specs.declared.segmentation.SubSegments.{SubSegments}
 use Rattle.descriptor_measure.specs.Private.{componentsFields, modeFields, durationFields, subFields, backFields, numbersFit}
-use Rattle.descriptor_measure.specs.Writing.{accepts, allZero, alone, fairReserved, fairUpid, writtenKind}
+use Rattle.descriptor_measure.specs.Writing.{accepts, allZero, alone, writableReserved, writableUpid, writtenType}
 
 -- ---- all zero: what is left says what the whole says
 module _ (s : List ℕ) (i : ℕ) (inv : allZero (drop i s) ≡ allZero s) where
@@ -59,8 +59,8 @@ not-alone a b r er t = rw (← er, t)
 
 -- ---- a reserved descriptor
 module _ (tag : ℕ) (id eidr : List ℕ) (z : Bool) (ez : z ≡ allZero eidr) where
-  pub reserved-beside : not z ≡ true → false ≡ fairReserved tag id eidr
-  unfolding fairReserved
+  pub reserved-beside : not z ≡ true → false ≡ writableReserved tag id eidr
+  unfolding writableReserved
   reserved-beside t = rw (← ez, not-true z t) (go (not (isCuei id && ltb tag 4)))
     where
       go : (b : Bool) → false ≡ b && false
@@ -68,16 +68,16 @@ module _ (tag : ℕ) (id eidr : List ℕ) (z : Bool) (ez : z ≡ allZero eidr) w
       go false = refl
 
   module _ (t : not z ≡ false) (c : Bool) (ec : c ≡ isCuei id) where
-    pub reserved-tag : c ≡ true → ltb 3 tag ≡ fairReserved tag id eidr
-    unfolding fairReserved
+    pub reserved-tag : c ≡ true → ltb 3 tag ≡ writableReserved tag id eidr
+    unfolding writableReserved
     reserved-tag u = rw (← ez, not-false z t, ← ec, u) (go (ltb tag 4) refl)
       where
         go : (b : Bool) → ltb tag 4 ≡ b → ltb 3 tag ≡ not b && true
         go true e = le-ltb 3 tag (omega (arith, ltb-true tag 4 e))
         go false e = lt-ltb 3 tag (omega (arith, ltb-false tag 4 e))
 
-    pub reserved-other : c ≡ false → true ≡ fairReserved tag id eidr
-    unfolding fairReserved
+    pub reserved-other : c ≡ false → true ≡ writableReserved tag id eidr
+    unfolding writableReserved
     reserved-other u = rw (← ez, not-false z t, ← ec, u)
 
 -- ---- sub-segments: a byte fits
@@ -157,30 +157,30 @@ parts-end cs n i inv h =
     sym (ap (λ (l : List ModeComponent). within (componentsFields l)) d) ∙ inv
 
 -- ---- flags and type id
-module _ (i : SegmentationInsert) (p a : Bool) (ep : p ≡ byProgram (i .«segmentation_mode»)) (ea : a ≡ agrees (i .«program_segmentation_flag») p) where
-  pub fair-no-program : not a ≡ true → false ≡ fairDetail (Insert i)
-  unfolding fairDetail fairFront
-  fair-no-program t = rw (← ep, ← ea, not-true a t)
+module _ (i : SegmentationDetail) (p a : Bool) (ep : p ≡ byProgram (i .«segmentation_mode»)) (ea : a ≡ agrees (i .«program_segmentation_flag») p) where
+  pub writable-no-program : not a ≡ true → false ≡ writableDetail (Active i)
+  unfolding writableDetail writableFront
+  writable-no-program t = rw (← ep, ← ea, not-true a t)
 
   module _ (t : not a ≡ false) (l b : Bool) (el : l ≡ lasting (i .«segmentation_duration»)) (eb : b ≡ agrees (i .«segmentation_duration_flag») l) where
-    pub fair-no-lasting : not b ≡ true → false ≡ fairDetail (Insert i)
-    unfolding fairDetail fairFront
-    fair-no-lasting u = rw (← ep, ← ea, not-false a t, ← el, ← eb, not-true b u)
+    pub writable-no-lasting : not b ≡ true → false ≡ writableDetail (Active i)
+    unfolding writableDetail writableFront
+    writable-no-lasting u = rw (← ep, ← ea, not-false a t, ← el, ← eb, not-true b u)
 
     module _ (u : not b ≡ false) (f d : Bool) (ef : f ≡ unrestricted (i .«delivery_restrictions»)) (ed : d ≡ agrees (i .«delivery_not_restricted_flag») f) where
-      pub fair-no-free : not d ≡ true → false ≡ fairDetail (Insert i)
-      unfolding fairDetail fairFront
-      fair-no-free v = rw (← ep, ← ea, not-false a t, ← el, ← eb, not-false b u, ← ef, ← ed, not-true d v)
+      pub writable-no-free : not d ≡ true → false ≡ writableDetail (Active i)
+      unfolding writableDetail writableFront
+      writable-no-free v = rw (← ep, ← ea, not-false a t, ← el, ← eb, not-false b u, ← ef, ← ed, not-true d v)
 
-      pub fair-kind : not d ≡ false → (r : Bool) → r ≡ fairSegmentation (i .«segmentation_type_id») → r ≡ fairDetail (Insert i)
-      unfolding fairDetail fairFront
-      fair-kind v r er = rw (← ep, ← ea, not-false a t, ← el, ← eb, not-false b u, ← ef, ← ed, not-false d v) er
+      pub writable-type : not d ≡ false → (r : Bool) → r ≡ writableSegmentation (i .«segmentation_type_id») → r ≡ writableDetail (Active i)
+      unfolding writableDetail writableFront
+      writable-type v r er = rw (← ep, ← ea, not-false a t, ← el, ← eb, not-false b u, ← ef, ← ed, not-false d v) er
 
 -- ---- a UPID
 module _ (u : SegmentationUpid) (eidr lent : List ℕ) where
-  pub upid-eidr : u .kind ≡ 10 → eqb (u .bytes .len) 0 ≡ fairUpid u eidr lent
-  unfolding fairUpid
-  upid-eidr e = rw (eq-eqb (u .kind) 10 e)
+  pub upid-eidr : u .«upid_type» ≡ 10 → eqb (u .bytes .len) 0 ≡ writableUpid u eidr lent
+  unfolding writableUpid
+  upid-eidr e = rw (eq-eqb (u .«upid_type») 10 e)
 
   no-bytes : u .bytes .len ≡ 0 → viewed lent (u .bytes) ≡ []
   unfolding viewed
@@ -190,46 +190,46 @@ module _ (u : SegmentationUpid) (eidr lent : List ℕ) where
       go true = rw e
       go false = refl
 
-  module _ (ne : u .kind ≡ 10 → ⊥) (z : Bool) (ez : z ≡ allZero eidr) where
-    pub upid-beside : not z ≡ true → false ≡ fairUpid u eidr lent
-    unfolding fairUpid
-    upid-beside t = rw (ne-eqb (u .kind) 10 ne, ← ez, not-true z t)
+  module _ (ne : u .«upid_type» ≡ 10 → ⊥) (z : Bool) (ez : z ≡ allZero eidr) where
+    pub upid-beside : not z ≡ true → false ≡ writableUpid u eidr lent
+    unfolding writableUpid
+    upid-beside t = rw (ne-eqb (u .«upid_type») 10 ne, ← ez, not-true z t)
 
     module _ (t : not z ≡ false) where
-      pub upid-none : u .kind ≡ 0 → eqb (u .bytes .len) 0 ≡ fairUpid u eidr lent
-      unfolding fairUpid writtenKind checkOf
+      pub upid-none : u .«upid_type» ≡ 0 → eqb (u .bytes .len) 0 ≡ writableUpid u eidr lent
+      unfolding writableUpid writtenType checkOf
       upid-none e =
-          let k : eqb (u .kind) 5 ≡ false = rw e in
-          rw (ne-eqb (u .kind) 10 ne, ← ez, not-false z t, eq-eqb (u .kind) 0 e, k) (go (eqb (u .bytes .len) 0) refl)
+          let k : eqb (u .«upid_type») 5 ≡ false = rw e in
+          rw (ne-eqb (u .«upid_type») 10 ne, ← ez, not-false z t, eq-eqb (u .«upid_type») 0 e, k) (go (eqb (u .bytes .len) 0) refl)
         where
-          go : (b : Bool) → eqb (u .bytes .len) 0 ≡ b → b ≡ b && accepts (checkOf (writtenKind u) (viewed lent (u .bytes)))
+          go : (b : Bool) → eqb (u .bytes .len) 0 ≡ b → b ≡ b && accepts (checkOf (writtenType u) (viewed lent (u .bytes)))
           go true w = rw (no-bytes (eqb-true (u .bytes .len) 0 w))
           go false w = refl
 
-      module _ (k : u .kind ≡ 0 → ⊥) where
-        pub upid-empty : u .bytes .len ≡ 0 → false ≡ fairUpid u eidr lent
-        unfolding fairUpid
-        upid-empty e = rw (ne-eqb (u .kind) 10 ne, ← ez, not-false z t, ne-eqb (u .kind) 0 k, eq-eqb (u .bytes .len) 0 e)
+      module _ (k : u .«upid_type» ≡ 0 → ⊥) where
+        pub upid-empty : u .bytes .len ≡ 0 → false ≡ writableUpid u eidr lent
+        unfolding writableUpid
+        upid-empty e = rw (ne-eqb (u .«upid_type») 10 ne, ← ez, not-false z t, ne-eqb (u .«upid_type») 0 k, eq-eqb (u .bytes .len) 0 e)
 
         module _ (l : u .bytes .len ≡ 0 → ⊥) where
-          pub upid-five : u .kind ≡ 5 → false ≡ fairUpid u eidr lent
-          unfolding fairUpid
-          upid-five e = rw (ne-eqb (u .kind) 10 ne, ← ez, not-false z t, ne-eqb (u .kind) 0 k, ne-eqb (u .bytes .len) 0 l, eq-eqb (u .kind) 5 e)
+          pub upid-five : u .«upid_type» ≡ 5 → false ≡ writableUpid u eidr lent
+          unfolding writableUpid
+          upid-five e = rw (ne-eqb (u .«upid_type») 10 ne, ← ez, not-false z t, ne-eqb (u .«upid_type») 0 k, ne-eqb (u .bytes .len) 0 l, eq-eqb (u .«upid_type») 5 e)
 
-          pub upid-read : (u .kind ≡ 5 → ⊥) → (part : List ℕ) (w : ℕ) (r : UpidRead) → part ≡ viewed lent (u .bytes) → w ≡ writtenKind u → r ≡ checkOf w part
-              → accepts r ≡ fairUpid u eidr lent
-          unfolding fairUpid
+          pub upid-read : (u .«upid_type» ≡ 5 → ⊥) → (part : List ℕ) (w : ℕ) (r : UpidRead) → part ≡ viewed lent (u .bytes) → w ≡ writtenType u → r ≡ checkOf w part
+              → accepts r ≡ writableUpid u eidr lent
+          unfolding writableUpid
           upid-read f part w r ep ew er =
-              rw (ne-eqb (u .kind) 10 ne, ← ez, not-false z t, ne-eqb (u .kind) 0 k, ne-eqb (u .bytes .len) 0 l, ne-eqb (u .kind) 5 f, ← ep, ← ew, ← er)
+              rw (ne-eqb (u .«upid_type») 10 ne, ← ez, not-false z t, ne-eqb (u .«upid_type») 0 k, ne-eqb (u .bytes .len) 0 l, ne-eqb (u .«upid_type») 5 f, ← ep, ← ew, ← er)
 
 -- ---- the numbers of an insert: those of components that fit change nothing
-pub numbers-with : (i : SegmentationInsert) (cs : List ModeComponent) (n : Bool) → within (modeFields (i .«segmentation_mode») cs) ≡ true
+pub numbers-with : (i : SegmentationDetail) (cs : List ModeComponent) (n : Bool) → within (modeFields (i .«segmentation_mode») cs) ≡ true
     → (n ≡ numbersFit i []) × (countOf (i .«segmentation_mode») < 256) → (n ≡ numbersFit i cs) × (countOf (i .«segmentation_mode») < 256)
 unfolding numbersFit
 numbers-with i cs n f e =
     (e .0 ∙ ap (λ (b : Bool). b && (within (durationFields (i .«segmentation_duration»)) && within (backFields i))) (none-fits (i .«segmentation_mode») (e .1) ∙ sym f), e .1)
 
-module _ (i : SegmentationInsert) (cs : List ModeComponent) (m : Bool) (em : m ≡ within (modeFields (i .«segmentation_mode») cs)) where
+module _ (i : SegmentationDetail) (cs : List ModeComponent) (m : Bool) (em : m ≡ within (modeFields (i .«segmentation_mode») cs)) where
   pub no-mode-fit : not m ≡ true → false ≡ numbersFit i cs
   unfolding numbersFit
   no-mode-fit t = rw (← em, not-true m t)
@@ -240,9 +240,9 @@ module _ (i : SegmentationInsert) (cs : List ModeComponent) (m : Bool) (em : m �
     no-duration-fit u = rw (← em, not-false m t, ← ed, not-true d u)
 
     module _ (u : not d ≡ false) (n w : ℕ) (en : n ≡ segmentationNumber (i .«segmentation_type_id»)) (ew : w ≡ n) where
-      pub no-kind-fit : 255 < w → false ≡ numbersFit i cs
+      pub no-type-fit : 255 < w → false ≡ numbersFit i cs
       unfolding numbersFit
-      no-kind-fit h = rw (← em, not-false m t, ← ed, not-false d u, le-ltb (segmentationNumber (i .«segmentation_type_id»)) 256 (omega arith))
+      no-type-fit h = rw (← em, not-false m t, ← ed, not-false d u, le-ltb (segmentationNumber (i .«segmentation_type_id»)) 256 (omega arith))
 
       pub sub-fits : w ≤ 255 → i .«segment_num» < 256 → i .«segments_expected» < 256 → (s : Bool) → s ≡ within (subFields (i .«sub_segments»)) → s ≡ numbersFit i cs
       unfolding numbersFit

@@ -1,4 +1,2 @@
 pub mod Writing
-pub mod Canonical
-pub mod Same
 pub mod Private

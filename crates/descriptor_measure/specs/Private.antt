@@ -14,10 +14,10 @@ use Rattle.descriptor.specs.Whole.{filled}
 use Rattle.descriptor.specs.declared.segmentation.DeliveryRestrictionFlags.{DeliveryRestrictionFlags}
 use Rattle.descriptor.specs.declared.segmentation.ModeComponent.{ModeComponent}
 use Rattle.descriptor.specs.declared.segmentation.SegmentationDescriptor.{SegmentationDescriptor}
-use Rattle.descriptor.specs.declared.segmentation.SegmentationDetail.{SegmentationDetail}
-use Rattle.descriptor.specs.declared.segmentation.SegmentationDetail.the-variants.{Cancel, Insert}
+use Rattle.descriptor.specs.declared.segmentation.DescriptorDetail.{DescriptorDetail}
+use Rattle.descriptor.specs.declared.segmentation.DescriptorDetail.the-variants.{Cancel, Active}
 use Rattle.descriptor.specs.declared.segmentation.SegmentationDuration.{SegmentationDuration}
-use Rattle.descriptor.specs.declared.segmentation.SegmentationInsert.{SegmentationInsert}
+use Rattle.descriptor.specs.declared.segmentation.SegmentationDetail.{SegmentationDetail}
 use Rattle.descriptor.specs.declared.segmentation.SegmentationMode.{SegmentationMode}
 use Rattle.descriptor.specs.declared.segmentation.SegmentationUpid.{SegmentationUpid}
 use Rattle.descriptor.specs.declared.segmentation.SubSegments.{SubSegments}
@@ -54,18 +54,18 @@ durationFields SegmentationDuration.Absent = []
 durationFields (SegmentationDuration.Ticks t) = bits 40 t ∷ []
 
 abbrev pub upidFields : SegmentationUpid → List Field
-upidFields u = bits 8 (u .kind) ∷ (bits 8 (u .bytes .len) ∷ (run (u .bytes .len) (u .bytes .at) ∷ []))
+upidFields u = bits 8 (u .«upid_type») ∷ (bits 8 (u .bytes .len) ∷ (run (u .bytes .len) (u .bytes .at) ∷ []))
 
 abbrev pub subFields : SubSegments → List Field
 subFields SubSegments.Absent = rest 0 ∷ []
 subFields (SubSegments.Is x) = rest 2 ∷ (bits 8 (x .«sub_segment_num») ∷ (bits 8 (x .«sub_segments_expected») ∷ []))
 
-abbrev pub backFields : SegmentationInsert → List Field
+abbrev pub backFields : SegmentationDetail → List Field
 backFields i =
     bits 8 (segmentationNumber (i .«segmentation_type_id»)) ∷ (bits 8 (i .«segment_num») ∷ (bits 8 (i .«segments_expected») ∷ subFields (i .«sub_segments»)))
 
 -- the fields after the head, of the components cs
-abbrev pub insertFields : SegmentationInsert → List ModeComponent → List Field
+abbrev pub insertFields : SegmentationDetail → List ModeComponent → List Field
 insertFields i cs =
     flagFields (byProgram (i .«segmentation_mode»)) (lasting (i .«segmentation_duration»)) (unrestricted (i .«delivery_restrictions»))
     ++ (deliveryFields (i .«delivery_restrictions»)
@@ -74,19 +74,19 @@ insertFields i cs =
     ++ (upidFields (writtenUpid (i .«segmentation_upid»))
     ++ backFields i))))
 
-unfoldable pub segmentFields : ℕ → SegmentationDetail → List ModeComponent → List Field
+unfoldable pub segmentFields : ℕ → DescriptorDetail → List ModeComponent → List Field
 segmentFields event Cancel cs = headFields event true
-segmentFields event (Insert i) cs = headFields event false ++ insertFields i cs
+segmentFields event (Active i) cs = headFields event false ++ insertFields i cs
 
 -- refusal 32: the numbers of an insert but its UPID's, of the components cs
-unfoldable pub numbersFit : SegmentationInsert → List ModeComponent → Bool
+unfoldable pub numbersFit : SegmentationDetail → List ModeComponent → Bool
 numbersFit i cs = within (modeFields (i .«segmentation_mode») cs) && (within (durationFields (i .«segmentation_duration»)) && within (backFields i))
 
 -- ---- the bytes of a payload
 
-unfoldable pub payloadSize : SegmentationDetail → ℕ
+unfoldable pub payloadSize : DescriptorDetail → ℕ
 payloadSize Cancel = 5
-payloadSize (Insert i) =
+payloadSize (Active i) =
     8 + modeSize (i .«segmentation_mode») + durationSize (i .«segmentation_duration») + writtenUpid (i .«segmentation_upid») .bytes .len
     + (3 + subBytes (i .«sub_segments»))
 
@@ -99,6 +99,6 @@ ModeFits x components =
 
 -- n is the number of the first refusal, or 0: of blank components, and of any others that fit
 pub record RefusedSo (x : SegmentationDescriptor) (identifier eidr lent : List ℕ) (n : ℕ) : Type 0 where
-  pub bare : n ≡ refusalIn (segmentationMade x identifier (record { components = filled []; eidr = eidr }) lent)
+  pub no-components : n ≡ refusalIn (segmentationMade x identifier (record { components = filled []; eidr = eidr }) lent)
   pub others : (components : List ModeComponent) → length components ≡ 255 → ModeFits x components
       → n ≡ refusalIn (segmentationMade x identifier (record { components = components; eidr = eidr }) lent)

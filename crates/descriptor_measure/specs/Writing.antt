@@ -16,14 +16,14 @@ use Rattle.descriptor.specs.Descriptor.{isCuei}
 pub use Rattle.descriptor.specs.Descriptor.{cuei}
 use Rattle.descriptor.specs.Plain.{avail, dtmf, time, privateBytes}
 use Rattle.descriptor.specs.Segmentation as table
-use Rattle.descriptor.specs.Segmentation.{componentCount, agrees, detailUpid, fairDetail, segmentation}
+use Rattle.descriptor.specs.Segmentation.{componentCount, agrees, detailUpid, writableDetail, segmentation}
 use Rattle.descriptor.specs.Views.{withUpids}
-use Rattle.descriptor.specs.Whole.{ofReserved}
+use Rattle.descriptor.specs.Whole.{ofReserved, ofSegmentation}
 use Rattle.descriptor.specs.declared.Descriptor.{Descriptor}
 use Rattle.descriptor.specs.declared.Descriptor.the-variants.{Avail, Dtmf, Segmentation, Time, Reserved}
 use Rattle.descriptor.specs.declared.segmentation.ModeComponent.{ModeComponent}
 use Rattle.descriptor.specs.declared.segmentation.SegmentationDescriptor.{SegmentationDescriptor}
-use Rattle.descriptor.specs.declared.segmentation.SegmentationDetail.{SegmentationDetail}
+use Rattle.descriptor.specs.declared.segmentation.DescriptorDetail.{DescriptorDetail}
 use Rattle.descriptor.specs.declared.segmentation.SegmentationUpid.{SegmentationUpid}
 use Rattle.descriptor.specs.declared.whole.Beside.{Beside}
 
@@ -49,44 +49,44 @@ unfoldable pub alone : List ℕ → List ℕ → Bool
 alone identifier eidr = allZero identifier && allZero eidr
 
 -- "reserved descriptor "CUEI" with tag 0 to 3"; and no EIDR beside it
-unfoldable pub fairReserved : ℕ → List ℕ → List ℕ → Bool
-fairReserved tag identifier eidr = not (isCuei identifier && ltb tag 4) && allZero eidr
+unfoldable pub writableReserved : ℕ → List ℕ → List ℕ → Bool
+writableReserved tag identifier eidr = not (isCuei identifier && ltb tag 4) && allZero eidr
 
 -- ---- a UPID
 
 -- "Writing type 6 for an eight-byte ISAN: its type is 5"
-unfoldable pub writtenKind : SegmentationUpid → ℕ
-writtenKind u = pick (eqb (u .kind) 6 && eqb (u .bytes .len) 8) 5 (u .kind)
+unfoldable pub writtenType : SegmentationUpid → ℕ
+writtenType u = pick (eqb (u .«upid_type») 6 && eqb (u .bytes .len) 8) 5 (u .«upid_type»)
 
 -- as it is written: of an EIDR the twelve bytes that stand beside the descriptor, of any other UPID those of its view
 unfoldable pub writtenUpid : SegmentationUpid → SegmentationUpid
-writtenUpid u = pick (eqb (u .kind) 10) (record { kind = 10; bytes = record { at = 0; len = 12 } }) (record { kind = writtenKind u; bytes = u .bytes })
+writtenUpid u = pick (eqb (u .«upid_type») 10) (record { «upid_type» = 10; bytes = record { at = 0; len = 12 } }) (record { «upid_type» = writtenType u; bytes = u .bytes })
 
 unfoldable pub upidSource : SegmentationUpid → List ℕ → List ℕ → List ℕ
-upidSource u eidr lent = pick (eqb (u .kind) 10) eidr lent
+upidSource u eidr lent = pick (eqb (u .«upid_type») 10) eidr lent
 
 abbrev pub accepts : UpidRead → Bool
-accepts (UpidRead.Fine kind) = true
+accepts (UpidRead.Fine upid-type) = true
 accepts (UpidRead.Refused r) = false
 
 -- refusal 33 of a UPID
-unfoldable pub fairUpid : SegmentationUpid → List ℕ → List ℕ → Bool
-fairUpid u eidr lent =
-    pick (eqb (u .kind) 10)
+unfoldable pub writableUpid : SegmentationUpid → List ℕ → List ℕ → Bool
+writableUpid u eidr lent =
+    pick (eqb (u .«upid_type») 10)
     -- an EIDR has no view
     (eqb (u .bytes .len) 0)
     -- any other has no EIDR
     (allZero eidr
     -- "empty UPID other than None", and None has no bytes
-    && (agrees (eqb (u .kind) 0) (eqb (u .bytes .len) 0)
+    && (agrees (eqb (u .«upid_type») 0) (eqb (u .bytes .len) 0)
     -- "UPID type 5"
-    && (not (eqb (u .kind) 5)
+    && (not (eqb (u .«upid_type») 5)
     -- "UPID bytes that its reader refuses (type 6 with 8 bytes goes by type 5's)"
-    && accepts (checkOf (writtenKind u) (viewed lent (u .bytes))))))
+    && accepts (checkOf (writtenType u) (viewed lent (u .bytes))))))
 
 -- ---- a segmentation descriptor
 
-abbrev pub writtenDetail : SegmentationDetail → SegmentationDetail
+abbrev pub writtenDetail : DescriptorDetail → DescriptorDetail
 writtenDetail d = withUpids writtenUpid d
 
 -- the components up to the count; "array places past a count" are not looked at
@@ -100,16 +100,16 @@ written x components = record {
 abbrev pub upidIn : SegmentationDescriptor → SegmentationUpid
 upidIn x = detailUpid (x .«descriptor_detail»)
 
--- refusal 33: `fairDetail` has "a flag that contradicts its optional part" and "a reserved number that has a name"
-unfoldable pub fairSegment : SegmentationDescriptor → List ℕ → List ℕ → List ℕ → Bool
-fairSegment x identifier eidr lent = allZero identifier && (fairDetail (x .«descriptor_detail») && fairUpid (upidIn x) eidr lent)
+-- refusal 33: `writableDetail` has "a flag that contradicts its optional part" and "a reserved number that has a name"
+unfoldable pub writableSegment : SegmentationDescriptor → List ℕ → List ℕ → List ℕ → Bool
+writableSegment x identifier eidr lent = allZero identifier && (writableDetail (x .«descriptor_detail») && writableUpid (upidIn x) eidr lent)
 
 -- 31 and 32 are also of a view that should be blank: "over .. 255 UPID bytes"
 unfoldable pub segmentationMade : SegmentationDescriptor → List ℕ → Beside → List ℕ → Made
 segmentationMade x identifier beside lent =
     pick (liesIn lent (upidIn x .bytes))
     (pick (leb (upidIn x .bytes .len) 255)
-    (make segmentation (fairSegment x identifier (beside .eidr) lent) (upidSource (upidIn x) (beside .eidr) lent) (written x (beside .components)))
+    (make segmentation (writableSegment x identifier (beside .eidr) lent) (upidSource (upidIn x) (beside .eidr) lent) (written x (beside .components)))
     (refused 32))
     (refused 31)
 
@@ -120,7 +120,7 @@ payloadMade (Avail x) identifier beside lent = make avail (alone identifier (bes
 payloadMade (Dtmf x) identifier beside lent = make dtmf (alone identifier (beside .eidr)) lent x
 payloadMade (Segmentation x) identifier beside lent = segmentationMade x identifier beside lent
 payloadMade (Time x) identifier beside lent = make time (alone identifier (beside .eidr)) lent x
-payloadMade (Reserved tag bytes) identifier beside lent = make privateBytes (fairReserved tag identifier (beside .eidr)) lent bytes
+payloadMade (Reserved tag bytes) identifier beside lent = make privateBytes (writableReserved tag identifier (beside .eidr)) lent bytes
 
 abbrev pub tagOf : Descriptor → ℕ
 tagOf (Avail x) = 0
@@ -135,3 +135,7 @@ identifierOf d identifier = ofReserved identifier cuei d
 -- Refusals 31 to 34. 36, a short target, is `answerOf`'s and `laterOf`'s.
 unfoldable pub descriptorMade : Descriptor → List ℕ → Beside → List ℕ → Made
 descriptorMade d identifier beside lent = framedMade (tagOf d) (identifierOf d identifier) (payloadMade d identifier beside lent)
+
+-- how many components stand beside a descriptor
+abbrev pub countBeside : Descriptor → ℕ
+countBeside d = ofSegmentation componentCount 0 d

@@ -1,6 +1,6 @@
 // What the descriptor writer makes of an item: the values that it refuses, and the bytes that it takes (document 01, "Canonical form and writer").
 ghost use mathlib.Core.Path.{_≡_};
-ghost use Rattle.descriptor_measure.specs.Writing.{allZero, alone, fairReserved};
+ghost use Rattle.descriptor_measure.specs.Writing.{allZero, alone, writableReserved};
 use descriptor::is_cuei;
 
 pub mod segment;
@@ -31,8 +31,8 @@ pub fn is_alone(identifier: [u8; 4], eidr: [u8; 12]) -> bool
 }
 
 // Whether a reserved descriptor may have this tag, with this identifier and EIDR beside it.
-pub fn is_fair_reserved(tag: u8, identifier: [u8; 4], eidr: [u8; 12]) -> bool
-    ensures { λ r. ⌜ r ≡ fairReserved tag identifier eidr ⌝ }
+pub fn is_writable_reserved(tag: u8, identifier: [u8; 4], eidr: [u8; 12]) -> bool
+    ensures { λ r. ⌜ r ≡ writableReserved tag identifier eidr ⌝ }
 {
     if !is_zero(&eidr[..]) {
         return false;

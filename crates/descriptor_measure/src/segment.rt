@@ -3,21 +3,21 @@ ghost use mathlib.Core.Path.{_≡_};
 ghost use Prim.Native.Nat.{_<_};
 ghost use mathlib.Core.List.{[]};
 ghost use lib.ListN.{take};
-ghost use Rattle.descriptor.specs.Segmentation.{componentCount, agrees, byProgram, countOf, fairDetail, lasting, unrestricted, subBytes, modeSize, durationSize};
+ghost use Rattle.descriptor.specs.Segmentation.{componentCount, agrees, byProgram, countOf, writableDetail, lasting, unrestricted, subBytes, modeSize, durationSize};
 ghost use Rattle.descriptor.specs.Whole.{filled};
-ghost use Rattle.descriptor.specs.declared.segmentation.SegmentationDetail.the-variants.{Insert};
+ghost use Rattle.descriptor.specs.declared.segmentation.DescriptorDetail.the-variants.{Active};
 ghost use Rattle.table.specs.Writing.{within, refusalIn};
 ghost use Rattle.descriptor_measure.specs.Private.{componentsFields, modeFields, durationFields, subFields, numbersFit};
 ghost use Rattle.descriptor_measure.specs.Private.{RefusedSo};
 ghost use Rattle.descriptor_measure.specs.Writing.{segmentationMade};
 use crate::is_zero;
-use crate::upids::is_fair_upid;
+use crate::upids::is_writable_upid;
 use descriptor::segmentation::DeliveryRestrictionFlags;
+use descriptor::segmentation::DescriptorDetail;
 use descriptor::segmentation::ModeComponent;
 use descriptor::segmentation::SegmentationDescriptor;
 use descriptor::segmentation::SegmentationDetail;
 use descriptor::segmentation::SegmentationDuration;
-use descriptor::segmentation::SegmentationInsert;
 use descriptor::segmentation::SegmentationMode;
 use descriptor::segmentation::SubSegments;
 use table::lent::lies_in;
@@ -59,13 +59,13 @@ fn agree(flag: bool, says: bool) -> bool
 }
 
 // Refusal 33: whether each flag says what its part says, and the type id is what its own number stands for.
-fn is_fair_insert(i: SegmentationInsert) -> bool
-    ensures { λ r. ⌜ r ≡ fairDetail (Insert i) ⌝ }
+fn is_writable_insert(i: SegmentationDetail) -> bool
+    ensures { λ r. ⌜ r ≡ writableDetail (Active i) ⌝ }
 {
     let mode = i.segmentation_mode;
     let duration = i.segmentation_duration;
     let delivery = i.delivery_restrictions;
-    let kind = i.segmentation_type_id;
+    let type_id = i.segmentation_type_id;
     if !agree(i.program_segmentation_flag, by_program(mode)) {
         return false;
     }
@@ -75,7 +75,7 @@ fn is_fair_insert(i: SegmentationInsert) -> bool
     if !agree(i.delivery_not_restricted_flag, is_free(delivery)) {
         return false;
     }
-    kind.fair()
+    type_id.writable()
 }
 
 // ---- refusal 32. A number whose type is as wide as its field always fits.
@@ -139,12 +139,12 @@ fn count_fits(mode: SegmentationMode) -> bool
 }
 
 // All but the components' numbers.
-fn numbers_fit(i: SegmentationInsert) -> bool
+fn numbers_fit(i: SegmentationDetail) -> bool
     ensures { λ r. ⌜ (r ≡ numbersFit i []) × (countOf (i .«segmentation_mode») < 256) ⌝ }
 {
     let mode = i.segmentation_mode;
     let duration = i.segmentation_duration;
-    let kind = i.segmentation_type_id;
+    let type_id = i.segmentation_type_id;
     let sub_segments = i.sub_segments;
     if !count_fits(mode) {
         return false;
@@ -152,7 +152,7 @@ fn numbers_fit(i: SegmentationInsert) -> bool
     if !duration_fits(duration) {
         return false;
     }
-    if 255 < wide(kind.id()) {
+    if 255 < wide(type_id.id()) {
         return false;
     }
     sub_segments_fit(sub_segments)
@@ -162,12 +162,12 @@ fn numbers_fit(i: SegmentationInsert) -> bool
 
 fn refusal_of_insert(
     event: u32,
-    i: SegmentationInsert,
+    i: SegmentationDetail,
     identifier: [u8; 4],
     eidr: [u8; 12],
     lent: &[u8],
 ) -> u8
-    ensures { λ r. ⌜ RefusedSo (record { «segmentation_event_id» = event; «descriptor_detail» = Insert i }) identifier eidr (now (lent .entry)) r ⌝ }
+    ensures { λ r. ⌜ RefusedSo (record { «segmentation_event_id» = event; «descriptor_detail» = Active i }) identifier eidr (now (lent .entry)) r ⌝ }
 {
     let upid = i.segmentation_upid;
     let bytes = upid.bytes;
@@ -183,10 +183,10 @@ fn refusal_of_insert(
     if !is_zero(&identifier[..]) {
         return 33;
     }
-    if !is_fair_insert(i) {
+    if !is_writable_insert(i) {
         return 33;
     }
-    if !is_fair_upid(upid, eidr, lent) {
+    if !is_writable_upid(upid, eidr, lent) {
         return 33;
     }
     0
@@ -202,7 +202,7 @@ fn refusal_without_components(
 {
     let detail = x.descriptor_detail;
     match detail {
-        SegmentationDetail::Cancel => {
+        DescriptorDetail::Cancel => {
             if !is_zero(&identifier[..]) {
                 return 33;
             }
@@ -211,14 +211,14 @@ fn refusal_without_components(
             }
             0
         }
-        SegmentationDetail::Insert(i) => {
+        DescriptorDetail::Active(i) => {
             refusal_of_insert(x.segmentation_event_id, i, identifier, eidr, lent)
         }
     }
 }
 
 // With blank components, which fit.
-pub fn refusal_of_bare(
+pub fn refusal_with_no_components(
     x: SegmentationDescriptor,
     identifier: [u8; 4],
     eidr: [u8; 12],
@@ -240,10 +240,10 @@ pub fn refusal_of_segmentation(
 {
     let detail = x.descriptor_detail;
     let i = match detail {
-        SegmentationDetail::Cancel => {
+        DescriptorDetail::Cancel => {
             return refusal_without_components(x, identifier, eidr, lent);
         }
-        SegmentationDetail::Insert(i) => i,
+        DescriptorDetail::Active(i) => i,
     };
     let mode = i.segmentation_mode;
     let upid = i.segmentation_upid;
@@ -260,13 +260,13 @@ pub fn refusal_of_segmentation(
 // ---- the bytes of a payload
 
 // How many components it has.
-pub fn count_of(x: SegmentationDescriptor) -> u8
+pub fn count_in_segmentation(x: SegmentationDescriptor) -> u8
     ensures { λ r. ⌜ r ≡ componentCount x ⌝ }
 {
     let detail = x.descriptor_detail;
     let insert = match detail {
-        SegmentationDetail::Cancel => return 0,
-        SegmentationDetail::Insert(i) => i,
+        DescriptorDetail::Cancel => return 0,
+        DescriptorDetail::Active(i) => i,
     };
     let mode = insert.segmentation_mode;
     match mode {

@@ -4,7 +4,7 @@
 --     alike-made      of descriptors that are alike the same is written
 --     same-made       equal readings, of both of which something is written, are alike: so it is the same
 use Prim.Native.Nat.{ℕ, _+_, _≤_}
-use mathlib.Core.Bool.{Bool, true, false, cond, not, _&&_, _||_}
+use mathlib.Core.Bool.{Bool, true, false, not, _&&_, _||_}
 use mathlib.Core.List.{List, [], _∷_}
 use mathlib.Core.Path.{_≡_, refl, ap, ap₂, sym, subst, _∙_}
 use native.Mathlib.Omega.{arith}
@@ -21,23 +21,23 @@ use Rattle.table.proofs.Structure as laws
 use Rattle.upid.specs.Upid.{checkOf}
 use Rattle.upid.proofs.Walks.{empty}
 use Rattle.descriptor.specs.Plain.{avail, dtmf, time, privateBytes}
-use Rattle.descriptor.specs.Segmentation.{componentCount, agrees, backOf, countOf, fairDetail, fairFront, frontOf, head, insertFrom, segmentation, detailUpid}
+use Rattle.descriptor.specs.Segmentation.{componentCount, agrees, backOf, countOf, writableDetail, writableFront, frontOf, head, insertFrom, segmentation, detailUpid}
 use Rattle.descriptor.specs.Views.{withoutView, detailViews, descriptorViews, withUpids}
 use Rattle.descriptor.specs.declared.Descriptor.{Descriptor}
 use Rattle.descriptor.specs.declared.Descriptor.the-variants.{Avail, Dtmf, Segmentation, Time, Reserved}
 use Rattle.descriptor.specs.declared.plain.DTMFDescriptor.{DTMFDescriptor}
 use Rattle.descriptor.specs.declared.segmentation.ModeComponent.{ModeComponent}
 use Rattle.descriptor.specs.declared.segmentation.SegmentationDescriptor.{SegmentationDescriptor}
+use Rattle.descriptor.specs.declared.segmentation.DescriptorDetail.{DescriptorDetail}
+use Rattle.descriptor.specs.declared.segmentation.DescriptorDetail.the-variants.{Cancel, Active}
 use Rattle.descriptor.specs.declared.segmentation.SegmentationDetail.{SegmentationDetail}
-use Rattle.descriptor.specs.declared.segmentation.SegmentationDetail.the-variants.{Cancel, Insert}
-use Rattle.descriptor.specs.declared.segmentation.SegmentationInsert.{SegmentationInsert}
 use Rattle.descriptor.specs.declared.segmentation.SegmentationUpid.{SegmentationUpid}
 use Rattle.descriptor.specs.declared.whole.Beside.{Beside}
 use Rattle.descriptor_measure.specs.Private.{upidFields}
-use Rattle.descriptor_measure.specs.Same.{SameReading, withoutPlaces, bytesOfViews, countBeside, placelessUpid}
-use Rattle.descriptor_measure.specs.Writing.{framedMade, allZero, alone, fairReserved, accepts, fairUpid, fairSegment, segmentationMade, payloadMade, descriptorMade, tagOf, identifierOf, upidIn, upidSource, writtenDetail, writtenKind, writtenUpid}
+use Rattle.canonical_form.specs.Same.{SameReading, withoutPlaces, bytesOfViews, placelessUpid}
+use Rattle.descriptor_measure.specs.Writing.{countBeside, framedMade, allZero, alone, writableReserved, accepts, writableUpid, writableSegment, segmentationMade, payloadMade, descriptorMade, tagOf, identifierOf, upidIn, upidSource, writtenDetail, writtenType, writtenUpid}
 use Rattle.descriptor_measure.proofs.Fields.{insert-fields}
-use Rattle.descriptor_measure.proofs.Making.{all-fair, by-table, counted, zero-view}
+use Rattle.descriptor_measure.proofs.Making.{all-writable, by-table, counted, zero-view}
 use Rattle.descriptor_round_trips.specs.Making.{viewIn}
 use Rattle.descriptor_round_trips.proofs.PlainLaws.{viewed-at}
 use Rattle.descriptor_round_trips.proofs.PlainTrips.{unframed}
@@ -54,16 +54,16 @@ pub record SameView (s : List ℕ) (v : View) (r : List ℕ) (w : View) : Type 0
   pub right : w .at + w .len ≤ length r
 
 -- the view of a detail: the blank where it is cancelled
-abbrev pub detailView : SegmentationDetail → View
+abbrev pub detailView : DescriptorDetail → View
 detailView d = detailUpid d .bytes
 
 -- the same with another view
-abbrev insertAt : View → SegmentationInsert → SegmentationInsert
-insertAt v i = insertFrom (frontOf (Insert i)) (record { kind = i .«segmentation_upid» .kind; bytes = v }) (backOf (Insert i))
+abbrev insertAt : View → SegmentationDetail → SegmentationDetail
+insertAt v i = insertFrom (frontOf (Active i)) (record { «upid_type» = i .«segmentation_upid» .«upid_type»; bytes = v }) (backOf (Active i))
 
-abbrev detailAt : View → SegmentationDetail → SegmentationDetail
+abbrev detailAt : View → DescriptorDetail → DescriptorDetail
 detailAt v Cancel = Cancel
-detailAt v (Insert i) = Insert (insertAt v i)
+detailAt v (Active i) = Active (insertAt v i)
 
 abbrev withView : View → Descriptor → Descriptor
 withView v (Avail x) = Avail x
@@ -72,25 +72,25 @@ withView v (Segmentation x) = Segmentation (record { «segmentation_event_id» =
 withView v (Time x) = Time x
 withView v (Reserved tag own) = Reserved tag v
 
-detail-own : (d : SegmentationDetail) → detailAt (detailView d) (withUpids placelessUpid d) ≡ d
+detail-own : (d : DescriptorDetail) → detailAt (detailView d) (withUpids placelessUpid d) ≡ d
 detail-own Cancel = refl
-detail-own (Insert i) = refl
+detail-own (Active i) = refl
 
 own-view : (d : Descriptor) → withView (viewIn d) (withoutPlaces d) ≡ d
 own-view (Avail x) = refl
 own-view (Dtmf x) = refl
-own-view (Segmentation x) = ap (λ (d : SegmentationDetail). Segmentation (record { «segmentation_event_id» = x .«segmentation_event_id»; «descriptor_detail» = d })) (detail-own (x .«descriptor_detail»))
+own-view (Segmentation x) = ap (λ (d : DescriptorDetail). Segmentation (record { «segmentation_event_id» = x .«segmentation_event_id»; «descriptor_detail» = d })) (detail-own (x .«descriptor_detail»))
 own-view (Time x) = refl
 own-view (Reserved tag own) = refl
 
-detail-any : (v : View) (d : SegmentationDetail) → detailAt v (withUpids placelessUpid d) ≡ detailAt v d
+detail-any : (v : View) (d : DescriptorDetail) → detailAt v (withUpids placelessUpid d) ≡ detailAt v d
 detail-any v Cancel = refl
-detail-any v (Insert i) = refl
+detail-any v (Active i) = refl
 
 any-view : (v : View) (d : Descriptor) → withView v (withoutPlaces d) ≡ withView v d
 any-view v (Avail x) = refl
 any-view v (Dtmf x) = refl
-any-view v (Segmentation x) = ap (λ (d : SegmentationDetail). Segmentation (record { «segmentation_event_id» = x .«segmentation_event_id»; «descriptor_detail» = d })) (detail-any v (x .«descriptor_detail»))
+any-view v (Segmentation x) = ap (λ (d : DescriptorDetail). Segmentation (record { «segmentation_event_id» = x .«segmentation_event_id»; «descriptor_detail» = d })) (detail-any v (x .«descriptor_detail»))
 any-view v (Time x) = refl
 any-view v (Reserved tag own) = refl
 
@@ -104,29 +104,29 @@ same-run : (s : List ℕ) (v : View) (r : List ℕ) (w : View) → SameView s v 
 same-run s v r w h = sym (viewed-at s (v .at) (v .len) (h .left)) ∙ h .bytes ∙ viewed-at r (w .at) (w .len) (h .right)
 
 module _ (s r : List ℕ) (w : View) (p : List ℕ) where
-  dtmf-alike : (fair : Bool) (x : DTMFDescriptor) → SameView s (x .«dtmf_chars») r w → make dtmf fair s x ≡ made p → make dtmf fair r (record { preroll = x .preroll; «dtmf_chars» = w }) ≡ made p
+  dtmf-alike : (writable : Bool) (x : DTMFDescriptor) → SameView s (x .«dtmf_chars») r w → make dtmf writable s x ≡ made p → make dtmf writable r (record { preroll = x .preroll; «dtmf_chars» = w }) ≡ made p
   unfolding dtmf fields.number fields.reserved fields.part
-  dtmf-alike fair x h e =
+  dtmf-alike writable x h e =
       let y : DTMFDescriptor = record { preroll = x .preroll; «dtmf_chars» = w } in
-      same-make fair fair s r (walk dtmf x 0 .fields) (walk dtmf y 0 .fields) p e
+      same-make writable writable s r (walk dtmf x 0 .fields) (walk dtmf y 0 .fields) p e
       (ap₂ (λ (n : ℕ) (b : List ℕ). number 8 (x .preroll) ∷ (number 3 n ∷ (number 5 31 ∷ (bytes b ∷ [])))) (h .size) (same-run s (x .«dtmf_chars») r w h))
       (rw (le-leb (w .at + w .len) (length r) (h .right)))
-      (laws.wrote fair s (walk dtmf x 0 .fields) p e .fit)
+      (laws.wrote writable s (walk dtmf x 0 .fields) p e .fit)
 
-  private-alike : (fair : Bool) (v : View) → SameView s v r w → make privateBytes fair s v ≡ made p → make privateBytes fair r w ≡ made p
+  private-alike : (writable : Bool) (v : View) → SameView s v r w → make privateBytes writable s v ≡ made p → make privateBytes writable r w ≡ made p
   unfolding privateBytes fields.remaining fields.part
-  private-alike fair v h e =
-      same-make fair fair s r (walk privateBytes v 0 .fields) (walk privateBytes w 0 .fields) p e
+  private-alike writable v h e =
+      same-make writable writable s r (walk privateBytes v 0 .fields) (walk privateBytes w 0 .fields) p e
       (ap₂ (λ (n : ℕ) (b : List ℕ). count n ∷ (bytes b ∷ [])) (h .size) (same-run s v r w h))
       (rw (le-leb (w .at + w .len) (length r) (h .right)))
-      (laws.wrote fair s (walk privateBytes v 0 .fields) p e .fit)
+      (laws.wrote writable s (walk privateBytes v 0 .fields) p e .fit)
 
 -- what is made of a segmentation descriptor, with its EIDR and its components up to the count
 abbrev segmentMade : SegmentationDescriptor → List ℕ → List ℕ → List ModeComponent → List ℕ → Made
 segmentMade x id eidr cs lent =
     pick (leb (upidIn x .bytes .at + upidIn x .bytes .len) (length lent))
     (pick (leb (upidIn x .bytes .len) 255)
-    (make segmentation (fairSegment x id eidr lent) (upidSource (upidIn x) eidr lent)
+    (make segmentation (writableSegment x id eidr lent) (upidSource (upidIn x) eidr lent)
     (record { descriptor = record { «segmentation_event_id» = x .«segmentation_event_id»; «descriptor_detail» = writtenDetail (x .«descriptor_detail») }; components = cs }))
     (refused 32))
     (refused 31)
@@ -140,82 +140,82 @@ module _ (s r : List ℕ) (w : View) (p id : List ℕ) (b : Beside) where
   module _ (event : ℕ) where
     cancel-alike : (let x : SegmentationDescriptor = record { «segmentation_event_id» = event; «descriptor_detail» = Cancel } in
         segmentationMade x id b s ≡ made p → segmentationMade x id b r ≡ made p)
-    unfolding segmentationMade fairSegment fairUpid segmentation head fields.number fields.bit fields.reserved
+    unfolding segmentationMade writableSegment writableUpid segmentation head fields.number fields.bit fields.reserved
     cancel-alike e = rw (viewed-none r, le-leb 0 (length r) (omega arith)) (rw (viewed-none s, le-leb 0 (length s) (omega arith)) at e)
 
-    module _ (i : SegmentationInsert) (places : countOf (i .«segmentation_mode») ≤ length (b .components)) (h : SameView s (i .«segmentation_upid» .bytes) r w) where
+    module _ (i : SegmentationDetail) (places : countOf (i .«segmentation_mode») ≤ length (b .components)) (h : SameView s (i .«segmentation_upid» .bytes) r w) where
       abbrev x : SegmentationDescriptor
-      x = record { «segmentation_event_id» = event; «descriptor_detail» = Insert i }
+      x = record { «segmentation_event_id» = event; «descriptor_detail» = Active i }
 
       abbrev y : SegmentationDescriptor
-      y = record { «segmentation_event_id» = event; «descriptor_detail» = Insert (insertAt w i) }
+      y = record { «segmentation_event_id» = event; «descriptor_detail» = Active (insertAt w i) }
 
       abbrev u : SegmentationUpid
       u = i .«segmentation_upid»
 
       abbrev v : SegmentationUpid
-      v = record { kind = i .«segmentation_upid» .kind; bytes = w }
+      v = record { «upid_type» = i .«segmentation_upid» .«upid_type»; bytes = w }
 
       abbrev cs : List ModeComponent
       cs = take (countOf (i .«segmentation_mode»)) (b .components)
 
-      kind-alike : writtenKind u ≡ writtenKind v
-      unfolding writtenKind
-      kind-alike = ap (λ (n : ℕ). pick (eqb (u .kind) 6 && eqb n 8) 5 (u .kind)) (h .size)
+      type-alike : writtenType u ≡ writtenType v
+      unfolding writtenType
+      type-alike = ap (λ (n : ℕ). pick (eqb (u .«upid_type») 6 && eqb n 8) 5 (u .«upid_type»)) (h .size)
 
-      fair-alike : fairUpid u (b .eidr) s ≡ fairUpid v (b .eidr) r
-      unfolding fairUpid writtenKind
-      fair-alike =
+      writable-alike : writableUpid u (b .eidr) s ≡ writableUpid v (b .eidr) r
+      unfolding writableUpid writtenType
+      writable-alike =
           ap₂ (λ (n : ℕ) (y : List ℕ).
-          pick (eqb (u .kind) 10) (eqb n 0)
-          (allZero (b .eidr) && (agrees (eqb (u .kind) 0) (eqb n 0) && (not (eqb (u .kind) 5) && accepts (checkOf (pick (eqb (u .kind) 6 && eqb n 8) 5 (u .kind)) y))))) (h .size) (h .bytes)
+          pick (eqb (u .«upid_type») 10) (eqb n 0)
+          (allZero (b .eidr) && (agrees (eqb (u .«upid_type») 0) (eqb n 0) && (not (eqb (u .«upid_type») 5) && accepts (checkOf (pick (eqb (u .«upid_type») 6 && eqb n 8) 5 (u .«upid_type»)) y))))) (h .size) (h .bytes)
 
       upid-alike : contents (upidSource u (b .eidr) s) (upidFields (writtenUpid u)) ≡ contents (upidSource v (b .eidr) r) (upidFields (writtenUpid v))
       unfolding upidSource writtenUpid
-      upid-alike = go (eqb (u .kind) 10)
+      upid-alike = go (eqb (u .«upid_type») 10)
         where
-          go : (t : Bool) → contents (pick t (b .eidr) s) (upidFields (pick t (record { kind = 10; bytes = record { at = 0; len = 12 } }) (record { kind = writtenKind u; bytes = u .bytes })))
-              ≡ contents (pick t (b .eidr) r) (upidFields (pick t (record { kind = 10; bytes = record { at = 0; len = 12 } }) (record { kind = writtenKind v; bytes = w })))
+          go : (t : Bool) → contents (pick t (b .eidr) s) (upidFields (pick t (record { «upid_type» = 10; bytes = record { at = 0; len = 12 } }) (record { «upid_type» = writtenType u; bytes = u .bytes })))
+              ≡ contents (pick t (b .eidr) r) (upidFields (pick t (record { «upid_type» = 10; bytes = record { at = 0; len = 12 } }) (record { «upid_type» = writtenType v; bytes = w })))
           go true = refl
           go false =
-              ap₂ (λ (k n : ℕ). number 8 k ∷ (number 8 n ∷ (bytes (take (u .bytes .len) (drop (u .bytes .at) s)) ∷ []))) kind-alike (h .size)
-              ∙ ap (λ (b : List ℕ). number 8 (writtenKind v) ∷ (number 8 (w .len) ∷ (bytes b ∷ []))) (same-run s (u .bytes) r w h)
+              ap₂ (λ (k n : ℕ). number 8 k ∷ (number 8 n ∷ (bytes (take (u .bytes .len) (drop (u .bytes .at) s)) ∷ []))) type-alike (h .size)
+              ∙ ap (λ (b : List ℕ). number 8 (writtenType v) ∷ (number 8 (w .len) ∷ (bytes b ∷ []))) (same-run s (u .bytes) r w h)
 
       seen-alike : seen (upidSource u (b .eidr) s) (upidFields (writtenUpid u)) ≡ true → seen (upidSource v (b .eidr) r) (upidFields (writtenUpid v)) ≡ true
       unfolding upidSource writtenUpid
-      seen-alike = go (eqb (u .kind) 10)
+      seen-alike = go (eqb (u .«upid_type») 10)
         where
-          go : (t : Bool) → seen (pick t (b .eidr) s) (upidFields (pick t (record { kind = 10; bytes = record { at = 0; len = 12 } }) (record { kind = writtenKind u; bytes = u .bytes }))) ≡ true
-              → seen (pick t (b .eidr) r) (upidFields (pick t (record { kind = 10; bytes = record { at = 0; len = 12 } }) (record { kind = writtenKind v; bytes = w }))) ≡ true
+          go : (t : Bool) → seen (pick t (b .eidr) s) (upidFields (pick t (record { «upid_type» = 10; bytes = record { at = 0; len = 12 } }) (record { «upid_type» = writtenType u; bytes = u .bytes }))) ≡ true
+              → seen (pick t (b .eidr) r) (upidFields (pick t (record { «upid_type» = 10; bytes = record { at = 0; len = 12 } }) (record { «upid_type» = writtenType v; bytes = w }))) ≡ true
           go true e = e
           go false e = rw (le-leb (w .at + w .len) (length r) (h .right))
 
-      fair-detail : fairDetail (Insert i) ≡ true → fairDetail (Insert (insertAt w i)) ≡ true
-      unfolding fairDetail fairFront
-      fair-detail e = e
+      writable-detail : writableDetail (Active i) ≡ true → writableDetail (Active (insertAt w i)) ≡ true
+      unfolding writableDetail writableFront
+      writable-detail e = e
 
       insert-alike : segmentationMade x id b s ≡ made p → segmentationMade y id b r ≡ made p
-      unfolding segmentationMade fairSegment
+      unfolding segmentationMade writableSegment
       insert-alike e =
           let c = counted x id b s places in
-          let f = all-fair x id b s places p e in
+          let f = all-writable x id b s places p e in
           let m = by-table x id b s places p e in
           let n = zero-view x id b s (ap refusalIn e) in
-          let fair : Bool = fairSegment y id (b .eidr) r in
-          let is : fair ≡ true = rw (f .0, fair-detail (f .1)) (sym fair-alike ∙ f .2) in
+          let writable : Bool = writableSegment y id (b .eidr) r in
+          let is : writable ≡ true = rw (f .0, writable-detail (f .1)) (sym writable-alike ∙ f .2) in
           let source : List ℕ = upidSource u (b .eidr) s in
           let other : List ℕ = upidSource v (b .eidr) r in
-          let g = ap (makeOf (fairDetail (writtenDetail (Insert i))) source) (sym (insert-fields event i (writtenUpid u) cs c)) ∙ m in
-          let t = laws.wrote (fairDetail (writtenDetail (Insert i))) source (withUpid event i cs (writtenUpid u)) p g in
+          let g = ap (makeOf (writableDetail (writtenDetail (Active i))) source) (sym (insert-fields event i (writtenUpid u) cs c)) ∙ m in
+          let t = laws.wrote (writableDetail (writtenDetail (Active i))) source (withUpid event i cs (writtenUpid u)) p g in
           rw (le-leb (w .at + w .len) (length r) (h .right), le-leb (w .len) 255 (omega (arith, n .0, h .size)))
-          (ap (makeOf fair other) (insert-fields event i (writtenUpid v) cs c)
-          ∙ insert-makes event i cs (fairDetail (writtenDetail (Insert i))) fair source other (writtenUpid u) (writtenUpid v) p g upid-alike (seen-alike (sym (insert-seen event i cs source (writtenUpid u)) ∙ t .views)) is)
+          (ap (makeOf writable other) (insert-fields event i (writtenUpid v) cs c)
+          ∙ insert-makes event i cs (writableDetail (writtenDetail (Active i))) writable source other (writtenUpid u) (writtenUpid v) p g upid-alike (seen-alike (sym (insert-seen event i cs source (writtenUpid u)) ∙ t .views)) is)
 
-  detail-alike : (event : ℕ) (d : SegmentationDetail) → countOf (frontOf d .«segmentation_mode») ≤ length (b .components) → SameView s (detailView d) r w
+  detail-alike : (event : ℕ) (d : DescriptorDetail) → countOf (frontOf d .«segmentation_mode») ≤ length (b .components) → SameView s (detailView d) r w
       → segmentationMade (record { «segmentation_event_id» = event; «descriptor_detail» = d }) id b s ≡ made p
       → segmentationMade (record { «segmentation_event_id» = event; «descriptor_detail» = detailAt w d }) id b r ≡ made p
   detail-alike event Cancel places h e = cancel-alike event e
-  detail-alike event (Insert i) places h e = insert-alike event i places h e
+  detail-alike event (Active i) places h e = insert-alike event i places h e
 
   payload-alike : (d : Descriptor) → countBeside d ≤ length (b .components) → SameView s (viewIn d) r w → payloadMade d id b s ≡ made p → payloadMade (withView w d) id b r ≡ made p
   unfolding payloadMade avail time fields.number
@@ -223,11 +223,11 @@ module _ (s r : List ℕ) (w : View) (p id : List ℕ) (b : Beside) where
   payload-alike (Dtmf x) places h e = dtmf-alike s r w p (alone id (b .eidr)) x h e
   payload-alike (Segmentation x) places h e = detail-alike (x .«segmentation_event_id») (x .«descriptor_detail») places h e
   payload-alike (Time x) places h e = e
-  payload-alike (Reserved tag own) places h e = private-alike s r w p (fairReserved tag id (b .eidr)) own h e
+  payload-alike (Reserved tag own) places h e = private-alike s r w p (writableReserved tag id (b .eidr)) own h e
 
-detail-count : (w : View) (d : SegmentationDetail) → countOf (frontOf (detailAt w d) .«segmentation_mode») ≡ countOf (frontOf d .«segmentation_mode»)
+detail-count : (w : View) (d : DescriptorDetail) → countOf (frontOf (detailAt w d) .«segmentation_mode») ≡ countOf (frontOf d .«segmentation_mode»)
 detail-count w Cancel = refl
-detail-count w (Insert i) = refl
+detail-count w (Active i) = refl
 
 -- what stands beside is looked at up to the count
 module _ (lent id : List ℕ) (b c : Beside) (eidrs : b .eidr ≡ c .eidr) where
@@ -237,7 +237,7 @@ module _ (lent id : List ℕ) (b c : Beside) (eidrs : b .eidr ≡ c .eidr) where
   payload-beside (Dtmf x) h = ap (λ (e : List ℕ). make dtmf (alone id e) lent x) eidrs
   payload-beside (Segmentation x) h = segment-is x id b lent ∙ ap₂ (λ (e : List ℕ) (cs : List ModeComponent). segmentMade x id e cs lent) eidrs h ∙ sym (segment-is x id c lent)
   payload-beside (Time x) h = ap (λ (e : List ℕ). make time (alone id e) lent x) eidrs
-  payload-beside (Reserved tag own) h = ap (λ (e : List ℕ). make privateBytes (fairReserved tag id e) lent own) eidrs
+  payload-beside (Reserved tag own) h = ap (λ (e : List ℕ). make privateBytes (writableReserved tag id e) lent own) eidrs
 
 count-of : (w : View) (d : Descriptor) → countBeside (withView w d) ≡ countBeside d
 count-of w (Avail x) = refl
@@ -296,21 +296,21 @@ pub no-views : (s r : List ℕ) → SameView s noView r noView
 no-views s r = both-none s noView r noView (omega arith) (omega arith) refl refl
 
 -- None and EIDR have no bytes
-none-fair : (u : SegmentationUpid) (eidr lent : List ℕ) → withoutView (u .kind) ≡ true → fairUpid u eidr lent ≡ true → u .bytes .len ≡ 0
-unfolding fairUpid
-none-fair u eidr lent k f = go (eqb (u .kind) 10) (eqb (u .kind) 0) k f
+none-writable : (u : SegmentationUpid) (eidr lent : List ℕ) → withoutView (u .«upid_type») ≡ true → writableUpid u eidr lent ≡ true → u .bytes .len ≡ 0
+unfolding writableUpid
+none-writable u eidr lent k f = go (eqb (u .«upid_type») 10) (eqb (u .«upid_type») 0) k f
   where
     go : (ten none : Bool) → none || ten ≡ true
-        → pick ten (eqb (u .bytes .len) 0) (allZero eidr && (agrees none (eqb (u .bytes .len) 0) && (not (eqb (u .kind) 5) && accepts (checkOf (writtenKind u) (viewed lent (u .bytes)))))) ≡ true
+        → pick ten (eqb (u .bytes .len) 0) (allZero eidr && (agrees none (eqb (u .bytes .len) 0) && (not (eqb (u .«upid_type») 5) && accepts (checkOf (writtenType u) (viewed lent (u .bytes)))))) ≡ true
         → u .bytes .len ≡ 0
     go true none k f = eqb-true (u .bytes .len) 0 f
     go false true k f = eqb-true (u .bytes .len) 0 (and-true (eqb (u .bytes .len) 0) _ (and-true (allZero eidr) _ f .1) .0)
     go false false k f = zero-one cc
 
 -- what is written of a descriptor tells of its view: it lies in the lent bytes, and is empty of None and EIDR
-abbrev pub DetailTold : SegmentationDetail → Type 0
+abbrev pub DetailTold : DescriptorDetail → Type 0
 DetailTold Cancel = Unit {0}
-DetailTold (Insert i) = withoutView (i .«segmentation_upid» .kind) ≡ true → i .«segmentation_upid» .bytes .len ≡ 0
+DetailTold (Active i) = withoutView (i .«segmentation_upid» .«upid_type») ≡ true → i .«segmentation_upid» .bytes .len ≡ 0
 
 abbrev pub NoneTold : Descriptor → Type 0
 NoneTold (Avail x) = Unit {0}
@@ -320,12 +320,12 @@ NoneTold (Time x) = Unit {0}
 NoneTold (Reserved tag own) = Unit {0}
 
 module _ (s p id : List ℕ) (b : Beside) where
-  detail-told : (event : ℕ) (d : SegmentationDetail) → countOf (frontOf d .«segmentation_mode») ≤ length (b .components)
+  detail-told : (event : ℕ) (d : DescriptorDetail) → countOf (frontOf d .«segmentation_mode») ≤ length (b .components)
       → segmentationMade (record { «segmentation_event_id» = event; «descriptor_detail» = d }) id b s ≡ made p → (detailView d .at + detailView d .len ≤ length s) × DetailTold d
   detail-told event Cancel places e = (omega arith, tt)
-  detail-told event (Insert i) places e =
-      let x : SegmentationDescriptor = record { «segmentation_event_id» = event; «descriptor_detail» = Insert i } in
-      (zero-view x id b s (ap refusalIn e) .1, λ k. none-fair (i .«segmentation_upid») (b .eidr) s k (all-fair x id b s places p e .2))
+  detail-told event (Active i) places e =
+      let x : SegmentationDescriptor = record { «segmentation_event_id» = event; «descriptor_detail» = Active i } in
+      (zero-view x id b s (ap refusalIn e) .1, λ k. none-writable (i .«segmentation_upid») (b .eidr) s k (all-writable x id b s places p e .2))
 
   pub payload-told : (d : Descriptor) → countBeside d ≤ length (b .components) → payloadMade d id b s ≡ made p → (viewIn d .at + viewIn d .len ≤ length s) × NoneTold d
   unfolding payloadMade dtmf privateBytes fields.number fields.reserved fields.part fields.remaining
@@ -336,7 +336,7 @@ module _ (s p id : List ℕ) (b : Beside) where
   payload-told (Segmentation x) places e = detail-told (x .«segmentation_event_id») (x .«descriptor_detail») places e
   payload-told (Time x) places e = (omega arith, tt)
   payload-told (Reserved tag v) places e =
-      (leb-true _ _ (and-true (leb (v .at + v .len) (length s)) true (laws.wrote (fairReserved tag id (b .eidr)) s (walk privateBytes v 0 .fields) p e .views) .0), tt)
+      (leb-true _ _ (and-true (leb (v .at + v .len) (length s)) true (laws.wrote (writableReserved tag id (b .eidr)) s (walk privateBytes v 0 .fields) p e .views) .0), tt)
 
 pub made-told : (s t id : List ℕ) (b : Beside) (d : Descriptor) → countBeside d ≤ length (b .components) → descriptorMade d id b s ≡ made t → (viewIn d .at + viewIn d .len ≤ length s) × NoneTold d
 unfolding descriptorMade
@@ -349,14 +349,14 @@ first [] = []
 first (b ∷ bs) = b
 
 module _ (s r : List ℕ) (w : View) where
-  detail-view : (d : SegmentationDetail) → (detailView d .at + detailView d .len ≤ length s) × DetailTold d → detailView (detailAt w d) .at + detailView (detailAt w d) .len ≤ length r
+  detail-view : (d : DescriptorDetail) → (detailView d .at + detailView d .len ≤ length s) × DetailTold d → detailView (detailAt w d) .at + detailView (detailAt w d) .len ≤ length r
       → detailView d .len ≡ detailView (detailAt w d) .len → bytesOfViews s (detailViews d) ≡ bytesOfViews r (detailViews (detailAt w d)) → SameView s (detailView d) r (detailView (detailAt w d))
   unfolding first
   detail-view Cancel f g n e = no-views s r
-  detail-view (Insert i) f g n e = go (i .«segmentation_upid») (withoutView (i .«segmentation_upid» .kind)) (f .0) (f .1) n refl e
+  detail-view (Active i) f g n e = go (i .«segmentation_upid») (withoutView (i .«segmentation_upid» .«upid_type»)) (f .0) (f .1) n refl e
     where
-      go : (u : SegmentationUpid) (t : Bool) → u .bytes .at + u .bytes .len ≤ length s → (withoutView (u .kind) ≡ true → u .bytes .len ≡ 0) → u .bytes .len ≡ w .len → withoutView (u .kind) ≡ t
-          → bytesOfViews s (cond t [] (u .bytes ∷ [])) ≡ bytesOfViews r (cond t [] (w ∷ [])) → SameView s (u .bytes) r w
+      go : (u : SegmentationUpid) (t : Bool) → u .bytes .at + u .bytes .len ≤ length s → (withoutView (u .«upid_type») ≡ true → u .bytes .len ≡ 0) → u .bytes .len ≡ w .len → withoutView (u .«upid_type») ≡ t
+          → bytesOfViews s (pick t [] (u .bytes ∷ [])) ≡ bytesOfViews r (pick t [] (w ∷ [])) → SameView s (u .bytes) r w
       go u true a none n t h = both-none s (u .bytes) r w a g (none t) (sym n ∙ none t)
       go u false a none n t h = by-bytes s (u .bytes) r w a g (ap first h)
 
@@ -370,9 +370,9 @@ module _ (s r : List ℕ) (w : View) where
   view-same (Reserved tag own) f g n e = by-bytes s own r w (f .0) g (ap first e)
 
 -- how many bytes a view has is a value
-detail-size : (d : SegmentationDetail) → detailView (withUpids placelessUpid d) .len ≡ detailView d .len
+detail-size : (d : DescriptorDetail) → detailView (withUpids placelessUpid d) .len ≡ detailView d .len
 detail-size Cancel = refl
-detail-size (Insert i) = refl
+detail-size (Active i) = refl
 
 size-is : (d : Descriptor) → viewIn (withoutPlaces d) .len ≡ viewIn d .len
 size-is (Avail x) = refl

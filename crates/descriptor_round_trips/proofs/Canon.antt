@@ -20,11 +20,11 @@ use Rattle.descriptor.specs.declared.plain.DTMFDescriptor.{DTMFDescriptor}
 use Rattle.descriptor.specs.declared.plain.TimeDescriptor.{TimeDescriptor}
 use Rattle.descriptor.specs.declared.whole.Beside.{Beside}
 use Rattle.descriptor.proofs.Structures.{availStructure, dtmfStructure, timeStructure, privateStructure}
-use Rattle.descriptor_measure.specs.Canonical.{canonicalSegmentation, canonicalPayload, canonicalDescriptor}
-use Rattle.descriptor_measure.specs.Writing.{cuei, framed, alone, fairReserved, payloadMade}
+use Rattle.canonical_form.specs.Descriptor.{canonicalSegmentation, canonicalPayload, canonicalDescriptor}
+use Rattle.descriptor_measure.specs.Writing.{cuei, framed, alone, writableReserved, payloadMade}
 use Rattle.table.specs.Table.{canonicalBy}
 use Rattle.descriptor_round_trips.proofs.PlainLaws.{table-write-read}
-use Rattle.descriptor_round_trips.proofs.PlainTrips.{foreign, fair-tag}
+use Rattle.descriptor_round_trips.proofs.PlainTrips.{foreign, writable-tag}
 
 -- a canonical payload in its frame
 pub framed-canonical : (tag : ℕ) (id p : List ℕ) → length id ≡ 4 → length p + 4 ≤ 254 → canonicalPayload tag id p ≡ true → canonicalDescriptor (framed tag id p) ≡ true
@@ -75,7 +75,7 @@ module _ (id : List ℕ) (beside : Beside) (lent p : List ℕ) where
   pub reserved-canonical : (tag : ℕ) (v : View) → payloadMade (Reserved tag v) id beside lent ≡ made p → canonicalPayload tag id p ≡ true
   unfolding payloadMade canonicalPayload
   reserved-canonical tag v e =
-      let fair : Bool = fairReserved tag id (beside .eidr) in
-      let f = fair-tag tag id (beside .eidr) (laws.wrote fair lent (walk privateBytes v 0 .fields) p e .fit) in
+      let writable : Bool = writableReserved tag id (beside .eidr) in
+      let f = writable-tag tag id (beside .eidr) (laws.wrote writable lent (walk privateBytes v 0 .fields) p e .fit) in
       foreign tag id (canonicalBy avail p) (canonicalBy dtmf p) (canonicalSegmentation p) (canonicalBy time p) (canonicalBy privateBytes p) (f .0)
-      ∙ table-write-read privateBytes privateStructure (λ x. refl) fair lent v p e tt .1
+      ∙ table-write-read privateBytes privateStructure (λ x. refl) writable lent v p e tt .1

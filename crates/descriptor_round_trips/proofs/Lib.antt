@@ -3,7 +3,6 @@ pub mod PlainTrips
 pub mod PlainCanon
 pub mod Canon
 pub mod Remade
-pub mod Reported
 pub mod SegmentRead
 pub mod SegmentTrips
 pub mod SegmentBack

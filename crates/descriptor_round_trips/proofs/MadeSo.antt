@@ -24,23 +24,22 @@ use Rattle.descriptor.specs.declared.Descriptor.{Descriptor}
 use Rattle.descriptor.specs.declared.Descriptor.the-variants.{Avail, Dtmf, Segmentation, Time, Reserved}
 use Rattle.descriptor.specs.declared.segmentation.ModeComponent.{ModeComponent}
 use Rattle.descriptor.specs.declared.segmentation.SegmentationDescriptor.{SegmentationDescriptor}
-use Rattle.descriptor.specs.declared.segmentation.SegmentationDetail.{SegmentationDetail}
-use Rattle.descriptor.specs.declared.segmentation.SegmentationDetail.the-variants.{Cancel, Insert}
+use Rattle.descriptor.specs.declared.segmentation.DescriptorDetail.{DescriptorDetail}
+use Rattle.descriptor.specs.declared.segmentation.DescriptorDetail.the-variants.{Cancel, Active}
 use Rattle.descriptor.specs.declared.segmentation.SegmentationDuration.{SegmentationDuration}
-use Rattle.descriptor.specs.declared.segmentation.SegmentationInsert.{SegmentationInsert}
+use Rattle.descriptor.specs.declared.segmentation.SegmentationDetail.{SegmentationDetail}
 use Rattle.descriptor.specs.declared.segmentation.SegmentationMode.{SegmentationMode}
 use Rattle.descriptor.specs.declared.segmentation.SegmentationUpid.{SegmentationUpid}
 use Rattle.descriptor.specs.declared.segmentation.SubSegments.{SubSegments}
 use Rattle.descriptor.specs.declared.whole.Beside.{Beside}
-use Rattle.descriptor_measure.specs.Same.{countBeside}
+use Rattle.descriptor_measure.specs.Writing.{countBeside, framed, framedMade, alone, writableReserved, writableSegment, segmentationMade, payloadMade, descriptorMade, tagOf, identifierOf, upidSource, written, writtenType, writtenUpid}
 use Rattle.descriptor_measure.specs.Private.{deliveryFields, componentsFields, modeFields, durationFields, upidFields, subFields, backFields}
-use Rattle.descriptor_measure.specs.Writing.{framed, framedMade, alone, fairReserved, fairSegment, segmentationMade, payloadMade, descriptorMade, tagOf, identifierOf, upidSource, written, writtenKind, writtenUpid}
 use Rattle.descriptor_measure.proofs.Fields.{foreFields, insert-fields}
 use Rattle.descriptor_measure.proofs.Making as making
 use Rattle.descriptor_measure.proofs.Refusals.{within-append, flag-within, within-delivery, upid-seen}
 use Rattle.descriptor_round_trips.specs.Making.{viewIn, fit, componentNumbers, numbersOf, Payload, DescriptorMakes, outside, over, nobodys, long, its}
 use Rattle.descriptor_round_trips.specs.Trips.{Handed}
-use Rattle.descriptor_round_trips.proofs.Payloads.{counted, payload-back, written-if-read}
+use Rattle.descriptor_round_trips.proofs.Payloads.{counted, payload-write-read, written-if-read}
 use Rattle.descriptor_round_trips.proofs.Remade.{and-last, withUpid, insert-seen}
 
 and-none : (b : Bool) → b && false ≡ false
@@ -51,18 +50,18 @@ and-none false = refl
 
 -- a UPID of 255 bytes or fewer, whose type as written is within its field
 upid-within : (u : SegmentationUpid) → leb (u .bytes .len) 255 && within (upidFields (writtenUpid u)) ≡ within (upidFields u)
-unfolding writtenUpid writtenKind
-upid-within u = go (leb (u .bytes .len) 255) (eqb (u .kind) 10) (eqb (u .kind) 6 && eqb (u .bytes .len) 8) refl refl refl
+unfolding writtenUpid writtenType
+upid-within u = go (leb (u .bytes .len) 255) (eqb (u .«upid_type») 10) (eqb (u .«upid_type») 6 && eqb (u .bytes .len) 8) refl refl refl
   where
-    go : (short ten six : Bool) → leb (u .bytes .len) 255 ≡ short → eqb (u .kind) 10 ≡ ten → eqb (u .kind) 6 && eqb (u .bytes .len) 8 ≡ six
-        → short && within (upidFields (pick ten (record { kind = 10; bytes = record { at = 0; len = 12 } }) (record { kind = pick six 5 (u .kind); bytes = u .bytes }))) ≡ within (upidFields u)
-    go false ten six l t s = rw (le-ltb (u .bytes .len) 256 (omega (arith, leb-false (u .bytes .len) 255 l))) (sym (and-none (ltb (u .kind) 256)))
+    go : (short ten six : Bool) → leb (u .bytes .len) 255 ≡ short → eqb (u .«upid_type») 10 ≡ ten → eqb (u .«upid_type») 6 && eqb (u .bytes .len) 8 ≡ six
+        → short && within (upidFields (pick ten (record { «upid_type» = 10; bytes = record { at = 0; len = 12 } }) (record { «upid_type» = pick six 5 (u .«upid_type»); bytes = u .bytes }))) ≡ within (upidFields u)
+    go false ten six l t s = rw (le-ltb (u .bytes .len) 256 (omega (arith, leb-false (u .bytes .len) 255 l))) (sym (and-none (ltb (u .«upid_type») 256)))
     go true true six l t s =
-        let k = eqb-true (u .kind) 10 t in
-        rw (lt-ltb (u .kind) 256 (omega arith), lt-ltb (u .bytes .len) 256 (omega (arith, leb-true (u .bytes .len) 255 l)))
+        let k = eqb-true (u .«upid_type») 10 t in
+        rw (lt-ltb (u .«upid_type») 256 (omega arith), lt-ltb (u .bytes .len) 256 (omega (arith, leb-true (u .bytes .len) 255 l)))
     go true false true l t s =
-        let k = eqb-true (u .kind) 6 (and-true (eqb (u .kind) 6) (eqb (u .bytes .len) 8) s .0) in
-        rw (lt-ltb (u .kind) 256 (omega arith))
+        let k = eqb-true (u .«upid_type») 6 (and-true (eqb (u .«upid_type») 6) (eqb (u .bytes .len) 8) s .0) in
+        rw (lt-ltb (u .«upid_type») 256 (omega arith))
     go true false false l t s = refl
 
 -- ---- the numbers of an insert
@@ -83,7 +82,7 @@ sub-fits : (s : SubSegments) → within (subFields s) ≡ ltb (subSegment s .«s
 sub-fits SubSegments.Absent = refl
 sub-fits (SubSegments.Is x) = refl
 
-module _ (event : ℕ) (i : SegmentationInsert) (places : List ModeComponent) where
+module _ (event : ℕ) (i : SegmentationDetail) (places : List ModeComponent) where
   abbrev counts : List ModeComponent
   counts = take (countOf (i .«segmentation_mode»)) places
 
@@ -100,15 +99,15 @@ module _ (event : ℕ) (i : SegmentationInsert) (places : List ModeComponent) wh
       (within-append m t ∙ ap₂ (λ (a b : Bool). a && b) (mode-fits (i .«segmentation_mode») places) (duration-fits (i .«segmentation_duration»)))))
 
   -- its fields are its numbers, in another order
-  pub numbers-fit : within (withUpid event i counts (i .«segmentation_upid»)) ≡ fit (numbersOf (Segmentation (record { «segmentation_event_id» = event; «descriptor_detail» = Insert i })) places)
+  pub numbers-fit : within (withUpid event i counts (i .«segmentation_upid»)) ≡ fit (numbersOf (Segmentation (record { «segmentation_event_id» = event; «descriptor_detail» = Active i })) places)
   numbers-fit =
       let u = i .«segmentation_upid» in
       let n = ltb (segmentationNumber (i .«segmentation_type_id»)) (2 ^ 8) in
       within-append (foreFields event i counts) (upidFields u ++ backFields i)
       ∙ ap₂ (λ (a b : Bool). a && b) fore-fits
-      (ap (λ (b : Bool). ltb (u .kind) (2 ^ 8) && (ltb (u .bytes .len) (2 ^ 8) && (n && (ltb (i .«segment_num») (2 ^ 8) && (ltb (i .«segments_expected») (2 ^ 8) && b))))) (sub-fits (i .«sub_segments»)))
+      (ap (λ (b : Bool). ltb (u .«upid_type») (2 ^ 8) && (ltb (u .bytes .len) (2 ^ 8) && (n && (ltb (i .«segment_num») (2 ^ 8) && (ltb (i .«segments_expected») (2 ^ 8) && b))))) (sub-fits (i .«sub_segments»)))
       ∙ turned (ltb event (2 ^ 32)) (ltb (countOf (i .«segmentation_mode»)) (2 ^ 8)) (fit (componentNumbers counts)) (ltb (ticks (i .«segmentation_duration»)) (2 ^ 40))
-      (ltb (u .kind) (2 ^ 8)) (ltb (u .bytes .len) (2 ^ 8)) n (ltb (i .«segment_num») (2 ^ 8)) (ltb (i .«segments_expected») (2 ^ 8))
+      (ltb (u .«upid_type») (2 ^ 8)) (ltb (u .bytes .len) (2 ^ 8)) n (ltb (i .«segment_num») (2 ^ 8)) (ltb (i .«segments_expected») (2 ^ 8))
       (ltb (subSegment (i .«sub_segments») .«sub_segment_num») (2 ^ 8)) (ltb (subSegment (i .«sub_segments») .«sub_segments_expected») (2 ^ 8))
     where
       -- the components last
@@ -131,20 +130,20 @@ module _ (event : ℕ) (i : SegmentationInsert) (places : List ModeComponent) wh
 
 -- of what is made: 31 by a, 32 by b
 abbrev checked : Bool → Bool → Bool → List ℕ → Made
-checked a b fair q = pick a (pick b (pick fair (made q) (refused 33)) (refused 32)) (refused 31)
+checked a b writable q = pick a (pick b (pick writable (made q) (refused 33)) (refused 32)) (refused 31)
 
 pub record Tested (d : Descriptor) (id : List ℕ) (beside : Beside) (lent : List ℕ) : Type 0 where
-  pub fair : Bool
+  pub writable : Bool
   pub bytes : List ℕ
-  pub is : payloadMade d id beside lent ≡ checked (liesIn lent (viewIn d)) (fit (numbersOf d (beside .components))) fair bytes
+  pub is : payloadMade d id beside lent ≡ checked (liesIn lent (viewIn d)) (fit (numbersOf d (beside .components))) writable bytes
 
 module _ (id : List ℕ) (beside : Beside) (lent : List ℕ) (twelve : length (beside .eidr) ≡ 12) where
   no-view : leb 0 (length lent) ≡ true
   no-view = le-leb 0 (length lent) (omega arith)
 
-  module _ (event : ℕ) (i : SegmentationInsert) (places : countOf (i .«segmentation_mode») ≤ length (beside .components)) where
+  module _ (event : ℕ) (i : SegmentationDetail) (places : countOf (i .«segmentation_mode») ≤ length (beside .components)) where
     abbrev x : SegmentationDescriptor
-    x = record { «segmentation_event_id» = event; «descriptor_detail» = Insert i }
+    x = record { «segmentation_event_id» = event; «descriptor_detail» = Active i }
 
     abbrev u : SegmentationUpid
     u = i .«segmentation_upid»
@@ -177,12 +176,12 @@ module _ (id : List ℕ) (beside : Beside) (lent : List ℕ) (twelve : length (b
         turned false true w b = refl
         turned false false w b = refl
 
-    insert-checked : segmentationMade x id beside lent ≡ checked (liesIn lent (u .bytes)) (within given) (fairSegment x id (beside .eidr) lent) (bytesOf (print (contents source inks)))
+    insert-checked : segmentationMade x id beside lent ≡ checked (liesIn lent (u .bytes)) (within given) (writableSegment x id (beside .eidr) lent) (bytesOf (print (contents source inks)))
     unfolding segmentationMade
     insert-checked =
         ap (λ (fs : List Field).
         pick (liesIn lent (u .bytes))
-        (pick (leb (u .bytes .len) 255) (checked (seen source fs) (within fs) (fairSegment x id (beside .eidr) lent) (bytesOf (print (contents source fs)))) (refused 32)) (refused 31))
+        (pick (leb (u .bytes .len) 255) (checked (seen source fs) (within fs) (writableSegment x id (beside .eidr) lent) (bytesOf (print (contents source fs)))) (refused 32)) (refused 31))
         (insert-fields event i (writtenUpid u) cs (making.counted x id beside lent places))
         ∙ go (liesIn lent (u .bytes)) refl
       where
@@ -191,11 +190,11 @@ module _ (id : List ℕ) (beside : Beside) (lent : List ℕ) (twelve : length (b
         both false w m = refl
 
         go : (a : Bool) → liesIn lent (u .bytes) ≡ a
-            → pick a (pick (leb (u .bytes .len) 255) (checked (seen source inks) (within inks) (fairSegment x id (beside .eidr) lent) (bytesOf (print (contents source inks)))) (refused 32)) (refused 31)
-            ≡ checked a (within given) (fairSegment x id (beside .eidr) lent) (bytesOf (print (contents source inks)))
+            → pick a (pick (leb (u .bytes .len) 255) (checked (seen source inks) (within inks) (writableSegment x id (beside .eidr) lent) (bytesOf (print (contents source inks)))) (refused 32)) (refused 31)
+            ≡ checked a (within given) (writableSegment x id (beside .eidr) lent) (bytesOf (print (contents source inks)))
         go false e = refl
         go true e =
-            let m = pick (fairSegment x id (beside .eidr) lent) (made (bytesOf (print (contents source inks)))) (refused 33) in
+            let m = pick (writableSegment x id (beside .eidr) lent) (made (bytesOf (print (contents source inks)))) (refused 33) in
             rw (insert-seen event i cs source (writtenUpid u) ∙ upid-seen u (beside .eidr) lent twelve e)
             (both (leb (u .bytes .len) 255) (within inks) m ∙ ap (λ (b : Bool). pick b m (refused 32)) all-within)
 
@@ -203,36 +202,36 @@ module _ (id : List ℕ) (beside : Beside) (lent : List ℕ) (twelve : length (b
     unfolding payloadMade
     insert-tested =
         let q : List ℕ = bytesOf (print (contents source inks)) in
-        let fair : Bool = fairSegment x id (beside .eidr) lent in
-        record { fair = fair; bytes = q; is = insert-checked ∙ ap (λ (b : Bool). checked (liesIn lent (u .bytes)) b fair q) (numbers-fit event i (beside .components)) }
+        let writable : Bool = writableSegment x id (beside .eidr) lent in
+        record { writable = writable; bytes = q; is = insert-checked ∙ ap (λ (b : Bool). checked (liesIn lent (u .bytes)) b writable q) (numbers-fit event i (beside .components)) }
 
   cancel-tested : (event : ℕ) → Tested (Segmentation (record { «segmentation_event_id» = event; «descriptor_detail» = Cancel })) id beside lent
   unfolding payloadMade segmentationMade upidSource segmentation head fields.number fields.bit fields.reserved
   cancel-tested event =
       let x : SegmentationDescriptor = record { «segmentation_event_id» = event; «descriptor_detail» = Cancel } in
       let fs : List Field = walk segmentation (written x (beside .components)) 0 .fields in
-      record { fair = fairSegment x id (beside .eidr) lent; bytes = bytesOf (print (contents lent fs)); is = rw no-view }
+      record { writable = writableSegment x id (beside .eidr) lent; bytes = bytesOf (print (contents lent fs)); is = rw no-view }
 
-  detail-tested : (event : ℕ) (d : SegmentationDetail) → countOf (frontOf d .«segmentation_mode») ≤ length (beside .components)
+  detail-tested : (event : ℕ) (d : DescriptorDetail) → countOf (frontOf d .«segmentation_mode») ≤ length (beside .components)
       → Tested (Segmentation (record { «segmentation_event_id» = event; «descriptor_detail» = d })) id beside lent
   detail-tested event Cancel places = cancel-tested event
-  detail-tested event (Insert i) places = insert-tested event i places
+  detail-tested event (Active i) places = insert-tested event i places
 
   -- a view, and no other field that has one
-  by-view : (v : View) (fits fair : Bool) (q : List ℕ) → checked (liesIn lent v && true) fits fair q ≡ checked (liesIn lent v) fits fair q
-  by-view v fits fair q = ap (λ (a : Bool). checked a fits fair q) (and-last (liesIn lent v))
+  by-view : (v : View) (fits writable : Bool) (q : List ℕ) → checked (liesIn lent v && true) fits writable q ≡ checked (liesIn lent v) fits writable q
+  by-view v fits writable q = ap (λ (a : Bool). checked a fits writable q) (and-last (liesIn lent v))
 
   pub tested : (d : Descriptor) → countBeside d ≤ length (beside .components) → Tested d id beside lent
   unfolding payloadMade avail dtmf time privateBytes fields.number fields.reserved fields.part fields.remaining
-  tested (Avail x) places = record { fair = alone id (beside .eidr); bytes = bytesOf (print (contents lent (walk avail x 0 .fields))); is = rw no-view }
+  tested (Avail x) places = record { writable = alone id (beside .eidr); bytes = bytesOf (print (contents lent (walk avail x 0 .fields))); is = rw no-view }
   tested (Dtmf x) places =
       let q : List ℕ = bytesOf (print (contents lent (walk dtmf x 0 .fields))) in
-      record { fair = alone id (beside .eidr); bytes = q; is = by-view (x .«dtmf_chars») (fit (numbersOf (Dtmf x) (beside .components))) (alone id (beside .eidr)) q }
+      record { writable = alone id (beside .eidr); bytes = q; is = by-view (x .«dtmf_chars») (fit (numbersOf (Dtmf x) (beside .components))) (alone id (beside .eidr)) q }
   tested (Segmentation x) places = detail-tested (x .«segmentation_event_id») (x .«descriptor_detail») places
-  tested (Time x) places = record { fair = alone id (beside .eidr); bytes = bytesOf (print (contents lent (walk time x 0 .fields))); is = rw no-view }
+  tested (Time x) places = record { writable = alone id (beside .eidr); bytes = bytesOf (print (contents lent (walk time x 0 .fields))); is = rw no-view }
   tested (Reserved tag v) places =
       let q : List ℕ = bytesOf (print (contents lent (walk privateBytes v 0 .fields))) in
-      record { fair = fairReserved tag id (beside .eidr); bytes = q; is = by-view v true (fairReserved tag id (beside .eidr)) q }
+      record { writable = writableReserved tag id (beside .eidr); bytes = q; is = by-view v true (writableReserved tag id (beside .eidr)) q }
 
 -- ---- what is made
 module _ (d : Descriptor) (id : List ℕ) (beside : Beside) (lent : List ℕ) (h : Handed d id beside lent) where
@@ -250,18 +249,18 @@ module _ (d : Descriptor) (id : List ℕ) (beside : Beside) (lent : List ℕ) (h
 
   pub what-is-made : DescriptorMakes d id beside lent (descriptorMade d id beside lent)
   unfolding descriptorMade framedMade
-  what-is-made = go sees fits (told .fair) (told .bytes) refl refl (told .is)
+  what-is-made = go sees fits (told .writable) (told .bytes) refl refl (told .is)
     where
-      go : (a b fair : Bool) (q : List ℕ) → sees ≡ a → fits ≡ b → payloadMade d id beside lent ≡ checked a b fair q
+      go : (a b writable : Bool) (q : List ℕ) → sees ≡ a → fits ≡ b → payloadMade d id beside lent ≡ checked a b writable q
           → DescriptorMakes d id beside lent (framedMade (tagOf d) (identifierOf d id) (payloadMade d id beside lent))
-      go false b fair q s w e = rw e (outside s)
-      go true false fair q s w e = rw e (over s w)
+      go false b writable q s w e = rw e (outside s)
+      go true false writable q s w e = rw e (over s w)
       go true true false q s w e = rw e (nobodys s w (λ tag own p r. let z : refused 33 ≡ made p = sym e ∙ only s tag own p r .0 in zero-one cc))
       go true true true q s w e = rw e (sized (leb (length q + 4) 254) refl)
         where
           sized : (l : Bool) → leb (length q + 4) 254 ≡ l → DescriptorMakes d id beside lent (pick l (made (framed (tagOf d) (identifierOf d id) q)) (refused 34))
-          sized true l = its s (tagOf d) (identifierOf d id) q (payload-back id beside lent q d h e) (leb-true (length q + 4) 254 l)
-          sized false l = long s (tagOf d) (identifierOf d id) q (payload-back id beside lent q d h e) (leb-false (length q + 4) 254 l)
+          sized true l = its s (tagOf d) (identifierOf d id) q (payload-write-read id beside lent q d h e) (leb-true (length q + 4) 254 l)
+          sized false l = long s (tagOf d) (identifierOf d id) q (payload-write-read id beside lent q d h e) (leb-false (length q + 4) 254 l)
 
   -- nothing else is allowed
   framed-if-read : sees ≡ true → (tag : ℕ) (own p : List ℕ) → Payload d id beside lent tag own p
@@ -269,19 +268,19 @@ module _ (d : Descriptor) (id : List ℕ) (beside : Beside) (lent : List ℕ) (h
   unfolding descriptorMade framedMade
   framed-if-read s tag own p r = let w = only s tag own p r in rw (w .0, w .1, w .2)
 
-  refused-if : (a b : Bool) (n : ℕ) → sees ≡ a → fits ≡ b → checked a b (told .fair) (told .bytes) ≡ refused n → descriptorMade d id beside lent ≡ refused n
+  refused-if : (a b : Bool) (n : ℕ) → sees ≡ a → fits ≡ b → checked a b (told .writable) (told .bytes) ≡ refused n → descriptorMade d id beside lent ≡ refused n
   unfolding descriptorMade framedMade
-  refused-if a b n s w e = let z : payloadMade d id beside lent ≡ refused n = told .is ∙ ap₂ (λ (a b : Bool). checked a b (told .fair) (told .bytes)) s w ∙ e in rw z
+  refused-if a b n s w e = let z : payloadMade d id beside lent ≡ refused n = told .is ∙ ap₂ (λ (a b : Bool). checked a b (told .writable) (told .bytes)) s w ∙ e in rw z
 
   pub nothing-else : {m : Made} → DescriptorMakes d id beside lent m → descriptorMade d id beside lent ≡ m
   nothing-else (outside s) = refused-if false fits 31 s refl refl
   nothing-else (over s w) = refused-if true false 32 s w refl
-  nothing-else (nobodys s w none) = go (told .fair) refl
+  nothing-else (nobodys s w none) = go (told .writable) refl
     where
-      go : (fair : Bool) → told .fair ≡ fair → descriptorMade d id beside lent ≡ refused 33
+      go : (writable : Bool) → told .writable ≡ writable → descriptorMade d id beside lent ≡ refused 33
       go true f =
-          let e : payloadMade d id beside lent ≡ made (told .bytes) = told .is ∙ ap₂ (λ (a b : Bool). checked a b (told .fair) (told .bytes)) s w ∙ rw f in
-          absurd (none (tagOf d) (identifierOf d id) (told .bytes) (payload-back id beside lent (told .bytes) d h e))
+          let e : payloadMade d id beside lent ≡ made (told .bytes) = told .is ∙ ap₂ (λ (a b : Bool). checked a b (told .writable) (told .bytes)) s w ∙ rw f in
+          absurd (none (tagOf d) (identifierOf d id) (told .bytes) (payload-write-read id beside lent (told .bytes) d h e))
       go false f = refused-if true true 33 s w (rw f)
   nothing-else (long s tag own p r l) = framed-if-read s tag own p r ∙ rw (lt-leb (length p + 4) 254 l)
   nothing-else (its s tag own p r l) = framed-if-read s tag own p r ∙ rw (le-leb (length p + 4) 254 l)

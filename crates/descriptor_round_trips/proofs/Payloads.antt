@@ -1,5 +1,5 @@
 -- The payload that is written of a descriptor is the canonical payload that reads as it, and there is no other.
---     payload-back       what is written reads as what was handed in, and is canonical
+--     payload-write-read       what is written reads as what was handed in, and is canonical
 --     written-if-read    a canonical payload that reads as what is handed in is what is written of it
 use Prim.Native.Nat.{ℕ, _+_, _/_, _≤_}
 use mathlib.Core.Bool.{Bool, true}
@@ -13,32 +13,32 @@ use Rattle.table.proofs.Bits.{all-bytesN}
 use Rattle.table.proofs.Structure as laws
 use Rattle.table.proofs.Walks.{print-bits}
 use Rattle.descriptor.specs.Plain.{avail, dtmf, time, privateBytes}
-use Rattle.descriptor.specs.Segmentation.{fairDetail, segmentation}
+use Rattle.descriptor.specs.Segmentation.{writableDetail, segmentation}
 use Rattle.descriptor.specs.Whole.{wholeOf, identifierRead, besideRead}
 use Rattle.descriptor.specs.declared.Descriptor.{Descriptor}
 use Rattle.descriptor.specs.declared.Descriptor.the-variants.{Avail, Dtmf, Segmentation, Time, Reserved}
 use Rattle.descriptor.specs.declared.DescriptorRead.the-variants.{Is}
 use Rattle.descriptor.specs.declared.whole.Beside.{Beside}
 use Rattle.descriptor.specs.declared.whole.WholeDescriptor.{WholeDescriptor}
-use Rattle.descriptor_measure.specs.Canonical.{canonicalPayload}
-use Rattle.descriptor_measure.specs.Same.{SameReading, countBeside}
-use Rattle.descriptor_measure.specs.Writing.{alone, fairReserved, payloadMade, tagOf, identifierOf, upidIn, upidSource, written, writtenDetail}
+use Rattle.canonical_form.specs.Descriptor.{canonicalPayload}
+use Rattle.canonical_form.specs.Same.{SameReading}
+use Rattle.descriptor_measure.specs.Writing.{countBeside, alone, writableReserved, payloadMade, tagOf, identifierOf, upidIn, upidSource, written, writtenDetail}
 use Rattle.descriptor_measure.proofs.Making.{by-table}
 use Rattle.descriptor_round_trips.specs.Making.{viewIn, Payload}
 use Rattle.descriptor_round_trips.specs.Trips.{Handed}
 use Rattle.descriptor_round_trips.proofs.Alike.{alike-payload, payload-told, same-frame, same-view}
 use Rattle.descriptor_round_trips.proofs.Canon.{avail-canonical, dtmf-canonical, time-canonical, reserved-canonical}
-use Rattle.descriptor_round_trips.proofs.PlainTrips.{ReadsBack, avail-reads-back, dtmf-reads-back, time-reads-back, reserved-reads-back}
-use Rattle.descriptor_round_trips.proofs.SegmentBack.{segmentation-back}
+use Rattle.descriptor_round_trips.proofs.PlainTrips.{ReadsBack, avail-payload-write-read, dtmf-payload-write-read, time-payload-write-read, reserved-payload-write-read}
+use Rattle.descriptor_round_trips.proofs.SegmentBack.{segmentation-payload-write-read}
 use Rattle.descriptor_round_trips.proofs.Wholes.{payload-is, whole-read}
 
 -- ---- what is written
 
 -- it is bytes
-are-bytes : (fair : Bool) (lent : List ℕ) (fs : List Field) (b : List ℕ) → makeOf fair lent fs ≡ made b → AllBytes b
-are-bytes fair lent fs b e =
+are-bytes : (writable : Bool) (lent : List ℕ) (fs : List Field) (b : List ℕ) → makeOf writable lent fs ≡ made b → AllBytes b
+are-bytes writable lent fs b e =
     let p = print (contents lent fs) in
-    rw (laws.wrote fair lent fs b e .bytes) (all-bytesN (length p / 8) p (print-bits (contents lent fs)))
+    rw (laws.wrote writable lent fs b e .bytes) (all-bytesN (length p / 8) p (print-bits (contents lent fs)))
 
 module _ (id : List ℕ) (beside : Beside) (lent p : List ℕ) where
   pub counted : (d : Descriptor) → Handed d id beside lent → countBeside d ≤ length (beside .components)
@@ -49,17 +49,17 @@ module _ (id : List ℕ) (beside : Beside) (lent p : List ℕ) where
   payload-bytes (Avail x) h e = are-bytes (alone id (beside .eidr)) lent (walk avail x 0 .fields) p e
   payload-bytes (Dtmf x) h e = are-bytes (alone id (beside .eidr)) lent (walk dtmf x 0 .fields) p e
   payload-bytes (Segmentation x) h e =
-      are-bytes (fairDetail (writtenDetail (x .«descriptor_detail»))) (upidSource (upidIn x) (beside .eidr) lent) (walk segmentation (written x (beside .components)) 0 .fields) p
+      are-bytes (writableDetail (writtenDetail (x .«descriptor_detail»))) (upidSource (upidIn x) (beside .eidr) lent) (walk segmentation (written x (beside .components)) 0 .fields) p
       (by-table x id beside lent (counted (Segmentation x) h) p e)
   payload-bytes (Time x) h e = are-bytes (alone id (beside .eidr)) lent (walk time x 0 .fields) p e
-  payload-bytes (Reserved tag v) h e = are-bytes (fairReserved tag id (beside .eidr)) lent (walk privateBytes v 0 .fields) p e
+  payload-bytes (Reserved tag v) h e = are-bytes (writableReserved tag id (beside .eidr)) lent (walk privateBytes v 0 .fields) p e
 
-  read-back : (d : Descriptor) → Handed d id beside lent → payloadMade d id beside lent ≡ made p → ReadsBack d id beside lent p × (canonicalPayload (tagOf d) (identifierOf d id) p ≡ true)
-  read-back (Avail x) h e = (avail-reads-back id beside lent p (h .four) (h .twelve) x e, avail-canonical id beside lent p x e)
-  read-back (Dtmf x) h e = (dtmf-reads-back id beside lent p (h .four) (h .twelve) x (h .are) e, dtmf-canonical id beside lent p x e)
-  read-back (Segmentation x) h e = segmentation-back x id beside lent p (h .four) (h .twelve) (h .held) (h .are) (counted (Segmentation x) h) e
-  read-back (Time x) h e = (time-reads-back id beside lent p (h .four) (h .twelve) x e, time-canonical id beside lent p x e)
-  read-back (Reserved tag v) h e = (reserved-reads-back id beside lent p (h .four) (h .twelve) tag v (h .are) e, reserved-canonical id beside lent p tag v e)
+  payload-reads-back : (d : Descriptor) → Handed d id beside lent → payloadMade d id beside lent ≡ made p → ReadsBack d id beside lent p × (canonicalPayload (tagOf d) (identifierOf d id) p ≡ true)
+  payload-reads-back (Avail x) h e = (avail-payload-write-read id beside lent p (h .four) (h .twelve) x e, avail-canonical id beside lent p x e)
+  payload-reads-back (Dtmf x) h e = (dtmf-payload-write-read id beside lent p (h .four) (h .twelve) x (h .are) e, dtmf-canonical id beside lent p x e)
+  payload-reads-back (Segmentation x) h e = segmentation-payload-write-read x id beside lent p (h .four) (h .twelve) (h .held) (h .are) (counted (Segmentation x) h) e
+  payload-reads-back (Time x) h e = (time-payload-write-read id beside lent p (h .four) (h .twelve) x e, time-canonical id beside lent p x e)
+  payload-reads-back (Reserved tag v) h e = (reserved-payload-write-read id beside lent p (h .four) (h .twelve) tag v (h .are) e, reserved-canonical id beside lent p tag v e)
 
   identifier-four : (d : Descriptor) → length id ≡ 4 → length (identifierOf d id) ≡ 4
   identifier-four (Avail x) four = refl
@@ -68,9 +68,9 @@ module _ (id : List ℕ) (beside : Beside) (lent p : List ℕ) where
   identifier-four (Time x) four = refl
   identifier-four (Reserved tag v) four = four
 
-  pub payload-back : (d : Descriptor) → Handed d id beside lent → payloadMade d id beside lent ≡ made p → Payload d id beside lent (tagOf d) (identifierOf d id) p
-  payload-back d h e =
-      let r = read-back d h e in
+  pub payload-write-read : (d : Descriptor) → Handed d id beside lent → payloadMade d id beside lent ≡ made p → Payload d id beside lent (tagOf d) (identifierOf d id) p
+  payload-write-read d h e =
+      let r = payload-reads-back d h e in
       let again : Descriptor = r .0 .again in
       let w = whole-read (tagOf d) (identifierOf d id) p again (r .0 .reading) in
       record {

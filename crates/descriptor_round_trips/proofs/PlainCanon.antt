@@ -21,7 +21,7 @@ use Rattle.descriptor.specs.declared.plain.AvailDescriptor.{AvailDescriptor}
 use Rattle.descriptor.specs.declared.plain.DTMFDescriptor.{DTMFDescriptor}
 use Rattle.descriptor.specs.declared.plain.TimeDescriptor.{TimeDescriptor}
 use Rattle.descriptor.proofs.Structures.{availStructure, dtmfStructure, timeStructure, privateStructure}
-use Rattle.descriptor_measure.specs.Writing.{allZero, alone, fairReserved, payloadMade}
+use Rattle.descriptor_measure.specs.Writing.{allZero, alone, writableReserved, payloadMade}
 use Rattle.descriptor_round_trips.proofs.PlainLaws.{table-read-write}
 
 -- what readers leave beside these is blank
@@ -52,7 +52,7 @@ module _ (p : List ℕ) (a : AllBytes p) where
 
   pub reserved-read-write : (tag : ℕ) (id : List ℕ) → isCuei id && ltb tag 4 ≡ false → canonicalBy privateBytes p ≡ true
       → (v : View) × (reservedOf tag p ≡ Is (Reserved tag v)) × (payloadMade (Reserved tag v) id blankBeside p ≡ made p)
-  unfolding reservedOf payloadMade fairReserved allZero blankBeside
+  unfolding reservedOf payloadMade writableReserved allZero blankBeside
   reserved-read-write tag id h e =
       let i = table-read-write privateBytes privateStructure (λ x. refl) p a e in
       (i .0, rw (i .1), rw h (i .2))

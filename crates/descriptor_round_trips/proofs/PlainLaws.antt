@@ -23,17 +23,17 @@ use Rattle.descriptor.specs.declared.plain.DTMFDescriptor.{DTMFDescriptor}
 use Rattle.descriptor.specs.declared.plain.TimeDescriptor.{TimeDescriptor}
 use Rattle.descriptor.proofs.Structures.{availStructure, dtmfStructure, dtmfMoved, timeStructure, privateStructure}
 
--- ---- any table whose values are all fair
-module _ {X : Type 0} (t : Table X) (st : laws.Structure t) (always : (x : X) → st .fair x ≡ true) where
-  module _ (fair : Bool) (lent : List ℕ) (x : X) (b : List ℕ) (e : make t fair lent x ≡ made b) where
-    pub fair-made : make t (st .fair x) lent x ≡ made b
-    fair-made = ap (λ (f : Bool). makeOf f lent (walk t x 0 .fields)) (always x ∙ sym (laws.wrote fair lent (walk t x 0 .fields) b e .fit)) ∙ e
+-- ---- any table whose values are all writable
+module _ {X : Type 0} (t : Table X) (st : laws.Structure t) (always : (x : X) → st .writable x ≡ true) where
+  module _ (writable : Bool) (lent : List ℕ) (x : X) (b : List ℕ) (e : make t writable lent x ≡ made b) where
+    pub writable-made : make t (st .writable x) lent x ≡ made b
+    writable-made = ap (λ (f : Bool). makeOf f lent (walk t x 0 .fields)) (always x ∙ sym (laws.wrote writable lent (walk t x 0 .fields) b e .fit)) ∙ e
 
     -- what is written is read to its end, and is canonical
     pub table-write-read : st .Shape x → (parse t (bitsOf b) 0 ≡ got (st .moved x) (length b * 8)) × (canonicalBy t b ≡ true)
     unfolding canonicalBy
     table-write-read h =
-        let i = laws.write-read t st lent x b [] h fair-made (st .none) in
+        let i = laws.write-read t st lent x b [] h writable-made (st .none) in
         let p : parse t (bitsOf b) 0 ≡ got (st .moved x) (length b * 8) = rw (append-nil b) at (i .0) in
         let c : canonical t (bitsOf b) 0 ≡ true = rw (append-nil b) at (i .1) in
         (p, rw (p, c, eq-eqb (length b * 8) (length b * 8) refl))
@@ -54,50 +54,50 @@ module _ {X : Type 0} (t : Table X) (st : laws.Structure t) (always : (x : X) �
       go (short x y) h = let z : false ≡ true = rw h at (j .0) in zero-one cc
 
 -- ---- each kind, by its reader
-pub avail-write-read : (fair : Bool) (lent : List ℕ) (x : AvailDescriptor) (b : List ℕ) → make avail fair lent x ≡ made b → availOf b ≡ Is (Avail x)
+pub avail-write-read : (writable : Bool) (lent : List ℕ) (x : AvailDescriptor) (b : List ℕ) → make avail writable lent x ≡ made b → availOf b ≡ Is (Avail x)
 unfolding availOf
-avail-write-read fair lent x b e =
-    let n : length b ≡ 4 = laws.write-size avail availStructure lent x b tt (fair-made avail availStructure (λ x. refl) fair lent x b e) in
-    rw (le-ltb (length b) 4 (omega arith), table-write-read avail availStructure (λ x. refl) fair lent x b e tt .0)
+avail-write-read writable lent x b e =
+    let n : length b ≡ 4 = laws.write-size avail availStructure lent x b tt (writable-made avail availStructure (λ x. refl) writable lent x b e) in
+    rw (le-ltb (length b) 4 (omega arith), table-write-read avail availStructure (λ x. refl) writable lent x b e tt .0)
 
-pub time-write-read : (fair : Bool) (lent : List ℕ) (x : TimeDescriptor) (b : List ℕ) → make time fair lent x ≡ made b → timeOf b ≡ Is (Time x)
+pub time-write-read : (writable : Bool) (lent : List ℕ) (x : TimeDescriptor) (b : List ℕ) → make time writable lent x ≡ made b → timeOf b ≡ Is (Time x)
 unfolding timeOf
-time-write-read fair lent x b e =
-    let n : length b ≡ 12 = laws.write-size time timeStructure lent x b tt (fair-made time timeStructure (λ x. refl) fair lent x b e) in
-    rw (le-ltb (length b) 12 (omega arith), table-write-read time timeStructure (λ x. refl) fair lent x b e tt .0)
+time-write-read writable lent x b e =
+    let n : length b ≡ 12 = laws.write-size time timeStructure lent x b tt (writable-made time timeStructure (λ x. refl) writable lent x b e) in
+    rw (le-ltb (length b) 12 (omega arith), table-write-read time timeStructure (λ x. refl) writable lent x b e tt .0)
 
 -- a view of bytes that are there
 pub viewed-at : (s : List ℕ) (at len : ℕ) → at + len ≤ length s → viewed s (record { at = at; len = len }) ≡ take len (drop at s)
 unfolding viewed
 viewed-at s at len h = rw (le-leb (at + len) (length s) h)
 
-module _ (fair : Bool) (lent : List ℕ) (b : List ℕ) where
-  pub dtmf-write-read : (x : DTMFDescriptor) → AllBytes lent → make dtmf fair lent x ≡ made b
+module _ (writable : Bool) (lent : List ℕ) (b : List ℕ) where
+  pub dtmf-write-read : (x : DTMFDescriptor) → AllBytes lent → make dtmf writable lent x ≡ made b
       → (dtmfOf b ≡ Is (Dtmf (dtmfMoved x))) × (viewed b (dtmfMoved x .«dtmf_chars») ≡ viewed lent (x .«dtmf_chars»))
   unfolding dtmfOf dtmf number reserved part
   dtmf-write-read x a e =
       let len = x .«dtmf_chars» .len in
       let at = x .«dtmf_chars» .at in
-      let f = fair-made dtmf dtmfStructure (λ x. refl) fair lent x b e in
+      let f = writable-made dtmf dtmfStructure (λ x. refl) writable lent x b e in
       let n : length b ≡ 2 + len = laws.write-size dtmf dtmfStructure lent x b tt f in
       let s : Same dtmf b (dtmfMoved x) lent x = laws.write-same dtmf dtmfStructure lent x b a tt f in
-      let w = laws.wrote fair lent (walk dtmf x 0 .fields) b e .views in
+      let w = laws.wrote writable lent (walk dtmf x 0 .fields) b e .views in
       let i = and-true (leb (at + len) (length lent)) true w in
       let same : take len (drop 2 b) ≡ take len (drop at lent) = cc in (
-        rw (table-write-read dtmf dtmfStructure (λ x. refl) fair lent x b e tt .0),
+        rw (table-write-read dtmf dtmfStructure (λ x. refl) writable lent x b e tt .0),
         viewed-at b 2 len (omega arith) ∙ same ∙ sym (viewed-at lent at len (leb-true (at + len) (length lent) (i .0))),
       )
 
-  pub reserved-write-read : (tag : ℕ) (v : View) → AllBytes lent → make privateBytes fair lent v ≡ made b
+  pub reserved-write-read : (tag : ℕ) (v : View) → AllBytes lent → make privateBytes writable lent v ≡ made b
       → (reservedOf tag b ≡ Is (Reserved tag (record { at = 0; len = v .len }))) × (viewed b (record { at = 0; len = v .len }) ≡ viewed lent v)
   unfolding reservedOf privateBytes remaining part
   reserved-write-read tag v a e =
-      let f = fair-made privateBytes privateStructure (λ x. refl) fair lent v b e in
+      let f = writable-made privateBytes privateStructure (λ x. refl) writable lent v b e in
       let n : length b ≡ v .len = laws.write-size privateBytes privateStructure lent v b tt f in
       let s : Same privateBytes b (record { at = 0; len = v .len }) lent v = laws.write-same privateBytes privateStructure lent v b a tt f in
-      let w = laws.wrote fair lent (walk privateBytes v 0 .fields) b e .views in
+      let w = laws.wrote writable lent (walk privateBytes v 0 .fields) b e .views in
       let i = and-true (leb (v .at + v .len) (length lent)) true w in
       let same : take (v .len) (drop 0 b) ≡ take (v .len) (drop (v .at) lent) = cc in (
-        rw (table-write-read privateBytes privateStructure (λ x. refl) fair lent v b e tt .0),
+        rw (table-write-read privateBytes privateStructure (λ x. refl) writable lent v b e tt .0),
         viewed-at b 0 (v .len) (omega arith) ∙ same ∙ sym (viewed-at lent (v .at) (v .len) (leb-true (v .at + v .len) (length lent) (i .0))),
       )

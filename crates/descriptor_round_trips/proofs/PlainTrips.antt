@@ -23,8 +23,8 @@ use Rattle.descriptor.specs.declared.plain.DTMFDescriptor.{DTMFDescriptor}
 use Rattle.descriptor.specs.declared.plain.TimeDescriptor.{TimeDescriptor}
 use Rattle.descriptor.specs.declared.whole.Beside.{Beside}
 use Rattle.descriptor.proofs.Structures.{dtmfMoved}
-use Rattle.descriptor_measure.specs.Same.{SameReading}
-use Rattle.descriptor_measure.specs.Writing.{framed, framedMade, allZero, alone, fairReserved, payloadMade, tagOf, identifierOf}
+use Rattle.canonical_form.specs.Same.{SameReading}
+use Rattle.descriptor_measure.specs.Writing.{framed, framedMade, allZero, alone, writableReserved, payloadMade, tagOf, identifierOf}
 use Rattle.descriptor_round_trips.proofs.PlainLaws.{avail-write-read, time-write-read, dtmf-write-read, reserved-write-read}
 
 -- the payload that was written, read again: equal to what was handed in
@@ -54,7 +54,7 @@ zeros (b ∷ l) (suc n) e h =
     let i = and-true (eqb b 0) (allZero l) e in
     ap₂ _∷_ (sym (eqb-true b 0 (i .0))) (zeros l n (i .1) (omega arith))
 
--- a reserved descriptor that is fair is of no other kind
+-- a reserved descriptor that is writable is of no other kind
 pub foreign : {A : Type 0} (tag : ℕ) (id : List ℕ) (a b c d e : A) → not (isCuei id && ltb tag 4) ≡ true → byKind tag id a b c d e ≡ e
 foreign {A} tag id a b c d e h = go (isCuei id) (ltb tag 4) refl h
   where
@@ -65,9 +65,9 @@ foreign {A} tag id a b c d e h = go (isCuei id) (ltb tag 4) refl h
         let k : 4 ≤ tag = ltb-false tag 4 t in
         rw (ne-eqb tag 0 (λ z. omega arith), ne-eqb tag 1 (λ z. omega arith), ne-eqb tag 2 (λ z. omega arith), ne-eqb tag 3 (λ z. omega arith))
 
-pub fair-tag : (tag : ℕ) (id eidr : List ℕ) → fairReserved tag id eidr ≡ true → (not (isCuei id && ltb tag 4) ≡ true) × (allZero eidr ≡ true)
-unfolding fairReserved
-fair-tag tag id eidr e = and-true (not (isCuei id && ltb tag 4)) (allZero eidr) e
+pub writable-tag : (tag : ℕ) (id eidr : List ℕ) → writableReserved tag id eidr ≡ true → (not (isCuei id && ltb tag 4) ≡ true) × (allZero eidr ≡ true)
+unfolding writableReserved
+writable-tag tag id eidr e = and-true (not (isCuei id && ltb tag 4)) (allZero eidr) e
 
 module _ (id : List ℕ) (beside : Beside) (lent p : List ℕ) (four : length id ≡ 4) (twelve : length (beside .eidr) ≡ 12) where
   blank-eidr : allZero (beside .eidr) ≡ true → blankBeside .eidr ≡ beside .eidr
@@ -78,9 +78,9 @@ module _ (id : List ℕ) (beside : Beside) (lent p : List ℕ) (four : length id
   unfolding alone
   both e = let i = and-true (allZero id) (allZero (beside .eidr)) e in (zeros id 4 (i .0) four, blank-eidr (i .1))
 
-  pub avail-reads-back : (x : AvailDescriptor) → payloadMade (Avail x) id beside lent ≡ made p → ReadsBack (Avail x) id beside lent p
+  pub avail-payload-write-read : (x : AvailDescriptor) → payloadMade (Avail x) id beside lent ≡ made p → ReadsBack (Avail x) id beside lent p
   unfolding payloadMade descriptorOf isCuei
-  avail-reads-back x e =
+  avail-payload-write-read x e =
       let f = both (laws.wrote (alone id (beside .eidr)) lent (walk avail x 0 .fields) p e .fit) in
       record {
         again = Avail x;
@@ -88,9 +88,9 @@ module _ (id : List ℕ) (beside : Beside) (lent p : List ℕ) (four : length id
         same = record { values = refl; bytes = refl; identifiers = f .0; components = refl; eidrs = f .1 };
       }
 
-  pub time-reads-back : (x : TimeDescriptor) → payloadMade (Time x) id beside lent ≡ made p → ReadsBack (Time x) id beside lent p
+  pub time-payload-write-read : (x : TimeDescriptor) → payloadMade (Time x) id beside lent ≡ made p → ReadsBack (Time x) id beside lent p
   unfolding payloadMade descriptorOf isCuei
-  time-reads-back x e =
+  time-payload-write-read x e =
       let f = both (laws.wrote (alone id (beside .eidr)) lent (walk time x 0 .fields) p e .fit) in
       record {
         again = Time x;
@@ -98,9 +98,9 @@ module _ (id : List ℕ) (beside : Beside) (lent p : List ℕ) (four : length id
         same = record { values = refl; bytes = refl; identifiers = f .0; components = refl; eidrs = f .1 };
       }
 
-  pub dtmf-reads-back : (x : DTMFDescriptor) → AllBytes lent → payloadMade (Dtmf x) id beside lent ≡ made p → ReadsBack (Dtmf x) id beside lent p
+  pub dtmf-payload-write-read : (x : DTMFDescriptor) → AllBytes lent → payloadMade (Dtmf x) id beside lent ≡ made p → ReadsBack (Dtmf x) id beside lent p
   unfolding payloadMade descriptorOf isCuei
-  dtmf-reads-back x a e =
+  dtmf-payload-write-read x a e =
       let f = both (laws.wrote (alone id (beside .eidr)) lent (walk dtmf x 0 .fields) p e .fit) in
       let r = dtmf-write-read (alone id (beside .eidr)) lent p x a e in
       record {
@@ -109,12 +109,12 @@ module _ (id : List ℕ) (beside : Beside) (lent p : List ℕ) (four : length id
         same = record { values = refl; bytes = ap (λ (b : List ℕ). b ∷ []) (r .1); identifiers = f .0; components = refl; eidrs = f .1 };
       }
 
-  pub reserved-reads-back : (tag : ℕ) (v : View) → AllBytes lent → payloadMade (Reserved tag v) id beside lent ≡ made p → ReadsBack (Reserved tag v) id beside lent p
+  pub reserved-payload-write-read : (tag : ℕ) (v : View) → AllBytes lent → payloadMade (Reserved tag v) id beside lent ≡ made p → ReadsBack (Reserved tag v) id beside lent p
   unfolding payloadMade descriptorOf
-  reserved-reads-back tag v a e =
-      let fair = fairReserved tag id (beside .eidr) in
-      let f = fair-tag tag id (beside .eidr) (laws.wrote fair lent (walk privateBytes v 0 .fields) p e .fit) in
-      let r = reserved-write-read fair lent p tag v a e in
+  reserved-payload-write-read tag v a e =
+      let writable = writableReserved tag id (beside .eidr) in
+      let f = writable-tag tag id (beside .eidr) (laws.wrote writable lent (walk privateBytes v 0 .fields) p e .fit) in
+      let r = reserved-write-read writable lent p tag v a e in
       record {
         again = Reserved tag (record { at = 0; len = v .len });
         reading = foreign tag id (availOf p) (dtmfOf p) (segmentationOf p) (timeOf p) (reservedOf tag p) (f .0) ∙ r .0;

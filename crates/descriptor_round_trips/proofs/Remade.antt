@@ -15,7 +15,7 @@ use Rattle.table.proofs.Structure as laws
 use Rattle.descriptor.specs.declared.segmentation.DeliveryRestrictionFlags.{DeliveryRestrictionFlags}
 use Rattle.descriptor.specs.declared.segmentation.ModeComponent.{ModeComponent}
 use Rattle.descriptor.specs.declared.segmentation.SegmentationDuration.{SegmentationDuration}
-use Rattle.descriptor.specs.declared.segmentation.SegmentationInsert.{SegmentationInsert}
+use Rattle.descriptor.specs.declared.segmentation.SegmentationDetail.{SegmentationDetail}
 use Rattle.descriptor.specs.declared.segmentation.SegmentationMode.{SegmentationMode}
 use Rattle.descriptor.specs.declared.segmentation.SegmentationUpid.{SegmentationUpid}
 use Rattle.descriptor.specs.declared.segmentation.SubSegments.{SubSegments}
@@ -38,10 +38,10 @@ within-held l (bits w v ∷ fs) = ap (λ (b : Bool). ltb v (2 ^ w) && b) (within
 within-held l (run n from ∷ fs) = within-held l fs
 within-held l (rest m ∷ fs) = within-held l fs
 
-pub same-make : (fair other : Bool) (l r : List ℕ) (fs gs : List Field) (b : List ℕ) → makeOf fair l fs ≡ made b → contents l fs ≡ contents r gs → seen r gs ≡ true → other ≡ true
+pub same-make : (writable other : Bool) (l r : List ℕ) (fs gs : List Field) (b : List ℕ) → makeOf writable l fs ≡ made b → contents l fs ≡ contents r gs → seen r gs ≡ true → other ≡ true
     → makeOf other r gs ≡ made b
-same-make fair other l r fs gs b e same s o =
-    let w = laws.wrote fair l fs b e in
+same-make writable other l r fs gs b e same s o =
+    let w = laws.wrote writable l fs b e in
     let k : within gs ≡ true = within-held r gs ∙ ap fitting (sym same) ∙ sym (within-held l fs) ∙ w .widths in
     rw (s, k, o) (ap (λ (cs : List Content). made (bytesOf (print cs))) (sym same) ∙ ap made (sym (w .bytes)))
 
@@ -104,16 +104,16 @@ dry-sub (SubSegments.Is x) = refl
 dry-both : (fs gs : List Field) → dry fs ≡ true → dry gs ≡ true → dry (fs ++ gs) ≡ true
 dry-both fs gs e f = dry-append fs gs ∙ rw e f
 
-dry-fore : (event : ℕ) (i : SegmentationInsert) (cs : List ModeComponent) → dry (foreFields event i cs) ≡ true
+dry-fore : (event : ℕ) (i : SegmentationDetail) (cs : List ModeComponent) → dry (foreFields event i cs) ≡ true
 dry-fore event i cs =
     dry-both (deliveryFields (i .«delivery_restrictions»)) _ (dry-delivery (i .«delivery_restrictions»))
     (dry-both (modeFields (i .«segmentation_mode») cs) (durationFields (i .«segmentation_duration»)) (dry-mode (i .«segmentation_mode») cs) (dry-duration (i .«segmentation_duration»)))
 
 -- the fields of an insert with a UPID
-abbrev pub withUpid : ℕ → SegmentationInsert → List ModeComponent → SegmentationUpid → List Field
+abbrev pub withUpid : ℕ → SegmentationDetail → List ModeComponent → SegmentationUpid → List Field
 withUpid event i cs u = foreFields event i cs ++ (upidFields u ++ backFields i)
 
-module _ (event : ℕ) (i : SegmentationInsert) (cs : List ModeComponent) where
+module _ (event : ℕ) (i : SegmentationDetail) (cs : List ModeComponent) where
   split-held : (l : List ℕ) (u : SegmentationUpid) → contents l (withUpid event i cs u) ≡ contents l (foreFields event i cs) ++ (contents l (upidFields u) ++ contents l (backFields i))
   split-held l u =
       contents-append l (foreFields event i cs) (upidFields u ++ backFields i)
@@ -127,15 +127,15 @@ module _ (event : ℕ) (i : SegmentationInsert) (cs : List ModeComponent) where
       (seen-append l (upidFields u) (backFields i) ∙ rw (dry-seen l l (backFields i) (dry-sub (i .«sub_segments»))) (and-last (seen l (upidFields u))))
 
   -- the same with another UPID, that holds the same
-  pub insert-makes : (fair other : Bool) (l r : List ℕ) (u v : SegmentationUpid) (b : List ℕ) → makeOf fair l (withUpid event i cs u) ≡ made b
+  pub insert-makes : (writable other : Bool) (l r : List ℕ) (u v : SegmentationUpid) (b : List ℕ) → makeOf writable l (withUpid event i cs u) ≡ made b
       → contents l (upidFields u) ≡ contents r (upidFields v) → seen r (upidFields v) ≡ true → other ≡ true → makeOf other r (withUpid event i cs v) ≡ made b
-  insert-makes fair other l r u v b e same s o =
+  insert-makes writable other l r u v b e same s o =
       let held : contents l (withUpid event i cs u) ≡ contents r (withUpid event i cs v) =
       split-held l u
       ∙ ap₂ (λ (p q : List Content). p ++ q) (dry-held l r (foreFields event i cs) (dry-fore event i cs))
       (ap₂ (λ (p q : List Content). p ++ q) same (dry-held l r (backFields i) (dry-sub (i .«sub_segments»))))
       ∙ sym (split-held r v) in
-      same-make fair other l r (withUpid event i cs u) (withUpid event i cs v) b e held (insert-seen r v ∙ s) o
+      same-make writable other l r (withUpid event i cs u) (withUpid event i cs v) b e held (insert-seen r v ∙ s) o
 
   -- what is after the first fields
   past-first : (l : List ℕ) (fs gs : List Field) → drop (length fs) (contents l (fs ++ gs)) ≡ contents l gs

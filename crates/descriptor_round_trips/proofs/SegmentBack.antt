@@ -1,6 +1,6 @@
 -- A segmentation descriptor: what is written of it reads back equal to what was handed in, and is canonical.
 use Prim.Native.Nat.{ℕ, _+_, _≤_}
-use mathlib.Core.Bool.{Bool, true, false, cond, not, _&&_, _||_}
+use mathlib.Core.Bool.{Bool, true, false, not, _&&_, _||_}
 use mathlib.Core.List.{List, [], _∷_}
 use mathlib.Core.Path.{_≡_, refl, ap, ap₂, sym, _∙_}
 use native.Mathlib.Omega.{arith}
@@ -27,21 +27,21 @@ use Rattle.descriptor.specs.declared.Descriptor.the-variants.{Segmentation}
 use Rattle.descriptor.specs.declared.DescriptorRead.the-variants.{Is}
 use Rattle.descriptor.specs.declared.segmentation.ModeComponent.{ModeComponent}
 use Rattle.descriptor.specs.declared.segmentation.SegmentationDescriptor.{SegmentationDescriptor}
+use Rattle.descriptor.specs.declared.segmentation.DescriptorDetail.{DescriptorDetail}
+use Rattle.descriptor.specs.declared.segmentation.DescriptorDetail.the-variants.{Cancel, Active}
 use Rattle.descriptor.specs.declared.segmentation.SegmentationDetail.{SegmentationDetail}
-use Rattle.descriptor.specs.declared.segmentation.SegmentationDetail.the-variants.{Cancel, Insert}
-use Rattle.descriptor.specs.declared.segmentation.SegmentationInsert.{SegmentationInsert}
 use Rattle.descriptor.specs.declared.segmentation.SegmentationUpid.{SegmentationUpid}
 use Rattle.descriptor.specs.declared.whole.Beside.{Beside}
 use Rattle.descriptor.proofs.SegmentationLaws.{segmentationStructure, upidAt, upidPlace}
-use Rattle.descriptor_measure.specs.Canonical.{canonicalUpid, canonicalSegmentation, canonicalPayload}
-use Rattle.descriptor_measure.specs.Same.{SameReading, bytesOfViews}
-use Rattle.descriptor_measure.specs.Writing.{cuei, allZero, accepts, fairUpid, segmentationMade, payloadMade, upidSource, written, writtenKind, writtenUpid}
+use Rattle.canonical_form.specs.Descriptor.{canonicalUpid, canonicalSegmentation, canonicalPayload}
+use Rattle.canonical_form.specs.Same.{SameReading, bytesOfViews}
+use Rattle.descriptor_measure.specs.Writing.{cuei, allZero, accepts, writableUpid, segmentationMade, payloadMade, upidSource, written, writtenType, writtenUpid}
 use Rattle.descriptor_measure.proofs.Fields.{insert-fields}
-use Rattle.descriptor_measure.proofs.Making.{all-fair, by-table, counted, zero-view}
+use Rattle.descriptor_measure.proofs.Making.{all-writable, by-table, counted, zero-view}
 use Rattle.descriptor_round_trips.proofs.PlainLaws.{viewed-at}
 use Rattle.descriptor_round_trips.proofs.PlainTrips.{ReadsBack, zeros}
 use Rattle.descriptor_round_trips.proofs.Remade.{withUpid, upid-found}
-use Rattle.descriptor_round_trips.proofs.Reported.{check-none, reports}
+use Rattle.upid.proofs.Reported.{check-none, reports}
 use Rattle.descriptor_round_trips.proofs.SegmentTrips.{segmentation-write-read}
 
 -- ---- views
@@ -54,16 +54,16 @@ viewed-none s = viewed-at s 0 0 (omega arith)
 -- ---- a UPID that is written: w, of the bytes `source`
 
 pub record Written (u : SegmentationUpid) (eidr lent source : List ℕ) (w : SegmentationUpid) : Type 0 where
-  pub checked : checkOf (w .kind) (viewed source (w .bytes)) ≡ Fine (u .kind)
-  pub held : eidrOf (w .kind) (viewed source (w .bytes)) ≡ eidr
-  pub kinds : pick (eqb (w .bytes .len) 0) (eqb (w .kind) 0) true ≡ true
-  pub bytes : withoutView (u .kind) ≡ false → viewed source (w .bytes) ≡ viewed lent (u .bytes)
-  pub size : (at : ℕ) → reportedUpid (u .kind) (record { at = at; len = w .bytes .len }) .bytes .len ≡ u .bytes .len
+  pub checked : checkOf (w .«upid_type») (viewed source (w .bytes)) ≡ Fine (u .«upid_type»)
+  pub held : eidrOf (w .«upid_type») (viewed source (w .bytes)) ≡ eidr
+  pub kinds : pick (eqb (w .bytes .len) 0) (eqb (w .«upid_type») 0) true ≡ true
+  pub bytes : withoutView (u .«upid_type») ≡ false → viewed source (w .bytes) ≡ viewed lent (u .bytes)
+  pub size : (at : ℕ) → reportedUpid (u .«upid_type») (record { at = at; len = w .bytes .len }) .bytes .len ≡ u .bytes .len
   pub inside : w .bytes .at + w .bytes .len ≤ length source
   pub are : AllBytes source
 
 module _ (u : SegmentationUpid) (eidr lent : List ℕ) (twelve : length eidr ≡ 12) (held : AllBytes eidr) (all : AllBytes lent) (there : u .bytes .at + u .bytes .len ≤ length lent) where
-  of-eidr : u .kind ≡ 10 → u .bytes .len ≡ 0 → Written u eidr lent eidr (record { kind = 10; bytes = record { at = 0; len = 12 } })
+  of-eidr : u .«upid_type» ≡ 10 → u .bytes .len ≡ 0 → Written u eidr lent eidr (record { «upid_type» = 10; bytes = record { at = 0; len = 12 } })
   unfolding upidOf
   of-eidr k n =
       let v : viewed eidr (record { at = 0; len = 12 }) ≡ eidr = viewed-at eidr 0 12 (omega arith) ∙ take-all 12 eidr (omega arith) in
@@ -78,26 +78,26 @@ module _ (u : SegmentationUpid) (eidr lent : List ℕ) (twelve : length eidr ≡
         are = held;
       }
 
-  kind-back : (t : Bool) → eqb (u .kind) 6 && eqb (u .bytes .len) 8 ≡ t → (u .kind ≡ 5 → ⊥) → reportedOf (pick t 5 (u .kind)) ≡ u .kind
+  type-back : (t : Bool) → eqb (u .«upid_type») 6 && eqb (u .bytes .len) 8 ≡ t → (u .«upid_type» ≡ 5 → ⊥) → reportedOf (pick t 5 (u .«upid_type»)) ≡ u .«upid_type»
   unfolding reportedOf
-  kind-back true e n = sym (eqb-true (u .kind) 6 (and-true (eqb (u .kind) 6) (eqb (u .bytes .len) 8) e .0))
-  kind-back false e n = rw (ne-eqb (u .kind) 5 n)
+  type-back true e n = sym (eqb-true (u .«upid_type») 6 (and-true (eqb (u .«upid_type») 6) (eqb (u .bytes .len) 8) e .0))
+  type-back false e n = rw (ne-eqb (u .«upid_type») 5 n)
 
-  kind-some : (t : Bool) → (u .kind ≡ 10 → ⊥) → pick t 5 (u .kind) ≡ 10 → ⊥
-  kind-some true n e = absurd (omega arith)
-  kind-some false n e = n e
+  type-some : (t : Bool) → (u .«upid_type» ≡ 10 → ⊥) → pick t 5 (u .«upid_type») ≡ 10 → ⊥
+  type-some true n e = absurd (omega arith)
+  type-some false n e = n e
 
-  kind-none : u .kind ≡ 0 → writtenKind u ≡ 0
-  unfolding writtenKind
-  kind-none k = rw k
+  type-none : u .«upid_type» ≡ 0 → writtenType u ≡ 0
+  unfolding writtenType
+  type-none k = rw k
 
   -- None: no bytes
-  of-none : u .bytes .len ≡ 0 → u .kind ≡ 0 → allZero eidr ≡ true → Written u eidr lent lent (record { kind = writtenKind u; bytes = u .bytes })
+  of-none : u .bytes .len ≡ 0 → u .«upid_type» ≡ 0 → allZero eidr ≡ true → Written u eidr lent lent (record { «upid_type» = writtenType u; bytes = u .bytes })
   unfolding eidrOf
   of-none n k z =
-      let k₂ : writtenKind u ≡ 0 = kind-none k in
+      let k₂ : writtenType u ≡ 0 = type-none k in
       record {
-        checked = check-none (writtenKind u) (viewed lent (u .bytes)) (viewed-length lent (u .bytes) there ∙ n) ∙ ap Fine (sym k);
+        checked = check-none (writtenType u) (viewed lent (u .bytes)) (viewed-length lent (u .bytes) there ∙ n) ∙ ap Fine (sym k);
         held = rw k₂ (zeros eidr 12 z twelve);
         kinds = ap₂ (λ (a b : ℕ). pick (eqb a 0) (eqb b 0) true) n k₂;
         bytes = λ e. refl;
@@ -107,51 +107,51 @@ module _ (u : SegmentationUpid) (eidr lent : List ℕ) (twelve : length eidr ≡
       }
 
   -- any other
-  of-bytes : 1 ≤ u .bytes .len → (u .kind ≡ 0 → ⊥) → (u .kind ≡ 10 → ⊥) → (u .kind ≡ 5 → ⊥) → allZero eidr ≡ true → (c : UpidRead) → checkOf (writtenKind u) (viewed lent (u .bytes)) ≡ c → accepts c ≡ true
-      → Written u eidr lent lent (record { kind = writtenKind u; bytes = u .bytes })
-  unfolding writtenKind eidrOf
+  of-bytes : 1 ≤ u .bytes .len → (u .«upid_type» ≡ 0 → ⊥) → (u .«upid_type» ≡ 10 → ⊥) → (u .«upid_type» ≡ 5 → ⊥) → allZero eidr ≡ true → (c : UpidRead) → checkOf (writtenType u) (viewed lent (u .bytes)) ≡ c → accepts c ≡ true
+      → Written u eidr lent lent (record { «upid_type» = writtenType u; bytes = u .bytes })
+  unfolding writtenType eidrOf
   of-bytes n none ten five z (Refused r) c a = zero-one cc
   of-bytes n none ten five z (Fine q) c a =
-      let t = eqb (u .kind) 6 && eqb (u .bytes .len) 8 in
+      let t = eqb (u .«upid_type») 6 && eqb (u .bytes .len) 8 in
       let m : length (viewed lent (u .bytes)) ≡ u .bytes .len = viewed-length lent (u .bytes) there in
-      let r = reports (writtenKind u) (viewed lent (u .bytes)) q c (omega arith) in
+      let r = reports (writtenType u) (viewed lent (u .bytes)) q c (omega arith) in
       record {
-        checked = c ∙ ap Fine (sym (r .0) ∙ kind-back t refl five);
-        held = rw (ne-eqb (writtenKind u) 10 (kind-some t ten)) (zeros eidr 12 z twelve);
+        checked = c ∙ ap Fine (sym (r .0) ∙ type-back t refl five);
+        held = rw (ne-eqb (writtenType u) 10 (type-some t ten)) (zeros eidr 12 z twelve);
         kinds = rw (ne-eqb (u .bytes .len) 0 (λ (o : u .bytes .len ≡ 0). omega arith));
         bytes = λ e. refl;
-        size = λ at. rw (ne-eqb (u .kind) 0 none, ne-eqb (u .kind) 10 ten);
+        size = λ at. rw (ne-eqb (u .«upid_type») 0 none, ne-eqb (u .«upid_type») 10 ten);
         inside = there;
         are = all;
       }
 
-  pub upid-written : fairUpid u eidr lent ≡ true → Written u eidr lent (upidSource u eidr lent) (writtenUpid u)
-  unfolding fairUpid upidSource writtenUpid
-  upid-written f = go (eqb (u .kind) 10) refl f
+  pub upid-written : writableUpid u eidr lent ≡ true → Written u eidr lent (upidSource u eidr lent) (writtenUpid u)
+  unfolding writableUpid upidSource writtenUpid
+  upid-written f = go (eqb (u .«upid_type») 10) refl f
     where
-      go : (t : Bool) → eqb (u .kind) 10 ≡ t
+      go : (t : Bool) → eqb (u .«upid_type») 10 ≡ t
           → pick t (eqb (u .bytes .len) 0)
-          (allZero eidr && (agrees (eqb (u .kind) 0) (eqb (u .bytes .len) 0) && (not (eqb (u .kind) 5) && accepts (checkOf (writtenKind u) (viewed lent (u .bytes)))))) ≡ true
-          → Written u eidr lent (pick t eidr lent) (pick t (record { kind = 10; bytes = record { at = 0; len = 12 } }) (record { kind = writtenKind u; bytes = u .bytes }))
-      go true t f = of-eidr (eqb-true (u .kind) 10 t) (eqb-true (u .bytes .len) 0 f)
-      go false t f = sized (eqb (u .kind) 0) (eqb (u .bytes .len) 0) refl refl (and-true (agrees (eqb (u .kind) 0) (eqb (u .bytes .len) 0)) _ (and-true (allZero eidr) _ f .1) .0)
+          (allZero eidr && (agrees (eqb (u .«upid_type») 0) (eqb (u .bytes .len) 0) && (not (eqb (u .«upid_type») 5) && accepts (checkOf (writtenType u) (viewed lent (u .bytes)))))) ≡ true
+          → Written u eidr lent (pick t eidr lent) (pick t (record { «upid_type» = 10; bytes = record { at = 0; len = 12 } }) (record { «upid_type» = writtenType u; bytes = u .bytes }))
+      go true t f = of-eidr (eqb-true (u .«upid_type») 10 t) (eqb-true (u .bytes .len) 0 f)
+      go false t f = sized (eqb (u .«upid_type») 0) (eqb (u .bytes .len) 0) refl refl (and-true (agrees (eqb (u .«upid_type») 0) (eqb (u .bytes .len) 0)) _ (and-true (allZero eidr) _ f .1) .0)
         where
-          sized : (k n : Bool) → eqb (u .kind) 0 ≡ k → eqb (u .bytes .len) 0 ≡ n → agrees k n ≡ true → Written u eidr lent lent (record { kind = writtenKind u; bytes = u .bytes })
-          sized true true ek en g = of-none (eqb-true (u .bytes .len) 0 en) (eqb-true (u .kind) 0 ek) (and-true (allZero eidr) _ f .0)
+          sized : (k n : Bool) → eqb (u .«upid_type») 0 ≡ k → eqb (u .bytes .len) 0 ≡ n → agrees k n ≡ true → Written u eidr lent lent (record { «upid_type» = writtenType u; bytes = u .bytes })
+          sized true true ek en g = of-none (eqb-true (u .bytes .len) 0 en) (eqb-true (u .«upid_type») 0 ek) (and-true (allZero eidr) _ f .0)
           sized true false ek en g = zero-one cc
           sized false true ek en g = zero-one cc
           sized false false ek en g =
               let a = and-true (allZero eidr) _ f in
-              let b = and-true (agrees (eqb (u .kind) 0) (eqb (u .bytes .len) 0)) _ (a .1) in
-              let c = and-true (not (eqb (u .kind) 5)) (accepts (checkOf (writtenKind u) (viewed lent (u .bytes)))) (b .1) in
+              let b = and-true (agrees (eqb (u .«upid_type») 0) (eqb (u .bytes .len) 0)) _ (a .1) in
+              let c = and-true (not (eqb (u .«upid_type») 5)) (accepts (checkOf (writtenType u) (viewed lent (u .bytes)))) (b .1) in
               let n = eqb-false (u .bytes .len) 0 en in
-              of-bytes (omega (arith, n)) (eqb-false (u .kind) 0 ek) (eqb-false (u .kind) 10 t) (eqb-false (u .kind) 5 (not-true (eqb (u .kind) 5) (c .0))) (a .0) (checkOf (writtenKind u) (viewed lent (u .bytes))) refl (c .1)
+              of-bytes (omega (arith, n)) (eqb-false (u .«upid_type») 0 ek) (eqb-false (u .«upid_type») 10 t) (eqb-false (u .«upid_type») 5 (not-true (eqb (u .«upid_type») 5) (c .0))) (a .0) (checkOf (writtenType u) (viewed lent (u .bytes))) refl (c .1)
 
 -- ---- the descriptor
 
 -- the views of a UPID that is reported: none of None and EIDR
 same-views : (s lent : List ℕ) (t : Bool) (v w : View) → (t ≡ false → viewed s v ≡ viewed lent w)
-    → bytesOfViews s (cond t [] (pick t (record { at = 0; len = 0 }) v ∷ [])) ≡ bytesOfViews lent (cond t [] (w ∷ []))
+    → bytesOfViews s (pick t [] (pick t (record { at = 0; len = 0 }) v ∷ [])) ≡ bytesOfViews lent (pick t [] (w ∷ []))
 same-views s lent true v w f = refl
 same-views s lent false v w f = ap (λ (b : List ℕ). b ∷ []) (f refl)
 
@@ -169,13 +169,13 @@ module _ (id : List ℕ) (beside : Beside) (lent : List ℕ) (four : length id �
     pub canon : canonicalSegmentation p ≡ true
 
   module _ (event : ℕ) where
-    cancel-back : (let x : SegmentationDescriptor = record { «segmentation_event_id» = event; «descriptor_detail» = Cancel } in
+    cancel-write-read : (let x : SegmentationDescriptor = record { «segmentation_event_id» = event; «descriptor_detail» = Cancel } in
         segmentationMade x id beside lent ≡ made p → PayloadBack x)
-    unfolding besideOf besideIn canonicalSegmentation canonicalUpid fairUpid eidrOf
-    cancel-back e =
+    unfolding besideOf besideIn canonicalSegmentation canonicalUpid writableUpid eidrOf
+    cancel-write-read e =
         let x : SegmentationDescriptor = record { «segmentation_event_id» = event; «descriptor_detail» = Cancel } in
         let r = segmentation-write-read x id beside lent p (omega arith) e in
-        let f = all-fair x id beside lent (omega arith) p e in
+        let f = all-writable x id beside lent (omega arith) p e in
         let z = and-true (allZero (beside .eidr)) _ (f .2) .0 in
         let c : checkOf 0 (viewed p (record { at = 0; len = 0 })) ≡ Fine 0 = check-none 0 _ (ap length (viewed-none p)) in
         record {
@@ -185,9 +185,9 @@ module _ (id : List ℕ) (beside : Beside) (lent : List ℕ) (four : length id �
           canon = rw (r .1, r .0, c);
         }
 
-    module _ (i : SegmentationInsert) (places : countOf (i .«segmentation_mode») ≤ length (beside .components)) where
+    module _ (i : SegmentationDetail) (places : countOf (i .«segmentation_mode») ≤ length (beside .components)) where
       abbrev x : SegmentationDescriptor
-      x = record { «segmentation_event_id» = event; «descriptor_detail» = Insert i }
+      x = record { «segmentation_event_id» = event; «descriptor_detail» = Active i }
 
       abbrev u : SegmentationUpid
       u = i .«segmentation_upid»
@@ -202,11 +202,11 @@ module _ (id : List ℕ) (beside : Beside) (lent : List ℕ) (four : length id �
       cs = take (countOf (i .«segmentation_mode»)) (beside .components)
 
       abbrev there : SegmentationUpid
-      there = upidAt (upidPlace (frontOf (Insert (table.withUpid i (writtenUpid (i .«segmentation_upid»)))))) (writtenUpid (i .«segmentation_upid»))
+      there = upidAt (upidPlace (frontOf (Active (table.withUpid i (writtenUpid (i .«segmentation_upid»)))))) (writtenUpid (i .«segmentation_upid»))
 
       module _ (e : segmentationMade x id beside lent ≡ made p) where
         upid-is : Written u (beside .eidr) lent source w
-        upid-is = upid-written u (beside .eidr) lent twelve held all (zero-view x id beside lent (ap refusalIn e) .1) (all-fair x id beside lent places p e .2)
+        upid-is = upid-written u (beside .eidr) lent twelve held all (zero-view x id beside lent (ap refusalIn e) .1) (all-writable x id beside lent places p e .2)
 
         -- its bytes are where they are written
         upid-bytes : viewed p (there .bytes) ≡ viewed source (w .bytes)
@@ -220,39 +220,39 @@ module _ (id : List ℕ) (beside : Beside) (lent : List ℕ) (four : length id �
             ap (contents p) (sym (insert-fields event i there cs c)) ∙ s ∙ ap (contents source) (insert-fields event i w cs c) in
             viewed-at p (there .bytes .at) (there .bytes .len) (omega (arith, n)) ∙ upid-found event i cs p source there w g ∙ sym (viewed-at source (w .bytes .at) (w .bytes .len) (upid-is .inside))
 
-        checked : checkOf (w .kind) (viewed p (there .bytes)) ≡ Fine (u .kind)
-        checked = ap (checkOf (w .kind)) upid-bytes ∙ upid-is .checked
+        checked : checkOf (w .«upid_type») (viewed p (there .bytes)) ≡ Fine (u .«upid_type»)
+        checked = ap (checkOf (w .«upid_type»)) upid-bytes ∙ upid-is .checked
 
-        insert-back : PayloadBack x
+        insert-write-read : PayloadBack x
         unfolding besideOf besideIn canonicalSegmentation canonicalUpid
-        insert-back =
+        insert-write-read =
             let r = segmentation-write-read x id beside lent p places e in
-            let f = all-fair x id beside lent places p e in
+            let f = all-writable x id beside lent places p e in
             let c = counted x id beside lent places in
-            let k = table.withUpid i (reportedUpid (u .kind) (there .bytes)) in
+            let k = table.withUpid i (reportedUpid (u .«upid_type») (there .bytes)) in
             record {
-              again = record { «segmentation_event_id» = event; «descriptor_detail» = Insert k };
-              reading = r .2 ∙ ap (λ (c : UpidRead). ifFine c (there .bytes) λ v. Is (Segmentation (record { «segmentation_event_id» = event; «descriptor_detail» = Insert (table.withUpid i v) }))) checked;
+              again = record { «segmentation_event_id» = event; «descriptor_detail» = Active k };
+              reading = r .2 ∙ ap (λ (c : UpidRead). ifFine c (there .bytes) λ v. Is (Segmentation (record { «segmentation_event_id» = event; «descriptor_detail» = Active (table.withUpid i v) }))) checked;
               same = record {
                 values =
-                    ap (λ (n : ℕ). Segmentation (record { «segmentation_event_id» = event; «descriptor_detail» = Insert (table.withUpid i (record { kind = u .kind; bytes = record { at = 0; len = n } })) })) (upid-is .size (there .bytes .at));
-                bytes = same-views p lent (withoutView (u .kind)) (there .bytes) (u .bytes) (λ t. upid-bytes ∙ upid-is .bytes t);
+                    ap (λ (n : ℕ). Segmentation (record { «segmentation_event_id» = event; «descriptor_detail» = Active (table.withUpid i (record { «upid_type» = u .«upid_type»; bytes = record { at = 0; len = n } })) })) (upid-is .size (there .bytes .at));
+                bytes = same-views p lent (withoutView (u .«upid_type»)) (there .bytes) (u .bytes) (λ t. upid-bytes ∙ upid-is .bytes t);
                 identifiers = zeros id 4 (f .0) four;
                 components = rw (r .0) (counted-again (countOf (i .«segmentation_mode»)) cs c);
-                eidrs = rw (r .0) (ap (eidrOf (w .kind)) upid-bytes ∙ upid-is .held);
+                eidrs = rw (r .0) (ap (eidrOf (w .«upid_type»)) upid-bytes ∙ upid-is .held);
               };
               canon = rw (r .1, r .0, checked) (upid-is .kinds);
             }
 
-  payload-back : (event : ℕ) (d : SegmentationDetail) → (let x : SegmentationDescriptor = record { «segmentation_event_id» = event; «descriptor_detail» = d } in
+  payload-write-read : (event : ℕ) (d : DescriptorDetail) → (let x : SegmentationDescriptor = record { «segmentation_event_id» = event; «descriptor_detail» = d } in
       countOf (frontOf d .«segmentation_mode») ≤ length (beside .components) → segmentationMade x id beside lent ≡ made p → PayloadBack x)
-  payload-back event Cancel h e = cancel-back event e
-  payload-back event (Insert i) h e = insert-back event i h e
+  payload-write-read event Cancel h e = cancel-write-read event e
+  payload-write-read event (Active i) h e = insert-write-read event i h e
 
 -- The payload that is written of a segmentation descriptor reads back, and is canonical. (Its array has as many places as its count, or more.)
-pub segmentation-back : (x : SegmentationDescriptor) (id : List ℕ) (beside : Beside) (lent p : List ℕ) → length id ≡ 4 → length (beside .eidr) ≡ 12 → AllBytes (beside .eidr) → AllBytes lent
+pub segmentation-payload-write-read : (x : SegmentationDescriptor) (id : List ℕ) (beside : Beside) (lent p : List ℕ) → length id ≡ 4 → length (beside .eidr) ≡ 12 → AllBytes (beside .eidr) → AllBytes lent
     → componentCount x ≤ length (beside .components) → payloadMade (Segmentation x) id beside lent ≡ made p → ReadsBack (Segmentation x) id beside lent p × (canonicalPayload 2 cuei p ≡ true)
 unfolding payloadMade descriptorOf canonicalPayload isCuei
-segmentation-back x id beside lent p four twelve held all places e =
-    let b = payload-back id beside lent four twelve held all p (x .«segmentation_event_id») (x .«descriptor_detail») places e in
+segmentation-payload-write-read x id beside lent p four twelve held all places e =
+    let b = payload-write-read id beside lent four twelve held all p (x .«segmentation_event_id») (x .«descriptor_detail») places e in
     (record { again = Segmentation (b .again); reading = b .reading; same = b .same }, b .canon)

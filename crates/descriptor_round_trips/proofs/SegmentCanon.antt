@@ -1,8 +1,8 @@
 -- A segmentation descriptor: a canonical payload is what is written of its own reading.
 --     segmentation-counted      as many components as the count says
---     segment-read-write        the payload
+--     segmentation-payload-read-write        the payload
 use Prim.Native.Nat.{ℕ, zero, suc, _+_, _*_, _-_, _≤_}
-use mathlib.Core.Bool.{Bool, true, false, cond, _&&_}
+use mathlib.Core.Bool.{Bool, true, false, _&&_}
 use mathlib.Core.List.{List, [], _∷_}
 use mathlib.Core.Path.{_≡_, refl, ap, ap₂, sym, subst, _∙_}
 use native.Mathlib.Omega.{arith}
@@ -24,25 +24,25 @@ use Rattle.upid.specs.declared.UpidRead.the-variants.{Fine, Refused}
 use Rattle.upid.proofs.Walks.{check-short}
 use Rattle.descriptor.specs.Descriptor.{reportedUpid, ifFine, segmentationOf}
 use Rattle.descriptor.specs.Segmentation as table
-use Rattle.descriptor.specs.Segmentation.{component, blankComponent, countOf, Moded, mode, duration, deliveryRestrictions, Fore, parts, front, Head, head, back, frontOf, backOf, fairDetail, fairFront, insertFrom, segmentation}
+use Rattle.descriptor.specs.Segmentation.{component, blankComponent, countOf, Moded, mode, duration, deliveryRestrictions, Fore, parts, front, Head, head, back, frontOf, backOf, writableDetail, writableFront, insertFrom, segmentation}
 use Rattle.descriptor.specs.Whole.{filled, besideIn, besideOf}
 use Rattle.descriptor.specs.declared.Descriptor.the-variants.{Segmentation}
 use Rattle.descriptor.specs.declared.DescriptorRead.the-variants.{Is}
 use Rattle.descriptor.specs.declared.segmentation.ModeComponent.{ModeComponent}
 use Rattle.descriptor.specs.declared.segmentation.SegmentationDescriptor.{SegmentationDescriptor}
+use Rattle.descriptor.specs.declared.segmentation.DescriptorDetail.{DescriptorDetail}
+use Rattle.descriptor.specs.declared.segmentation.DescriptorDetail.the-variants.{Cancel, Active}
 use Rattle.descriptor.specs.declared.segmentation.SegmentationDetail.{SegmentationDetail}
-use Rattle.descriptor.specs.declared.segmentation.SegmentationDetail.the-variants.{Cancel, Insert}
-use Rattle.descriptor.specs.declared.segmentation.SegmentationInsert.{SegmentationInsert}
 use Rattle.descriptor.specs.declared.segmentation.SegmentationUpid.{SegmentationUpid}
 use Rattle.descriptor.specs.declared.whole.Beside.{Beside}
 use Rattle.descriptor.proofs.SegmentationLaws.{Counted}
-use Rattle.descriptor_measure.specs.Canonical.{canonicalUpid, canonicalSegmentation, upidCanonical}
+use Rattle.canonical_form.specs.Descriptor.{canonicalUpid, canonicalSegmentation, upidCanonical}
 use Rattle.descriptor_measure.specs.Private.{upidFields}
-use Rattle.descriptor_measure.specs.Writing.{allZero, accepts, fairUpid, fairSegment, segmentationMade, upidIn, upidSource, writtenKind, writtenUpid}
+use Rattle.descriptor_measure.specs.Writing.{allZero, accepts, writableUpid, writableSegment, segmentationMade, upidIn, upidSource, writtenType, writtenUpid}
 use Rattle.descriptor_measure.proofs.Fields.{insert-fields}
 use Rattle.descriptor_round_trips.proofs.PlainLaws.{viewed-at}
 use Rattle.descriptor_round_trips.proofs.Remade.{withUpid, insert-makes, insert-seen}
-use Rattle.descriptor_round_trips.proofs.Reported.{check-none, reports, eidr-is-written}
+use Rattle.upid.proofs.Reported.{check-none, reports, eidr-is-written}
 use Rattle.descriptor_round_trips.proofs.SegmentBack.{viewed-length, viewed-none, counted-again}
 use Rattle.descriptor_round_trips.proofs.SegmentRead.{after, segmentation-read}
 use Rattle.descriptor_round_trips.proofs.SegmentTrips.{segmentation-read-write}
@@ -125,7 +125,7 @@ segmentation-counted s x m e = every-got Counted (parse segmentation (bitsOf s) 
 pub record Rewritten (p : List ℕ) (u v : SegmentationUpid) (eidr : List ℕ) : Type 0 where
   pub there : v .bytes .at + v .bytes .len ≤ length p
   pub short : v .bytes .len ≤ 255
-  pub fair : fairUpid v eidr p ≡ true
+  pub writable : writableUpid v eidr p ≡ true
   pub views : seen (upidSource v eidr p) (upidFields (writtenUpid v)) ≡ true
   pub holds : contents p (upidFields u) ≡ contents (upidSource v eidr p) (upidFields (writtenUpid v))
 
@@ -133,7 +133,7 @@ reported-some : (k : ℕ) → (k ≡ 0 → ⊥) → reportedOf k ≡ 0 → ⊥
 unfolding reportedOf
 reported-some k n = go (eqb k 5)
   where
-    go : (t : Bool) → cond t 6 k ≡ 0 → ⊥
+    go : (t : Bool) → pick t 6 k ≡ 0 → ⊥
     go true e = absurd (omega arith)
     go false e = n e
 
@@ -142,7 +142,7 @@ reported-five : (k : ℕ) → reportedOf k ≡ 5 → ⊥
 unfolding reportedOf
 reported-five k = go (eqb k 5) refl
   where
-    go : (t : Bool) → eqb k 5 ≡ t → cond t 6 k ≡ 5 → ⊥
+    go : (t : Bool) → eqb k 5 ≡ t → pick t 6 k ≡ 5 → ⊥
     go true t e = absurd (omega arith)
     go false t e = eqb-false k 5 t e
 
@@ -155,7 +155,7 @@ written-again : (k n : ℕ) → ((lengthOf k ≡ 0 → ⊥) → n ≡ lengthOf k
 unfolding reportedOf lengthOf
 written-again k n f = go (eqb k 5) refl
   where
-    go : (t : Bool) → eqb k 5 ≡ t → pick (eqb (cond t 6 k) 6 && eqb n 8) 5 (cond t 6 k) ≡ k
+    go : (t : Bool) → eqb k 5 ≡ t → pick (eqb (pick t 6 k) 6 && eqb n 8) 5 (pick t 6 k) ≡ k
     go true t =
         let is : k ≡ 5 = eqb-true k 5 t in
         let l : lengthOf k ≡ 8 = rw is in
@@ -173,71 +173,71 @@ written-again k n f = go (eqb k 5) refl
 
 module _ (p : List ℕ) (u : SegmentationUpid) (there : u .bytes .at + u .bytes .len ≤ length p) where
   abbrev held : List ℕ
-  held = eidrOf (u .kind) (viewed p (u .bytes))
+  held = eidrOf (u .«upid_type») (viewed p (u .bytes))
 
-  none-again : u .bytes .len ≡ 0 → u .kind ≡ 0 → Rewritten p u (reportedUpid 0 (u .bytes)) held
-  unfolding fairUpid upidSource writtenUpid writtenKind eidrOf allZero
+  none-again : u .bytes .len ≡ 0 → u .«upid_type» ≡ 0 → Rewritten p u (reportedUpid 0 (u .bytes)) held
+  unfolding writableUpid upidSource writtenUpid writtenType eidrOf allZero
   none-again n k =
       let c : checkOf 0 (viewed p (record { at = 0; len = 0 })) ≡ Fine 0 = check-none 0 _ (ap length (viewed-none p)) in
-      let e : eidrOf (u .kind) (viewed p (u .bytes)) ≡ replicate 12 0 = rw k in
+      let e : eidrOf (u .«upid_type») (viewed p (u .bytes)) ≡ replicate 12 0 = rw k in
       record {
         there = omega arith;
         short = omega arith;
-        fair = rw (e, c);
+        writable = rw (e, c);
         views = rw (le-leb 0 (length p) (omega arith));
         holds = ap₂ (λ (k n : ℕ). number 8 k ∷ (number 8 n ∷ (bytes (take n (drop (u .bytes .at) p)) ∷ []))) k n;
       }
 
-  eidr-again : u .kind ≡ 10 → u .bytes .len ≡ 12 → Rewritten p u (reportedUpid 10 (u .bytes)) held
-  unfolding fairUpid upidSource writtenUpid eidrOf
+  eidr-again : u .«upid_type» ≡ 10 → u .bytes .len ≡ 12 → Rewritten p u (reportedUpid 10 (u .bytes)) held
+  unfolding writableUpid upidSource writtenUpid eidrOf
   eidr-again k n =
       let l : length (viewed p (u .bytes)) ≡ 12 = viewed-length p (u .bytes) there ∙ n in
-      let e : eidrOf (u .kind) (viewed p (u .bytes)) ≡ viewed p (u .bytes) = rw (k, l) in
-      let z : length (eidrOf (u .kind) (viewed p (u .bytes))) ≡ 12 = ap length e ∙ l in
-      let b : take (u .bytes .len) (drop (u .bytes .at) p) ≡ take 12 (drop 0 (eidrOf (u .kind) (viewed p (u .bytes)))) =
-      sym (viewed-at p (u .bytes .at) (u .bytes .len) there) ∙ sym e ∙ sym (take-all 12 (eidrOf (u .kind) (viewed p (u .bytes))) (omega arith)) in
+      let e : eidrOf (u .«upid_type») (viewed p (u .bytes)) ≡ viewed p (u .bytes) = rw (k, l) in
+      let z : length (eidrOf (u .«upid_type») (viewed p (u .bytes))) ≡ 12 = ap length e ∙ l in
+      let b : take (u .bytes .len) (drop (u .bytes .at) p) ≡ take 12 (drop 0 (eidrOf (u .«upid_type») (viewed p (u .bytes)))) =
+      sym (viewed-at p (u .bytes .at) (u .bytes .len) there) ∙ sym e ∙ sym (take-all 12 (eidrOf (u .«upid_type») (viewed p (u .bytes))) (omega arith)) in
       record {
         there = omega arith;
         short = omega arith;
-        fair = refl;
+        writable = refl;
         views = rw z;
         holds =
             ap₂ (λ (k n : ℕ). number 8 k ∷ (number 8 n ∷ (bytes (take (u .bytes .len) (drop (u .bytes .at) p)) ∷ []))) k n
             ∙ ap (λ (x : List ℕ). number 8 10 ∷ (number 8 12 ∷ (bytes x ∷ []))) b;
       }
 
-  bytes-again : (q : ℕ) → checkOf (u .kind) (viewed p (u .bytes)) ≡ Fine q → 1 ≤ u .bytes .len → (q ≡ 10 → ⊥) → Rewritten p u (reportedUpid q (u .bytes)) held
-  unfolding fairUpid upidSource writtenUpid writtenKind eidrOf allZero
+  bytes-again : (q : ℕ) → checkOf (u .«upid_type») (viewed p (u .bytes)) ≡ Fine q → 1 ≤ u .bytes .len → (q ≡ 10 → ⊥) → Rewritten p u (reportedUpid q (u .bytes)) held
+  unfolding writableUpid upidSource writtenUpid writtenType eidrOf allZero
   bytes-again q c n ten =
       let m : length (viewed p (u .bytes)) ≡ u .bytes .len = viewed-length p (u .bytes) there in
-      let r = reports (u .kind) (viewed p (u .bytes)) q c (omega arith) in
-      let k : pick (eqb q 6 && eqb (u .bytes .len) 8) 5 q ≡ u .kind =
-      ap (λ (j : ℕ). pick (eqb j 6 && eqb (u .bytes .len) 8) 5 j) (sym (r .0)) ∙ written-again (u .kind) (u .bytes .len) (λ some. sym m ∙ r .1 some) in
-      let zero : eqb q 0 ≡ false = ne-eqb q 0 (λ z. reported-some (u .kind) (r .2) (r .0 ∙ z)) in
-      let five : eqb q 5 ≡ false = ne-eqb q 5 (λ z. reported-five (u .kind) (r .0 ∙ z)) in
+      let r = reports (u .«upid_type») (viewed p (u .bytes)) q c (omega arith) in
+      let k : pick (eqb q 6 && eqb (u .bytes .len) 8) 5 q ≡ u .«upid_type» =
+      ap (λ (j : ℕ). pick (eqb j 6 && eqb (u .bytes .len) 8) 5 j) (sym (r .0)) ∙ written-again (u .«upid_type») (u .bytes .len) (λ some. sym m ∙ r .1 some) in
+      let zero : eqb q 0 ≡ false = ne-eqb q 0 (λ z. reported-some (u .«upid_type») (r .2) (r .0 ∙ z)) in
+      let five : eqb q 5 ≡ false = ne-eqb q 5 (λ z. reported-five (u .«upid_type») (r .0 ∙ z)) in
       let other : eqb q 10 ≡ false = ne-eqb q 10 ten in
-      let kind : eqb (u .kind) 10 ≡ false = ne-eqb (u .kind) 10 (λ z. ten (sym (r .0) ∙ reported-ten (u .kind) z)) in
+      let upid-type : eqb (u .«upid_type») 10 ≡ false = ne-eqb (u .«upid_type») 10 (λ z. ten (sym (r .0) ∙ reported-ten (u .«upid_type») z)) in
       record {
         there = rw (zero, other) there;
-        short = rw (zero, other) (omega (arith, check-short (u .kind) (viewed p (u .bytes)) (rw c tt)));
-        fair = rw (zero, other, five, kind, ne-eqb (u .bytes .len) 0 (λ z. omega arith), k, c);
+        short = rw (zero, other) (omega (arith, check-short (u .«upid_type») (viewed p (u .bytes)) (rw c tt)));
+        writable = rw (zero, other, five, upid-type, ne-eqb (u .bytes .len) 0 (λ z. omega arith), k, c);
         views = rw (zero, other, le-leb _ _ there);
         holds = rw (zero, other, k);
       }
 
-  pub upid-again : (q : ℕ) → checkOf (u .kind) (viewed p (u .bytes)) ≡ Fine q → canonicalUpid p u ≡ true → Rewritten p u (reportedUpid q (u .bytes)) held
+  pub upid-again : (q : ℕ) → checkOf (u .«upid_type») (viewed p (u .bytes)) ≡ Fine q → canonicalUpid p u ≡ true → Rewritten p u (reportedUpid q (u .bytes)) held
   unfolding canonicalUpid
-  upid-again q c e = go (eqb (u .bytes .len) 0) (eqb q 10) refl refl (and-true (accepts (checkOf (u .kind) (viewed p (u .bytes)))) _ e .1)
+  upid-again q c e = go (eqb (u .bytes .len) 0) (eqb q 10) refl refl (and-true (accepts (checkOf (u .«upid_type») (viewed p (u .bytes)))) _ e .1)
     where
-      go : (n t : Bool) → eqb (u .bytes .len) 0 ≡ n → eqb q 10 ≡ t → pick n (eqb (u .kind) 0) true ≡ true → Rewritten p u (reportedUpid q (u .bytes)) held
+      go : (n t : Bool) → eqb (u .bytes .len) 0 ≡ n → eqb q 10 ≡ t → pick n (eqb (u .«upid_type») 0) true ≡ true → Rewritten p u (reportedUpid q (u .bytes)) held
       go true t en et f =
           let n : u .bytes .len ≡ 0 = eqb-true (u .bytes .len) 0 en in
-          let z : Fine 0 ≡ Fine q = sym (check-none (u .kind) (viewed p (u .bytes)) (viewed-length p (u .bytes) there ∙ n)) ∙ c in
+          let z : Fine 0 ≡ Fine q = sym (check-none (u .«upid_type») (viewed p (u .bytes)) (viewed-length p (u .bytes) there ∙ n)) ∙ c in
           let o : 0 ≡ q = cc in
-          subst (λ (k : ℕ). Rewritten p u (reportedUpid k (u .bytes)) held) o (none-again n (eqb-true (u .kind) 0 f))
+          subst (λ (k : ℕ). Rewritten p u (reportedUpid k (u .bytes)) held) o (none-again n (eqb-true (u .«upid_type») 0 f))
       go false true en et f =
           let o : q ≡ 10 = eqb-true q 10 et in
-          let w = eidr-is-written (u .kind) (viewed p (u .bytes)) (c ∙ ap Fine o) in
+          let w = eidr-is-written (u .«upid_type») (viewed p (u .bytes)) (c ∙ ap Fine o) in
           subst (λ (k : ℕ). Rewritten p u (reportedUpid k (u .bytes)) held) (sym o) (eidr-again (w .0) (sym (viewed-length p (u .bytes) there) ∙ w .1))
       go false false en et f = let n = eqb-false (u .bytes .len) 0 en in bytes-again q c (omega (arith, n)) (eqb-false q 10 et)
 
@@ -258,8 +258,8 @@ module _ (p : List ℕ) (a : AllBytes p) where
   module _ (event : ℕ) where
     module _ (cs : List ModeComponent) (m : ℕ) where
       cancel-again : (let x : table.Segmentation = record { descriptor = record { «segmentation_event_id» = event; «descriptor_detail» = Cancel }; components = cs } in
-          parse segmentation (bitsOf p) 0 ≡ got x m → make segmentation (fairDetail Cancel) p x ≡ made p → Back (x .descriptor))
-      unfolding segmentationMade fairSegment fairDetail fairUpid upidSource writtenUpid writtenKind eidrOf allZero besideOf besideIn
+          parse segmentation (bitsOf p) 0 ≡ got x m → make segmentation (writableDetail Cancel) p x ≡ made p → Back (x .descriptor))
+      unfolding segmentationMade writableSegment writableDetail writableUpid upidSource writtenUpid writtenType eidrOf allZero besideOf besideIn
       cancel-again e f =
           let x : table.Segmentation = record { descriptor = record { «segmentation_event_id» = event; «descriptor_detail» = Cancel }; components = cs } in
           let c : checkOf 0 (viewed p (record { at = 0; len = 0 })) ≡ Fine 0 = check-none 0 _ (ap length (viewed-none p)) in
@@ -271,19 +271,19 @@ module _ (p : List ℕ) (a : AllBytes p) where
           nothing [] e = refl
           nothing (c ∷ cs) e = absurd (omega arith)
 
-      module _ (i : SegmentationInsert) where
+      module _ (i : SegmentationDetail) where
         abbrev x : table.Segmentation
-        x = record { descriptor = record { «segmentation_event_id» = event; «descriptor_detail» = Insert i }; components = cs }
+        x = record { descriptor = record { «segmentation_event_id» = event; «descriptor_detail» = Active i }; components = cs }
 
         abbrev u : SegmentationUpid
         u = i .«segmentation_upid»
 
-        module _ (e : parse segmentation (bitsOf p) 0 ≡ got x m) (f : make segmentation (fairDetail (Insert i)) p x ≡ made p) (canon : canonicalUpid p (i .«segmentation_upid») ≡ true) where
+        module _ (e : parse segmentation (bitsOf p) 0 ≡ got x m) (f : make segmentation (writableDetail (Active i)) p x ≡ made p) (canon : canonicalUpid p (i .«segmentation_upid») ≡ true) where
           counts : length cs ≡ countOf (i .«segmentation_mode»)
           counts = segmentation-counted p x m e
 
-          told : laws.Wrote (fairDetail (Insert i)) p (walk segmentation x 0 .fields) p
-          told = laws.wrote (fairDetail (Insert i)) p (walk segmentation x 0 .fields) p f
+          told : laws.Wrote (writableDetail (Active i)) p (walk segmentation x 0 .fields) p
+          told = laws.wrote (writableDetail (Active i)) p (walk segmentation x 0 .fields) p f
 
           fields-of : walk segmentation x 0 .fields ≡ withUpid event i cs u
           fields-of = insert-fields event i u cs counts
@@ -293,54 +293,54 @@ module _ (p : List ℕ) (a : AllBytes p) where
               let s : seen p (upidFields u) ≡ true = sym (insert-seen event i cs p u) ∙ ap (seen p) (sym fields-of) ∙ told .views in
               leb-true _ _ (and-true (leb (u .bytes .at + u .bytes .len) (length p)) true s .0)
 
-          beside-is : besideOf p ≡ record { components = filled cs; eidr = eidrOf (u .kind) (viewed p (u .bytes)) }
+          beside-is : besideOf p ≡ record { components = filled cs; eidr = eidrOf (u .«upid_type») (viewed p (u .bytes)) }
           unfolding besideOf besideIn
           beside-is = rw e
 
           abbrev with : SegmentationUpid → SegmentationDescriptor
-          with v = record { «segmentation_event_id» = event; «descriptor_detail» = Insert (insertFrom (frontOf (Insert i)) v (backOf (Insert i))) }
+          with v = record { «segmentation_event_id» = event; «descriptor_detail» = Active (insertFrom (frontOf (Active i)) v (backOf (Active i))) }
 
-          fair-with : (v : SegmentationUpid) → fairDetail (with v .«descriptor_detail») ≡ true
-          unfolding fairDetail fairFront
-          fair-with v = told .fit
+          writable-with : (v : SegmentationUpid) → writableDetail (with v .«descriptor_detail») ≡ true
+          unfolding writableDetail writableFront
+          writable-with v = told .fit
 
           remade : (v : SegmentationUpid) (eidr : List ℕ) → Rewritten p u v eidr → segmentationMade (with v) (replicate 4 0) (record { components = filled cs; eidr = eidr }) p ≡ made p
-          unfolding segmentationMade fairSegment allZero
+          unfolding segmentationMade writableSegment allZero
           remade v eidr r =
-              let fair : Bool = fairSegment (with v) (replicate 4 0) eidr p in
-              let is : fair ≡ true = rw (fair-with v) (r .fair) in
+              let writable : Bool = writableSegment (with v) (replicate 4 0) eidr p in
+              let is : writable ≡ true = rw (writable-with v) (r .writable) in
               let source : List ℕ = upidSource v eidr p in
-              let g : makeOf fair source (withUpid event i cs (writtenUpid v)) ≡ made p =
-              insert-makes event i cs (fairDetail (Insert i)) fair p source u (writtenUpid v) p (ap (makeOf (fairDetail (Insert i)) p) (sym fields-of) ∙ f) (r .holds) (r .views) is in
+              let g : makeOf writable source (withUpid event i cs (writtenUpid v)) ≡ made p =
+              insert-makes event i cs (writableDetail (Active i)) writable p source u (writtenUpid v) p (ap (makeOf (writableDetail (Active i)) p) (sym fields-of) ∙ f) (r .holds) (r .views) is in
               rw (le-leb (v .bytes .at + v .bytes .len) (length p) (r .there), le-leb (v .bytes .len) 255 (r .short))
-              (ap (λ (l : List ModeComponent). makeOf fair source (walk segmentation (record { descriptor = record { «segmentation_event_id» = event; «descriptor_detail» = Insert (table.withUpid i (writtenUpid v)) }; components = l }) 0 .fields))
+              (ap (λ (l : List ModeComponent). makeOf writable source (walk segmentation (record { descriptor = record { «segmentation_event_id» = event; «descriptor_detail» = Active (table.withUpid i (writtenUpid v)) }; components = l }) 0 .fields))
               (counted-again (countOf (i .«segmentation_mode»)) cs counts)
-              ∙ ap (makeOf fair source) (insert-fields event i (writtenUpid v) cs counts) ∙ g)
+              ∙ ap (makeOf writable source) (insert-fields event i (writtenUpid v) cs counts) ∙ g)
 
-          insert-again : (c : UpidRead) → checkOf (u .kind) (viewed p (u .bytes)) ≡ c → accepts c ≡ true → (d : SegmentationDescriptor) × Back d
+          insert-again : (c : UpidRead) → checkOf (u .«upid_type») (viewed p (u .bytes)) ≡ c → accepts c ≡ true → (d : SegmentationDescriptor) × Back d
           insert-again (Refused r) c t = zero-one cc
           insert-again (Fine q) c t = (
             with (reportedUpid q (u .bytes)),
             (
               segmentation-read p x m e ∙ ap (λ (c : UpidRead). ifFine c (u .bytes) λ (w : SegmentationUpid). Is (Segmentation (with w))) c,
               ap (λ (b : Beside). segmentationMade (with (reportedUpid q (u .bytes))) (replicate 4 0) b p) beside-is
-                  ∙ remade (reportedUpid q (u .bytes)) (eidrOf (u .kind) (viewed p (u .bytes))) (upid-again p u there q c canon),
+                  ∙ remade (reportedUpid q (u .bytes)) (eidrOf (u .«upid_type») (viewed p (u .bytes))) (upid-again p u there q c canon),
               subst (λ (b : Beside). countOf (i .«segmentation_mode») ≤ length (b .components)) (sym beside-is) (omega (arith, filled-places cs, counts)),
             ),
           )
 
-  by-detail : (event : ℕ) (d : SegmentationDetail) (cs : List ModeComponent) (m : ℕ)
+  by-detail : (event : ℕ) (d : DescriptorDetail) (cs : List ModeComponent) (m : ℕ)
       → (let x : table.Segmentation = record { descriptor = record { «segmentation_event_id» = event; «descriptor_detail» = d }; components = cs } in
-      parse segmentation (bitsOf p) 0 ≡ got x m → make segmentation (fairDetail d) p x ≡ made p → canonicalUpid p (upidIn (x .descriptor)) ≡ true → (d : SegmentationDescriptor) × Back d)
+      parse segmentation (bitsOf p) 0 ≡ got x m → make segmentation (writableDetail d) p x ≡ made p → canonicalUpid p (upidIn (x .descriptor)) ≡ true → (d : SegmentationDescriptor) × Back d)
   unfolding canonicalUpid
   by-detail event Cancel cs m e f c = (record { «segmentation_event_id» = event; «descriptor_detail» = Cancel }, cancel-again event cs m e f)
-  by-detail event (Insert i) cs m e f c =
-      insert-again event cs m i e f c (checkOf (i .«segmentation_upid» .kind) (viewed p (i .«segmentation_upid» .bytes))) refl (and-true (accepts (checkOf (i .«segmentation_upid» .kind) (viewed p (i .«segmentation_upid» .bytes)))) _ c .0)
+  by-detail event (Active i) cs m e f c =
+      insert-again event cs m i e f c (checkOf (i .«segmentation_upid» .«upid_type») (viewed p (i .«segmentation_upid» .bytes))) refl (and-true (accepts (checkOf (i .«segmentation_upid» .«upid_type») (viewed p (i .«segmentation_upid» .bytes)))) _ c .0)
 
-  pub segment-read-write : canonicalSegmentation p ≡ true → (d : SegmentationDescriptor) × (segmentationOf p ≡ Is (Segmentation d)) × (segmentationMade d (replicate 4 0) (besideOf p) p ≡ made p)
+  pub segmentation-payload-read-write : canonicalSegmentation p ≡ true → (d : SegmentationDescriptor) × (segmentationOf p ≡ Is (Segmentation d)) × (segmentationMade d (replicate 4 0) (besideOf p) p ≡ made p)
       × (countOf (frontOf (d .«descriptor_detail») .«segmentation_mode») ≤ length (besideOf p .components))
   unfolding canonicalSegmentation
-  segment-read-write e =
+  segmentation-payload-read-write e =
       let i = and-true (canonicalBy segmentation p) _ e in
       let x = segmentation-read-write p a (i .0) in
       let c : upidCanonical p (parse segmentation (bitsOf p) 0) ≡ true = i .1 in

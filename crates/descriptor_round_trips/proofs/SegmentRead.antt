@@ -13,21 +13,21 @@ use Rattle.descriptor.specs.Segmentation.{Fore, Head, head, headOf, front, fron
 use Rattle.descriptor.specs.declared.Descriptor.the-variants.{Segmentation}
 use Rattle.descriptor.specs.declared.DescriptorRead.{DescriptorRead}
 use Rattle.descriptor.specs.declared.DescriptorRead.the-variants.{Is}
-use Rattle.descriptor.specs.declared.segmentation.SegmentationDetail.{SegmentationDetail}
-use Rattle.descriptor.specs.declared.segmentation.SegmentationDetail.the-variants.{Cancel, Insert}
+use Rattle.descriptor.specs.declared.segmentation.DescriptorDetail.{DescriptorDetail}
+use Rattle.descriptor.specs.declared.segmentation.DescriptorDetail.the-variants.{Cancel, Active}
 use Rattle.descriptor.specs.declared.segmentation.SegmentationUpid.{SegmentationUpid}
 use Rattle.table.proofs.Steps.{reads-in}
 
 -- a detail as the table reads it, whose UPID is as written: with the UPID as its rules report it
-abbrev pub reportedDetail : SegmentationDetail → SegmentationUpid → SegmentationDetail
+abbrev pub reportedDetail : DescriptorDetail → SegmentationUpid → DescriptorDetail
 reportedDetail Cancel u = Cancel
-reportedDetail (Insert i) u = Insert (insertFrom (frontOf (Insert i)) u (backOf (Insert i)))
+reportedDetail (Active i) u = Active (insertFrom (frontOf (Active i)) u (backOf (Active i)))
 
-abbrev pub detailRead : List ℕ → ℕ → SegmentationDetail → DescriptorRead
+abbrev pub detailRead : List ℕ → ℕ → DescriptorDetail → DescriptorRead
 detailRead s event Cancel = Is (Segmentation (record { «segmentation_event_id» = event; «descriptor_detail» = Cancel }))
-detailRead s event (Insert i) =
-    ifFine (checkOf (i .«segmentation_upid» .kind) (viewed s (i .«segmentation_upid» .bytes))) (i .«segmentation_upid» .bytes) λ u.
-    Is (Segmentation (record { «segmentation_event_id» = event; «descriptor_detail» = reportedDetail (Insert i) u }))
+detailRead s event (Active i) =
+    ifFine (checkOf (i .«segmentation_upid» .«upid_type») (viewed s (i .«segmentation_upid» .bytes))) (i .«segmentation_upid» .bytes) λ u.
+    Is (Segmentation (record { «segmentation_event_id» = event; «descriptor_detail» = reportedDetail (Active i) u }))
 
 -- the table behind the head
 abbrev pub after : Head → Table table.Segmentation
@@ -37,7 +37,7 @@ after h =
     (inside front (λ x. record { front = frontOf (x .descriptor .«descriptor_detail»); components = x .components }) λ f.
     inside back (λ x. backOf (x .descriptor .«descriptor_detail»)) λ b.
     done (record {
-      descriptor = record { «segmentation_event_id» = h .event; «descriptor_detail» = Insert (insertFrom (f .front) (f .front .«segmentation_upid») b) };
+      descriptor = record { «segmentation_event_id» = h .event; «descriptor_detail» = Active (insertFrom (f .front) (f .front .«segmentation_upid») b) };
       components = f .components;
     }))
 

@@ -12,7 +12,7 @@ use Rattle.table.proofs.Lists.{zero-one, and-true, append-nil}
 use Rattle.table.proofs.Structure as laws
 use Rattle.descriptor.specs.Descriptor.{segmentationOf}
 use Rattle.descriptor.specs.Segmentation as table
-use Rattle.descriptor.specs.Segmentation.{componentCount, fairDetail, segmentation}
+use Rattle.descriptor.specs.Segmentation.{componentCount, writableDetail, segmentation}
 use Rattle.descriptor.specs.declared.segmentation.SegmentationDescriptor.{SegmentationDescriptor}
 use Rattle.descriptor.specs.declared.whole.Beside.{Beside}
 use Rattle.descriptor.proofs.SegmentationLaws.{segmentationStructure, segmentationMoved, detailMoved}
@@ -38,7 +38,7 @@ segmentation-write-read x id beside lent b all e =
 
 -- Canonical bytes are what the table writes of their reading, whose UPID is as written.
 pub segmentation-read-write : (s : List ℕ) → AllBytes s → canonicalBy segmentation s ≡ true
-    → (x : table.Segmentation) × (parse segmentation (bitsOf s) 0 ≡ got x (length s * 8)) × (make segmentation (fairDetail (x .descriptor .«descriptor_detail»)) s x ≡ made s)
+    → (x : table.Segmentation) × (parse segmentation (bitsOf s) 0 ≡ got x (length s * 8)) × (make segmentation (writableDetail (x .descriptor .«descriptor_detail»)) s x ≡ made s)
 unfolding canonicalBy
 segmentation-read-write s a e = go (parse segmentation (bitsOf s) 0) refl
   where
@@ -46,7 +46,7 @@ segmentation-read-write s a e = go (parse segmentation (bitsOf s) 0) refl
     j = and-true (takesAll (parse segmentation (bitsOf s) 0) s) (canonical segmentation (bitsOf s) 0) e
 
     go : (r : Answer table.Segmentation) → parse segmentation (bitsOf s) 0 ≡ r
-        → (x : table.Segmentation) × (parse segmentation (bitsOf s) 0 ≡ got x (length s * 8)) × (make segmentation (fairDetail (x .descriptor .«descriptor_detail»)) s x ≡ made s)
+        → (x : table.Segmentation) × (parse segmentation (bitsOf s) 0 ≡ got x (length s * 8)) × (make segmentation (writableDetail (x .descriptor .«descriptor_detail»)) s x ≡ made s)
     go (got x at) h =
         let k : at ≡ length s * 8 = eqb-true at (length s * 8) (rw h at (j .0)) in
         let p : parse segmentation (bitsOf s) 0 ≡ got x (length s * 8) = rw k at h in

@@ -10,17 +10,17 @@ use Rattle.descriptor.specs.declared.Descriptor.{Descriptor}
 use Rattle.descriptor.specs.declared.DescriptorRead.the-variants.{Is}
 use Rattle.descriptor.specs.declared.whole.Beside.{Beside}
 use Rattle.descriptor.specs.declared.whole.WholeDescriptor.{WholeDescriptor}
-use Rattle.descriptor_measure.specs.Canonical.{canonicalDescriptor}
-use Rattle.descriptor_measure.specs.Same.{SameReading, countBeside}
-use Rattle.descriptor_measure.specs.Writing.{payloadMade, descriptorMade, tagOf, identifierOf}
+use Rattle.canonical_form.specs.Descriptor.{canonicalDescriptor}
+use Rattle.canonical_form.specs.Same.{SameReading}
+use Rattle.descriptor_measure.specs.Writing.{countBeside, payloadMade, descriptorMade, tagOf, identifierOf}
 use Rattle.descriptor_round_trips.specs.Making.{DescriptorMakes}
 use Rattle.descriptor_round_trips.specs.Trips.{wholeIn, Handed, ReadAs}
 use Rattle.descriptor_round_trips.proofs.Alike.{same-made}
 use Rattle.descriptor_round_trips.proofs.Canon.{framed-canonical}
 use Rattle.descriptor_round_trips.proofs.MadeSo.{what-is-made, nothing-else}
-use Rattle.descriptor_round_trips.proofs.Payloads.{payload-back}
+use Rattle.descriptor_round_trips.proofs.Payloads.{payload-write-read}
 use Rattle.descriptor_round_trips.proofs.PlainTrips.{unframed}
-use Rattle.descriptor_round_trips.proofs.Wholes.{reads-as, whole-back}
+use Rattle.descriptor_round_trips.proofs.Wholes.{reads-as, whole-descriptor-read-write}
 
 -- What is written of a descriptor reads back equal to what was handed in, and is canonical.
 pub descriptor-write-read : (d : Descriptor) (identifier : List ℕ) (beside : Beside) (lent s : List ℕ) → Handed d identifier beside lent
@@ -28,7 +28,7 @@ pub descriptor-write-read : (d : Descriptor) (identifier : List ℕ) (beside : B
 unfolding descriptorMade
 descriptor-write-read d id beside lent s h e =
     let u = unframed (tagOf d) (identifierOf d id) (payloadMade d id beside lent) s e in
-    let p = payload-back id beside lent (u .0) d h (u .1) in (
+    let p = payload-write-read id beside lent (u .0) d h (u .1) in (
       subst (λ (t : List ℕ). ReadAs t d id beside lent) (sym (u .2)) (reads-as d id beside lent (tagOf d) (identifierOf d id) (u .0) p),
       rw (u .2) (framed-canonical (tagOf d) (identifierOf d id) (u .0) (p .four) (u .3) (p .form)),
     )
@@ -36,13 +36,13 @@ descriptor-write-read d id beside lent s h e =
 -- A canonical descriptor is read, and writing its reading gives its bytes.
 pub descriptor-read-write : (s : List ℕ) → AllBytes s → canonicalDescriptor s ≡ true
     → (d : Descriptor) × (wholeIn s .read ≡ Is d) × (descriptorMade d (wholeIn s .identifier) (wholeIn s .beside) (drop 6 s) ≡ made s)
-descriptor-read-write s a c = let b = whole-back s a c in (b .read, ap (λ (w : WholeDescriptor). w .read) (b .whole), b .writes)
+descriptor-read-write s a c = let b = whole-descriptor-read-write s a c in (b .read, ap (λ (w : WholeDescriptor). w .read) (b .whole), b .writes)
 
 -- Two different canonical descriptors never have the same reading.
-pub descriptors-of-one-reading-are-one : (s r : List ℕ) (d e : Descriptor) → AllBytes s → AllBytes r → canonicalDescriptor s ≡ true → canonicalDescriptor r ≡ true
+pub descriptor-one : (s r : List ℕ) (d e : Descriptor) → AllBytes s → AllBytes r → canonicalDescriptor s ≡ true → canonicalDescriptor r ≡ true
     → wholeIn s .read ≡ Is d → wholeIn r .read ≡ Is e
     → SameReading (drop 6 s) d (wholeIn s .identifier) (wholeIn s .beside) (drop 6 r) e (wholeIn r .identifier) (wholeIn r .beside) → s ≡ r
-descriptors-of-one-reading-are-one s r d e a b cs cr rs rr same =
+descriptor-one s r d e a b cs cr rs rr same =
     let x = written s a cs d rs in
     let y = written r b cr e rr in
     same-made (drop 6 s) (drop 6 r) s r d e (wholeIn s .identifier) (wholeIn r .identifier) (wholeIn s .beside) (wholeIn r .beside) (x .1) (y .1) same (x .0) (y .0)
@@ -50,7 +50,7 @@ descriptors-of-one-reading-are-one s r d e a b cs cr rs rr same =
     written : (s : List ℕ) → AllBytes s → canonicalDescriptor s ≡ true → (d : Descriptor) → wholeIn s .read ≡ Is d
         → (descriptorMade d (wholeIn s .identifier) (wholeIn s .beside) (drop 6 s) ≡ made s) × (countBeside d ≤ length (wholeIn s .beside .components))
     written s a c d e =
-        let b = whole-back s a c in
+        let b = whole-descriptor-read-write s a c in
         let i : Is (b .read) ≡ Is d = sym (ap (λ (w : WholeDescriptor). w .read) (b .whole)) ∙ e in
         let z : b .read ≡ d = one (b .read) d i in (
           subst (λ (k : Descriptor). descriptorMade k (wholeIn s .identifier) (wholeIn s .beside) (drop 6 s) ≡ made s) z (b .writes),

@@ -1,6 +1,6 @@
 -- A whole descriptor: its frame, by identifier and tag, and what stands beside it.
 --     reads-as          what reads as its payload does reads so in its frame
---     whole-back        a canonical descriptor is what is written of its reading
+--     whole-descriptor-read-write        a canonical descriptor is what is written of its reading
 use Prim.Native.Nat.{ℕ, zero, suc, _+_, _≤_}
 use mathlib.Core.Bool.{Bool, true, false, _&&_}
 use mathlib.Core.List.{List, [], _∷_}
@@ -22,15 +22,16 @@ use Rattle.descriptor.specs.declared.DescriptorRead.the-variants.{Is}
 use Rattle.descriptor.specs.declared.whole.Beside.{Beside}
 use Rattle.descriptor.specs.declared.whole.WholeDescriptor.{WholeDescriptor}
 use Rattle.descriptor.proofs.Tags.{is-foreign, is-avail, is-dtmf, is-segmentation, is-time, is-other}
-use Rattle.descriptor_measure.specs.Canonical.{canonicalSegmentation, canonicalPayload, canonicalDescriptor}
-use Rattle.descriptor_measure.specs.Same.{SameReading, countBeside}
-use Rattle.descriptor_measure.specs.Writing.{cuei, framed, framedMade, payloadMade, descriptorMade, tagOf, identifierOf}
+use Rattle.canonical_form.specs.Descriptor.{canonicalSegmentation, canonicalPayload, canonicalDescriptor}
+use Rattle.canonical_form.specs.Same.{SameReading}
+use Rattle.descriptor_measure.specs.Writing.{countBeside, cuei, framed, framedMade, payloadMade, descriptorMade, tagOf, identifierOf}
 use Rattle.table.specs.Table.{canonicalBy}
+use Rattle.table.proofs.Structure.{bytes-drop}
 use Rattle.descriptor_round_trips.specs.Making.{Payload}
 use Rattle.descriptor_round_trips.specs.Trips.{wholeIn, ReadAs}
 use Rattle.descriptor_round_trips.proofs.Canon.{canonical-framed}
 use Rattle.descriptor_round_trips.proofs.PlainCanon.{avail-read-write, dtmf-read-write, time-read-write, reserved-read-write}
-use Rattle.descriptor_round_trips.proofs.SegmentCanon.{segment-read-write}
+use Rattle.descriptor_round_trips.proofs.SegmentCanon.{segmentation-payload-read-write}
 
 -- ---- the frame
 
@@ -62,11 +63,6 @@ reads-as d id beside lent tag own p r =
     }
 
 -- ---- canonical bytes, by identifier and tag
-
-pub bytes-after : (n : ℕ) (s : List ℕ) → AllBytes s → AllBytes (drop n s)
-bytes-after zero s a = a
-bytes-after (suc n) [] a = a
-bytes-after (suc n) (b ∷ s) a = bytes-after n s (a .1)
 
 cuei-is : (id : List ℕ) → length id ≡ 4 → isCuei id ≡ true → cuei ≡ id
 unfolding isCuei
@@ -119,7 +115,7 @@ module _ (tag : ℕ) (id p : List ℕ) (four : length id ≡ 4) (a : AllBytes p)
     as-segmentation : tag ≡ 2 → canonicalSegmentation p ≡ true → PayloadIs tag id p
     unfolding payloadMade
     as-segmentation t c =
-        let r = segment-read-write p a c in record { read = Segmentation (r .0); reading = sym (is-segmentation tag id p e t) ∙ r .1; tagged = sym t; identified = own; writes = r .2; places = r .3 }
+        let r = segmentation-payload-read-write p a c in record { read = Segmentation (r .0); reading = sym (is-segmentation tag id p e t) ∙ r .1; tagged = sym t; identified = own; writes = r .2; places = r .3 }
 
     as-time : tag ≡ 3 → canonicalBy time p ≡ true → PayloadIs tag id p
     as-time t c = let r = time-read-write p a c in record { read = Time (r .0); reading = sym (is-time tag id p e t) ∙ r .1; tagged = sym t; identified = own; writes = r .2; places = omega arith }
@@ -156,16 +152,16 @@ pub record WholeBack (s : List ℕ) : Type 0 where
   pub writes : descriptorMade read (wholeIn s .identifier) (wholeIn s .beside) (drop 6 s) ≡ made s
   pub places : countBeside read ≤ length (wholeIn s .beside .components)
 
-pub whole-back : (s : List ℕ) → AllBytes s → canonicalDescriptor s ≡ true → WholeBack s
+pub whole-descriptor-read-write : (s : List ℕ) → AllBytes s → canonicalDescriptor s ≡ true → WholeBack s
 unfolding canonicalDescriptor descriptorMade framedMade
-whole-back s a c =
+whole-descriptor-read-write s a c =
     let f = canonical-framed s c in
     let six : 6 ≤ length s = leb-true 6 (length s) (and-true (leb 6 (length s)) _ c .0) in
     let tag : ℕ = getD s 0 0 in
     let id : List ℕ = take 4 (drop 2 s) in
     let p : List ℕ = drop 6 s in
     let four : length id ≡ 4 = length-take-le 4 (drop 2 s) (omega (arith, length-drop 2 s)) in
-    let r = payload-is tag id p four (bytes-after 6 s a) (f .2) in
+    let r = payload-is tag id p four (bytes-drop 6 s a) (f .2) in
     let w = whole-read tag id p (r .read) (r .reading) in
     record {
       read = r .read;

@@ -18,11 +18,11 @@ use Rattle.descriptor.specs.declared.Descriptor.{Descriptor}
 use Rattle.descriptor.specs.declared.Descriptor.the-variants.{Avail, Dtmf, Segmentation, Time, Reserved}
 use Rattle.descriptor.specs.declared.DescriptorRead.the-variants.{Is}
 use Rattle.descriptor.specs.declared.segmentation.ModeComponent.{ModeComponent}
-use Rattle.descriptor.specs.declared.segmentation.SegmentationDetail.{SegmentationDetail}
-use Rattle.descriptor.specs.declared.segmentation.SegmentationDetail.the-variants.{Cancel, Insert}
+use Rattle.descriptor.specs.declared.segmentation.DescriptorDetail.{DescriptorDetail}
+use Rattle.descriptor.specs.declared.segmentation.DescriptorDetail.the-variants.{Cancel, Active}
 use Rattle.descriptor.specs.declared.whole.Beside.{Beside}
-use Rattle.descriptor_measure.specs.Canonical.{canonicalPayload}
-use Rattle.descriptor_measure.specs.Same.{SameReading}
+use Rattle.canonical_form.specs.Descriptor.{canonicalPayload}
+use Rattle.canonical_form.specs.Same.{SameReading}
 use Rattle.descriptor_measure.specs.Writing.{framed}
 
 -- ---- 31: the view that is handed in, also where it should be blank
@@ -43,11 +43,11 @@ componentNumbers [] = []
 componentNumbers (c ∷ cs) = (8, c .«component_tag») ∷ (33, c .«pts_offset») ∷ componentNumbers cs
 
 -- what is absent counts as 0; of the places the components up to the count
-abbrev pub detailNumbers : SegmentationDetail → List ModeComponent → List (ℕ × ℕ)
+abbrev pub detailNumbers : DescriptorDetail → List ModeComponent → List (ℕ × ℕ)
 detailNumbers Cancel places = []
-detailNumbers (Insert i) places =
+detailNumbers (Active i) places =
     (8, countOf (i .«segmentation_mode»)) ∷ (40, ticks (i .«segmentation_duration»))
-    ∷ (8, i .«segmentation_upid» .kind) ∷ (8, i .«segmentation_upid» .bytes .len)
+    ∷ (8, i .«segmentation_upid» .«upid_type») ∷ (8, i .«segmentation_upid» .bytes .len)
     ∷ (8, segmentationNumber (i .«segmentation_type_id»)) ∷ (8, i .«segment_num») ∷ (8, i .«segments_expected»)
     ∷ (8, subSegment (i .«sub_segments») .«sub_segment_num») ∷ (8, subSegment (i .«sub_segments») .«sub_segments_expected»)
     ∷ componentNumbers (take (countOf (i .«segmentation_mode»)) places)

@@ -9,7 +9,8 @@ use Rattle.descriptor.specs.declared.Descriptor.{Descriptor}
 use Rattle.descriptor.specs.declared.DescriptorRead.the-variants.{Is}
 use Rattle.descriptor.specs.declared.whole.Beside.{Beside}
 use Rattle.descriptor.specs.declared.whole.WholeDescriptor.{WholeDescriptor}
-use Rattle.descriptor_measure.specs.Same.{SameReading, countBeside}
+use Rattle.canonical_form.specs.Same.{SameReading}
+use Rattle.descriptor_measure.specs.Writing.{countBeside}
 
 -- the reading of a whole descriptor's bytes: tag, length, identifier of 4, payload. Its views count from the payload's first byte
 abbrev pub wholeIn : List ℕ → WholeDescriptor

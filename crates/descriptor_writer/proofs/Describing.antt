@@ -14,7 +14,7 @@ use Rattle.descriptor.specs.declared.plain.DTMFDescriptor.{DTMFDescriptor}
 use Rattle.descriptor.specs.declared.plain.TimeDescriptor.{TimeDescriptor}
 use Rattle.descriptor.specs.declared.segmentation.SegmentationDescriptor.{SegmentationDescriptor}
 use Rattle.descriptor.specs.declared.whole.Beside.{Beside}
-use Rattle.descriptor_measure.specs.Writing.{cuei, framedMade, alone, fairReserved, segmentationMade, payloadMade, descriptorMade}
+use Rattle.descriptor_measure.specs.Writing.{cuei, framedMade, alone, writableReserved, segmentationMade, payloadMade, descriptorMade}
 use Rattle.bit_stores.specs.declared.Written.{Written}
 use Rattle.descriptor_writer.specs.Stores.{Writes}
 
@@ -36,28 +36,28 @@ module _ (d : Descriptor) (id : List ℕ) (beside : Beside) (lent t v : List ℕ
   unfolding descriptorMade payloadMade time number
   as-time x e w = rw e w
 
-  pub as-reserved : (tag : ℕ) (b : View) → d ≡ Reserved tag b → Writes (framedMade tag id (make privateBytes (fairReserved tag id (beside .eidr)) lent b)) t v r
+  pub as-reserved : (tag : ℕ) (b : View) → d ≡ Reserved tag b → Writes (framedMade tag id (make privateBytes (writableReserved tag id (beside .eidr)) lent b)) t v r
       → Writes (descriptorMade d id beside lent) t v r
   unfolding descriptorMade payloadMade
   as-reserved tag b e w = rw e w
 
 -- what has no components is written alike beside any
 module _ (d : Descriptor) (id : List ℕ) (beside : Beside) (lent t v : List ℕ) (r : Written) where
-  abbrev Bare : Type 0
-  Bare = Writes (descriptorMade d id (record { components = filled []; eidr = beside .eidr }) lent) t v r
+  abbrev WithoutComponents : Type 0
+  WithoutComponents = Writes (descriptorMade d id (record { components = filled []; eidr = beside .eidr }) lent) t v r
 
-  pub bare-avail : (x : AvailDescriptor) → d ≡ Avail x → Bare → Writes (descriptorMade d id beside lent) t v r
+  pub avail-without-components : (x : AvailDescriptor) → d ≡ Avail x → WithoutComponents → Writes (descriptorMade d id beside lent) t v r
   unfolding descriptorMade payloadMade
-  bare-avail x e w = rw e (rw e at w)
+  avail-without-components x e w = rw e (rw e at w)
 
-  pub bare-dtmf : (x : DTMFDescriptor) → d ≡ Dtmf x → Bare → Writes (descriptorMade d id beside lent) t v r
+  pub dtmf-without-components : (x : DTMFDescriptor) → d ≡ Dtmf x → WithoutComponents → Writes (descriptorMade d id beside lent) t v r
   unfolding descriptorMade payloadMade
-  bare-dtmf x e w = rw e (rw e at w)
+  dtmf-without-components x e w = rw e (rw e at w)
 
-  pub bare-time : (x : TimeDescriptor) → d ≡ Time x → Bare → Writes (descriptorMade d id beside lent) t v r
+  pub time-without-components : (x : TimeDescriptor) → d ≡ Time x → WithoutComponents → Writes (descriptorMade d id beside lent) t v r
   unfolding descriptorMade payloadMade
-  bare-time x e w = rw e (rw e at w)
+  time-without-components x e w = rw e (rw e at w)
 
-  pub bare-reserved : (tag : ℕ) (b : View) → d ≡ Reserved tag b → Bare → Writes (descriptorMade d id beside lent) t v r
+  pub reserved-without-components : (tag : ℕ) (b : View) → d ≡ Reserved tag b → WithoutComponents → Writes (descriptorMade d id beside lent) t v r
   unfolding descriptorMade payloadMade
-  bare-reserved tag b e w = rw e (rw e at w)
+  reserved-without-components tag b e w = rw e (rw e at w)

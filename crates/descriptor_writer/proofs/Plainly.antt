@@ -20,7 +20,7 @@ use Rattle.descriptor.specs.Plain.{avail, dtmf, time, privateBytes}
 use Rattle.descriptor.specs.declared.plain.AvailDescriptor.{AvailDescriptor}
 use Rattle.descriptor.specs.declared.plain.DTMFDescriptor.{DTMFDescriptor}
 use Rattle.descriptor.specs.declared.plain.TimeDescriptor.{TimeDescriptor}
-use Rattle.descriptor_measure.specs.Writing.{cuei, framedMade, alone, fairReserved}
+use Rattle.descriptor_measure.specs.Writing.{cuei, framedMade, alone, writableReserved}
 use Rattle.bit_stores.specs.Pen.{Pens}
 use Rattle.bit_stores.specs.declared.Written.{Written}
 use Rattle.descriptor_writer.specs.Stores.{Writes}
@@ -196,13 +196,13 @@ module _ (tag : ℕ) (v : View) (id eidr lent t : List ℕ) (b : Bool) (eb : b �
   privateContents = count (v .len) ∷ (bytes (take (v .len) (drop (v .at) lent)) ∷ [])
 
   abbrev Held : Made
-  Held = make privateBytes (fairReserved tag id eidr) lent v
+  Held = make privateBytes (writableReserved tag id eidr) lent v
 
   pub reserved-31 : not b ≡ true → Writes (framedMade tag id Held) t t (Written.Refused 31)
   unfolding privateBytes remaining part
   reserved-31 h = refuses tag id t Held 31 (rw (← eb, not-true b h))
 
-  module _ (h : not b ≡ false) (a : Bool) (ea : a ≡ fairReserved tag id eidr) where
+  module _ (h : not b ≡ false) (a : Bool) (ea : a ≡ writableReserved tag id eidr) where
     reserved-makes : Held ≡ pick a (made (bytesOf (print privateContents))) (refused 33)
     unfolding privateBytes remaining part
     reserved-makes = rw (← ea, ← eb, not-false b h)

@@ -17,14 +17,14 @@ use Rattle.descriptor.specs.Segmentation.{componentCount, byProgram, countOf, f
 use Rattle.descriptor.specs.Whole.{filled, blankBeside}
 use Rattle.descriptor.specs.declared.segmentation.ModeComponent.{ModeComponent}
 use Rattle.descriptor.specs.declared.segmentation.SegmentationDescriptor.{SegmentationDescriptor}
+use Rattle.descriptor.specs.declared.segmentation.DescriptorDetail.{DescriptorDetail}
+use Rattle.descriptor.specs.declared.segmentation.DescriptorDetail.the-variants.{Cancel, Active}
 use Rattle.descriptor.specs.declared.segmentation.SegmentationDetail.{SegmentationDetail}
-use Rattle.descriptor.specs.declared.segmentation.SegmentationDetail.the-variants.{Cancel, Insert}
-use Rattle.descriptor.specs.declared.segmentation.SegmentationInsert.{SegmentationInsert}
 use Rattle.descriptor.specs.declared.segmentation.SegmentationMode.{SegmentationMode}
 use Rattle.descriptor.specs.declared.segmentation.SegmentationUpid.{SegmentationUpid}
 use Rattle.descriptor.specs.declared.whole.Beside.{Beside}
 use Rattle.descriptor_measure.specs.Private.{headFields, flagFields, deliveryFields, modeFields, durationFields, upidFields, backFields, insertFields, segmentFields, payloadSize}
-use Rattle.descriptor_measure.specs.Writing.{cuei, framedMade, segmentationMade, upidIn, upidSource, writtenKind, writtenUpid}
+use Rattle.descriptor_measure.specs.Writing.{cuei, framedMade, segmentationMade, upidIn, upidSource, writtenType, writtenUpid}
 use Rattle.descriptor_measure.proofs.Making.{zero-view, made-zero, made-size, made-bits}
 use Rattle.bit_stores.specs.Pen.{Pens}
 use Rattle.bit_stores.specs.declared.Written.{Written}
@@ -38,14 +38,14 @@ use Rattle.descriptor_writer.proofs.Plainly.{Framed, refuses}
 -- ---- sizes
 pub written-len : (u : SegmentationUpid) → u .bytes .len ≤ 255 → writtenUpid u .bytes .len ≤ 255
 unfolding writtenUpid
-written-len u h = go (eqb (u .kind) 10)
+written-len u h = go (eqb (u .«upid_type») 10)
   where
-    go : (b : Bool) → pick {A = SegmentationUpid} b (record { kind = 10; bytes = record { at = 0; len = 12 } }) (record { kind = writtenKind u; bytes = u .bytes }) .bytes .len ≤ 255
+    go : (b : Bool) → pick {A = SegmentationUpid} b (record { «upid_type» = 10; bytes = record { at = 0; len = 12 } }) (record { «upid_type» = writtenType u; bytes = u .bytes }) .bytes .len ≤ 255
     go true = omega arith
     go false = h
 
-pub size-sum : (i : SegmentationInsert) (m d u s : ℕ) → m ≡ modeSize (i .«segmentation_mode») → d ≡ durationSize (i .«segmentation_duration») → u ≡ writtenUpid (i .«segmentation_upid») .bytes .len
-    → s ≡ subBytes (i .«sub_segments») → 8 + m + d + u + (3 + s) ≡ payloadSize (Insert i)
+pub size-sum : (i : SegmentationDetail) (m d u s : ℕ) → m ≡ modeSize (i .«segmentation_mode») → d ≡ durationSize (i .«segmentation_duration») → u ≡ writtenUpid (i .«segmentation_upid») .bytes .len
+    → s ≡ subBytes (i .«sub_segments») → 8 + m + d + u + (3 + s) ≡ payloadSize (Active i)
 unfolding payloadSize
 size-sum i m d u s em ed eu es = rw (em, ed, eu, es)
 
@@ -54,52 +54,52 @@ pub count-small : (k : SegmentationMode) (m : ℕ) → m ≡ modeSize k → m < 
 count-small SegmentationMode.Program m e h = omega arith
 count-small (SegmentationMode.Component n) m e h = omega arith
 
-pub size-cancel : (d : SegmentationDetail) → d ≡ Cancel → (5 ≡ payloadSize d) × (countOf (frontOf d .«segmentation_mode») ≤ 255)
+pub size-cancel : (d : DescriptorDetail) → d ≡ Cancel → (5 ≡ payloadSize d) × (countOf (frontOf d .«segmentation_mode») ≤ 255)
 unfolding payloadSize
 size-cancel d e = rw e (refl, (let z : 0 ≤ 255 = omega arith in z))
 
-pub size-insert : (d : SegmentationDetail) (i : SegmentationInsert) (r : ℕ) → d ≡ Insert i → (r ≡ payloadSize (Insert i)) × (countOf (i .«segmentation_mode») ≤ 255)
+pub size-insert : (d : DescriptorDetail) (i : SegmentationDetail) (r : ℕ) → d ≡ Active i → (r ≡ payloadSize (Active i)) × (countOf (i .«segmentation_mode») ≤ 255)
     → (r ≡ payloadSize d) × (countOf (frontOf d .«segmentation_mode») ≤ 255)
 size-insert d i r e h = rw e h
 
-pub insert-short : (d : SegmentationDetail) (i : SegmentationInsert) → d ≡ Insert i → frontOf d .«segmentation_upid» .bytes .len ≤ 255 → i .«segmentation_upid» .bytes .len ≤ 255
+pub insert-short : (d : DescriptorDetail) (i : SegmentationDetail) → d ≡ Active i → frontOf d .«segmentation_upid» .bytes .len ≤ 255 → i .«segmentation_upid» .bytes .len ≤ 255
 insert-short d i e h = rw e at h
 
-pub insert-seen : (d : SegmentationDetail) (i : SegmentationInsert) (n : ℕ) → d ≡ Insert i → frontOf d .«segmentation_upid» .bytes .at + frontOf d .«segmentation_upid» .bytes .len ≤ n
+pub insert-seen : (d : DescriptorDetail) (i : SegmentationDetail) (n : ℕ) → d ≡ Active i → frontOf d .«segmentation_upid» .bytes .at + frontOf d .«segmentation_upid» .bytes .len ≤ n
     → i .«segmentation_upid» .bytes .at + i .«segmentation_upid» .bytes .len ≤ n
 insert-seen d i n e h = rw e at h
 
 -- ---- a UPID: kind and length as one number, and its bytes
 module _ (t : List ℕ) (c : Cursor) (s : List ℕ) (e : Cursor) (v : List ℕ) (d : Cursor) where
-  upid-stores : (w : SegmentationUpid) (src b : List ℕ) (y : ℕ) → y ≡ w .kind * 256 + w .bytes .len % 256 → b ≡ take (w .bytes .len) (drop (w .bytes .at) src)
+  upid-stores : (w : SegmentationUpid) (src b : List ℕ) (y : ℕ) → y ≡ w .«upid_type» * 256 + w .bytes .len % 256 → b ≡ take (w .bytes .len) (drop (w .bytes .at) src)
       → Pens t c (bitsOfNum 16 y) s e → Pens s e (bitsOf b) v d → Stores t c (contents src (upidFields w)) v d
   upid-stores w src b y ey eb p q =
-      let n = w .kind * 256 + w .bytes .len % 256 in
+      let n = w .«upid_type» * 256 + w .bytes .len % 256 in
       same-print t c (number 16 n ∷ (bytes b ∷ [])) (contents src (upidFields w)) v d
-      (ap (λ (l : List ℕ). print (number 16 n ∷ (bytes l ∷ []))) eb ∙ sym (print-beside 8 8 (w .kind) (w .bytes .len) (bytes (take (w .bytes .len) (drop (w .bytes .at) src)) ∷ [])))
+      (ap (λ (l : List ℕ). print (number 16 n ∷ (bytes l ∷ []))) eb ∙ sym (print-beside 8 8 (w .«upid_type») (w .bytes .len) (bytes (take (w .bytes .len) (drop (w .bytes .at) src)) ∷ [])))
       (number-then t c s e v d (bytes b ∷ []) 16 n y ey p (put-bytes s e v d b q))
 
-  module _ (u : SegmentationUpid) (eidr lent : List ℕ) (k m y : ℕ) (ek : k ≡ writtenKind u) (em : m ≡ writtenUpid u .bytes .len) (ey : y ≡ k * 256 + m % 256) where
-    pub upid-of-eidr : u .kind ≡ 10 → length eidr ≡ 12 → Pens t c (bitsOfNum 16 y) s e → Pens s e (bitsOf eidr) v d
+  module _ (u : SegmentationUpid) (eidr lent : List ℕ) (k m y : ℕ) (ek : k ≡ writtenType u) (em : m ≡ writtenUpid u .bytes .len) (ey : y ≡ k * 256 + m % 256) where
+    pub upid-of-eidr : u .«upid_type» ≡ 10 → length eidr ≡ 12 → Pens t c (bitsOfNum 16 y) s e → Pens s e (bitsOf eidr) v d
         → Stores t c (contents (upidSource u eidr lent) (upidFields (writtenUpid u))) v d
-    unfolding upidSource writtenUpid writtenKind
+    unfolding upidSource writtenUpid writtenType
     upid-of-eidr is n p q =
         let z : eidr ≡ take 12 eidr = sym (take-all 12 eidr (omega arith)) in
         let h : k ≡ 10 = rw is at ek in
         let j : m ≡ 12 = rw is at em in
-        rw (eq-eqb (u .kind) 10 is) (upid-stores (record { kind = 10; bytes = record { at = 0; len = 12 } }) eidr eidr y (omega (arith, h, j, ey)) z p q)
+        rw (eq-eqb (u .«upid_type») 10 is) (upid-stores (record { «upid_type» = 10; bytes = record { at = 0; len = 12 } }) eidr eidr y (omega (arith, h, j, ey)) z p q)
 
-    pub upid-of-view : (u .kind ≡ 10 → ⊥) → u .bytes .at + u .bytes .len ≤ length lent → (part : List ℕ) → part ≡ viewed lent (u .bytes)
+    pub upid-of-view : (u .«upid_type» ≡ 10 → ⊥) → u .bytes .at + u .bytes .len ≤ length lent → (part : List ℕ) → part ≡ viewed lent (u .bytes)
         → Pens t c (bitsOfNum 16 y) s e → Pens s e (bitsOf part) v d → Stores t c (contents (upidSource u eidr lent) (upidFields (writtenUpid u))) v d
     unfolding upidSource writtenUpid viewed
     upid-of-view other h part ep p q =
         let z : part ≡ take (u .bytes .len) (drop (u .bytes .at) lent) = ep ∙ rw (le-leb (u .bytes .at + u .bytes .len) (length lent) h) in
-        let f = ne-eqb (u .kind) 10 other in
+        let f = ne-eqb (u .«upid_type») 10 other in
         let j : m ≡ u .bytes .len = rw f at em in
-        rw f (upid-stores (record { kind = writtenKind u; bytes = u .bytes }) lent part y (omega (arith, ek, j, ey)) z p q)
+        rw f (upid-stores (record { «upid_type» = writtenType u; bytes = u .bytes }) lent part y (omega (arith, ek, j, ey)) z p q)
 
 -- ---- an insert
-pub insert-stores : (i : SegmentationInsert) (cs : List ModeComponent) (src : List ℕ) (p l f : Bool) → p ≡ byProgram (i .«segmentation_mode») → l ≡ lasting (i .«segmentation_duration»)
+pub insert-stores : (i : SegmentationDetail) (cs : List ModeComponent) (src : List ℕ) (p l f : Bool) → p ≡ byProgram (i .«segmentation_mode») → l ≡ lasting (i .«segmentation_duration»)
     → f ≡ unrestricted (i .«delivery_restrictions») → (t₀ t₁ t₂ t₃ t₄ t₅ : List ℕ) (c₀ c₁ c₂ c₃ c₄ c₅ : Cursor) → Stores t₀ c₀ (contents src (flagFields p l f ++ deliveryFields (i .«delivery_restrictions»))) t₁ c₁
     → Stores t₁ c₁ (contents src (modeFields (i .«segmentation_mode») cs)) t₂ c₂ → Stores t₂ c₂ (contents src (durationFields (i .«segmentation_duration»))) t₃ c₃
     → Stores t₃ c₃ (contents src (upidFields (writtenUpid (i .«segmentation_upid»)))) t₄ c₄ → Stores t₄ c₄ (contents src (backFields i)) t₅ c₅
@@ -124,7 +124,7 @@ module _ (x : SegmentationDescriptor) (cs : List ModeComponent) (eidr lent t : L
   unfolding segmentFields
   cancel-stores v e is s = rw is (s [])
 
-  pub payload-stores : (i : SegmentationInsert) (u v : List ℕ) (d e : Cursor) → x .«descriptor_detail» ≡ Insert i
+  pub payload-stores : (i : SegmentationDetail) (u v : List ℕ) (d e : Cursor) → x .«descriptor_detail» ≡ Active i
       → ((from : List ℕ) → Stores t c (contents from (headFields (x .«segmentation_event_id») false)) u d)
       → Stores u d (contents (upidSource (i .«segmentation_upid») eidr lent) (insertFields i cs)) v e → All v e
   unfolding segmentFields

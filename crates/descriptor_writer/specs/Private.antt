@@ -34,8 +34,8 @@ componentBytes cs = bytesOf (print (contents [] (componentsFields cs)))
 
 -- A segmentation descriptor that nothing of 31 to 33 refuses was written, with these bytes of its components: as the writer makes it of whatever identifier
 -- and components that is.
-pub record WritesFair (x : SegmentationDescriptor) (listed eidr lent target later : List ℕ) (r : Written) : Type 0 where
-  pub fair : (identifier : List ℕ) (components : List ModeComponent) → length components ≡ 255
+pub record WritesTested (x : SegmentationDescriptor) (listed eidr lent target later : List ℕ) (r : Written) : Type 0 where
+  pub writable : (identifier : List ℕ) (components : List ModeComponent) → length components ≡ 255
       → refusalIn (segmentationMade x identifier (record { components = components; eidr = eidr }) lent) ≡ 0
       → listed ≡ componentBytes (take (componentCount x) components)
       → Writes (framedMade 2 cuei (segmentationMade x identifier (record { components = components; eidr = eidr }) lent)) target later r

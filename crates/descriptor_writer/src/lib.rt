@@ -8,8 +8,8 @@ use crate::plain::write_avail;
 use crate::plain::write_dtmf;
 use crate::plain::write_reserved;
 use crate::plain::write_time;
-use crate::segmentation::write_bare_segmentation;
 use crate::segmentation::write_segmentation;
+use crate::segmentation::write_segmentation_without_components;
 use bit_stores::Written;
 use descriptor::Descriptor;
 use descriptor::whole::Beside;
@@ -21,7 +21,7 @@ mod segmentation;
 
 // The descriptor of an item, whose views are of the lent bytes. The identifier is that of a reserved one, all zero with any other. It has no components, or
 // blank ones.
-pub fn write_bare_descriptor(
+pub fn write_descriptor_without_components(
     d: Descriptor,
     identifier: [u8; 4],
     eidr: [u8; 12],
@@ -33,7 +33,13 @@ pub fn write_bare_descriptor(
     match d {
         Descriptor::Avail(x) => write_avail(x, identifier, eidr, target),
         Descriptor::Dtmf(x) => write_dtmf(x, identifier, eidr, lent, target),
-        Descriptor::Segmentation(x) => write_bare_segmentation(x, identifier, eidr, lent, target),
+        Descriptor::Segmentation(x) => write_segmentation_without_components(
+            x,
+            identifier,
+            eidr,
+            lent,
+            target,
+        ),
         Descriptor::Time(x) => write_time(x, identifier, eidr, target),
         Descriptor::Reserved { tag, private_bytes } => {
             write_reserved(tag, private_bytes, identifier, eidr, lent, target)
@@ -53,14 +59,32 @@ pub fn write_descriptor(
 {
     let eidr = beside.eidr;
     let x = match d {
-        Descriptor::Avail(_) => return write_bare_descriptor(d, identifier, eidr, lent, target),
-        Descriptor::Dtmf(_) => return write_bare_descriptor(d, identifier, eidr, lent, target),
+        Descriptor::Avail(_) => return write_descriptor_without_components(
+            d,
+            identifier,
+            eidr,
+            lent,
+            target,
+        ),
+        Descriptor::Dtmf(_) => return write_descriptor_without_components(
+            d,
+            identifier,
+            eidr,
+            lent,
+            target,
+        ),
         Descriptor::Segmentation(x) => x,
-        Descriptor::Time(_) => return write_bare_descriptor(d, identifier, eidr, lent, target),
+        Descriptor::Time(_) => return write_descriptor_without_components(
+            d,
+            identifier,
+            eidr,
+            lent,
+            target,
+        ),
         Descriptor::Reserved {
             tag: _,
             private_bytes: _,
-        } => return write_bare_descriptor(d, identifier, eidr, lent, target),
+        } => return write_descriptor_without_components(d, identifier, eidr, lent, target),
     };
     let components = beside.components;
     write_segmentation(x, identifier, components, eidr, lent, target)

@@ -12,8 +12,8 @@ use bit_stores::put_bits;
 use bit_stores::put_run;
 use descriptor::segmentation::DeliveryRestrictionFlags;
 use descriptor::segmentation::ModeComponent;
+use descriptor::segmentation::SegmentationDetail;
 use descriptor::segmentation::SegmentationDuration;
-use descriptor::segmentation::SegmentationInsert;
 use descriptor::segmentation::SegmentationMode;
 use descriptor::segmentation::SubSegments;
 use table::cursor::Cursor;
@@ -132,12 +132,12 @@ fn store_sub_segments(out: &mut [u8], c: Cursor, sub_segments: SubSegments) -> C
     }
 }
 
-pub(crate) fn store_back(out: &mut [u8], c: Cursor, i: SegmentationInsert) -> Cursor
+pub(crate) fn store_back(out: &mut [u8], c: Cursor, i: SegmentationDetail) -> Cursor
     ensures { λ r. ⌜ ((from : List ℕ) → Stores (now (out .entry)) c (contents from (backFields i)) (now (out .exit)) r) ⌝ }
 {
-    let kind = i.segmentation_type_id;
+    let type_id = i.segmentation_type_id;
     let sub_segments = i.sub_segments;
-    let second = put_bits(out, c, 8, wide(kind.id()));
+    let second = put_bits(out, c, 8, wide(type_id.id()));
     let third = put_bits(out, second, 8, wide(i.segment_num));
     let fourth = put_bits(out, third, 8, wide(i.segments_expected));
     store_sub_segments(out, fourth, sub_segments)

@@ -2,7 +2,7 @@
 ghost use mathlib.Core.Path.{_≡_};
 ghost use mathlib.Core.List.{[]};
 ghost use Rattle.descriptor.specs.Plain.{avail, dtmf, time, privateBytes};
-ghost use Rattle.descriptor_measure.specs.Writing.{cuei, framedMade, alone, fairReserved};
+ghost use Rattle.descriptor_measure.specs.Writing.{cuei, framedMade, alone, writableReserved};
 ghost use Rattle.table.specs.Writing.{make};
 ghost use Rattle.descriptor_writer.specs.Stores.{Writes};
 use crate::frame::cuei;
@@ -14,7 +14,7 @@ use descriptor::plain::AvailDescriptor;
 use descriptor::plain::DTMFDescriptor;
 use descriptor::plain::TimeDescriptor;
 use descriptor_measure::is_alone;
-use descriptor_measure::is_fair_reserved;
+use descriptor_measure::is_writable_reserved;
 use table::View;
 use table::lent::lies_in;
 use table::lent::view;
@@ -105,12 +105,12 @@ pub(crate) fn write_reserved(
     lent: &[u8],
     target: &mut [u8],
 ) -> Written
-    ensures { λ r. ⌜ Writes (framedMade tag identifier (make privateBytes (fairReserved tag identifier eidr) (now (lent .entry)) «private_bytes»)) (now (target .entry)) (now (target .exit)) r ⌝ }
+    ensures { λ r. ⌜ Writes (framedMade tag identifier (make privateBytes (writableReserved tag identifier eidr) (now (lent .entry)) «private_bytes»)) (now (target .entry)) (now (target .exit)) r ⌝ }
 {
     if !lies_in(lent, private_bytes) {
         return Written::Refused(31);
     }
-    if !is_fair_reserved(tag, identifier, eidr) {
+    if !is_writable_reserved(tag, identifier, eidr) {
         return Written::Refused(33);
     }
     if 250 < private_bytes.len {

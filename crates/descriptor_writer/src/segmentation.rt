@@ -6,12 +6,12 @@ ghost use lib.ListN.{length};
 ghost use Rattle.descriptor.specs.Segmentation.{componentCount, countOf};
 ghost use Rattle.descriptor.specs.Whole.{filled};
 ghost use Rattle.descriptor.specs.declared.segmentation.ModeComponent.{ModeComponent};
-ghost use Rattle.descriptor.specs.declared.segmentation.SegmentationDetail.the-variants.{Insert};
+ghost use Rattle.descriptor.specs.declared.segmentation.DescriptorDetail.the-variants.{Active};
 ghost use Rattle.descriptor_measure.specs.Private.{upidFields, insertFields, segmentFields, payloadSize};
 ghost use Rattle.descriptor_measure.specs.Writing.{cuei, framedMade, segmentationMade, upidIn, upidSource, writtenUpid};
 ghost use Rattle.table.specs.Writing.{contents};
 ghost use Rattle.descriptor_writer.specs.Stores.{Writes};
-ghost use Rattle.descriptor_writer.specs.Private.{Stores, WritesFair, componentBytes};
+ghost use Rattle.descriptor_writer.specs.Private.{Stores, WritesTested, componentBytes};
 use crate::frame::cuei;
 use crate::frame::store_frame;
 use crate::parts::store_back;
@@ -23,32 +23,32 @@ use crate::parts::store_mode;
 use bit_stores::Written;
 use bit_stores::put_bits;
 use bit_stores::put_run;
+use descriptor::segmentation::DescriptorDetail;
 use descriptor::segmentation::ModeComponent;
 use descriptor::segmentation::SegmentationDescriptor;
 use descriptor::segmentation::SegmentationDetail;
-use descriptor::segmentation::SegmentationInsert;
 use descriptor::segmentation::SegmentationUpid;
 use descriptor::whole::blank_beside;
 use descriptor_measure::segment::by_program;
-use descriptor_measure::segment::count_of;
+use descriptor_measure::segment::count_in_segmentation;
 use descriptor_measure::segment::duration_size;
 use descriptor_measure::segment::is_free;
 use descriptor_measure::segment::lasts;
 use descriptor_measure::segment::mode_size;
-use descriptor_measure::segment::refusal_of_bare;
 use descriptor_measure::segment::refusal_of_segmentation;
+use descriptor_measure::segment::refusal_with_no_components;
 use descriptor_measure::segment::sub_size;
 use descriptor_measure::upids::upid_size;
-use descriptor_measure::upids::written_kind;
+use descriptor_measure::upids::written_type;
 use table::cursor::Cursor;
 use table::lent::view;
 use table::numbers::wide;
 
 // ---- the bytes of a payload
 
-fn size_of_insert(i: SegmentationInsert) -> usize
+fn size_of_insert(i: SegmentationDetail) -> usize
     requires { ⌜ i .«segmentation_upid» .bytes .len ≤ 255 ⌝ }
-    ensures { λ r. ⌜ (r ≡ payloadSize (Insert i)) × (countOf (i .«segmentation_mode») ≤ 255) ⌝ }
+    ensures { λ r. ⌜ (r ≡ payloadSize (Active i)) × (countOf (i .«segmentation_mode») ≤ 255) ⌝ }
 {
     let mode = i.segmentation_mode;
     let duration = i.segmentation_duration;
@@ -63,8 +63,8 @@ fn size_of(x: SegmentationDescriptor) -> usize
 {
     let detail = x.descriptor_detail;
     match detail {
-        SegmentationDetail::Cancel => 5,
-        SegmentationDetail::Insert(i) => size_of_insert(i),
+        DescriptorDetail::Cancel => 5,
+        DescriptorDetail::Active(i) => size_of_insert(i),
     }
 }
 
@@ -81,9 +81,9 @@ fn store_written_upid(
     requires { ⌜ u .bytes .at + u .bytes .len ≤ length (now lent) ⌝ }
     ensures { λ r. ⌜ Stores (now (out .entry)) c (contents (upidSource u eidr (now (lent .entry))) (upidFields (writtenUpid u))) (now (out .exit)) r ⌝ }
 {
-    let kind = wide(written_kind(u));
-    let second = put_bits(out, c, 16, kind * 256 + upid_size(u) as u64 % 256);
-    if u.kind == 10 {
+    let upid_type = wide(written_type(u));
+    let second = put_bits(out, c, 16, upid_type * 256 + upid_size(u) as u64 % 256);
+    if u.upid_type == 10 {
         return put_run(out, second, &eidr[..]);
     }
     let bytes = u.bytes;
@@ -94,7 +94,7 @@ fn store_written_upid(
 fn store_insert(
     out: &mut [u8],
     c: Cursor,
-    i: SegmentationInsert,
+    i: SegmentationDetail,
     listed: &[u8],
     eidr: [u8; 12],
     lent: &[u8],
@@ -127,8 +127,8 @@ fn store_segmentation(
 {
     let detail = x.descriptor_detail;
     match detail {
-        SegmentationDetail::Cancel => store_head(out, c, x.segmentation_event_id, true),
-        SegmentationDetail::Insert(i) => {
+        DescriptorDetail::Cancel => store_head(out, c, x.segmentation_event_id, true),
+        DescriptorDetail::Active(i) => {
             let second = store_head(out, c, x.segmentation_event_id, false);
             store_insert(out, second, i, listed, eidr, lent)
         }
@@ -138,7 +138,7 @@ fn store_segmentation(
 // ---- the descriptor
 
 // One that nothing of 31 to 33 refuses, with its components' bytes.
-fn write_fair_segmentation(
+fn write_tested_segmentation(
     x: SegmentationDescriptor,
     listed: &[u8],
     eidr: [u8; 12],
@@ -146,7 +146,7 @@ fn write_fair_segmentation(
     target: &mut [u8],
 ) -> Written
     requires { ⌜ (upidIn x .bytes .len ≤ 255) × (upidIn x .bytes .at + upidIn x .bytes .len ≤ length (now lent)) ⌝ }
-    ensures { λ r. ⌜ WritesFair x (now (listed .entry)) eidr (now (lent .entry)) (now (target .entry)) (now (target .exit)) r ⌝ }
+    ensures { λ r. ⌜ WritesTested x (now (listed .entry)) eidr (now (lent .entry)) (now (target .entry)) (now (target .exit)) r ⌝ }
 {
     let size = size_of(x);
     if 250 < size {
@@ -175,15 +175,15 @@ pub(crate) fn write_segmentation(
     if refusal != 0 {
         return Written::Refused(refusal);
     }
-    let n = count_of(x) as usize;
+    let n = count_in_segmentation(x) as usize;
     let mut room = [0u8; 1530];
     let _last = store_components(&mut room[..], Cursor { byte: 0, bit: 0 }, components, n);
     let end = n * 6;
-    write_fair_segmentation(x, &room[0..end], eidr, lent, target)
+    write_tested_segmentation(x, &room[0..end], eidr, lent, target)
 }
 
 // Without components no array of them is made. One that has some is written with blank ones.
-pub(crate) fn write_bare_segmentation(
+pub(crate) fn write_segmentation_without_components(
     x: SegmentationDescriptor,
     identifier: [u8; 4],
     eidr: [u8; 12],
@@ -192,15 +192,15 @@ pub(crate) fn write_bare_segmentation(
 ) -> Written
     ensures { λ r. ⌜ Writes (framedMade 2 cuei (segmentationMade x identifier (record { components = filled []; eidr = eidr }) (now (lent .entry)))) (now (target .entry)) (now (target .exit)) r ⌝ }
 {
-    if 0 < count_of(x) {
+    if 0 < count_in_segmentation(x) {
         let blank = blank_beside();
         let components = blank.components;
         return write_segmentation(x, identifier, components, eidr, lent, target);
     }
-    let refusal = refusal_of_bare(x, identifier, eidr, lent);
+    let refusal = refusal_with_no_components(x, identifier, eidr, lent);
     if refusal != 0 {
         return Written::Refused(refusal);
     }
     // no bytes of components
-    write_fair_segmentation(x, &lent[0..0], eidr, lent, target)
+    write_tested_segmentation(x, &lent[0..0], eidr, lent, target)
 }

@@ -7,8 +7,8 @@ use native.Mathlib.Omega.{arith}
 use lib.Dec.{eqb}
 use lib.ListN.{length, getD}
 use lib.Pow.{high, low}
-use Rattle.names.specs.Algorithm.{algorithmNumber, algorithmOf, fairAlgorithm}
-use Rattle.names.specs.Command.{commandNumber, commandTypeOf, fairCommand}
+use Rattle.names.specs.Algorithm.{algorithmNumber, algorithmOf, writableAlgorithm}
+use Rattle.names.specs.Command.{commandNumber, commandTypeOf, writableCommand}
 use Rattle.names.specs.declared.algorithm.EncryptionAlgorithm.{EncryptionAlgorithm}
 use Rattle.names.specs.declared.command.SpliceCommandType.{SpliceCommandType}
 use Rattle.names.proofs.Algorithms.{algorithm-laws}
@@ -49,11 +49,11 @@ header-got s h =
 
 -- ---- the structure
 -- a header whose numbers stand for its values
-unfoldable pub fairHeader : SpliceInfoHeader → Bool
-fairHeader h = fairAlgorithm (h .«encryption_algorithm») && fairCommand (h .«splice_command_type»)
+unfoldable pub writableHeader : SpliceInfoHeader → Bool
+writableHeader h = writableAlgorithm (h .«encryption_algorithm») && writableCommand (h .«splice_command_type»)
 
-tells : Tells spliceHeader 0 (λ a y. (a % 8 ≡ 0) × (fairHeader y ≡ true))
-unfolding spliceHeader fairHeader
+tells : Tells spliceHeader 0 (λ a y. (a % 8 ≡ 0) × (writableHeader y ≡ true))
+unfolding spliceHeader writableHeader
 tells =
     tells-number 8 _ _ 0 _ λ version h₁.
     tells-flag _ _ 8 _ λ encrypted.
@@ -63,10 +63,10 @@ tells =
     tells-number 12 _ _ 56 _ λ tier h₅.
     tells-number 12 _ _ 68 _ λ size h₆.
     tells-number 8 _ _ 80 _ λ type h₇.
-    (((((((((refl, rw (algorithm-laws .is-fair algorithm) (command-laws .is-fair type)), refl), refl), algorithm-laws .there algorithm), refl), refl), refl), refl), command-laws .there type)
+    (((((((((refl, rw (algorithm-laws .is-writable algorithm) (command-laws .is-writable type)), refl), refl), algorithm-laws .there algorithm), refl), refl), refl), refl), command-laws .there type)
 
 -- what x's own numbers stand for is x
-again : (x : SpliceInfoHeader) → fairHeader x ≡ true → record {
+again : (x : SpliceInfoHeader) → writableHeader x ≡ true → record {
   «protocol_version» = x .«protocol_version»;
   «encrypted_packet» = x .«encrypted_packet»;
   «encryption_algorithm» = algorithmOf (algorithmNumber (x .«encryption_algorithm»));
@@ -76,12 +76,12 @@ again : (x : SpliceInfoHeader) → fairHeader x ≡ true → record {
   «splice_command_length» = x .«splice_command_length»;
   «splice_command_type» = commandTypeOf (commandNumber (x .«splice_command_type»));
 } ≡ x
-unfolding fairHeader
+unfolding writableHeader
 again x f =
-    let a = and-true (fairAlgorithm (x .«encryption_algorithm»)) _ f in
+    let a = and-true (writableAlgorithm (x .«encryption_algorithm»)) _ f in
     rw (algorithm-laws .back (x .«encryption_algorithm») (a .0), command-laws .back (x .«splice_command_type») (a .1))
 
-ends : (x : SpliceInfoHeader) (m : ℕ) → fairHeader x ≡ true → Leads spliceHeader x x 0 88 m
+ends : (x : SpliceInfoHeader) (m : ℕ) → writableHeader x ≡ true → Leads spliceHeader x x 0 88 m
 unfolding spliceHeader
 ends x m f =
     leads-number 8 _ _ _ _ 0 88 m
@@ -96,7 +96,7 @@ ends x m f =
 
 abbrev structure : laws.Structure spliceHeader
 structure = record {
-  fair = fairHeader;
+  writable = writableHeader;
   size = λ x. 11;
   moved = λ x. x;
   Shape = λ x. Unit {0};
@@ -183,15 +183,15 @@ unfolding spliceHeader number bit
 no-view s r x = refl
 
 -- what is written of a header reads as that header, whatever follows
-pub header-write-read : (lent : List ℕ) (x : SpliceInfoHeader) (b r : List ℕ) → make spliceHeader (fairHeader x) lent x ≡ made b
+pub header-write-read : (lent : List ℕ) (x : SpliceInfoHeader) (b r : List ℕ) → make spliceHeader (writableHeader x) lent x ≡ made b
     → parse spliceHeader (bitsOf (b ++ r)) 0 ≡ got x (length b * 8)
 header-write-read lent x b r e = laws.write-read spliceHeader structure lent x b r tt e tt .0
 
 -- eleven bytes are what is written of their reading
-pub header-read-write : (s : List ℕ) (x : SpliceInfoHeader) → AllBytes s → length s ≡ 11 → headerOf s ≡ Header x → make spliceHeader (fairHeader x) s x ≡ made s
+pub header-read-write : (s : List ℕ) (x : SpliceInfoHeader) → AllBytes s → length s ≡ 11 → headerOf s ≡ Header x → make spliceHeader (writableHeader x) s x ≡ made s
 header-read-write s x a n e = laws.read-write-all spliceHeader structure s x a (read s x n e) (nothing-asked (bitsOf s))
 
 -- and no two have one reading
 pub header-one : (s r : List ℕ) (x : SpliceInfoHeader) → AllBytes s → AllBytes r → length s ≡ 11 → length r ≡ 11 → headerOf s ≡ Header x → headerOf r ≡ Header x → s ≡ r
 header-one s r x a b n m e f =
-    laws.one-encoding spliceHeader structure s r x x a b (read s x n e) (read r x m f) (nothing-asked (bitsOf s)) (nothing-asked (bitsOf r)) (no-view s r x)
+    laws.write-one spliceHeader structure s r x x a b (read s x n e) (read r x m f) (nothing-asked (bitsOf s)) (nothing-asked (bitsOf r)) (no-view s r x)

@@ -2,8 +2,8 @@
 ghost use Prim.Native.Nat.{_≤_};
 ghost use lib.ListN.{length};
 use descriptor::Descriptor;
+use descriptor::segmentation::DescriptorDetail;
 use descriptor::segmentation::SegmentationDescriptor;
-use descriptor::segmentation::SegmentationDetail;
 use descriptor::segmentation::SegmentationUpid;
 use descriptor_loop::Item;
 use descriptor_loop::ItemRefusal;
@@ -31,17 +31,20 @@ fn print_refusal(r: Refusal) {
         Refusal::UpidLengthTypeMismatch => {
             io::write_all(1, b" mismatch 0");
         }
-        Refusal::InvalidUpidContent { kind, bytes: _ } => {
+        Refusal::InvalidUpidContent {
+            upid_type,
+            bytes: _,
+        } => {
             io::write_all(1, b" text");
-            value(kind as u64);
+            value(upid_type as u64);
         }
         Refusal::InvalidUpidLength {
-            kind,
+            upid_type,
             expected,
             actual,
         } => {
             io::write_all(1, b" length");
-            value(kind as u64);
+            value(upid_type as u64);
             value(expected as u64);
             value(actual as u64);
         }
@@ -50,7 +53,7 @@ fn print_refusal(r: Refusal) {
 
 // The bytes of a UPID: an EIDR has 12, held by value.
 fn upid_length(u: SegmentationUpid) -> usize {
-    if u.kind == 10 {
+    if u.upid_type == 10 {
         return 12;
     }
     let bytes = u.bytes;
@@ -60,17 +63,17 @@ fn upid_length(u: SegmentationUpid) -> usize {
 fn print_segmentation(s: SegmentationDescriptor) {
     let detail = s.descriptor_detail;
     match detail {
-        SegmentationDetail::Cancel => {
+        DescriptorDetail::Cancel => {
             io::write_all(1, b" cancel");
             value(s.segmentation_event_id as u64);
         }
-        SegmentationDetail::Insert(insert) => {
-            let kind = insert.segmentation_type_id;
+        DescriptorDetail::Active(insert) => {
+            let type_id = insert.segmentation_type_id;
             let upid = insert.segmentation_upid;
             io::write_all(1, b" segment");
             value(s.segmentation_event_id as u64);
-            value(kind.id() as u64);
-            value(upid.kind as u64);
+            value(type_id.id() as u64);
+            value(upid.upid_type as u64);
             value(upid_length(upid) as u64);
         }
     }

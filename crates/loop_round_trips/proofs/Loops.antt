@@ -1,8 +1,8 @@
 -- The items of a loop that is cut into canonical descriptors, written again; and descriptors that are written, joined and read.
 --     written-at     what is written of an item is the piece, which is the item's run
 --     every-item     what holds of each item where a piece stands holds of all
---     one-cut        loops with the same items are cut into the same descriptors
---     given-back     what is written of descriptors, joined, has them as its items
+--     cut-one        loops with the same items are cut into the same descriptors
+--     given-write-read     what is written of descriptors, joined, has them as its items
 use Prim.Native.Nat.{ℕ, _+_, _-_, _≤_}
 use mathlib.Core.Bool.{true}
 use mathlib.Core.List.{List, [], _∷_, _++_}
@@ -21,21 +21,21 @@ use Rattle.descriptor.specs.declared.DescriptorRead.{DescriptorRead}
 use Rattle.descriptor.specs.declared.whole.Beside.{Beside}
 use Rattle.descriptor.specs.declared.whole.WholeDescriptor.{WholeDescriptor}
 use Rattle.descriptor.proofs.Insides.{read-inside}
-use Rattle.descriptor_measure.specs.Canonical.{canonicalLoop}
-use Rattle.descriptor_measure.specs.Same.{bytesOfViews, countBeside}
-use Rattle.descriptor_measure.specs.Writing.{descriptorMade}
+use Rattle.canonical_form.specs.Descriptor.{canonicalLoop}
+use Rattle.canonical_form.specs.Same.{bytesOfViews, Given, ItemBack, Pairs, over, pair, SameItem}
+use Rattle.descriptor_measure.specs.Writing.{countBeside, descriptorMade}
 use Rattle.descriptor_round_trips.specs.Making.{viewIn}
 use Rattle.descriptor_round_trips.specs.Trips.{wholeIn, ReadAs, Handed}
 use Rattle.descriptor_round_trips.proofs.Alike.{SameView, NoneTold, made-told, alike-made, same-made}
 use Rattle.descriptor_round_trips.proofs.Theorems.{descriptor-write-read}
-use Rattle.descriptor_round_trips.proofs.Wholes.{whole-back}
+use Rattle.descriptor_round_trips.proofs.Wholes.{whole-descriptor-read-write}
 use Rattle.descriptor_loop.specs.Cover.{joined}
 use Rattle.descriptor_loop.specs.Items.{itemAt, stepOf, readingOf, Listed, listed, itemsOf}
 use Rattle.descriptor_loop.specs.Place.{movedDescriptor}
 use Rattle.descriptor_loop.specs.declared.Item.{Item}
 use Rattle.descriptor_loop.specs.declared.Item.the-variants.{Is}
 use Rattle.descriptor_loop.specs.declared.reading.Reading.{Reading}
-use Rattle.loop_round_trips.specs.Loops.{WrittenAgain, Given, givenMade, ItemBack, Pairs, over, pair, SameItem}
+use Rattle.loop_round_trips.specs.Loops.{WrittenAgain, givenMade}
 use Rattle.loop_round_trips.proofs.Pieces.{Canonical, cut-canonical, At, Items, end, item, run-is, items-cut}
 use Rattle.loop_round_trips.proofs.Places.{moved-values, moved-count, moved-view, moved-bytes}
 
@@ -82,7 +82,7 @@ module _ (loop : List ℕ) (offset : ℕ) (t : List ℕ) (a : At loop offset t) 
 
   pub back-at : AllBytes t → Back
   back-at all =
-      let w = whole-back t all (a .canon) in
+      let w = whole-descriptor-read-write t all (a .canon) in
       let d : Descriptor = w .read in
       let base : ℕ = offset + 6 in
       let there : Descriptor = movedDescriptor base d in
@@ -161,15 +161,15 @@ named loop o t a h d e =
     )
 
 module _ (loop other : List ℕ) (fits : length loop ≤ 4076) (fits₂ : length other ≤ 4076) where
-  pub one-cut : {o₁ o₂ : ℕ} {ts us : List (List ℕ)} {xs ys : List Listed} → Items loop fits o₁ ts xs → Items other fits₂ o₂ us ys → All AllBytes ts → All AllBytes us → Pairs (SameItem loop other) xs ys → ts ≡ us
-  one-cut end end none none over = refl
-  one-cut (item {offset = o} {t = t} a i) (item {offset = q} {t = u} b j) (more h hs) (more k ks) (pair s ss) =
+  pub cut-one : {o₁ o₂ : ℕ} {ts us : List (List ℕ)} {xs ys : List Listed} → Items loop fits o₁ ts xs → Items other fits₂ o₂ us ys → All AllBytes ts → All AllBytes us → Pairs (SameItem loop other) xs ys → ts ≡ us
+  cut-one end end none none over = refl
+  cut-one (item {offset = o} {t = t} a i) (item {offset = q} {t = u} b j) (more h hs) (more k ks) (pair s ss) =
       let r = s .back in
       let m = named loop o t a h (r .again) (r .is) in
       let n = named other q u b k (s .that) (s .is) in
       ap₂ (λ (p : List ℕ) (ps : List (List ℕ)). p ∷ ps)
       (same-made loop other t u (r .again) (s .that) (stepOf loop o .identifier) (stepOf other q .identifier) (readingOf loop o .beside) (readingOf other q .beside) (m .1) (n .1) (r .same) (m .0) (n .0))
-      (one-cut i j hs ks ss)
+      (cut-one i j hs ks ss)
 
 -- ---- descriptors that are written, joined and read
 
@@ -189,8 +189,8 @@ given-cut (more {x = g} h hs) (pair {y = t} e es) =
     let r = descriptor-write-read (g .descriptor) (g .identifier) (g .beside) (g .lent) t h e in
     (more (r .1) (i .0), pair (r .0) (i .1))
 
-pub given-back : {gs : List Given} {bs : List (List ℕ)} → All (λ (g : Given). Handed (g .descriptor) (g .identifier) (g .beside) (g .lent)) gs → length (joined bs) ≤ 4076 → Pairs (λ (g : Given) (b : List ℕ). givenMade g ≡ made b) gs bs
+pub given-write-read : {gs : List Given} {bs : List (List ℕ)} → All (λ (g : Given). Handed (g .descriptor) (g .identifier) (g .beside) (g .lent)) gs → length (joined bs) ≤ 4076 → Pairs (λ (g : Given) (b : List ℕ). givenMade g ≡ made b) gs bs
     → (canonicalLoop (joined bs) ≡ true) × Pairs (ItemBack (joined bs)) (itemsOf (joined bs)) gs
-given-back {gs} {bs} hs fits es =
+given-write-read {gs} {bs} hs fits es =
     let c = given-cut hs es in
     (cut-canonical (c .0), items-back (joined bs) fits (items-cut (joined bs) fits (c .0) refl) (c .1))

@@ -14,7 +14,7 @@ use borrow.Author.Tests.{leb-true, eqb-true}
 use Rattle.table.proofs.Lists.{zero-one, and-true}
 use Rattle.upid.specs.Cover.{All, none, more}
 use Rattle.descriptor.specs.Whole.{wholeOf}
-use Rattle.descriptor_measure.specs.Canonical.{canonicalDescriptor, canonicalFrom, canonicalLoop}
+use Rattle.canonical_form.specs.Descriptor.{canonicalDescriptor, canonicalFrom, canonicalLoop}
 use Rattle.descriptor_round_trips.specs.Trips.{wholeIn}
 use Rattle.descriptor_loop.specs.Cover.{joined, runOf}
 use Rattle.descriptor_loop.specs.Items.{stepOf, readingOf, Listed, listed, itemsOf}

@@ -2,7 +2,7 @@
 --     run-of-run       a run of a run
 --     moved-values, moved-count, moved-view, moved-bytes
 use Prim.Native.Nat.{ℕ, zero, suc, _+_, _≤_}
-use mathlib.Core.Bool.{Bool, true, false, cond}
+use mathlib.Core.Bool.{Bool, true, false, cond as pick}
 use mathlib.Core.List.{List, [], _∷_, map}
 use mathlib.Core.Path.{_≡_, refl, ap, ap₂, sym, _∙_}
 use native.Mathlib.Omega.{arith}
@@ -16,56 +16,42 @@ use Rattle.descriptor.specs.Views.{withoutView, descriptorViews, withUpids}
 use Rattle.descriptor.specs.declared.Descriptor.{Descriptor}
 use Rattle.descriptor.specs.declared.Descriptor.the-variants.{Avail, Dtmf, Segmentation, Time, Reserved}
 use Rattle.descriptor.specs.declared.DescriptorRead.the-variants as read
-use Rattle.descriptor.specs.declared.segmentation.SegmentationDetail.{SegmentationDetail}
-use Rattle.descriptor.specs.declared.segmentation.SegmentationDetail.the-variants.{Cancel, Insert}
+use Rattle.descriptor.specs.declared.segmentation.DescriptorDetail.{DescriptorDetail}
+use Rattle.descriptor.specs.declared.segmentation.DescriptorDetail.the-variants.{Cancel, Active}
 use Rattle.descriptor.specs.declared.segmentation.SegmentationUpid.{SegmentationUpid}
-use Rattle.descriptor_measure.specs.Same.{withoutPlaces, bytesOfViews, countBeside, placelessUpid}
+use Rattle.canonical_form.specs.Same.{withoutPlaces, bytesOfViews, placelessUpid}
+use Rattle.descriptor_measure.specs.Writing.{countBeside}
 use Rattle.descriptor_round_trips.specs.Making.{viewIn}
 use Rattle.descriptor_round_trips.proofs.Alike.{SameView, DetailTold, NoneTold, by-bytes, both-none, no-views, detailView}
 use Rattle.descriptor_round_trips.proofs.PlainLaws.{viewed-at}
 use Rattle.descriptor_loop.specs.Place.{movedUpid, movedDescriptor}
 use Rattle.descriptor_loop.proofs.Places.{item-views}
 use Rattle.descriptor_loop.specs.Private.{movedDetail}
-
-part-of-front : (a n m : ℕ) (l : List ℕ) → a + n ≤ m → take n (drop a (take m l)) ≡ take n (drop a l)
-part-of-front zero n m l h = take-take n m l (omega arith)
-part-of-front (suc a) n zero l h = absurd (omega arith)
-part-of-front (suc a) n (suc m) [] h = refl
-part-of-front (suc a) n (suc m) (x ∷ l) h = part-of-front a n m l (omega arith)
-
-pub run-of-run : (s : List ℕ) (b m a n : ℕ) → a + n ≤ m → take n (drop a (take m (drop b s))) ≡ take n (drop (b + a) s)
-run-of-run s b m a n h = part-of-front a n m (drop b s) h ∙ ap (take n) (drop-drop a b s)
+use Rattle.table.proofs.Lists.{run-of-run}
 
 -- ---- values and counts
 
-pub kind-stays : (base : ℕ) (u : SegmentationUpid) → movedUpid base u .kind ≡ u .kind
-kind-stays base u = go (withoutView (u .kind))
-  where
-    go : (t : Bool) → (let there : SegmentationUpid = cond t u (record { kind = u .kind; bytes = shifted base (u .bytes) }) in there .kind) ≡ u .kind
-    go true = refl
-    go false = refl
-
 upid-values : (base : ℕ) (u : SegmentationUpid) → placelessUpid (movedUpid base u) ≡ placelessUpid u
-upid-values base u = go (withoutView (u .kind))
+upid-values base u = go (withoutView (u .«upid_type»))
   where
-    go : (t : Bool) → (let there : SegmentationUpid = cond t u (record { kind = u .kind; bytes = shifted base (u .bytes) }) in placelessUpid there) ≡ placelessUpid u
+    go : (t : Bool) → (let there : SegmentationUpid = pick t u (record { «upid_type» = u .«upid_type»; bytes = shifted base (u .bytes) }) in placelessUpid there) ≡ placelessUpid u
     go true = refl
     go false = refl
 
-detail-values : (base : ℕ) (d : SegmentationDetail) → withUpids placelessUpid (movedDetail base d) ≡ withUpids placelessUpid d
+detail-values : (base : ℕ) (d : DescriptorDetail) → withUpids placelessUpid (movedDetail base d) ≡ withUpids placelessUpid d
 detail-values base Cancel = refl
-detail-values base (Insert i) = rw (upid-values base (i .«segmentation_upid»))
+detail-values base (Active i) = rw (upid-values base (i .«segmentation_upid»))
 
 pub moved-values : (base : ℕ) (d : Descriptor) → withoutPlaces (movedDescriptor base d) ≡ withoutPlaces d
 moved-values base (Avail x) = refl
 moved-values base (Dtmf x) = refl
-moved-values base (Segmentation x) = ap (λ (d : SegmentationDetail). Segmentation (record { «segmentation_event_id» = x .«segmentation_event_id»; «descriptor_detail» = d })) (detail-values base (x .«descriptor_detail»))
+moved-values base (Segmentation x) = ap (λ (d : DescriptorDetail). Segmentation (record { «segmentation_event_id» = x .«segmentation_event_id»; «descriptor_detail» = d })) (detail-values base (x .«descriptor_detail»))
 moved-values base (Time x) = refl
 moved-values base (Reserved tag v) = refl
 
-detail-count : (base : ℕ) (d : SegmentationDetail) → countOf (frontOf (movedDetail base d) .«segmentation_mode») ≡ countOf (frontOf d .«segmentation_mode»)
+detail-count : (base : ℕ) (d : DescriptorDetail) → countOf (frontOf (movedDetail base d) .«segmentation_mode») ≡ countOf (frontOf d .«segmentation_mode»)
 detail-count base Cancel = refl
-detail-count base (Insert i) = refl
+detail-count base (Active i) = refl
 
 pub moved-count : (base : ℕ) (d : Descriptor) → countBeside (movedDescriptor base d) ≡ countBeside d
 moved-count base (Avail x) = refl
@@ -91,12 +77,12 @@ module _ (loop : List ℕ) (base n : ℕ) (there : base + n ≤ length loop) whe
   same-there : (v : View) → v .at + v .len ≤ length payload → SameView payload v loop (shifted base v)
   same-there v h = let z = payload-size in by-bytes payload v loop (shifted base v) h (omega arith) (viewed-there v h)
 
-  detail-view : (d : SegmentationDetail) → (detailView d .at + detailView d .len ≤ length payload) × DetailTold d → SameView payload (detailView d) loop (detailView (movedDetail base d))
+  detail-view : (d : DescriptorDetail) → (detailView d .at + detailView d .len ≤ length payload) × DetailTold d → SameView payload (detailView d) loop (detailView (movedDetail base d))
   detail-view Cancel f = no-views payload loop
-  detail-view (Insert i) f = go (i .«segmentation_upid») (withoutView (i .«segmentation_upid» .kind)) refl (f .0) (f .1)
+  detail-view (Active i) f = go (i .«segmentation_upid») (withoutView (i .«segmentation_upid» .«upid_type»)) refl (f .0) (f .1)
     where
-      go : (u : SegmentationUpid) (t : Bool) → withoutView (u .kind) ≡ t → u .bytes .at + u .bytes .len ≤ length payload → (withoutView (u .kind) ≡ true → u .bytes .len ≡ 0)
-          → SameView payload (u .bytes) loop (let there : SegmentationUpid = cond t u (record { kind = u .kind; bytes = shifted base (u .bytes) }) in there .bytes)
+      go : (u : SegmentationUpid) (t : Bool) → withoutView (u .«upid_type») ≡ t → u .bytes .at + u .bytes .len ≤ length payload → (withoutView (u .«upid_type») ≡ true → u .bytes .len ≡ 0)
+          → SameView payload (u .bytes) loop (let there : SegmentationUpid = pick t u (record { «upid_type» = u .«upid_type»; bytes = shifted base (u .bytes) }) in there .bytes)
       go u true t h blank = let z = payload-size in both-none payload (u .bytes) loop (u .bytes) h (omega arith) (blank t) (blank t)
       go u false t h blank = same-there (u .bytes) h
 

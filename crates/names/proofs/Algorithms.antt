@@ -1,6 +1,6 @@
--- The table of `EncryptionAlgorithm` is sound, so its numbers and its fair values are one to one.
+-- The table of `EncryptionAlgorithm` is sound, so its numbers and its writable values are one to one.
 use Prim.Native.Nat.{ℕ, _<_, _≤_}
-use mathlib.Core.Bool.{Bool, true, false, cond}
+use mathlib.Core.Bool.{Bool, true, false, cond as pick}
 use mathlib.Core.Logic.{_⊎_, inl, inr}
 use mathlib.Core.Path.{_≡_, refl}
 use native.Mathlib.Omega.{arith}
@@ -18,7 +18,7 @@ use Rattle.names.specs.declared.algorithm.EncryptionAlgorithm.the-varian
   Private,
 }
 use Rattle.names.specs.Numbering.{classIn, reserved, private}
-use Rattle.names.specs.Algorithm.{algorithmNumber, otherAlgorithm, algorithms, algorithmOf, fairAlgorithm}
+use Rattle.names.specs.Algorithm.{algorithmNumber, otherAlgorithm, algorithms, algorithmOf, writableAlgorithm}
 use Rattle.names.proofs.algorithm.EncryptionAlgorithm.{the-type}
 use Rattle.names.proofs.Laws.{Name, Carried, Sound, Inverse, inverse}
 
@@ -30,15 +30,15 @@ pub high : (n : ℕ) → 32 ≤ n → Private n ≡ otherAlgorithm n
 high n h = rw (le-ltb n 32 h)
 
 -- a number without a name is carried as it is, whichever range it lies in
-carried : (b : Bool) (n : ℕ) → algorithmNumber (cond b (Reserved n) (Private n)) ≡ n
+carried : (b : Bool) (n : ℕ) → algorithmNumber (pick b (Reserved n) (Private n)) ≡ n
 carried true n = refl
 carried false n = refl
 
-own-reserved : (b : Bool) (n : ℕ) → classIn algorithms (cond b (Reserved n) (Private n)) ≡ reserved → cond b (Reserved n) (Private n) ≡ Reserved n
+own-reserved : (b : Bool) (n : ℕ) → classIn algorithms (pick b (Reserved n) (Private n)) ≡ reserved → pick b (Reserved n) (Private n) ≡ Reserved n
 own-reserved true n e = refl
 own-reserved false n e = absurd (omega arith)
 
-own-private : (b : Bool) (n : ℕ) → classIn algorithms (cond b (Reserved n) (Private n)) ≡ private → cond b (Reserved n) (Private n) ≡ Private n
+own-private : (b : Bool) (n : ℕ) → classIn algorithms (pick b (Reserved n) (Private n)) ≡ private → pick b (Reserved n) (Private n) ≡ Private n
 own-private true n e = absurd (omega arith)
 own-private false n e = refl
 
@@ -53,6 +53,6 @@ split (Private n) = inr ((λ e. omega arith, own-private (ltb n 32) n), lit≤ t
 pub sound : Sound algorithms (tagOf the-type)
 sound = record { carries = λ n. carried (ltb n 32) n; listed = refl; split = split }
 
-pub algorithm-laws : Inverse algorithmNumber algorithmOf fairAlgorithm
-unfolding algorithmOf fairAlgorithm
+pub algorithm-laws : Inverse algorithmNumber algorithmOf writableAlgorithm
+unfolding algorithmOf writableAlgorithm
 algorithm-laws = inverse algorithms (tagOf the-type) sound

@@ -1,4 +1,4 @@
--- The table of `SpliceCommandType` is sound, so its numbers and its fair values are one to one.
+-- The table of `SpliceCommandType` is sound, so its numbers and its writable values are one to one.
 use Prim.Native.Nat.{ℕ, _≤_}
 use mathlib.Core.Logic.{_⊎_, inl, inr}
 use mathlib.Core.Path.{_≡_, refl}
@@ -16,7 +16,7 @@ use Rattle.names.specs.declared.command.SpliceCommandType.the-variants.{
   PrivateCommand,
   Reserved,
 }
-use Rattle.names.specs.Command.{commandNumber, commands, commandTypeOf, fairCommand}
+use Rattle.names.specs.Command.{commandNumber, commands, commandTypeOf, writableCommand}
 use Rattle.names.proofs.command.SpliceCommandType.{the-type}
 use Rattle.names.proofs.Laws.{Name, Carried, Sound, Inverse, inverse}
 
@@ -32,6 +32,6 @@ split (Reserved n) = inr ((λ e. omega arith, λ e. refl), lit≤ tt)
 pub sound : Sound commands (tagOf the-type)
 sound = record { carries = λ n. refl; listed = refl; split = split }
 
-pub command-laws : Inverse commandNumber commandTypeOf fairCommand
-unfolding commandTypeOf fairCommand
+pub command-laws : Inverse commandNumber commandTypeOf writableCommand
+unfolding commandTypeOf writableCommand
 command-laws = inverse commands (tagOf the-type) sound

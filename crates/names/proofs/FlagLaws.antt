@@ -1,7 +1,7 @@
 -- The numbers that are named or refused: a name's number gives it, a number over the names is refused with 12, and an answer is fixed by
 -- what it says in 01's terms.
 use Prim.Native.Nat.{ℕ, zero, suc, _<_, _≤_}
-use mathlib.Core.Bool.{Bool, true, false, cond}
+use mathlib.Core.Bool.{Bool, true, false, cond as pick}
 use mathlib.Core.List.{List, [], _∷_}
 use mathlib.Core.Option.{Option, none, some}
 use mathlib.Core.Path.{_≡_, refl, ap, sym, _∙_}
@@ -47,7 +47,7 @@ found number n x [] e = let z : _≡_ {A = ℕ} 0 1 = cc in absurd (omega arith)
 found number n x (y ∷ ys) e = go (eqb n (number y)) refl (found number n x ys) e
   where
     go : (b : Bool) → eqb n (number y) ≡ b → (or-12 (nameOf number ys n) ≡ gives x → number x ≡ n)
-        → or-12 (cond b (some y) (nameOf number ys n)) ≡ gives x → number x ≡ n
+        → or-12 (pick b (some y) (nameOf number ys n)) ≡ gives x → number x ≡ n
     go true t f r = let s : y ≡ x = cc in sym (eqb-true n (number y) t ∙ ap number s)
     go false t f r = f r
 

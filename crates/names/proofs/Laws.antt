@@ -1,6 +1,6 @@
 -- Laws of every table, each proved once.
 use Prim.Native.Nat.{ℕ, zero, suc, _+_, _<_, _≤_}
-use mathlib.Core.Bool.{Bool, true, false, cond, _&&_}
+use mathlib.Core.Bool.{Bool, true, false, _&&_, cond as pick}
 use mathlib.Core.List.{List, [], _∷_}
 use mathlib.Core.Logic.{_⊎_, ⊎-elim}
 use mathlib.Core.Option.{Option, none, some}
@@ -10,7 +10,7 @@ use lib.Dec.{eqb}
 use lib.ListN.{length}
 use borrow.Author.Tests.{eqb-true, eq-eqb, ne-eqb}
 use types.Run.{OneOf}
-use Rattle.names.specs.Numbering.{Numbering, numberIn, classIn, named, nameOf, or, valueOf, fair}
+use Rattle.names.specs.Numbering.{Numbering, numberIn, classIn, named, nameOf, or, valueOf, writable}
 
 and-left : (a b : Bool) → (a && b) ≡ true → a ≡ true
 and-left true b e = refl
@@ -69,15 +69,15 @@ pub record Sound {A : Type 0} (T : Numbering A) (tag : A → ℕ) : Type 0 where
   pub split : (x : A) → Name T x ⊎ (Carried T x × (length (T .names) ≤ tag x))
 
 -- ---- what every enum then has
-pub record Inverse {A : Type 0} (number : A → ℕ) (value : ℕ → A) (fair : A → Bool) : Type 0 where
-  -- the number of what a number stands for is that number, and what it stands for is fair
+pub record Inverse {A : Type 0} (number : A → ℕ) (value : ℕ → A) (writable : A → Bool) : Type 0 where
+  -- the number of what a number stands for is that number, and what it stands for is writable
   pub there : (n : ℕ) → number (value n) ≡ n
-  pub is-fair : (n : ℕ) → fair (value n) ≡ true
-  -- a value is fair exactly when it is what its own number stands for
-  pub back : (x : A) → fair x ≡ true → value (number x) ≡ x
-  pub only : (x : A) → value (number x) ≡ x → fair x ≡ true
-  -- no two fair values have one number, and no two numbers one value
-  pub one-value : (x y : A) → fair x ≡ true → fair y ≡ true → number x ≡ number y → x ≡ y
+  pub is-writable : (n : ℕ) → writable (value n) ≡ true
+  -- a value is writable exactly when it is what its own number stands for
+  pub back : (x : A) → writable x ≡ true → value (number x) ≡ x
+  pub only : (x : A) → value (number x) ≡ x → writable x ≡ true
+  -- no two writable values have one number, and no two numbers one value
+  pub one-value : (x y : A) → writable x ≡ true → writable y ≡ true → number x ≡ number y → x ≡ y
   pub one-number : (m n : ℕ) → value m ≡ value n → m ≡ n
 
 module _ {A : Type 0} (number : A → ℕ) (n : ℕ) (y : A) where
@@ -86,7 +86,7 @@ module _ {A : Type 0} (number : A → ℕ) (n : ℕ) (y : A) where
   found e (x ∷ xs) = go (eqb n (number x)) refl (found e xs)
     where
       go : (b : Bool) → eqb n (number x) ≡ b → number (or (nameOf number xs n) y) ≡ n
-          → number (or (cond b (some x) (nameOf number xs n)) y) ≡ n
+          → number (or (pick b (some x) (nameOf number xs n)) y) ≡ n
       go true t r = sym (eqb-true n (number x) t)
       go false t r = r
 
@@ -96,19 +96,19 @@ module _ {A : Type 0} (number : A → ℕ) (n : ℕ) (y : A) where
   left-over class (x ∷ xs) t h =
       go (eqb n (number x)) h (left-over class xs (and-right (eqb (class x) named) (allNamed class xs) t))
     where
-      go : (b : Bool) → (class (or (cond b (some x) (nameOf number xs n)) y) ≡ named → ⊥)
+      go : (b : Bool) → (class (or (pick b (some x) (nameOf number xs n)) y) ≡ named → ⊥)
           → ((class (or (nameOf number xs n) y) ≡ named → ⊥) → or (nameOf number xs n) y ≡ y)
-          → or (cond b (some x) (nameOf number xs n)) y ≡ y
+          → or (pick b (some x) (nameOf number xs n)) y ≡ y
       go true k r = absurd (k (eqb-true (class x) named (and-left (eqb (class x) named) (allNamed class xs) t)))
       go false k r = r k
 
--- a value is fair where its number stands for a value of its class
-pub fair-by : {A : Type 0} (T : Numbering A) (x own : A) (k : ℕ) → classIn T own ≡ k → own ≡ valueOf T (numberIn T x)
-    → eqb k (classIn T x) ≡ fair T x
-fair-by T x own k c e = ap (λ j. eqb j (classIn T x)) (sym c ∙ ap (classIn T) e)
+-- a value is writable where its number stands for a value of its class
+pub writable-by : {A : Type 0} (T : Numbering A) (x own : A) (k : ℕ) → classIn T own ≡ k → own ≡ valueOf T (numberIn T x)
+    → eqb k (classIn T x) ≡ writable T x
+writable-by T x own k c e = ap (λ j. eqb j (classIn T x)) (sym c ∙ ap (classIn T) e)
 
 module _ {A : Type 0} (T : Numbering A) (tag : A → ℕ) (s : Sound T tag) where
-  carried-back : (x : A) → Carried T x → fair T x ≡ true → valueOf T (numberIn T x) ≡ x
+  carried-back : (x : A) → Carried T x → writable T x ≡ true → valueOf T (numberIn T x) ≡ x
   carried-back x c f =
       let n = numberIn T x in
       let k : classIn T (valueOf T n) ≡ classIn T x = eqb-true (classIn T (valueOf T n)) (classIn T x) f in
@@ -116,23 +116,23 @@ module _ {A : Type 0} (T : Numbering A) (tag : A → ℕ) (s : Sound T tag) wher
       left-over (numberIn T) n (T .others n) (classIn T) (T .names) (s .listed) (λ e. c .0 (sym k ∙ e)) in
       l ∙ c .1 (sym (ap (classIn T) l) ∙ k)
 
-  gives-fair : (x : A) → valueOf T (numberIn T x) ≡ x → fair T x ≡ true
-  gives-fair x e = sym (fair-by T x x (classIn T x) refl (sym e)) ∙ eq-eqb (classIn T x) (classIn T x) refl
+  gives-writable : (x : A) → valueOf T (numberIn T x) ≡ x → writable T x ≡ true
+  gives-writable x e = sym (writable-by T x x (classIn T x) refl (sym e)) ∙ eq-eqb (classIn T x) (classIn T x) refl
 
   number-there : (n : ℕ) → numberIn T (valueOf T n) ≡ n
   number-there n = found (numberIn T) n (T .others n) (s .carries n) (T .names)
 
-  fair-back : (x : A) → fair T x ≡ true → valueOf T (numberIn T x) ≡ x
-  fair-back x f = ⊎-elim (λ m. m .0) (λ c. carried-back x (c .0) f) (s .split x)
+  writable-back : (x : A) → writable T x ≡ true → valueOf T (numberIn T x) ≡ x
+  writable-back x f = ⊎-elim (λ m. m .0) (λ c. carried-back x (c .0) f) (s .split x)
 
-  pub inverse : Inverse (numberIn T) (valueOf T) (fair T)
+  pub inverse : Inverse (numberIn T) (valueOf T) (writable T)
   inverse =
       record {
         there = number-there;
-        is-fair = λ n. gives-fair (valueOf T n) (ap (valueOf T) (number-there n));
-        back = fair-back;
-        only = gives-fair;
-        one-value = λ x y f g e. sym (fair-back x f) ∙ ap (valueOf T) e ∙ fair-back y g;
+        is-writable = λ n. gives-writable (valueOf T n) (ap (valueOf T) (number-there n));
+        back = writable-back;
+        only = gives-writable;
+        one-value = λ x y f g e. sym (writable-back x f) ∙ ap (valueOf T) e ∙ writable-back y g;
         one-number = λ m n e. sym (number-there m) ∙ ap (numberIn T) e ∙ number-there n;
       }
 
@@ -140,11 +140,11 @@ module _ {A : Type 0} (T : Numbering A) (tag : A → ℕ) (s : Sound T tag) wher
   is-name : (x : A) → OneOf (upto 0 (length (T .names))) (tag x) → Name T x
   is-name x o = ⊎-elim (λ m. m) (λ c. absurd (omega (arith, under 0 (length (T .names)) (tag x) o, c .1))) (s .split x)
 
-  -- `match` on a value finds a name: it is fair
-  pub name-fair : (x : A) → OneOf (upto 0 (length (T .names))) (tag x) → true ≡ fair T x
-  name-fair x o = sym (gives-fair x (is-name x o .0))
+  -- `match` on a value finds a name: it is writable
+  pub name-writable : (x : A) → OneOf (upto 0 (length (T .names))) (tag x) → true ≡ writable T x
+  name-writable x o = sym (gives-writable x (is-name x o .0))
 
   -- `match` on what its number stands for finds a name
   pub own-name : (x own : A) → own ≡ valueOf T (numberIn T x) → OneOf (upto 0 (length (T .names))) (tag own)
-      → eqb named (classIn T x) ≡ fair T x
-  own-name x own e o = fair-by T x own named (is-name own o .1) e
+      → eqb named (classIn T x) ≡ writable T x
+  own-name x own e o = writable-by T x own named (is-name own o .1) e

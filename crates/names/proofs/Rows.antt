@@ -9,10 +9,10 @@ use Rattle.names.specs.declared.segmentation.SegmentationTypeId.{Segment
 use Rattle.names.specs.declared.flags.NetworkIndicator.{NetworkIndicator}
 use Rattle.names.specs.declared.flags.ReturnMode.{ReturnMode}
 use Rattle.names.specs.declared.flags.DeviceRestrictions.{DeviceRestrictions}
-use Rattle.names.specs.Algorithm.{algorithmOf, fairAlgorithm}
-use Rattle.names.specs.Command.{commandTypeOf, fairCommand}
-use Rattle.names.specs.Upid.{upidTypeOf, fairUpidType}
-use Rattle.names.specs.Segmentation.{segmentationOf, fairSegmentation}
+use Rattle.names.specs.Algorithm.{algorithmOf, writableAlgorithm}
+use Rattle.names.specs.Command.{commandTypeOf, writableCommand}
+use Rattle.names.specs.Upid.{upidTypeOf, writableUpidType}
+use Rattle.names.specs.Segmentation.{segmentationOf, writableSegmentation}
 use Rattle.names.specs.Flags.{gives, refuses, networkOf, returnOf, restrictionsOf}
 
 algorithm-rows :
@@ -22,13 +22,13 @@ algorithm-rows :
 unfolding algorithmOf
 algorithm-rows = refl
 
-fair-algorithm-rows :
-    map fairAlgorithm
+writable-algorithm-rows :
+    map writableAlgorithm
     (EncryptionAlgorithm.Reserved 3 ∷ EncryptionAlgorithm.Reserved 4 ∷ EncryptionAlgorithm.Reserved 32 ∷ EncryptionAlgorithm.Private 31
     ∷ EncryptionAlgorithm.Private 32 ∷ EncryptionAlgorithm.DesCbc ∷ [])
     ≡ false ∷ true ∷ false ∷ false ∷ true ∷ true ∷ []
-unfolding fairAlgorithm
-fair-algorithm-rows = refl
+unfolding writableAlgorithm
+writable-algorithm-rows = refl
 
 command-rows :
     map commandTypeOf (0x00 ∷ 0x01 ∷ 0x04 ∷ 0x05 ∷ 0x06 ∷ 0x07 ∷ 0x08 ∷ 0xfe ∷ 0xff ∷ [])
@@ -53,11 +53,11 @@ segmentation-rows :
 unfolding segmentationOf
 segmentation-rows = refl
 
-fair-rows :
-    (fairCommand (SpliceCommandType.Reserved 0x04) ≡ false) × (fairUpidType (SegmentationUpidType.Reserved 15) ≡ false)
-    × (fairSegmentation (SegmentationTypeId.Reserved 0x19) ≡ false) × (fairSegmentation (SegmentationTypeId.Reserved 0x1a) ≡ true)
-unfolding fairCommand fairUpidType fairSegmentation
-fair-rows = (refl, refl, refl, refl)
+writable-rows :
+    (writableCommand (SpliceCommandType.Reserved 0x04) ≡ false) × (writableUpidType (SegmentationUpidType.Reserved 15) ≡ false)
+    × (writableSegmentation (SegmentationTypeId.Reserved 0x19) ≡ false) × (writableSegmentation (SegmentationTypeId.Reserved 0x1a) ≡ true)
+unfolding writableCommand writableUpidType writableSegmentation
+writable-rows = (refl, refl, refl, refl)
 
 flag-rows :
     (map networkOf (0 ∷ 1 ∷ 2 ∷ []) ≡ gives NetworkIndicator.In ∷ gives NetworkIndicator.Out ∷ refuses 12 [] ∷ [])

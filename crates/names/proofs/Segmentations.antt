@@ -1,4 +1,4 @@
--- The table of `SegmentationTypeId` is sound, so its numbers and its fair values are one to one.
+-- The table of `SegmentationTypeId` is sound, so its numbers and its writable values are one to one.
 use Prim.Native.Nat.{ℕ, _≤_}
 use mathlib.Core.Logic.{_⊎_, inl, inr}
 use mathlib.Core.Path.{_≡_, refl}
@@ -38,7 +38,7 @@ use Rattle.names.specs.declared.segmentation.SegmentationTypeId.the-vari
   NetworkEnd,
   Reserved,
 }
-use Rattle.names.specs.Segmentation.{segmentationNumber, segmentations, segmentationOf, fairSegmentation}
+use Rattle.names.specs.Segmentation.{segmentationNumber, segmentations, segmentationOf, writableSegmentation}
 use Rattle.names.proofs.segmentation.SegmentationTypeId.{the-type}
 use Rattle.names.proofs.Laws.{Name, Carried, Sound, Inverse, inverse}
 
@@ -76,6 +76,6 @@ split (Reserved n) = inr ((λ e. omega arith, λ e. refl), lit≤ tt)
 pub sound : Sound segmentations (tagOf the-type)
 sound = record { carries = λ n. refl; listed = refl; split = split }
 
-pub segmentation-laws : Inverse segmentationNumber segmentationOf fairSegmentation
-unfolding segmentationOf fairSegmentation
+pub segmentation-laws : Inverse segmentationNumber segmentationOf writableSegmentation
+unfolding segmentationOf writableSegmentation
 segmentation-laws = inverse segmentations (tagOf the-type) sound

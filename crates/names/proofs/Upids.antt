@@ -1,4 +1,4 @@
--- The table of `SegmentationUpidType` is sound, so its numbers and its fair values are one to one.
+-- The table of `SegmentationUpidType` is sound, so its numbers and its writable values are one to one.
 use Prim.Native.Nat.{ℕ, _≤_}
 use mathlib.Core.Logic.{_⊎_, inl, inr}
 use mathlib.Core.Path.{_≡_, refl}
@@ -26,7 +26,7 @@ use Rattle.names.specs.declared.upid.SegmentationUpidType.the-variants.{
   URI,
   Reserved,
 }
-use Rattle.names.specs.Upid.{upidTypeNumber, upidTypes, upidTypeOf, fairUpidType}
+use Rattle.names.specs.Upid.{upidTypeNumber, upidTypes, upidTypeOf, writableUpidType}
 use Rattle.names.proofs.upid.SegmentationUpidType.{the-type}
 use Rattle.names.proofs.Laws.{Name, Carried, Sound, Inverse, inverse}
 
@@ -52,6 +52,6 @@ split (Reserved n) = inr ((λ e. omega arith, λ e. refl), lit≤ tt)
 pub sound : Sound upidTypes (tagOf the-type)
 sound = record { carries = λ n. refl; listed = refl; split = split }
 
-pub upid-type-laws : Inverse upidTypeNumber upidTypeOf fairUpidType
-unfolding upidTypeOf fairUpidType
+pub upid-type-laws : Inverse upidTypeNumber upidTypeOf writableUpidType
+unfolding upidTypeOf writableUpidType
 upid-type-laws = inverse upidTypes (tagOf the-type) sound

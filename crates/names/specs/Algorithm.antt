@@ -1,6 +1,6 @@
 -- encryption_algorithm, six bits of the splice header. 000: `EncryptionAlgorithm`.
 use Prim.Native.Nat.{ℕ}
-use mathlib.Core.Bool.{Bool, cond}
+use mathlib.Core.Bool.{Bool, cond as pick}
 use mathlib.Core.List.{List, [], _∷_}
 use lib.Dec.{ltb}
 use Rattle.names.specs.declared.algorithm.EncryptionAlgorithm.{EncryptionAlgorithm}
@@ -12,7 +12,7 @@ use Rattle.names.specs.declared.algorithm.EncryptionAlgorithm.the-varian
   Reserved,
   Private,
 }
-use Rattle.names.specs.Numbering.{Entry, named, reserved, private, Numbering, valueOf, fair}
+use Rattle.names.specs.Numbering.{Entry, named, reserved, private, Numbering, valueOf, writable}
 
 -- The table: the number and the class of each value, the names in the order of their numbers.
 abbrev pub algorithmEntry : EncryptionAlgorithm → Entry
@@ -28,7 +28,7 @@ algorithmNumber x = algorithmEntry x .0
 
 -- 01: 4 to 31 reserved, 32 to 63 private; as a bare number, 64 to 255 too
 abbrev pub otherAlgorithm : ℕ → EncryptionAlgorithm
-otherAlgorithm n = cond (ltb n 32) (Reserved n) (Private n)
+otherAlgorithm n = pick (ltb n 32) (Reserved n) (Private n)
 
 abbrev pub algorithms : Numbering EncryptionAlgorithm
 algorithms = record {
@@ -42,5 +42,5 @@ unfoldable pub algorithmOf : ℕ → EncryptionAlgorithm
 algorithmOf n = valueOf algorithms n
 
 -- whether a value is what its own number stands for
-unfoldable pub fairAlgorithm : EncryptionAlgorithm → Bool
-fairAlgorithm x = fair algorithms x
+unfoldable pub writableAlgorithm : EncryptionAlgorithm → Bool
+writableAlgorithm x = writable algorithms x

@@ -12,7 +12,7 @@ use Rattle.names.specs.declared.command.SpliceCommandType.the-variants.{
   PrivateCommand,
   Reserved,
 }
-use Rattle.names.specs.Numbering.{Entry, named, reserved, Numbering, valueOf, fair}
+use Rattle.names.specs.Numbering.{Entry, named, reserved, Numbering, valueOf, writable}
 
 -- The table: the number and the class of each value, the names in the order of their numbers. 0x04 has a name here, as in 000, though a section with it is refused (01, refusal 10).
 abbrev pub commandEntry : SpliceCommandType → Entry
@@ -39,5 +39,5 @@ unfoldable pub commandTypeOf : ℕ → SpliceCommandType
 commandTypeOf n = valueOf commands n
 
 -- whether a value is what its own number stands for
-unfoldable pub fairCommand : SpliceCommandType → Bool
-fairCommand x = fair commands x
+unfoldable pub writableCommand : SpliceCommandType → Bool
+writableCommand x = writable commands x

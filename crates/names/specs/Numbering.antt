@@ -1,6 +1,6 @@
 -- Named numbers: what every table of this crate says, and how a number and a value are looked up in it.
 use Prim.Native.Nat.{ℕ}
-use mathlib.Core.Bool.{Bool, cond}
+use mathlib.Core.Bool.{Bool, cond as pick}
 use mathlib.Core.List.{List, [], _∷_}
 use mathlib.Core.Option.{Option, none, some}
 use lib.Dec.{eqb}
@@ -37,7 +37,7 @@ classIn T x = T .entry x .1
 -- the name that a number has, if it has one
 abbrev pub nameOf : {A : Type 0} → (A → ℕ) → List A → ℕ → Option A
 nameOf number [] n = none
-nameOf number (x ∷ names) n = cond (eqb n (number x)) (some x) (nameOf number names n)
+nameOf number (x ∷ names) n = pick (eqb n (number x)) (some x) (nameOf number names n)
 
 abbrev pub or : {A : Type 0} → Option A → A → A
 or none other = other
@@ -47,7 +47,7 @@ or (some x) other = x
 abbrev pub valueOf : {A : Type 0} → Numbering A → ℕ → A
 valueOf T n = or (nameOf (numberIn T) (T .names) n) (T .others n)
 
--- 01, refusal 33: not "a reserved number that has a name or lies in another range". The number of a fair value stands for a value of
+-- 01, refusal 33: not "a reserved number that has a name or lies in another range". The number of a writable value stands for a value of
 -- the same class, which is then the value itself.
-abbrev pub fair : {A : Type 0} → Numbering A → A → Bool
-fair T x = eqb (classIn T (valueOf T (numberIn T x))) (classIn T x)
+abbrev pub writable : {A : Type 0} → Numbering A → A → Bool
+writable T x = eqb (classIn T (valueOf T (numberIn T x))) (classIn T x)

@@ -34,7 +34,7 @@ use Rattle.names.specs.declared.segmentation.SegmentationTypeId.the-vari
   NetworkEnd,
   Reserved,
 }
-use Rattle.names.specs.Numbering.{Entry, named, reserved, Numbering, valueOf, fair}
+use Rattle.names.specs.Numbering.{Entry, named, reserved, Numbering, valueOf, writable}
 
 -- The table: the number and the class of each value, the names in the order of their numbers. 28 numbers have a name; all others are reserved.
 abbrev pub segmentationEntry : SegmentationTypeId → Entry
@@ -88,5 +88,5 @@ unfoldable pub segmentationOf : ℕ → SegmentationTypeId
 segmentationOf n = valueOf segmentations n
 
 -- whether a value is what its own number stands for
-unfoldable pub fairSegmentation : SegmentationTypeId → Bool
-fairSegmentation x = fair segmentations x
+unfoldable pub writableSegmentation : SegmentationTypeId → Bool
+writableSegmentation x = writable segmentations x

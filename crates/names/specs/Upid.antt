@@ -22,7 +22,7 @@ use Rattle.names.specs.declared.upid.SegmentationUpidType.the-variants.{
   URI,
   Reserved,
 }
-use Rattle.names.specs.Numbering.{Entry, named, reserved, Numbering, valueOf, fair}
+use Rattle.names.specs.Numbering.{Entry, named, reserved, Numbering, valueOf, writable}
 
 -- The table: the number and the class of each value, the names in the order of their numbers. 16 and up have no name.
 abbrev pub upidTypeEntry : SegmentationUpidType → Entry
@@ -60,5 +60,5 @@ unfoldable pub upidTypeOf : ℕ → SegmentationUpidType
 upidTypeOf n = valueOf upidTypes n
 
 -- whether a value is what its own number stands for
-unfoldable pub fairUpidType : SegmentationUpidType → Bool
-fairUpidType x = fair upidTypes x
+unfoldable pub writableUpidType : SegmentationUpidType → Bool
+writableUpidType x = writable upidTypes x

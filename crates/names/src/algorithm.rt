@@ -1,6 +1,6 @@
 // encryption_algorithm, six bits of the splice header.
 ghost use mathlib.Core.Path.{_≡_};
-ghost use Rattle.names.specs.Algorithm.{algorithmOf, algorithmNumber, fairAlgorithm};
+ghost use Rattle.names.specs.Algorithm.{algorithmOf, algorithmNumber, writableAlgorithm};
 
 pub enum EncryptionAlgorithm {
     None,
@@ -41,8 +41,8 @@ impl EncryptionAlgorithm {
     }
 
     // Is it the value that its own number stands for? A name is.
-    pub fn fair(self) -> bool
-        ensures { λ r. ⌜ r ≡ fairAlgorithm self ⌝ }
+    pub fn writable(self) -> bool
+        ensures { λ r. ⌜ r ≡ writableAlgorithm self ⌝ }
     {
         match self {
             EncryptionAlgorithm::Reserved(n) => {

@@ -1,6 +1,6 @@
 // splice_command_type, the last byte of the splice header.
 ghost use mathlib.Core.Path.{_≡_};
-ghost use Rattle.names.specs.Command.{commandTypeOf, commandNumber, fairCommand};
+ghost use Rattle.names.specs.Command.{commandTypeOf, commandNumber, writableCommand};
 
 pub enum SpliceCommandType {
     SpliceNull,
@@ -45,8 +45,8 @@ impl SpliceCommandType {
     }
 
     // Is it the value that its own number stands for? A name is.
-    pub fn fair(self) -> bool
-        ensures { λ r. ⌜ r ≡ fairCommand self ⌝ }
+    pub fn writable(self) -> bool
+        ensures { λ r. ⌜ r ≡ writableCommand self ⌝ }
     {
         match self {
             SpliceCommandType::Reserved(n) => {

@@ -1,6 +1,6 @@
 // segmentation_type_id, what a segmentation descriptor marks.
 ghost use mathlib.Core.Path.{_≡_};
-ghost use Rattle.names.specs.Segmentation.{segmentationOf, segmentationNumber, fairSegmentation};
+ghost use Rattle.names.specs.Segmentation.{segmentationOf, segmentationNumber, writableSegmentation};
 
 pub enum SegmentationTypeId {
     NotIndicated,
@@ -115,8 +115,8 @@ impl SegmentationTypeId {
     }
 
     // Is it the value that its own number stands for? A name is.
-    pub fn fair(self) -> bool
-        ensures { λ r. ⌜ r ≡ fairSegmentation self ⌝ }
+    pub fn writable(self) -> bool
+        ensures { λ r. ⌜ r ≡ writableSegmentation self ⌝ }
     {
         match self {
             SegmentationTypeId::Reserved(n) => {

@@ -1,6 +1,6 @@
 // segmentation_upid_type, which says what kind of identifier a UPID is.
 ghost use mathlib.Core.Path.{_≡_};
-ghost use Rattle.names.specs.Upid.{upidTypeOf, upidTypeNumber, fairUpidType};
+ghost use Rattle.names.specs.Upid.{upidTypeOf, upidTypeNumber, writableUpidType};
 
 pub enum SegmentationUpidType {
     NotUsed,
@@ -74,8 +74,8 @@ impl SegmentationUpidType {
     }
 
     // Is it the value that its own number stands for? A name is.
-    pub fn fair(self) -> bool
-        ensures { λ r. ⌜ r ≡ fairUpidType self ⌝ }
+    pub fn writable(self) -> bool
+        ensures { λ r. ⌜ r ≡ writableUpidType self ⌝ }
     {
         match self {
             SegmentationUpidType::Reserved(n) => {

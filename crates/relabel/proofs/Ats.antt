@@ -14,7 +14,7 @@ use lib.Seq.{drop-drop, drop-append-le, length-take-le}
 use Rattle.bit_stores.proofs.Writes.{refused-answer, short-answer, wrote-answer}
 use Rattle.bit_stores.specs.Written.{answerOf, laterOf}
 use Rattle.bit_stores.specs.declared.Written.{Written}
-use Rattle.relabel_joined.specs.Relabel.{kindThen}
+use Rattle.relabel_joined.specs.Relabel.{typeThen}
 use Rattle.relabel_upid.proofs.Theorems.{the-upid-itself}
 use Rattle.relabel_upid.specs.Relabel.{instead, mended, spliced, partAt, replacedIn, taken, partMade, upidMade, upTo}
 use Rattle.table.proofs.Lists.{zero-one}
@@ -41,11 +41,11 @@ unfolding spliced
 spliced-some top qs p k new =
     omega (arith, length-append (mended p (length new) qs (take (p .start - 2) top)) (k ∷ (length new ∷ (new ++ drop (p .start + p .len) top))))
 
-pub some-made : (kind : ℕ) (top : List ℕ) (part k : ℕ) (new b : List ℕ) → upidMade kind top part k new ≡ made b → 1 ≤ length b
+pub some-made : (upid-type : ℕ) (top : List ℕ) (part k : ℕ) (new b : List ℕ) → upidMade upid-type top part k new ≡ made b → 1 ≤ length b
 unfolding upidMade partMade
-some-made kind top zero k new b e = the-upid-itself kind top k new b e .2
-some-made kind top (suc i) k new b e =
-    let ps : List Part = partsIn (upidOf kind top) in
+some-made upid-type top zero k new b e = the-upid-itself upid-type top k new b e .2
+some-made upid-type top (suc i) k new b e =
+    let ps : List Part = partsIn (upidOf upid-type top) in
     let z = picked (leb (length ps) i) (ltb 255 (instead (partAt ps i) (length new) (length top))) (not (taken (readOf k 0 new))) (replacedIn top ps i k new) b 41 32 33 e in
     omega (arith, ap length z, spliced-some top (take i ps) (partAt ps i) k new)
 
@@ -120,16 +120,16 @@ no-more t o room e = omega arith
 -- ---- at a place
 
 module _ (s : List ℕ) (p : Place) (limit part k : ℕ) (new t : List ℕ) (lies : Lies s p) (lim : Limit s p limit) where
-  abbrev kind : ℕ
-  kind = getD s (p .head) 0
+  abbrev upid-type : ℕ
+  upid-type = getD s (p .head) 0
 
   abbrev its : Made
-  its = upTo limit (upidMade kind (run s (p .head + 2) (oldSize p)) part k new)
+  its = upTo limit (upidMade upid-type (run s (p .head + 2) (oldSize p)) part k new)
 
   abbrev all : Made
   all = placedMade s p limit part k new
 
-  all-is : all ≡ wrapped s p (kindThen part kind k) its
+  all-is : all ≡ wrapped s p (typeThen part upid-type k) its
   unfolding placedMade
   all-is = refl
 
@@ -150,15 +150,15 @@ module _ (s : List ℕ) (p : Place) (limit part k : ℕ) (new t : List ℕ) (lie
         (a .0, same ∙ a .1)
       where
         go : {q : ℕ} → Denied its part-of q → (Written.Refused q ≡ answerOf all t) × (t ≡ laterOf all t)
-        go {q} (was z) = refused-answer all t q (all-is ∙ ap (wrapped s p (kindThen part kind k)) z)
+        go {q} (was z) = refused-answer all t q (all-is ∙ ap (wrapped s p (typeThen part upid-type k)) z)
         go (short b z l) =
-            short-answer all t (cutOf s p (kindThen part kind k) b) (all-is ∙ ap (wrapped s p (kindThen part kind k)) z)
-            (subst (λ (n : ℕ). length t < n) (sym (size-cut s p (kindThen part kind k) b lies))
+            short-answer all t (cutOf s p (typeThen part upid-type k) b) (all-is ∙ ap (wrapped s p (typeThen part upid-type k)) z)
+            (subst (λ (n : ℕ). length t < n) (sym (size-cut s p (typeThen part upid-type k) b lies))
             (room-short (length t) (length s - oldSize p) room (length b) er (subst (λ (n : ℕ). n < length b) size-part l)))
 
     pub record Stored (n : ℕ) (later : List ℕ) : Type 0 where
       pub b : List ℕ
-      pub is : all ≡ made (cutOf s p (kindThen part kind k) b)
+      pub is : all ≡ made (cutOf s p (typeThen part upid-type k) b)
       pub size : n ≡ length b
       pub takes : Takes s p n
       pub fits : length s - oldSize p + length b ≤ length t
@@ -170,7 +170,7 @@ module _ (s : List ℕ) (p : Place) (limit part k : ℕ) (new t : List ℕ) (lie
     wrote-at later n e f =
         let w = wrote-is its part-of n e in
         let u = up-to-is limit _ (w .b) (w .is) in
-        let some : 1 ≤ length (w .b) = some-made kind (run s (p .head + 2) (oldSize p)) part k new (w .b) (u .0) in
+        let some : 1 ≤ length (w .b) = some-made upid-type (run s (p .head + 2) (oldSize p)) part k new (w .b) (u .0) in
         let r : length (w .b) ≤ room = subst (λ (n : ℕ). length (w .b) ≤ n) size-part (w .fits) in
         let f₀ = room-fits (length t) (length s - oldSize p) room (length (w .b)) er r some in
         let h : from ≡ p .head + 2 = whole (subst (λ (n : ℕ). p .head + 2 ≤ n) (sym (f₀ .1)) (head-in s p lies)) in
@@ -185,7 +185,7 @@ module _ (s : List ℕ) (p : Place) (limit part k : ℕ) (new t : List ℕ) (lie
         let takes : Takes s p n = lim n .0 (subst (λ (m : ℕ). m ≤ limit) (sym (w .size)) (u .1)) in
         record {
           b = w .b;
-          is = all-is ∙ ap (wrapped s p (kindThen part kind k)) (w .is);
+          is = all-is ∙ ap (wrapped s p (typeThen part upid-type k)) (w .is);
           size = w .size;
           takes = takes;
           fits = f₀ .0;
@@ -196,16 +196,16 @@ module _ (s : List ℕ) (p : Place) (limit part k : ℕ) (new t : List ℕ) (lie
 
 -- ---- the end
 
-module _ (s : List ℕ) (p : Place) (limit part k : ℕ) (new t : List ℕ) (lies : Lies s p) (b : List ℕ) (is : placedMade s p limit part k new ≡ made (cutOf s p (kindThen part (getD s (p .head) 0) k) b)) where
+module _ (s : List ℕ) (p : Place) (limit part k : ℕ) (new t : List ℕ) (lies : Lies s p) (b : List ℕ) (is : placedMade s p limit part k new ≡ made (cutOf s p (typeThen part (getD s (p .head) 0) k) b)) where
   abbrev result : List ℕ
-  result = cutOf s p (kindThen part (getD s (p .head) 0) k) b
+  result = cutOf s p (typeThen part (getD s (p .head) 0) k) b
 
-  pub all-wrote : (t₁ later : List ℕ) (n kind : ℕ) → n ≡ length b → kind ≡ kindThen part (getD s (p .head) 0) k → length s - oldSize p + length b ≤ length t → t₁ ≡ stored t (p .head + 2) b
-      → later ≡ sealed s p n (stored (stored t₁ 0 (headOf s p n)) (p .list) (itemOf s p kind n))
+  pub all-wrote : (t₁ later : List ℕ) (n upid-type : ℕ) → n ≡ length b → upid-type ≡ typeThen part (getD s (p .head) 0) k → length s - oldSize p + length b ≤ length t → t₁ ≡ stored t (p .head + 2) b
+      → later ≡ sealed s p n (stored (stored t₁ 0 (headOf s p n)) (p .list) (itemOf s p upid-type n))
       → (Written.Wrote (length s - oldSize p + n) ≡ answerOf (placedMade s p limit part k new) t) × (later ≡ laterOf (placedMade s p limit part k new) t)
-  all-wrote t₁ later n kind en ek fits e₁ e =
-      let z = size-cut s p (kindThen part (getD s (p .head) 0) k) b lies in
+  all-wrote t₁ later n upid-type en ek fits e₁ e =
+      let z = size-cut s p (typeThen part (getD s (p .head) 0) k) b lies in
       let w = wrote-answer _ t result is (subst (λ (m : ℕ). m ≤ length t) (sym z) fits) in
       let f : later ≡ stored t 0 result =
-      all-stored s p (kindThen part (getD s (p .head) 0) k) b lies t t₁ _ _ later fits e₁ refl refl (rw (← en, ← ek) e) in
+      all-stored s p (typeThen part (getD s (p .head) 0) k) b lies t t₁ _ _ later fits e₁ refl refl (rw (← en, ← ek) e) in
       (ap Written.Wrote (ap (λ (m : ℕ). length s - oldSize p + m) en ∙ sym z) ∙ w .0, f ∙ w .1)

@@ -16,8 +16,8 @@ use Rattle.descriptor.specs.Descriptor.{cuei}
 use Rattle.descriptor_loop.proofs.Steps.{Stands}
 use Rattle.descriptor_loop.specs.Items.{stepOf, listed}
 use Rattle.relabel_found.proofs.Inserts.{Inserted, inserted, hole-at, size-all, byte-in}
-use Rattle.relabel_found.specs.Found.{found, payloadAt, foreIn, kindIn, sizeIn, upidIn, postIn}
-use Rattle.relabel_joined.specs.Relabel.{kindThen, itemThen, relabelled}
+use Rattle.relabel_found.specs.Found.{found, payloadAt, foreIn, typeIn, sizeIn, upidIn, postIn}
+use Rattle.relabel_joined.specs.Relabel.{typeThen, itemThen, relabelled}
 use Rattle.relabel_loop.specs.Item.{segmentationItem}
 use Rattle.relabel_loop.specs.Loop.{behindItem, withItem}
 use Rattle.relabel_payload.specs.Payload.{payload, upidHead}
@@ -184,8 +184,8 @@ module _ (s : List ℕ) (offset : ℕ) (at : Spotted s offset) where
   pay-byte : (i : ℕ) → i < L - 4 → getD pay i 0 ≡ getD s (c + offset + 6 + i) 0
   pay-byte i h = ap (λ (l : List ℕ). getD l i 0) pay-is ∙ run-byte s (c + offset + 6) (L - 4) i h
 
-  pub kind-is : getD s (p .head) 0 ≡ kindIn pay
-  kind-is = sym (pay-byte q (omega (arith, at .upid)))
+  pub type-is : getD s (p .head) 0 ≡ typeIn pay
+  type-is = sym (pay-byte q (omega (arith, at .upid)))
 
   pub size-is : getD s (p .head + 1) 0 ≡ n
   size-is = sym (pay-byte (q + 1) (omega (arith, at .upid)) ∙ ap (λ (i : ℕ). getD s i 0) (let z : c + offset + 6 + (q + 1) ≡ p .head + 1 = omega arith in z))
@@ -219,7 +219,7 @@ module _ (s : List ℕ) (offset : ℕ) (at : Spotted s offset) where
 
   module _ (next : stepOf (loopBytes s) offset .next ≡ offset + (L + 2)) (part k : ℕ) (b : List ℕ) where
     abbrev K : ℕ
-    K = kindThen part (kindIn pay) k
+    K = typeThen part (typeIn pay) k
 
     abbrev payThen : List ℕ
     payThen = payloadThen s offset part k b
@@ -293,7 +293,7 @@ module _ (s : List ℕ) (offset : ℕ) (at : Spotted s offset) where
 
     -- ---- and its pieces
 
-    module _ (tag : getD (loopBytes s) offset 0 ≡ 2) (id : take 4 (drop (offset + 2) (loopBytes s)) ≡ cuei) (bytes : (j : ℕ) → getD s j 0 < 256) (kind : K < 256) (takes : Takes s p (length b)) where
+    module _ (tag : getD (loopBytes s) offset 0 ≡ 2) (id : take 4 (drop (offset + 2) (loopBytes s)) ≡ cuei) (bytes : (j : ℕ) → getD s j 0 < 256) (upid-type : K < 256) (takes : Takes s p (length b)) where
       -- the item's tag behind what stands before it
       before-is : run s c (offset + 1) ≡ take offset (loopBytes s) ++ (2 ∷ [])
       before-is =
@@ -355,7 +355,7 @@ module _ (s : List ℕ) (offset : ℕ) (at : Spotted s offset) where
           let y : p .head - (c + offset + 2) ≡ 4 + q = omega arith in
           let v : getD s (c + offset + 1) 0 - oldSize p + length b ≡ length (cuei ++ payThen) = ap₂ (λ (l m : ℕ). l - m + length b) own-is old-is ∙ sym item-long in
           ap₂ (λ (x t : List ℕ). x ++ t) (ap (run s c) z ∙ before-is)
-          (ap₂ (λ (m : ℕ) (t : List ℕ). m ∷ t) v (ap₂ (λ (x t : List ℕ). x ++ t) (ap (run s (c + offset + 2)) y ∙ named-is) (two K (length b) kind small)))
+          (ap₂ (λ (m : ℕ) (t : List ℕ). m ∷ t) v (ap₂ (λ (x t : List ℕ). x ++ t) (ap (run s (c + offset + 2)) y ∙ named-is) (two K (length b) upid-type small)))
 
       body-is : bodyWith s loopThen ≡ bodyOf s p K b
       unfolding bodyWith bodyOf

@@ -15,10 +15,11 @@ use Rattle.command.specs.declared.CommandRead.{CommandRead}
 use Rattle.header.specs.Header.{headerOf}
 use Rattle.header.specs.declared.header.HeaderRead.{HeaderRead}
 use Rattle.relabel_found.proofs.Inserts.{Inserted, inserted}
-use Rattle.relabel_found.specs.Found.{found, kindIn, sizeIn, upidIn}
-use Rattle.relabel_joined.specs.Relabel.{kindThen}
+use Rattle.relabel_found.specs.Found.{found, typeIn, sizeIn, upidIn}
+use Rattle.relabel_joined.specs.Relabel.{typeThen}
 use Rattle.relabel_payload.specs.Payload.{upidHead}
 use Rattle.relabel_upid.specs.Relabel.{upidMade, upTo}
+use Rattle.section.proofs.Acceptance.{number-some}
 use Rattle.section.proofs.Framing.{Framed, framed}
 use Rattle.section.specs.Section.{commandLength, commandType, commandBytes, loopLength, loopBytes, loopPlace, frameIn, frameOf, movedRead, accepted, through, sectionOf, numberOf}
 use Rattle.section.specs.declared.Frame.{Frame}
@@ -33,7 +34,7 @@ use Rattle.upid.proofs.Laws.{by-cases}
 use Rattle.relabel.specs.Relabel.{payloadIn, payloadThen, sectionThen, fitting, loopMade, relabelMade}
 use Rattle.relabel.specs.Private.{run, oldSize, Lies, Takes, Limit, Spotted, placeIn, cutOf, wrapped, placedMade}
 use Rattle.relabel.specs.declared.Place.{Place}
-use Rattle.relabel.proofs.Cuts.{own-is, size-is, pay-is, old-is, kind-is, upid-is, pay-size, section-size, cut-is, loop-there}
+use Rattle.relabel.proofs.Cuts.{own-is, size-is, pay-is, old-is, type-is, upid-is, pay-size, section-size, cut-is, loop-there}
 
 -- ---- how long the UPID may get
 
@@ -113,14 +114,14 @@ module _ (s : List ℕ) (offset part k : ℕ) (new : List ℕ) where
 
   module _ (e : found (loopBytes s) offset ≡ true) (at : Spotted s offset) (bytes : (j : ℕ) → getD s j 0 < 256) (byte : k < 256) (limit : ℕ) (lim : Limit s (placeIn s offset) limit) where
     abbrev K : ℕ
-    K = kindThen part (kindIn (payloadIn s offset)) k
+    K = typeThen part (typeIn (payloadIn s offset)) k
 
     x : Inserted (loopBytes s) offset
     x = inserted (loopBytes s) offset e
 
-    kind-byte : (part : ℕ) → kindThen part (kindIn (payloadIn s offset)) k < 256
-    kind-byte zero = byte
-    kind-byte (suc i) = subst (λ (m : ℕ). m < 256) (kind-is s offset at) (bytes (placeIn s offset .head))
+    type-is-byte : (part : ℕ) → typeThen part (typeIn (payloadIn s offset)) k < 256
+    type-is-byte zero = byte
+    type-is-byte (suc i) = subst (λ (m : ℕ). m < 256) (type-is s offset at) (bytes (placeIn s offset .head))
 
     abbrev L : ℕ
     L = getD (loopBytes s) (offset + 1) 0
@@ -160,7 +161,7 @@ module _ (s : List ℕ) (offset part k : ℕ) (new : List ℕ) where
       fits-same true h =
           let t = lim (length b) .0 (leb-true (length b) limit h) in
           let f = when-takes t in
-          rw (le-leb len-pay 250 (f .0), le-leb len-section 4096 (f .1)) (ap made (cut-is s offset at (x .next) part k b (x .tag) (x .id) bytes (kind-byte part) t))
+          rw (le-leb len-pay 250 (f .0), le-leb len-section 4096 (f .1)) (ap made (cut-is s offset at (x .next) part k b (x .tag) (x .id) bytes (type-is-byte part) t))
       fits-same false h =
           by-cases 250 len-pay
           (λ g. rw (lt-leb len-pay 250 g))
@@ -176,24 +177,10 @@ module _ (s : List ℕ) (offset part k : ℕ) (new : List ℕ) where
     pub made-same : loopMade s offset part k new ≡ placedMade s (placeIn s offset) limit part k new
     unfolding loopMade placedMade
     made-same =
-        rw e (made-by (upidMade (kindIn (payloadIn s offset)) (upidIn (payloadIn s offset)) part k new)
-        ∙ ap₂ (λ (j : ℕ) (u : List ℕ). wrapped s (placeIn s offset) (kindThen part j k) (upTo limit (upidMade j u part k new))) (sym (kind-is s offset at)) (sym (upid-is s offset at)))
+        rw e (made-by (upidMade (typeIn (payloadIn s offset)) (upidIn (payloadIn s offset)) part k new)
+        ∙ ap₂ (λ (j : ℕ) (u : List ℕ). wrapped s (placeIn s offset) (typeThen part j k) (upTo limit (upidMade j u part k new))) (sym (type-is s offset at)) (sym (upid-is s offset at)))
 
 -- ---- by the section's reading
-
-number-some : (r : Refusal) → numberOf (SectionRead.Refused r) ≡ 0 → ⊥
-unfolding numberOf
-number-some Refusal.SectionTooShort e = omega arith
-number-some Refusal.InputTooLong e = omega arith
-number-some Refusal.OtherTable e = omega arith
-number-some Refusal.WrongCrc e = omega arith
-number-some Refusal.NoHeader e = omega arith
-number-some Refusal.Encrypted e = omega arith
-number-some Refusal.CommandTooLong e = omega arith
-number-some Refusal.NoLoopLength e = omega arith
-number-some Refusal.LoopTooLong e = omega arith
-number-some Refusal.UnknownCommand e = omega arith
-number-some Refusal.MalformedCommand e = omega arith
 
 module _ (s : List ℕ) (offset part k : ℕ) (new : List ℕ) where
   pub section-refused : (r : Refusal) (q : ℕ) → sectionOf s ≡ SectionRead.Refused r → q ≡ numberOf (sectionOf s) → relabelMade s offset part k new ≡ refused q

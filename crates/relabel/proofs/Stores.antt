@@ -9,7 +9,7 @@ use native.Mathlib.Omega.{arith}
 use lib.ListN.{length, take, drop, getD, length-append, length-take, length-drop}
 use lib.Seq.{length-take-le, take-at, drop-at}
 use Rattle.crc.specs.Crc.{crcOf, crcBytesOf}
-use Rattle.relabel_joined.specs.Relabel.{kindThen}
+use Rattle.relabel_joined.specs.Relabel.{typeThen}
 use Rattle.table.proofs.Bits.{length-bigEndian}
 use Rattle.table.proofs.Stores.{stored-fits, stored-append, length-stored}
 use Rattle.table.specs.Bits.{bigEndian}
@@ -171,6 +171,6 @@ back-stored s p n t t₁ t₂ crc last el e₁ ec e₂ =
     let z : last - 0 ≡ last = omega arith in
     e₂ ∙ rw (ec, z, e₁, el)
 
-pub kind-more : (part kind k : ℕ) → (part ≡ 0 → ⊥) → kind ≡ kindThen part kind k
-kind-more zero kind k h = absurd (h refl)
-kind-more (suc i) kind k h = refl
+pub type-more : (part upid-type k : ℕ) → (part ≡ 0 → ⊥) → upid-type ≡ typeThen part upid-type k
+type-more zero upid-type k h = absurd (h refl)
+type-more (suc i) upid-type k h = refl

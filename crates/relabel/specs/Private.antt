@@ -5,7 +5,7 @@ use mathlib.Core.Path.{_≡_}
 use lib.ListN.{length, take, drop, getD}
 use Rattle.crc.specs.Crc.{crcOf, crcBytesOf}
 use Rattle.relabel_found.specs.Found.{sizeIn}
-use Rattle.relabel_joined.specs.Relabel.{kindThen}
+use Rattle.relabel_joined.specs.Relabel.{typeThen}
 use Rattle.relabel_payload.specs.Payload.{upidHead}
 use Rattle.relabel_upid.specs.Relabel.{upidMade, upTo}
 use Rattle.section.specs.Section.{commandLength, loopLength, loopBytes}
@@ -110,4 +110,4 @@ Limit s p limit = (n : ℕ) → (n ≤ limit → Takes s p n) × (Takes s p n �
 
 unfoldable pub placedMade : List ℕ → Place → ℕ → ℕ → ℕ → List ℕ → Made
 placedMade s p limit part k new =
-    wrapped s p (kindThen part (getD s (p .head) 0) k) (upTo limit (upidMade (getD s (p .head) 0) (run s (p .head + 2) (oldSize p)) part k new))
+    wrapped s p (typeThen part (getD s (p .head) 0) k) (upTo limit (upidMade (getD s (p .head) 0) (run s (p .head + 2) (oldSize p)) part k new))

@@ -5,8 +5,8 @@ use mathlib.Core.List.{List}
 use lib.Dec.{leb, eqb}
 use lib.ListN.{length}
 use Rattle.descriptor_loop.specs.Items.{listed}
-use Rattle.relabel_found.specs.Found.{found, payloadAt, foreIn, kindIn, upidIn, postIn}
-use Rattle.relabel_joined.specs.Relabel.{kindThen, relabelled}
+use Rattle.relabel_found.specs.Found.{found, payloadAt, foreIn, typeIn, upidIn, postIn}
+use Rattle.relabel_joined.specs.Relabel.{typeThen, relabelled}
 use Rattle.relabel_payload.specs.Payload.{payload}
 use Rattle.relabel_upid.specs.Relabel.{upidMade}
 use Rattle.section.specs.Section.{loopBytes, sectionOf, numberOf}
@@ -21,13 +21,13 @@ payloadIn s offset = payloadAt (loopBytes s) offset
 abbrev pub payloadThen : List ℕ → ℕ → ℕ → ℕ → List ℕ → List ℕ
 payloadThen s offset part k b =
     let pay : List ℕ = payloadIn s offset in
-    payload (foreIn pay) (postIn pay) (kindThen part (kindIn pay) k) b
+    payload (foreIn pay) (postIn pay) (typeThen part (typeIn pay) k) b
 
 -- the section with it: each length on the way out is that of what it now counts, and the CRC is that of what it now follows
 abbrev pub sectionThen : List ℕ → ℕ → ℕ → ℕ → List ℕ → List ℕ
 sectionThen s offset part k b =
     let pay : List ℕ = payloadIn s offset in
-    relabelled s (listed (loopBytes s) offset) (foreIn pay) (postIn pay) (kindThen part (kindIn pay) k) b
+    relabelled s (listed (loopBytes s) offset) (foreIn pay) (postIn pay) (typeThen part (typeIn pay) k) b
 
 -- 34: "descriptor over 254 or section over 4,096"; four bytes of the descriptor's are its identifier
 unfoldable pub fitting : List ℕ → ℕ → ℕ → ℕ → Made → Made
@@ -40,7 +40,7 @@ fitting s offset part k (made b) =
 unfoldable pub loopMade : List ℕ → ℕ → ℕ → ℕ → List ℕ → Made
 loopMade s offset part k new =
     pick (found (loopBytes s) offset)
-    (fitting s offset part k (upidMade (kindIn (payloadIn s offset)) (upidIn (payloadIn s offset)) part k new))
+    (fitting s offset part k (upidMade (typeIn (payloadIn s offset)) (upidIn (payloadIn s offset)) part k new))
     (refused 41)
 
 -- The section s in which part number `part` (0 for the UPID itself) of the item at `offset` becomes an identifier of type k with the bytes `new`; or a refusal:

@@ -4,19 +4,20 @@ ghost use mathlib.Core.Path.{_≡_};
 ghost use Prim.Native.Nat.{_+_, _-_, _<_, _≤_};
 ghost use lib.ListN.{length, getD};
 ghost use Rattle.bit_stores.specs.Written.{answerOf, laterOf};
-ghost use Rattle.relabel_joined.specs.Relabel.{kindThen};
+ghost use Rattle.relabel_joined.specs.Relabel.{typeThen};
 ghost use Rattle.table.specs.Lent.{stored};
 ghost use Rattle.relabel.specs.Relabel.{loopMade, relabelMade};
 ghost use Rattle.section.specs.Section.{commandLength, loopLength};
 ghost use Rattle.relabel.specs.Private.{Spotted, placeIn, Lies, Takes, Limit, oldSize, headOf, itemOf, sealed, placedMade};
-use adjust_section::refusal_number;
 use bit_stores::Written;
 use crc::crc32;
 use relabel_found::finds_insert;
 use relabel_found::upid_head;
 use relabel_upid::relabel_upid;
+use section::MAX_SECTION;
 use section::SectionRead;
 use section::read_section;
+use table::numbers::size;
 use table::numbers::wide;
 use table::store::put_byte;
 use table::store::put_bytes;
@@ -29,12 +30,6 @@ struct Place {
     item: usize,
     head: usize,
     end: usize,
-}
-
-fn size_of(b: u8) -> usize
-    ensures { λ r. ⌜ (r ≡ b) × (r < 256) ⌝ }
-{
-    b as usize
 }
 
 fn lesser(a: usize, b: usize) -> usize
@@ -57,13 +52,13 @@ fn beyond(a: usize, b: usize) -> usize
 }
 
 // The type of the UPID then: with part 0 the new one, with a part of a MID the MID's own.
-fn kind_then(part: usize, kind: u8, k: u8) -> u8
-    ensures { λ r. ⌜ r ≡ kindThen part kind k ⌝ }
+fn type_then(part: usize, upid_type: u8, k: u8) -> u8
+    ensures { λ r. ⌜ r ≡ typeThen part «upid_type» k ⌝ }
 {
     if part == 0 {
         return k;
     }
-    kind
+    upid_type
 }
 
 // All up to the loop, with n bytes of UPID in it: section_length and the loop's length are mended.
@@ -81,19 +76,19 @@ fn store_head(section: &[u8], p: Place, n: usize, target: &mut [u8])
 }
 
 // From the loop on all up to the UPID's bytes, of which there are n: the item's length is mended, and the UPID's head is new.
-fn store_item(section: &[u8], p: Place, kind: u8, n: usize, target: &mut [u8])
+fn store_item(section: &[u8], p: Place, upid_type: u8, n: usize, target: &mut [u8])
     requires { ⌜ Lies (now section) p × Takes (now section) p n × (p .head + 2 ≤ length (now target)) ⌝ }
-    ensures { λ _. ⌜ now (target .exit) ≡ stored (now (target .entry)) (p .list) (itemOf (now (section .entry)) p kind n) ⌝ }
+    ensures { λ _. ⌜ now (target .exit) ≡ stored (now (target .entry)) (p .list) (itemOf (now (section .entry)) p «upid_type» n) ⌝ }
 {
     let list = p.list;
     let own = p.item + 1;
     let named = p.item + 2;
     let head = p.head;
-    let len = size_of(section[own]) - (p.end - (head + 2)) + n;
+    let len = size(section[own]) - (p.end - (head + 2)) + n;
     put_bytes(target, list, &section[list..own]);
     put_byte(target, own, len as u8);
     put_bytes(target, named, &section[named..head]);
-    put_number(target, head, 2, wide(kind) * 256 + n as u64);
+    put_number(target, head, 2, wide(upid_type) * 256 + n as u64);
 }
 
 // All behind the UPID's n bytes, and the CRC.
@@ -111,12 +106,12 @@ fn store_back(section: &[u8], p: Place, n: usize, target: &mut [u8])
 }
 
 // All around the UPID's n bytes, in the order in which it stands.
-fn store_around(section: &[u8], p: Place, kind: u8, n: usize, target: &mut [u8])
+fn store_around(section: &[u8], p: Place, upid_type: u8, n: usize, target: &mut [u8])
     requires { ⌜ Lies (now section) p × Takes (now section) p n × (length (now section) - oldSize p + n ≤ length (now target)) ⌝ }
-    ensures { λ _. ⌜ now (target .exit) ≡ sealed (now (section .entry)) p n (stored (stored (now (target .entry)) 0 (headOf (now (section .entry)) p n)) (p .list) (itemOf (now (section .entry)) p kind n)) ⌝ }
+    ensures { λ _. ⌜ now (target .exit) ≡ sealed (now (section .entry)) p n (stored (stored (now (target .entry)) 0 (headOf (now (section .entry)) p n)) (p .list) (itemOf (now (section .entry)) p «upid_type» n)) ⌝ }
 {
     store_head(section, p, n, target);
-    store_item(section, p, kind, n, target);
+    store_item(section, p, upid_type, n, target);
     store_back(section, p, n, target);
 }
 
@@ -141,9 +136,9 @@ fn relabel_at(
     let room = beyond(target.len(), others);
     let from = lesser(start, target.len() - room);
     let to = from + room;
-    let kind = section[head];
+    let upid_type = section[head];
     let made = relabel_upid(
-        kind,
+        upid_type,
         &section[start..end],
         part,
         k,
@@ -155,7 +150,7 @@ fn relabel_at(
         Written::Wrote(n) => n,
         Written::Refused(r) => return Written::Refused(r),
     };
-    store_around(section, p, kind_then(part, kind, k), n, target);
+    store_around(section, p, type_then(part, upid_type, k), n, target);
     Written::Wrote(others + n)
 }
 
@@ -166,9 +161,9 @@ fn limit_of(section: &[u8], p: Place) -> usize
 {
     let own = p.item + 1;
     let old = p.end - (p.head + 2);
-    let item = size_of(section[own]) - old;
+    let item = size(section[own]) - old;
     let others = section.len() - old;
-    lesser(254 - item, 4096 - others)
+    lesser(254 - item, MAX_SECTION - others)
 }
 
 // The place of the item at an offset of the loop, where one is found.
@@ -179,10 +174,10 @@ fn place_of(section: &[u8], list: usize, len: usize, offset: usize) -> Place
     let item = list + offset;
     let own = item + 1;
     let start = item + 6;
-    let stop = item + 2 + size_of(section[own]);
+    let stop = item + 2 + size(section[own]);
     let head = start + upid_head(&section[start..stop]);
     let counts = head + 1;
-    let end = head + 2 + size_of(section[counts]);
+    let end = head + 2 + size(section[counts]);
     Place {
         list,
         len,
@@ -229,10 +224,9 @@ pub fn relabel(
     ensures answer { λ r. ⌜ r ≡ answerOf (relabelMade (now (section .entry)) offset part k (now (new .entry))) (now (target .entry)) ⌝ }
     ensures bytes { λ _. ⌜ now (target .exit) ≡ laterOf (relabelMade (now (section .entry)) offset part k (now (new .entry))) (now (target .entry)) ⌝ }
 {
-    let read = read_section(section);
-    let x = match read {
+    let x = match read_section(section) {
         SectionRead::Is(x) => x,
-        SectionRead::Refused(_) => return Written::Refused(refusal_number(read)),
+        SectionRead::Refused(r) => return Written::Refused(r.number()),
     };
     let place = x.descriptors;
     relabel_in(section, place.at, place.len, offset, part, k, new, target)

@@ -24,9 +24,9 @@ use Rattle.descriptor.specs.declared.Descriptor.the-variants.{Avail, Dtmf, Segm
 use Rattle.descriptor.specs.declared.DescriptorRead.{DescriptorRead}
 use Rattle.descriptor.specs.declared.DescriptorRead.the-variants as read
 use Rattle.descriptor.specs.declared.segmentation.SegmentationDescriptor.{SegmentationDescriptor}
+use Rattle.descriptor.specs.declared.segmentation.DescriptorDetail.{DescriptorDetail}
+use Rattle.descriptor.specs.declared.segmentation.DescriptorDetail.the-variants.{Cancel, Active}
 use Rattle.descriptor.specs.declared.segmentation.SegmentationDetail.{SegmentationDetail}
-use Rattle.descriptor.specs.declared.segmentation.SegmentationDetail.the-variants.{Cancel, Insert}
-use Rattle.descriptor.specs.declared.segmentation.SegmentationInsert.{SegmentationInsert}
 use Rattle.descriptor_loop.proofs.Steps.{Clause, long, ended, last, small, entire, clause, Stands}
 use Rattle.descriptor_loop.specs.Items.{itemAt, readAt, wholeAt, stepOf, itemsOf}
 use Rattle.descriptor_loop.specs.Place.{movedDescriptor, movedUpid}
@@ -35,7 +35,7 @@ use Rattle.descriptor_loop.specs.declared.Item.the-variants.{Is}
 use Rattle.descriptor_loop.specs.declared.Step.{Step}
 use Rattle.relabel_payload.proofs.Theorems.{of-the-payload-only-the-upid-differs}
 use Rattle.relabel_payload.specs.Payload.{payload, upidHead, Holed}
-use Rattle.relabel_found.specs.Found.{begins, inserts, found, payloadAt, foreIn, kindIn, sizeIn, upidIn, postIn}
+use Rattle.relabel_found.specs.Found.{begins, inserts, found, payloadAt, foreIn, typeIn, sizeIn, upidIn, postIn}
 
 -- ---- which reading is a segmentation descriptor that is not cancelled
 
@@ -101,13 +101,13 @@ module _ (base : ℕ) (s : List ℕ) where
         go false ci h = false-true _ (reserved-not tag) h
 
 -- what it reads as
-pub record Insertion (base : ℕ) (r : DescriptorRead) : Type 0 where
+pub record SpliceInsert (base : ℕ) (r : DescriptorRead) : Type 0 where
   pub x : SegmentationDescriptor
-  pub i : SegmentationInsert
+  pub i : SegmentationDetail
   pub is : r ≡ read.Is (Segmentation x)
-  pub detail : x .«descriptor_detail» ≡ Insert i
+  pub detail : x .«descriptor_detail» ≡ Active i
 
-insertion : (base : ℕ) (r : DescriptorRead) → isInsert base r ≡ true → Insertion base r
+insertion : (base : ℕ) (r : DescriptorRead) → isInsert base r ≡ true → SpliceInsert base r
 insertion base (read.Refused q) e = zero-one cc
 insertion base (read.Is (Avail x)) e = zero-one cc
 insertion base (read.Is (Dtmf x)) e = zero-one cc
@@ -115,9 +115,9 @@ insertion base (read.Is (Time x)) e = zero-one cc
 insertion base (read.Is (Reserved tag v)) e = zero-one cc
 insertion base (read.Is (Segmentation x)) e = go (x .«descriptor_detail») refl e
   where
-    go : (d : SegmentationDetail) → x .«descriptor_detail» ≡ d → not (cancelled (withUpids (movedUpid base) d)) ≡ true → Insertion base (read.Is (Segmentation x))
+    go : (d : DescriptorDetail) → x .«descriptor_detail» ≡ d → not (cancelled (withUpids (movedUpid base) d)) ≡ true → SpliceInsert base (read.Is (Segmentation x))
     go Cancel ed h = zero-one cc
-    go (Insert i) ed h = record { x = x; i = i; is = refl; detail = ed }
+    go (Active i) ed h = record { x = x; i = i; is = refl; detail = ed }
 
 -- ---- "CUEI", byte by byte
 four : (l : List ℕ) → length l ≡ 4 → l ≡ getD l 0 0 ∷ (getD l 1 0 ∷ (getD l 2 0 ∷ (getD l 3 0 ∷ [])))
@@ -149,9 +149,9 @@ pub record Inserted (loop : List ℕ) (offset : ℕ) : Type 0 where
   pub id : take 4 (drop (offset + 2) loop) ≡ cuei
   pub next : stepOf loop offset .next ≡ offset + (getD loop (offset + 1) 0 + 2)
   pub x : SegmentationDescriptor
-  pub i : SegmentationInsert
+  pub i : SegmentationDetail
   pub reads : segmentationOf (payloadAt loop offset) ≡ read.Is (Segmentation x)
-  pub detail : x .«descriptor_detail» ≡ Insert i
+  pub detail : x .«descriptor_detail» ≡ Active i
   pub item : stepOf loop offset .item ≡ Is (movedDescriptor (offset + 6) (Segmentation x))
 
 module _ (loop : List ℕ) (offset : ℕ) where
@@ -193,9 +193,9 @@ module _ (loop : List ℕ) (offset : ℕ) where
 
 -- ---- its payload, by places
 
-module _ (pay : List ℕ) (event : ℕ) (i : SegmentationInsert) (h : Holed pay event i) where
+module _ (pay : List ℕ) (event : ℕ) (i : SegmentationDetail) (h : Holed pay event i) where
   tail : List ℕ
-  tail = h .kind ∷ (length (h .bytes) ∷ (h .bytes ++ h .post))
+  tail = h .«upid_type» ∷ (length (h .bytes) ∷ (h .bytes ++ h .post))
 
   is-tail : pay ≡ h .fore ++ tail
   unfolding tail
@@ -205,10 +205,10 @@ module _ (pay : List ℕ) (event : ℕ) (i : SegmentationInsert) (h : Holed pay 
   fore-in =
       sym (take-at (h .fore) tail (upidHead pay) (h .place)) ∙ ap (take (upidHead pay)) (sym is-tail)
 
-  pub kind-in : h .kind ≡ kindIn pay
+  pub type-in : h .«upid_type» ≡ typeIn pay
   unfolding tail
-  kind-in =
-      sym (getD-append-seam (h .fore) (h .kind) (length (h .bytes) ∷ (h .bytes ++ h .post)) 0)
+  type-in =
+      sym (getD-append-seam (h .fore) (h .«upid_type») (length (h .bytes) ∷ (h .bytes ++ h .post)) 0)
       ∙ ap₂ (λ (l : List ℕ) (k : ℕ). getD l k 0) (sym is-tail) (h .place)
 
   pub size-in : length (h .bytes) ≡ sizeIn pay

@@ -37,8 +37,8 @@ payloadAt loop offset = take (getD loop (offset + 1) 0 - 4) (drop (offset + 6) l
 abbrev pub foreIn : List ℕ → List ℕ
 foreIn pay = take (upidHead pay) pay
 
-abbrev pub kindIn : List ℕ → ℕ
-kindIn pay = getD pay (upidHead pay) 0
+abbrev pub typeIn : List ℕ → ℕ
+typeIn pay = getD pay (upidHead pay) 0
 
 abbrev pub sizeIn : List ℕ → ℕ
 sizeIn pay = getD pay (upidHead pay + 1) 0

@@ -8,16 +8,12 @@ ghost use Rattle.descriptor_loop.specs.Items.{stepOf, itemsOf};
 ghost use Rattle.relabel_found.specs.Found.{begins, inserts, found};
 ghost use Rattle.relabel_payload.specs.Payload.{upidHead};
 use descriptor::Descriptor;
-use descriptor::segmentation::SegmentationDetail;
+use descriptor::segmentation::DescriptorDetail;
 use descriptor_loop::Item;
+use descriptor_loop::MAX_LOOP;
 use descriptor_loop::iteration::step;
 use table::numbers::byte;
-
-fn wide(b: u8) -> usize
-    ensures { λ r. ⌜ (r ≡ b) × (r < 256) ⌝ }
-{
-    b as usize
-}
+use table::numbers::size;
 
 // Where the item after the one at an offset starts: `step` says it too, but reads the item.
 fn skip_item(items: &[u8], at: usize) -> usize
@@ -29,7 +25,7 @@ fn skip_item(items: &[u8], at: usize) -> usize
     if left < 6 {
         return end;
     }
-    let len = wide(items[at + 1]);
+    let len = size(items[at + 1]);
     if left < len + 2 {
         return end;
     }
@@ -67,8 +63,8 @@ fn is_insert(item: Item) -> bool
             Descriptor::Segmentation(x) => {
                 let detail = x.descriptor_detail;
                 match detail {
-                    SegmentationDetail::Cancel => false,
-                    SegmentationDetail::Insert(_) => true,
+                    DescriptorDetail::Cancel => false,
+                    DescriptorDetail::Active(_) => true,
                 }
             }
             Descriptor::Time(_) => false,
@@ -84,7 +80,7 @@ fn is_insert(item: Item) -> bool
 pub fn finds_insert(items: &[u8], offset: usize) -> bool
     ensures { λ r. ⌜ r ≡ found (now (items .entry)) offset ⌝ }
 {
-    if 4076 < items.len() {
+    if MAX_LOOP < items.len() {
         return false;
     }
     if !begins_item(items, offset) {
@@ -102,7 +98,7 @@ fn components_size(flags: u8, count: u8) -> usize
     if flags / 128 % 2 == 1 {
         return 0;
     }
-    1 + wide(count) * 6
+    1 + size(count) * 6
 }
 
 // How many bytes the duration takes.

@@ -6,8 +6,8 @@ use lib.ListN.{length}
 use Rattle.descriptor.specs.Descriptor.{reportedUpid}
 use Rattle.descriptor.specs.Segmentation.{withUpid}
 use Rattle.descriptor.specs.declared.Descriptor.the-variants.{Segmentation}
-use Rattle.descriptor.specs.declared.segmentation.SegmentationDetail.the-variants.{Insert}
-use Rattle.descriptor.specs.declared.segmentation.SegmentationInsert.{SegmentationInsert}
+use Rattle.descriptor.specs.declared.segmentation.DescriptorDetail.the-variants.{Active}
+use Rattle.descriptor.specs.declared.segmentation.SegmentationDetail.{SegmentationDetail}
 use Rattle.descriptor_loop.specs.Items.{stepOf, Listed}
 use Rattle.descriptor_loop.specs.Place.{movedDescriptor}
 use Rattle.descriptor_loop.specs.declared.Item.the-variants.{Is}
@@ -20,9 +20,9 @@ use Rattle.section.specs.declared.Section.{Section}
 use Rattle.section.specs.declared.SectionRead.{SectionRead}
 
 -- the type of the UPID then: with part 0 the new one, with a part of a MID the MID's own
-abbrev pub kindThen : ℕ → ℕ → ℕ → ℕ
-kindThen zero kind k = k
-kindThen (suc i) kind k = kind
+abbrev pub typeThen : ℕ → ℕ → ℕ → ℕ
+typeThen zero upid-type k = k
+typeThen (suc i) upid-type k = upid-type
 
 -- the item then, whose payload is what stands before the UPID's head, the UPID u of type k, and what stands after it
 abbrev pub itemThen : List ℕ → List ℕ → ℕ → List ℕ → List ℕ
@@ -33,7 +33,7 @@ abbrev pub relabelled : List ℕ → Listed → List ℕ → List ℕ → ℕ �
 relabelled s x fore post k u = sectionWith s (withItem (loopBytes s) x (itemThen fore post k u))
 
 -- What is claimed of it, where s reads as `old`, its loop's items are `lead`, x and `tail`, and x is the insert i of this event.
-pub record Kept (s : List ℕ) (old : Section) (lead : List Listed) (x : Listed) (tail : List Listed) (event : ℕ) (i : SegmentationInsert) (fore post : List ℕ) (k : ℕ) (u : List ℕ) : Type 0 where
+pub record Kept (s : List ℕ) (old : Section) (lead : List Listed) (x : Listed) (tail : List Listed) (event : ℕ) (i : SegmentationDetail) (fore post : List ℕ) (k : ℕ) (u : List ℕ) : Type 0 where
   -- it is accepted, with the same header and command
   pub section : sectionOf (relabelled s x fore post k u)
       ≡ SectionRead.Is (record { header = old .header; command = old .command; descriptors = record { at = 16 + commandLength s; len = length (withItem (loopBytes s) x (itemThen fore post k u)) }; payload = old .payload })
@@ -43,4 +43,4 @@ pub record Kept (s : List ℕ) (old : Section) (lead : List Listed) (x : Listed)
   -- of the item itself only the UPID differs
   pub reported : ℕ
   pub own : stepOf (itemThen fore post k u) 0 .item
-      ≡ Is (movedDescriptor 6 (Segmentation (record { «segmentation_event_id» = event; «descriptor_detail» = Insert (withUpid i (reportedUpid reported (record { at = length fore + 2; len = length u }))) })))
+      ≡ Is (movedDescriptor 6 (Segmentation (record { «segmentation_event_id» = event; «descriptor_detail» = Active (withUpid i (reportedUpid reported (record { at = length fore + 2; len = length u }))) })))

@@ -1,4 +1,5 @@
 pub mod Results
+pub mod Items
 pub mod Lists
 pub mod Replaced
 pub mod Theorems

@@ -1,40 +1,33 @@
 -- The identifiers of a section, item by item.
-use Prim.Native.Nat.{ℕ, zero, suc, _+_, _*_, _-_, _/_, _%_, _≤_, _<_}
+use Prim.Native.Nat.{ℕ, _+_, _*_, _-_, _/_, _%_, _≤_, _<_}
 use mathlib.Core.Bool.{Bool, true, false, not}
-use mathlib.Core.List.{List, [], _∷_, _++_, map, append-assoc, append-nil}
+use mathlib.Core.List.{List, [], _∷_, _++_, map, append-assoc}
 use mathlib.Core.Path.{_≡_, refl, ap, ap₂, sym, subst, _∙_}
 use native.Mathlib.Omega.{arith}
-use borrow.Author.Tests.{ne-eqb, eq-eqb}
 use lib.Dec.{eqb}
-use lib.ListN.{length, take, drop, getD, length-append, length-take, length-drop, List·getD-append}
-use lib.Seq.{take-append-le, drop-append-le, drop-append-add, take-append-seam, take-at, drop-at, getD-append-seam, getD-append-add, getD-take, length-take-le, drop-drop}
-use Rattle.descriptor.specs.Descriptor.{cuei, reportedUpid}
-use Rattle.descriptor.specs.Segmentation.{cancelled, withUpid}
+use lib.ListN.{length, take, drop, getD, List·getD-append}
+use lib.Seq.{drop-append-add, take-append-seam, getD-append-seam, getD-append-add, getD-take, length-take-le}
+use Rattle.descriptor.specs.Segmentation.{cancelled, fieldsBefore}
 use Rattle.descriptor.specs.Views.{withUpids}
-use Rattle.descriptor.specs.declared.Descriptor.{Descriptor}
 use Rattle.descriptor.specs.declared.Descriptor.the-variants.{Avail, Dtmf, Segmentation, Time, Reserved}
-use Rattle.descriptor.specs.declared.segmentation.SegmentationDescriptor.{SegmentationDescriptor}
-use Rattle.descriptor.specs.declared.segmentation.SegmentationDetail.{SegmentationDetail}
-use Rattle.descriptor.specs.declared.segmentation.SegmentationDetail.the-variants.{Cancel, Insert}
-use Rattle.descriptor_loop.proofs.Lists.{Walked, stop, step, walked}
+use Rattle.descriptor.specs.declared.segmentation.DescriptorDetail.{DescriptorDetail}
+use Rattle.descriptor.specs.declared.segmentation.DescriptorDetail.the-variants.{Cancel, Active}
+use Rattle.descriptor_loop.proofs.Lists.{Walked, stop, step}
 use Rattle.descriptor_loop.proofs.Steps.{forward}
-use Rattle.descriptor_loop.specs.Items.{stepOf, Listed, listed, itemsOf}
-use Rattle.descriptor_loop.specs.Place.{movedDescriptor, movedUpid}
+use Rattle.descriptor_loop.specs.Items.{stepOf, Listed, listed}
+use Rattle.descriptor_loop.specs.Place.{movedUpid}
 use Rattle.descriptor_loop.specs.declared.Item.{Item}
 use Rattle.descriptor_loop.specs.declared.Item.the-variants.{End, Refused, Is}
 use Rattle.descriptor_loop.specs.declared.ItemRefusal.the-variants.{InvalidDescriptorLength, Other}
-use Rattle.descriptor_loop.specs.declared.Step.{Step}
-use Rattle.relabel_found.specs.Found.{inserts, foreIn, kindIn, sizeIn, upidIn, postIn}
-use Rattle.relabel_joined.specs.Relabel.{kindThen}
-use Rattle.relabel_loop.proofs.Pieces.{piece, step-of-whole}
+use Rattle.relabel_found.specs.Found.{inserts, foreIn, typeIn, sizeIn, postIn}
 use Rattle.relabel_loop.specs.Item.{segmentationItem}
-use Rattle.relabel_loop.specs.Loop.{movedItem, movedListed, behindItem, withItem, OthersStay}
-use Rattle.relabel_payload.specs.Payload.{payload, fieldsBefore, upidHead}
+use Rattle.relabel_loop.specs.Loop.{movedItem, movedListed}
+use Rattle.relabel_payload.specs.Payload.{payload, upidHead}
 use Rattle.table.specs.Bits.{pick}
-use Rattle.upid.proofs.Laws.{by-cases}
 use Rattle.upid.specs.Cover.{All, none, more}
 use Rattle.relabel_upid.specs.Kept.{Identifier}
 use Rattle.relabel_laws.specs.Identifiers.{ofUpid, ofPayload, ofItem, each}
+use Rattle.relabel_laws.proofs.Items.{moved-listed, front-listed, own-listed}
 
 -- ---- lists of items
 
@@ -44,9 +37,9 @@ each-append loop (x ∷ xs) ys = ap (λ (l : List Identifier). ofItem loop x ++ 
 
 -- ---- the same item in a loop that has more bytes before it
 
-same-detail : (n : ℕ) (d : SegmentationDetail) → cancelled (withUpids (movedUpid n) d) ≡ cancelled d
+same-detail : (n : ℕ) (d : DescriptorDetail) → cancelled (withUpids (movedUpid n) d) ≡ cancelled d
 same-detail n Cancel = refl
-same-detail n (Insert i) = refl
+same-detail n (Active i) = refl
 
 same-inserts : (n : ℕ) (i : Item) → inserts (movedItem n i) ≡ inserts i
 same-inserts n End = refl
@@ -58,12 +51,13 @@ same-inserts n (Is (Time x)) = refl
 same-inserts n (Is (Reserved tag v)) = refl
 same-inserts n (Is (Segmentation x)) = ap not (same-detail n (x .«descriptor_detail»))
 
+-- what an item tells by its reading and its payload
+abbrev pub tells : Item → List ℕ → List Identifier
+tells i p = pick (inserts i) (ofPayload p) []
+
 pub moved-item : (pre s : List ℕ) (x : Listed) (n : ℕ) → n ≡ length pre → ofItem (pre ++ s) (movedListed n x) ≡ ofItem s x
 unfolding ofItem
-moved-item pre s x n e =
-    let z : n + x .offset + 6 ≡ length pre + (x .offset + 6) = omega arith in
-    let d : drop (n + x .offset + 6) (pre ++ s) ≡ drop (x .offset + 6) s = ap (λ (i : ℕ). drop i (pre ++ s)) z ∙ drop-append-add pre s (x .offset + 6) in
-    ap₂ (λ (b : Bool) (l : List ℕ). pick b (ofPayload (take (x .used - 6) l)) []) (same-inserts n (x .step .item)) d
+moved-item = moved-listed tells (λ n i p. ap (λ (b : Bool). pick b (ofPayload p) []) (same-inserts n i))
 
 pub moved-each : (pre s : List ℕ) (n : ℕ) → n ≡ length pre → (xs : List Listed) → each (pre ++ s) (map (movedListed n) xs) ≡ each s xs
 moved-each pre s n e [] = refl
@@ -76,17 +70,7 @@ Within offset x = x .offset + x .used ≤ offset
 
 front-item : (a r t : List ℕ) (x : Listed) → Within (length a) x → ofItem (a ++ r) x ≡ ofItem (a ++ t) x
 unfolding ofItem
-front-item a r t x h = ap (λ (l : List ℕ). pick (inserts (x .step .item)) (ofPayload l) []) (run r ∙ sym (run t))
-  where
-    run : (r : List ℕ) → take (x .used - 6) (drop (x .offset + 6) (a ++ r)) ≡ take (x .used - 6) (drop (x .offset + 6) a)
-    run r =
-        by-cases (x .used) 6
-        (λ l.
-        let z : x .used - 6 ≡ 0 = omega arith in
-        ap (λ (n : ℕ). take n (drop (x .offset + 6) (a ++ r))) z ∙ sym (ap (λ (n : ℕ). take n (drop (x .offset + 6) a)) z))
-        (λ g.
-        ap (take (x .used - 6)) (drop-append-le (x .offset + 6) a r (omega arith))
-        ∙ take-append-le (x .used - 6) (drop (x .offset + 6) a) r (omega (arith, length-drop (x .offset + 6) a)))
+front-item = front-listed tells
 
 pub front-each : (a r t : List ℕ) (xs : List Listed) → All (Within (length a)) xs → each (a ++ r) xs ≡ each (a ++ t) xs
 front-each a r t [] none = refl
@@ -142,7 +126,7 @@ module _ (pay : List ℕ) (K : ℕ) (b : List ℕ) (fits : upidHead pay + 2 + si
   fore-long : length (foreIn pay) ≡ upidHead pay
   fore-long = length-take-le (upidHead pay) pay (omega arith)
 
-  head-then : upidHead then ≡ upidHead pay
+  pub head-then : upidHead then ≡ upidHead pay
   head-then = head-same pay (foreIn pay) (K ∷ (length b ∷ (b ++ postIn pay))) refl fore-long (omega (arith, fore-long))
 
   head-long : upidHead then ≡ length (foreIn pay)
@@ -150,29 +134,12 @@ module _ (pay : List ℕ) (K : ℕ) (b : List ℕ) (fits : upidHead pay + 2 + si
 
   pub payload-then : ofPayload then ≡ ofUpid K b
   payload-then =
-      let k : kindIn then ≡ K = ap (λ (i : ℕ). getD then i 0) head-long ∙ getD-append-seam (foreIn pay) K (length b ∷ (b ++ postIn pay)) 0 in
+      let k : typeIn then ≡ K = ap (λ (i : ℕ). getD then i 0) head-long ∙ getD-append-seam (foreIn pay) K (length b ∷ (b ++ postIn pay)) 0 in
       let n : sizeIn then ≡ length b = ap (λ (i : ℕ). getD then (i + 1) 0) head-long ∙ getD-append-add (foreIn pay) (K ∷ (length b ∷ (b ++ postIn pay))) 1 0 in
       let d : drop (upidHead then + 2) then ≡ b ++ postIn pay = ap (λ (i : ℕ). drop (i + 2) then) head-long ∙ drop-append-add (foreIn pay) (K ∷ (length b ∷ (b ++ postIn pay))) 2 in
       ap₂ ofUpid k (ap₂ take n d ∙ take-append-seam b (postIn pay))
 
--- the item alone: its payload is all behind its head and identifier
-module _ (s : List ℕ) (short : length s ≤ 250) (yes : inserts (stepOf (segmentationItem s) 0 .item) ≡ true) (rest : List ℕ) where
-  body-size : length (cuei ++ s) ≡ 4 + length s
-  body-size = length-append cuei s
-
-  right : length (cuei ++ s) ≤ 254
-  right = omega (arith, body-size)
-
-  next-is : stepOf (segmentationItem s) 0 .next ≡ 6 + length s
-  next-is =
-      let fits : length (piece 2 (cuei ++ s) right []) ≤ 4076 = omega (arith, body-size, length-append (cuei ++ s) []) in
-      let alone : segmentationItem s ≡ piece 2 (cuei ++ s) right [] = ap (λ (l : List ℕ). 2 ∷ (length (cuei ++ s) ∷ l)) (sym (append-nil (cuei ++ s))) in
-      ap (λ (l : List ℕ). stepOf l 0 .next) alone
-      ∙ ap (λ (x : Step). x .next) (step-of-whole 2 (cuei ++ s) right [] fits (omega (arith, body-size)) (omega (arith, body-size))) ∙ omega (arith, body-size)
-
-  pub own-item : ofItem (segmentationItem s ++ rest) (listed (segmentationItem s) 0) ≡ ofPayload s
-  unfolding ofItem
-  own-item =
-      let z : stepOf (segmentationItem s) 0 .next - 0 - 6 ≡ length s = omega (arith, next-is) in
-      ap (λ (b : Bool). pick b (ofPayload (take (stepOf (segmentationItem s) 0 .next - 0 - 6) (s ++ rest))) []) yes
-      ∙ ap ofPayload (ap (λ (n : ℕ). take n (s ++ rest)) z ∙ take-append-seam s rest)
+pub own-item : (s : List ℕ) → length s ≤ 250 → inserts (stepOf (segmentationItem s) 0 .item) ≡ true → (rest : List ℕ)
+    → ofItem (segmentationItem s ++ rest) (listed (segmentationItem s) 0) ≡ ofPayload s
+unfolding ofItem
+own-item s short is rest = own-listed tells s short rest ∙ ap (λ (b : Bool). pick b (ofPayload s) []) is

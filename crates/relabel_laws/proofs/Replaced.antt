@@ -1,23 +1,22 @@
 -- The list of a section's identifiers is the old list with one replaced.
-use Prim.Native.Nat.{ℕ, zero, suc, _+_, _-_, _≤_, _<_}
-use mathlib.Core.Bool.{Bool, true, false}
+use Prim.Native.Nat.{ℕ, zero, suc, _+_, _-_, _≤_}
+use mathlib.Core.Bool.{Bool, true}
 use mathlib.Core.List.{List, [], _∷_, _++_, map, append-assoc}
-use mathlib.Core.Path.{_≡_, refl, ap, ap₂, sym, subst, _∙_}
+use mathlib.Core.Path.{_≡_, ap, ap₂, sym, subst, _∙_}
 use native.Mathlib.Omega.{arith}
 use borrow.Author.Tests.{ne-eqb, eq-eqb}
-use lib.Dec.{eqb}
-use lib.ListN.{length, take, drop, getD, length-append, length-drop, take-append-drop}
+use lib.ListN.{length, take, drop, getD, length-append, take-append-drop}
 use lib.Seq.{length-take-le}
 use Rattle.descriptor_loop.proofs.Lists.{walked}
 use Rattle.descriptor_loop.specs.Items.{stepOf, Listed, listed, itemsOf}
 use Rattle.relabel.proofs.Ats.{some-made}
-use Rattle.relabel.specs.Relabel.{payloadIn, payloadThen, sectionThen}
+use Rattle.relabel.specs.Relabel.{payloadIn, payloadThen}
 use Rattle.relabel_found.proofs.Inserts.{Inserted, inserted}
-use Rattle.relabel_found.specs.Found.{begins, inserts, found, foreIn, kindIn, sizeIn, upidIn, postIn}
-use Rattle.relabel_joined.specs.Relabel.{kindThen, itemThen, relabelled, Kept}
-use Rattle.relabel_loop.specs.Loop.{movedListed, behindItem, withItem, OthersStay}
+use Rattle.relabel_found.specs.Found.{begins, inserts, found, foreIn, typeIn, upidIn, postIn}
+use Rattle.relabel_joined.specs.Relabel.{typeThen, itemThen}
+use Rattle.relabel_loop.specs.Loop.{movedListed, behindItem}
 use Rattle.relabel_upid.proofs.Theorems.{every-other-identifier-stays, the-upid-itself}
-use Rattle.relabel_upid.specs.Kept.{Identifier, identifiersOf, identifiersThen}
+use Rattle.relabel_upid.specs.Kept.{Identifier}
 use Rattle.relabel_upid.specs.Relabel.{upidMade}
 use Rattle.section.specs.Section.{loopBytes}
 use Rattle.table.proofs.Lists.{and-true}
@@ -26,17 +25,18 @@ use Rattle.table.specs.Writing.{made}
 use Rattle.upid.specs.Cover.{All}
 use Rattle.relabel_laws.specs.Identifiers.{ofUpid, ofPayload, ofItem, each, identifiersIn, upidThen}
 use Rattle.relabel_laws.specs.Result.{Result}
-use Rattle.relabel_laws.proofs.Lists.{each-append, moved-item, moved-each, front-each, lead-within, payload-then, own-item}
+use Rattle.relabel_laws.proofs.Items.{at-listed}
+use Rattle.relabel_laws.proofs.Lists.{each-append, tells, moved-item, moved-each, front-each, lead-within, payload-then, own-item}
 
 -- ---- the UPID
 
-pub upid-then : (kind : ℕ) (top : List ℕ) (part k : ℕ) (new b : List ℕ) → upidMade kind top part k new ≡ made b → ofUpid (kindThen part kind k) b ≡ upidThen kind top part k new
+pub upid-then : (upid-type : ℕ) (top : List ℕ) (part k : ℕ) (new b : List ℕ) → upidMade upid-type top part k new ≡ made b → ofUpid (typeThen part upid-type k) b ≡ upidThen upid-type top part k new
 unfolding upidThen ofUpid
-upid-then kind top zero k new b e = ap (ofUpid k) (the-upid-itself kind top k new b e .0)
-upid-then kind top (suc i) k new b e =
-    let x = every-other-identifier-stays kind top i k new b e in
-    let some : 1 ≤ length b = some-made kind top (suc i) k new b e in
-    rw (ne-eqb (length b) 0 (λ z. omega (arith, z, some)), eq-eqb kind 13 (x .0)) (x .1 .identifiers)
+upid-then upid-type top zero k new b e = ap (ofUpid k) (the-upid-itself upid-type top k new b e .0)
+upid-then upid-type top (suc i) k new b e =
+    let x = every-other-identifier-stays upid-type top i k new b e in
+    let some : 1 ≤ length b = some-made upid-type top (suc i) k new b e in
+    rw (ne-eqb (length b) 0 (λ z. omega (arith, z, some)), eq-eqb upid-type 13 (x .0)) (x .1 .identifiers)
 
 module _ (s : List ℕ) (offset part k : ℕ) (new r : List ℕ) (x : Result s offset part k new r) where
   abbrev loop : List ℕ
@@ -46,7 +46,7 @@ module _ (s : List ℕ) (offset part k : ℕ) (new r : List ℕ) (x : Result s o
   pay = payloadIn s offset
 
   abbrev K : ℕ
-  K = kindThen part (kindIn pay) k
+  K = typeThen part (typeIn pay) k
 
   abbrev d : List ℕ
   d = itemThen (foreIn pay) (postIn pay) K (x .upid)
@@ -81,10 +81,7 @@ module _ (s : List ℕ) (offset part k : ℕ) (new r : List ℕ) (x : Result s o
 
   old-item : ofItem loop it ≡ ofPayload pay
   unfolding ofItem
-  old-item =
-      let z : stepOf loop offset .next - offset - 6 ≡ getD loop (offset + 1) 0 - 4 = omega (arith, i .next, i .named) in
-      ap (λ (b : Bool). pick b (ofPayload (take (stepOf loop offset .next - offset - 6) (drop (offset + 6) loop))) []) yes
-      ∙ ap (λ (n : ℕ). ofPayload (take n (drop (offset + 6) loop))) z
+  old-item = at-listed tells loop offset (x .there) ∙ ap (λ (b : Bool). pick b (ofPayload pay) []) yes
 
   old-tail : each loop (x .tail) ≡ each behind (itemsOf behind)
   old-tail =
@@ -98,12 +95,12 @@ module _ (s : List ℕ) (offset part k : ℕ) (new r : List ℕ) (x : Result s o
       ap (each loop) (x .items) ∙ each-append loop (x .lead) (it ∷ x .tail)
       ∙ ap (λ (l : List Identifier). each loop (x .lead) ++ (l ++ each loop (x .tail))) old-item
 
-  new-item : ofItem (A ++ (d ++ behind)) (movedListed offset (listed d 0)) ≡ upidThen (kindIn pay) (upidIn pay) part k new
+  new-item : ofItem (A ++ (d ++ behind)) (movedListed offset (listed d 0)) ≡ upidThen (typeIn pay) (upidIn pay) part k new
   new-item =
       moved-item A (d ++ behind) (listed d 0) offset (sym A-long)
       ∙ own-item (payloadThen s offset part k (x .upid)) (x .short) (ap inserts (x .kept .own)) behind
       ∙ payload-then pay K (x .upid) (x .whole)
-      ∙ upid-then (kindIn pay) (upidIn pay) part k new (x .upid) (x .made-of)
+      ∙ upid-then (typeIn pay) (upidIn pay) part k new (x .upid) (x .made-of)
 
   new-tail : each (A ++ (d ++ behind)) (map (movedListed (offset + length d)) (itemsOf behind)) ≡ each loop (x .tail)
   new-tail =
@@ -114,7 +111,7 @@ module _ (s : List ℕ) (offset part k : ℕ) (new r : List ℕ) (x : Result s o
   loop-then : loopBytes r ≡ A ++ (d ++ behind)
   loop-then = ap loopBytes (x .is) ∙ x .kept .loop
 
-  pub new-list : identifiersIn r ≡ each loop (x .lead) ++ (upidThen (kindIn pay) (upidIn pay) part k new ++ each loop (x .tail))
+  pub new-list : identifiersIn r ≡ each loop (x .lead) ++ (upidThen (typeIn pay) (upidIn pay) part k new ++ each loop (x .tail))
   unfolding identifiersIn
   new-list =
       ap (λ (l : List ℕ). each l (itemsOf l)) loop-then ∙ ap (each (A ++ (d ++ behind))) (x .kept .others .new)

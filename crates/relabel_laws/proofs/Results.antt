@@ -11,11 +11,11 @@ use Rattle.descriptor_loop.specs.Items.{Listed, listed, itemsOf}
 use Rattle.relabel.proofs.Cuts.{loop-there}
 use Rattle.relabel.proofs.Mades.{Framing, framing}
 use Rattle.relabel.specs.Relabel.{payloadIn, payloadThen, sectionThen, fitting, loopMade, relabelMade}
-use Rattle.relabel_found.proofs.Inserts.{Inserted, inserted, begun, hole-at, byte-in, fore-in, kind-in, upid-in, post-in, size-all}
+use Rattle.relabel_found.proofs.Inserts.{Inserted, inserted, begun, hole-at, byte-in, fore-in, type-in, upid-in, post-in, size-all}
 use Rattle.relabel_found.proofs.Walks.{Among, among}
-use Rattle.relabel_found.specs.Found.{found, foreIn, kindIn, upidIn, postIn}
+use Rattle.relabel_found.specs.Found.{found, foreIn, typeIn, upidIn, postIn}
 use Rattle.relabel_joined.proofs.Theorems.{everything-else-stays}
-use Rattle.relabel_joined.specs.Relabel.{kindThen, relabelled, Kept}
+use Rattle.relabel_joined.specs.Relabel.{typeThen, relabelled, Kept}
 use Rattle.relabel_payload.specs.Payload.{payload, Holed}
 use Rattle.relabel_upid.specs.Relabel.{upidMade}
 use Rattle.section.specs.Section.{commandLength, loopLength, loopBytes, sectionOf, numberOf}
@@ -75,8 +75,8 @@ module _ (s : List ℕ) (offset part k : ℕ) (new r : List ℕ) where
         let p₁ = picked (eqb (numberOf (sectionOf s)) 0) (loopMade s offset part k new) (numberOf (sectionOf s)) r e in
         let x = accepted-of (sectionOf s) (p₁ .0) in
         let fr = framing s (x .0) (x .1) in
-        let p₂ = picked (found (loopBytes s) offset) (fitting s offset part k (upidMade (kindIn pay) (upidIn pay) part k new)) 41 r (p₁ .1) in
-        let f = fitted (upidMade (kindIn pay) (upidIn pay) part k new) (p₂ .1) in
+        let p₂ = picked (found (loopBytes s) offset) (fitting s offset part k (upidMade (typeIn pay) (upidIn pay) part k new)) 41 r (p₁ .1) in
+        let f = fitted (upidMade (typeIn pay) (upidIn pay) part k new) (p₂ .1) in
         let loop-is = loop-there s (fr .fits) in
         let loop-byte : (j : ℕ) → getD (loopBytes s) j 0 < 256 = λ j. subst (λ (l : List ℕ). getD l j 0 < 256) (sym loop-is) (byte-in s (16 + commandLength s) (loopLength s) bytes j) in
         let i = inserted (loopBytes s) offset (p₂ .0) in
@@ -85,14 +85,14 @@ module _ (s : List ℕ) (offset part k : ℕ) (new r : List ℕ) where
         let a = among (loopBytes s) offset short-loop (begun (loopBytes s) offset (p₂ .0)) in
         of-hole (x .0) (x .1) (p₂ .0) f i h a
       where
-        of-hole : (old : Section) → sectionOf s ≡ SectionRead.Is old → found (loopBytes s) offset ≡ true → (f : Fitted (upidMade (kindIn pay) (upidIn pay) part k new)) (i : Inserted (loopBytes s) offset)
+        of-hole : (old : Section) → sectionOf s ≡ SectionRead.Is old → found (loopBytes s) offset ≡ true → (f : Fitted (upidMade (typeIn pay) (upidIn pay) part k new)) (i : Inserted (loopBytes s) offset)
             → (h : Holed pay (i .x .«segmentation_event_id») (i .i)) → Among (itemsOf (loopBytes s)) (listed (loopBytes s) offset) → Result s offset part k new r
         of-hole old ea ef f i h a =
             let ef₁ = fore-in pay _ _ h in
             let ep = post-in pay _ _ h in
-            let ek = kind-in pay _ _ h in
+            let ek = type-in pay _ _ h in
             let eu = upid-in pay _ _ h in
-            let was : upidMade (h .kind) (h .bytes) part k new ≡ made (f .b) = ap₂ (λ (c : ℕ) (u : List ℕ). upidMade c u part k new) ek eu ∙ f .was in
+            let was : upidMade (h .«upid_type») (h .bytes) part k new ≡ made (f .b) = ap₂ (λ (c : ℕ) (u : List ℕ). upidMade c u part k new) ek eu ∙ f .was in
             let kept = everything-else-stays s old (a .lead) (listed (loopBytes s) offset) (a .tail) (i .x .«segmentation_event_id») (i .i) pay h part k new (f .b) ea (a .is) byte was
             (rw (ef₁, ep, ek) (f .short)) (rw (ef₁, ep, ek) (f .fits)) in
             record {

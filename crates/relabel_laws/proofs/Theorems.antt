@@ -6,7 +6,7 @@ use lib.ListN.{getD}
 use Rattle.relabel.specs.Relabel.{relabelMade}
 use Rattle.table.specs.Writing.{made}
 use Rattle.relabel.specs.Relabel.{payloadIn}
-use Rattle.relabel_found.specs.Found.{kindIn, upidIn}
+use Rattle.relabel_found.specs.Found.{typeIn, upidIn}
 use Rattle.section.specs.Section.{loopBytes}
 use Rattle.relabel_laws.specs.Identifiers.{ofPayload, each, identifiersIn, upidThen}
 use Rattle.relabel_laws.specs.Result.{Result}
@@ -26,7 +26,7 @@ pub the-list-is-the-old-one-with-that-one-replaced : (s : List ℕ) (offset part
     → relabelMade s offset part k new ≡ made r
     → (x : Result s offset part k new r)
     × (identifiersIn s ≡ each (loopBytes s) (x .lead) ++ (ofPayload (payloadIn s offset) ++ each (loopBytes s) (x .tail)))
-    × (identifiersIn r ≡ each (loopBytes s) (x .lead) ++ (upidThen (kindIn (payloadIn s offset)) (upidIn (payloadIn s offset)) part k new ++ each (loopBytes s) (x .tail)))
+    × (identifiersIn r ≡ each (loopBytes s) (x .lead) ++ (upidThen (typeIn (payloadIn s offset)) (upidIn (payloadIn s offset)) part k new ++ each (loopBytes s) (x .tail)))
 the-list-is-the-old-one-with-that-one-replaced s offset part k new r bytes byte e =
     let x = results.result s offset part k new r bytes byte e in
     (x, replaced.old-list s offset part k new r x, replaced.new-list s offset part k new r x)

@@ -4,7 +4,7 @@ use mathlib.Core.List.{List, [], _∷_, _++_}
 use lib.Dec.{eqb}
 use lib.ListN.{length, take, drop}
 use Rattle.descriptor_loop.specs.Items.{Listed, itemsOf}
-use Rattle.relabel_found.specs.Found.{inserts, kindIn, upidIn}
+use Rattle.relabel_found.specs.Found.{inserts, typeIn, upidIn}
 use Rattle.relabel_upid.specs.Kept.{Identifier, identifiersOf, identifiersThen}
 use Rattle.section.specs.Section.{loopBytes}
 use Rattle.table.specs.Bits.{pick}
@@ -12,10 +12,10 @@ use Rattle.upid.specs.Upid.{upidOf, partsIn}
 
 -- of a UPID: none where it is empty; those of its parts, at every level, where it is a MID; else itself, at level 0
 unfoldable pub ofUpid : ℕ → List ℕ → List Identifier
-ofUpid kind u = pick (eqb (length u) 0) [] (pick (eqb kind 13) (identifiersOf u) (record { level = 0; kind = kind; bytes = u } ∷ []))
+ofUpid upid-type u = pick (eqb (length u) 0) [] (pick (eqb upid-type 13) (identifiersOf u) (record { level = 0; «upid_type» = upid-type; bytes = u } ∷ []))
 
 abbrev pub ofPayload : List ℕ → List Identifier
-ofPayload pay = ofUpid (kindIn pay) (upidIn pay)
+ofPayload pay = ofUpid (typeIn pay) (upidIn pay)
 
 -- of an item: those of its UPID where it is a segmentation descriptor that is not cancelled
 unfoldable pub ofItem : List ℕ → Listed → List Identifier
@@ -28,7 +28,8 @@ each loop (x ∷ xs) = ofItem loop x ++ each loop xs
 unfoldable pub identifiersIn : List ℕ → List Identifier
 identifiersIn s = each (loopBytes s) (itemsOf (loopBytes s))
 
--- those of the UPID `top` of type `kind` when its part number `part` became an identifier of type k with the bytes `new`: the old list with that one replaced
+-- those of the UPID `top` of type `upid-type` when its part number `part` became an identifier of type k with the bytes `new`: the old list with that one
+-- replaced
 unfoldable pub upidThen : ℕ → List ℕ → ℕ → ℕ → List ℕ → List Identifier
-upidThen kind top zero k new = ofUpid k new
-upidThen kind top (suc i) k new = identifiersThen top (partsIn (upidOf 13 top)) i k new
+upidThen upid-type top zero k new = ofUpid k new
+upidThen upid-type top (suc i) k new = identifiersThen top (partsIn (upidOf 13 top)) i k new

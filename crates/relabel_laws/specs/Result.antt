@@ -4,11 +4,11 @@ use mathlib.Core.Bool.{true}
 use mathlib.Core.List.{List, _∷_, _++_}
 use mathlib.Core.Path.{_≡_}
 use lib.ListN.{length}
-use Rattle.descriptor.specs.declared.segmentation.SegmentationInsert.{SegmentationInsert}
+use Rattle.descriptor.specs.declared.segmentation.SegmentationDetail.{SegmentationDetail}
 use Rattle.descriptor_loop.specs.Items.{Listed, listed, itemsOf}
 use Rattle.relabel.specs.Relabel.{payloadIn, payloadThen, sectionThen}
-use Rattle.relabel_found.specs.Found.{found, foreIn, kindIn, sizeIn, upidIn, postIn}
-use Rattle.relabel_joined.specs.Relabel.{kindThen, Kept}
+use Rattle.relabel_found.specs.Found.{found, foreIn, typeIn, sizeIn, upidIn, postIn}
+use Rattle.relabel_joined.specs.Relabel.{typeThen, Kept}
 use Rattle.relabel_payload.specs.Payload.{payload, upidHead}
 use Rattle.relabel_upid.specs.Relabel.{upidMade}
 use Rattle.section.specs.Section.{loopBytes, sectionOf}
@@ -26,14 +26,14 @@ pub record Result (s : List ℕ) (offset part k : ℕ) (new r : List ℕ) : Type
   pub items : itemsOf (loopBytes s) ≡ lead ++ (listed (loopBytes s) offset ∷ tail)
   pub there : found (loopBytes s) offset ≡ true
   pub event : ℕ
-  pub insert : SegmentationInsert
+  pub insert : SegmentationDetail
   -- its payload is what stands before the UPID's head, the UPID, and what stands after it
-  pub cut : payloadIn s offset ≡ payload (foreIn (payloadIn s offset)) (postIn (payloadIn s offset)) (kindIn (payloadIn s offset)) (upidIn (payloadIn s offset))
+  pub cut : payloadIn s offset ≡ payload (foreIn (payloadIn s offset)) (postIn (payloadIn s offset)) (typeIn (payloadIn s offset)) (upidIn (payloadIn s offset))
   pub whole : upidHead (payloadIn s offset) + 2 + sizeIn (payloadIn s offset) ≤ length (payloadIn s offset)
   -- what becomes of the UPID is said by `every-other-identifier-stays` and `the-upid-itself` (relabel_upid)
   pub upid : List ℕ
-  pub made-of : upidMade (kindIn (payloadIn s offset)) (upidIn (payloadIn s offset)) part k new ≡ made upid
+  pub made-of : upidMade (typeIn (payloadIn s offset)) (upidIn (payloadIn s offset)) part k new ≡ made upid
   pub is : r ≡ sectionThen s offset part k upid
   pub short : length (payloadThen s offset part k upid) ≤ 250
   -- r is accepted, its header, its command and every other item read the same, and of the item itself only the UPID differs
-  pub kept : Kept s old lead (listed (loopBytes s) offset) tail event insert (foreIn (payloadIn s offset)) (postIn (payloadIn s offset)) (kindThen part (kindIn (payloadIn s offset)) k) upid
+  pub kept : Kept s old lead (listed (loopBytes s) offset) tail event insert (foreIn (payloadIn s offset)) (postIn (payloadIn s offset)) (typeThen part (typeIn (payloadIn s offset)) k) upid

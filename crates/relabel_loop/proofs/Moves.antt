@@ -2,7 +2,7 @@
 --     step-moved     a step in a loop with more bytes before it is the same, moved
 --     items-moved    and so are the items from there on
 use Prim.Native.Nat.{ℕ, zero, suc, _+_, _-_, _≤_, _<_}
-use mathlib.Core.Bool.{Bool, true, false, cond}
+use mathlib.Core.Bool.{Bool, true, false, cond as pick}
 use mathlib.Core.List.{List, [], _∷_, _++_, map}
 use mathlib.Core.Path.{_≡_, refl, ap, ap₂, sym, subst, _∙_}
 use native.Mathlib.Nat.{add-assoc}
@@ -23,10 +23,10 @@ use Rattle.descriptor.specs.declared.Descriptor.{Descriptor}
 use Rattle.descriptor.specs.declared.Descriptor.the-variants.{Avail, Dtmf, Segmentation, Time, Reserved}
 use Rattle.descriptor.specs.declared.DescriptorRead.{DescriptorRead}
 use Rattle.descriptor.specs.declared.DescriptorRead.the-variants as read
-use Rattle.descriptor.specs.declared.segmentation.SegmentationDetail.{SegmentationDetail}
-use Rattle.descriptor.specs.declared.segmentation.SegmentationDetail.the-variants.{Cancel, Insert}
+use Rattle.descriptor.specs.declared.segmentation.DescriptorDetail.{DescriptorDetail}
+use Rattle.descriptor.specs.declared.segmentation.DescriptorDetail.the-variants.{Cancel, Active}
 use Rattle.descriptor.specs.declared.segmentation.SegmentationUpid.{SegmentationUpid}
-use Rattle.descriptor_loop.specs.Items.{short, bare, itemAt, readAt, wholeAt, stepOf, unlessEnd, Listed, listed, itemsFrom, itemsOf}
+use Rattle.descriptor_loop.specs.Items.{short, withoutIdentifier, itemAt, readAt, wholeAt, stepOf, unlessEnd, Listed, listed, itemsFrom, itemsOf}
 use Rattle.descriptor_loop.specs.Place.{movedUpid, movedDescriptor}
 use Rattle.descriptor_loop.specs.Private.{movedDetail}
 use Rattle.descriptor_loop.specs.declared.Item.{Item}
@@ -44,21 +44,21 @@ module _ (n b : ℕ) where
   view-twice v = ap (λ (a : ℕ). record { at = a; len = v .len }) (sym (add-assoc n b (v .at)))
 
   upid-twice : (u : SegmentationUpid) → movedUpid n (movedUpid b u) ≡ movedUpid (n + b) u
-  upid-twice u = go (withoutView (u .kind)) refl
+  upid-twice u = go (withoutView (u .«upid_type»)) refl
     where
-      go : (t : Bool) → withoutView (u .kind) ≡ t → movedUpid n (movedUpid b u) ≡ movedUpid (n + b) u
+      go : (t : Bool) → withoutView (u .«upid_type») ≡ t → movedUpid n (movedUpid b u) ≡ movedUpid (n + b) u
       go true e = rw (e, e)
-      go false e = rw (e, e) (ap (λ (v : View). record { kind = u .kind; bytes = v }) (view-twice (u .bytes)))
+      go false e = rw (e, e) (ap (λ (v : View). record { «upid_type» = u .«upid_type»; bytes = v }) (view-twice (u .bytes)))
 
-  detail-twice : (d : SegmentationDetail) → movedDetail n (movedDetail b d) ≡ movedDetail (n + b) d
+  detail-twice : (d : DescriptorDetail) → movedDetail n (movedDetail b d) ≡ movedDetail (n + b) d
   detail-twice Cancel = refl
-  detail-twice (Insert i) = ap (λ (u : SegmentationUpid). Insert (withUpid i u)) (upid-twice (i .«segmentation_upid»))
+  detail-twice (Active i) = ap (λ (u : SegmentationUpid). Active (withUpid i u)) (upid-twice (i .«segmentation_upid»))
 
   descriptor-twice : (d : Descriptor) → movedDescriptor n (movedDescriptor b d) ≡ movedDescriptor (n + b) d
   descriptor-twice (Avail x) = refl
   descriptor-twice (Dtmf x) = ap (λ (v : View). Dtmf (record { preroll = x .preroll; «dtmf_chars» = v })) (view-twice (x .«dtmf_chars»))
   descriptor-twice (Segmentation x) =
-      ap (λ (d : SegmentationDetail). Segmentation (record { «segmentation_event_id» = x .«segmentation_event_id»; «descriptor_detail» = d })) (detail-twice (x .«descriptor_detail»))
+      ap (λ (d : DescriptorDetail). Segmentation (record { «segmentation_event_id» = x .«segmentation_event_id»; «descriptor_detail» = d })) (detail-twice (x .«descriptor_detail»))
   descriptor-twice (Time x) = refl
   descriptor-twice (Reserved tag v) = ap (Reserved tag) (view-twice v)
 
@@ -66,8 +66,8 @@ module _ (n b : ℕ) where
   refusal-twice InputTooLong = refl
   refusal-twice (NotEnoughData expected actual) = refl
   refusal-twice UpidLengthTypeMismatch = refl
-  refusal-twice (InvalidUpidContent kind v) = ap (InvalidUpidContent kind) (view-twice v)
-  refusal-twice (InvalidUpidLength kind expected actual) = refl
+  refusal-twice (InvalidUpidContent upid-type v) = ap (InvalidUpidContent upid-type) (view-twice v)
+  refusal-twice (InvalidUpidLength upid-type expected actual) = refl
 
   -- what a payload was read as, at a place n bytes later
   item-moved : (r : DescriptorRead) → movedItem n (itemAt b r) ≡ itemAt (n + b) r
@@ -143,12 +143,12 @@ module _ (pre s : List ℕ) (fits : length (pre ++ s) ≤ 4076) where
         by-cases 254 L
         (λ h.
         step-full (pre ++ s) (n + o) fits inside-there L is2 six2 there2 h
-        ∙ ap (bare (Refused InvalidDescriptorLength)) size ∙ sym (ap (movedStep n) (step-full s o fits-rest inside L is six there h)))
+        ∙ ap (withoutIdentifier (Refused InvalidDescriptorLength)) size ∙ sym (ap (movedStep n) (step-full s o fits-rest inside L is six there h)))
         (λ right.
         by-cases L 4
         (λ h.
         step-small (pre ++ s) (n + o) fits inside-there L is2 six2 there2 right h
-        ∙ ap (bare (short 6 (L + 2))) (add-assoc n o (L + 2)) ∙ sym (ap (movedStep n) (step-small s o fits-rest inside L is six there right h)))
+        ∙ ap (withoutIdentifier (short 6 (L + 2))) (add-assoc n o (L + 2)) ∙ sym (ap (movedStep n) (step-small s o fits-rest inside L is six there right h)))
         (λ h.
         step-whole (pre ++ s) (n + o) fits inside-there L is2 six2 there2 right h
         ∙ whole-there o L ∙ sym (ap (movedStep n) (step-whole s o fits-rest inside L is six there right h))))
@@ -159,7 +159,7 @@ module _ (pre s : List ℕ) (fits : length (pre ++ s) ≤ 4076) where
         by-cases (length s - o) (L + 2)
         (λ h.
         step-over (pre ++ s) (n + o) fits inside-there L (sym (byte-there o 1)) (omega (arith, size)) (omega (arith, size))
-        ∙ ap (bare (short (L + 2) 0)) size ∙ sym (ap (movedStep n) (step-over s o fits-rest inside L refl six h)))
+        ∙ ap (withoutIdentifier (short (L + 2) 0)) size ∙ sym (ap (movedStep n) (step-over s o fits-rest inside L refl six h)))
         (λ there. stands L refl six there)
 
     begun : stepOf (pre ++ s) (n + o) ≡ movedStep n (stepOf s o)
@@ -167,13 +167,13 @@ module _ (pre s : List ℕ) (fits : length (pre ++ s) ≤ 4076) where
         by-cases (length s - o) 6
         (λ h.
         step-few (pre ++ s) (n + o) fits inside-there (omega (arith, size))
-        ∙ ap (bare (short 2 0)) size ∙ sym (ap (movedStep n) (step-few s o fits-rest inside h)))
+        ∙ ap (withoutIdentifier (short 2 0)) size ∙ sym (ap (movedStep n) (step-few s o fits-rest inside h)))
         headed
 
   pub step-moved : (o : ℕ) → stepOf (pre ++ s) (n + o) ≡ movedStep n (stepOf s o)
   step-moved o =
       by-cases o (length s) (begun o)
-      (λ h. step-end (pre ++ s) (n + o) fits (omega (arith, size)) ∙ ap (bare End) size ∙ sym (ap (movedStep n) (step-end s o fits-rest h)))
+      (λ h. step-end (pre ++ s) (n + o) fits (omega (arith, size)) ∙ ap (withoutIdentifier End) size ∙ sym (ap (movedStep n) (step-end s o fits-rest h)))
 
   end-moved : (i : Item) (xs : List Listed) → unlessEnd (movedItem n i) (map (movedListed n) xs) ≡ map (movedListed n) (unlessEnd i xs)
   end-moved End xs = refl

@@ -12,7 +12,7 @@ use Rattle.upid.proofs.Laws.{by-cases}
 use Rattle.descriptor.specs.Descriptor.{descriptorOf}
 use Rattle.descriptor.specs.Whole.{identifierRead}
 use Rattle.descriptor.specs.declared.DescriptorRead.{DescriptorRead}
-use Rattle.descriptor_loop.specs.Items.{short, bare, itemAt, readAt, wholeAt, stepOf, Listed, listed, itemsOf}
+use Rattle.descriptor_loop.specs.Items.{short, withoutIdentifier, itemAt, readAt, wholeAt, stepOf, Listed, listed, itemsOf}
 use Rattle.descriptor_loop.specs.declared.Step.{Step}
 use Rattle.descriptor_loop.proofs.Lists.{rest, rest-end, rest-more, items-rest, from-any}
 use Rattle.descriptor_loop.proofs.Steps.{step-small, step-whole, Turn, ends, goes, Stands, turn, forward, within}
@@ -45,7 +45,7 @@ module _ (tag : ℕ) (body : List ℕ) (right : length body ≤ 254) where
     size : length (piece s) ≡ 2 + (length body + length s)
     size = omega (arith, length-append body s)
 
-    pub step-of-small : length body < 4 → stepOf (piece s) 0 ≡ bare (short 6 (length body + 2)) (0 + (length body + 2))
+    pub step-of-small : length body < 4 → stepOf (piece s) 0 ≡ withoutIdentifier (short 6 (length body + 2)) (0 + (length body + 2))
     step-of-small h = step-small (piece s) 0 fits (omega arith) (length body) refl (omega (arith, size)) (omega (arith, size)) right h
 
     pub step-of-whole : 4 ≤ length body → stepOf (piece s) 0 ≡ whole

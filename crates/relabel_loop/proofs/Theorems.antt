@@ -14,8 +14,8 @@ use Rattle.upid.specs.declared.UpidRead.the-variants.{Fine}
 use Rattle.descriptor.specs.Descriptor.{reportedUpid}
 use Rattle.descriptor.specs.Segmentation.{withUpid}
 use Rattle.descriptor.specs.declared.Descriptor.the-variants.{Segmentation}
-use Rattle.descriptor.specs.declared.segmentation.SegmentationDetail.the-variants.{Insert}
-use Rattle.descriptor.specs.declared.segmentation.SegmentationInsert.{SegmentationInsert}
+use Rattle.descriptor.specs.declared.segmentation.DescriptorDetail.the-variants.{Active}
+use Rattle.descriptor.specs.declared.segmentation.SegmentationDetail.{SegmentationDetail}
 use Rattle.descriptor_loop.specs.Items.{stepOf, Listed, listed, itemsOf}
 use Rattle.descriptor_loop.specs.Place.{movedDescriptor}
 use Rattle.descriptor_loop.specs.declared.Item.the-variants.{Is}
@@ -34,11 +34,11 @@ every-other-item-stays = replaced.others-stay
 
 -- The item whose UPID is replaced: its payload is a hole that the UPID fills (`Holed`, relabel_payload/specs/Payload.antt); with any other UPID that is accepted, and
 -- its length mended, it is an item that may stand in the place of the old one, and of its reading only the UPID differs.
-pub of-the-item-only-the-upid-differs : (s : List ℕ) (event : ℕ) (i : SegmentationInsert) (h : Holed s event i) (k : ℕ) (u : List ℕ) (q : ℕ) → k < 256 → checkOf k u ≡ Fine q
+pub of-the-item-only-the-upid-differs : (s : List ℕ) (event : ℕ) (i : SegmentationDetail) (h : Holed s event i) (k : ℕ) (u : List ℕ) (q : ℕ) → k < 256 → checkOf k u ≡ Fine q
     → length (payload (h .fore) (h .post) k u) ≤ 250
     → Piece (segmentationItem (payload (h .fore) (h .post) k u))
     × (stepOf (segmentationItem (payload (h .fore) (h .post) k u)) 0 .item
-    ≡ Is (movedDescriptor 6 (Segmentation (record { «segmentation_event_id» = event; «descriptor_detail» = Insert (withUpid i (reportedUpid q (record { at = length (h .fore) + 2; len = length u }))) }))))
+    ≡ Is (movedDescriptor 6 (Segmentation (record { «segmentation_event_id» = event; «descriptor_detail» = Active (withUpid i (reportedUpid q (record { at = length (h .fore) + 2; len = length u }))) }))))
 of-the-item-only-the-upid-differs = upids.item-refilled
 
 -- A step depends on the bytes from its offset on, and on nothing before them: with more bytes before it, it is the same, moved.

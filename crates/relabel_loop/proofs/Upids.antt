@@ -11,8 +11,8 @@ use Rattle.descriptor.specs.Segmentation.{withUpid}
 use Rattle.descriptor.specs.declared.Descriptor.the-variants.{Segmentation}
 use Rattle.descriptor.specs.declared.DescriptorRead.{DescriptorRead}
 use Rattle.descriptor.specs.declared.DescriptorRead.the-variants as read
-use Rattle.descriptor.specs.declared.segmentation.SegmentationDetail.the-variants.{Insert}
-use Rattle.descriptor.specs.declared.segmentation.SegmentationInsert.{SegmentationInsert}
+use Rattle.descriptor.specs.declared.segmentation.DescriptorDetail.the-variants.{Active}
+use Rattle.descriptor.specs.declared.segmentation.SegmentationDetail.{SegmentationDetail}
 use Rattle.descriptor_loop.specs.Items.{itemAt, stepOf}
 use Rattle.descriptor_loop.specs.Place.{movedDescriptor}
 use Rattle.descriptor_loop.specs.declared.Item.the-variants.{Is}
@@ -46,10 +46,10 @@ module _ (s : List ℕ) (short : length s ≤ 250) where
       ∙ ap (λ (x : Step). x .item) (step-of-whole 2 (cuei ++ s) right [] fits (omega (arith, body-size)) (omega (arith, body-size)))
       ∙ ap (itemAt 6) (is-segmentation s)
 
-pub item-refilled : (s : List ℕ) (event : ℕ) (i : SegmentationInsert) (h : Holed s event i) (k : ℕ) (u : List ℕ) (q : ℕ) → k < 256 → checkOf k u ≡ Fine q
+pub item-refilled : (s : List ℕ) (event : ℕ) (i : SegmentationDetail) (h : Holed s event i) (k : ℕ) (u : List ℕ) (q : ℕ) → k < 256 → checkOf k u ≡ Fine q
     → length (payload (h .fore) (h .post) k u) ≤ 250
     → Piece (segmentationItem (payload (h .fore) (h .post) k u))
     × (stepOf (segmentationItem (payload (h .fore) (h .post) k u)) 0 .item
-    ≡ Is (movedDescriptor 6 (Segmentation (record { «segmentation_event_id» = event; «descriptor_detail» = Insert (withUpid i (reportedUpid q (record { at = length (h .fore) + 2; len = length u }))) }))))
+    ≡ Is (movedDescriptor 6 (Segmentation (record { «segmentation_event_id» = event; «descriptor_detail» = Active (withUpid i (reportedUpid q (record { at = length (h .fore) + 2; len = length u }))) }))))
 item-refilled s event i h k u q hk e short =
     (item-piece (payload (h .fore) (h .post) k u) short, item-reads (payload (h .fore) (h .post) k u) short ∙ ap (itemAt 6) (h .refilled k u q hk e))

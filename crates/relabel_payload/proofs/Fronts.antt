@@ -3,7 +3,7 @@
 --     written-is       the UPID that was read, as bytes
 --     written-puts     any UPID in its place is read
 use Prim.Native.Nat.{ℕ, zero, suc, _+_, _*_, _-_, _/_, _%_, _≤_, _<_}
-use mathlib.Core.Bool.{Bool, true, false}
+use mathlib.Core.Bool.{Bool, true, false, _&&_}
 use mathlib.Core.List.{List, [], _∷_, _++_, append-assoc}
 use mathlib.Core.Path.{_≡_, refl, ap, ap₂, sym, subst, _∙_}
 use native.Mathlib.Omega.{arith}
@@ -11,41 +11,24 @@ use lib.Dec.{eqb}
 use lib.ListN.{length, take, drop, getD, length-append, length-take, length-drop, take-append-drop}
 use lib.Seq.{length-take-le, drop-cons, getD-drop, getD-append-add, getD-append-seam, drop-drop}
 use Rattle.table.specs.Bits.{bitsOf, field, AllBytes}
-use Rattle.table.specs.Table.{Table, done, inside, number, bit, reserved, part, list, got, short, parse}
+use Rattle.table.specs.Table.{Table, done, inside, number, bit, reserved, part, list, got, short, parse, canonical}
 use Rattle.table.specs.declared.View.{View}
 use Rattle.table.proofs.Fields.{byte-field}
-use Rattle.table.proofs.Longer.{Blind, blind-inside, blind-pick, blind-list}
-use Rattle.table.proofs.Steps.{reads-in, takes-in, reads-number, reads-part, takes-number, takes-part}
+use Rattle.table.proofs.Longer.{Blind}
+use Rattle.table.proofs.Steps.{reads-in, takes-in, canonical-inside, reads-number, reads-part, takes-number, takes-part}
+use Rattle.table.proofs.Swaps.{forward, swap, swap-form, EndsAt, ends-at, ends-inside, ends-pick, ends-list}
+use Rattle.descriptor.proofs.Longer.{blind-delivery, blind-mode, blind-duration}
 use Rattle.descriptor.specs.Segmentation.{Fore, Moded, Head, deliveryRestrictions, component, blankComponent, mode, duration, writtenUpid, parts, front, head, insertFrom, subSegments, back}
 use Rattle.descriptor.specs.declared.segmentation.DeliveryRestrictionFlags.{DeliveryRestrictionFlags}
 use Rattle.descriptor.specs.declared.segmentation.SegmentationDuration.{SegmentationDuration}
 use Rattle.descriptor.specs.declared.segmentation.SegmentationUpid.{SegmentationUpid}
 use Rattle.relabel_payload.specs.Payload.{payload}
-use Rattle.relabel_payload.proofs.Swaps.{forward, swap, EndsAt, ends-at, ends-inside, ends-pick, ends-list}
 
--- ---- tables that never ask how many bytes are left, and end where a byte begins (descriptor has the first in its Longer.antt, where they are private)
+-- ---- tables that never ask how many bytes are left, and end where a byte begins
 
 blind-bit : Blind bit
 unfolding bit
 blind-bit = λ v. tt
-
-pub blind-head : Blind head
-unfolding head number bit reserved
-blind-head = λ event cancel kept. tt
-
-blind-delivery : (free : Bool) → Blind (deliveryRestrictions free)
-unfolding deliveryRestrictions number bit reserved
-blind-delivery free = blind-pick free _ _ (λ kept. tt) (λ web blackout archive device. tt)
-
-blind-mode : (program : Bool) → Blind (mode program)
-unfolding mode component number reserved
-blind-mode program =
-    blind-pick program _ _ tt
-    λ n. blind-inside (list n blankComponent component) _ _ (blind-list n blankComponent component (λ tag kept offset. tt)) λ cs. tt
-
-blind-duration : (flagged : Bool) → Blind (duration flagged)
-unfolding duration number
-blind-duration flagged = blind-pick flagged _ _ (λ t. tt) tt
 
 ends-bit-0 : EndsAt bit 0 1
 unfolding bit
@@ -87,6 +70,26 @@ swapped : {X : Type 0} (t : Table X) → Blind t → (bs pre r other : List ℕ)
     → parse t (pre ++ other) at ≡ got x m
 swapped t b bs pre r other at x m e p h = swap t b pre r other at x m (subst (λ (l : List ℕ). parse t l at ≡ got x m) e p) h
 
+-- the canonical form of a table inside another that goes on alike
+forms-in : {X Y : Type 0} (t : Table Y) → Blind t → (q : X → Y) (k : Y → Table X) (bs pre r other : List ℕ) (at : ℕ) (y : Y) (m : ℕ) → bs ≡ pre ++ r → parse t bs at ≡ got y m
+    → m ≤ length pre → canonical (k y) (pre ++ other) m ≡ canonical (k y) bs m → canonical (inside t q k) (pre ++ other) at ≡ canonical (inside t q k) bs at
+forms-in t b q k bs pre r other at y m e p h f =
+    canonical-inside t q k (pre ++ other) at y m (swapped t b bs pre r other at y m e p h)
+    ∙ ap₂ (λ (x z : Bool). x && z)
+    (swap-form t b pre r other at y m (subst (λ (l : List ℕ). parse t l at ≡ got y m) e p) h ∙ ap (λ (l : List ℕ). canonical t l at) (sym e))
+    f
+    ∙ sym (canonical-inside t q k bs at y m p)
+
+-- the UPID has no reserved bits
+upid-form : (bs : List ℕ) (at : ℕ) → canonical writtenUpid bs at ≡ true
+unfolding writtenUpid number part
+upid-form bs at = refl
+
+upid-forms : {X : Type 0} (q : X → SegmentationUpid) (k : SegmentationUpid → Table X) (bs cs : List ℕ) (at : ℕ) (u v : SegmentationUpid) (m n : ℕ) → parse writtenUpid bs at ≡ got u m
+    → parse writtenUpid cs at ≡ got v n → canonical (k v) cs n ≡ canonical (k u) bs m → canonical (inside writtenUpid q k) cs at ≡ canonical (inside writtenUpid q k) bs at
+upid-forms q k bs cs at u v m n e f g =
+    canonical-inside writtenUpid q k cs at v n f ∙ ap₂ (λ (x z : Bool). x && z) (upid-form cs at ∙ sym (upid-form bs at)) g ∙ sym (canonical-inside writtenUpid q k bs at u m e)
+
 -- `make` is what was read before the UPID, which ends before bit `seam`
 pub record Split (bs : List ℕ) (at : ℕ) (f : Fore) (m : ℕ) : Type 0 where
   pub seam : ℕ
@@ -100,6 +103,9 @@ pub record Split (bs : List ℕ) (at : ℕ) (f : Fore) (m : ℕ) : Type 0 where
   pub keeps : (u v : SegmentationUpid) (b : _) → insertFrom (make u .front) v b ≡ insertFrom (f .front) v b
   pub again : (pre r other : List ℕ) → bs ≡ pre ++ r → seam ≤ length pre → (u : SegmentationUpid) (n : ℕ) → parse writtenUpid (pre ++ other) seam ≡ got u n
       → parse front (pre ++ other) at ≡ got (make u) n
+  pub beside : (u : SegmentationUpid) → make u .components ≡ f .components
+  pub form : (pre r other : List ℕ) → bs ≡ pre ++ r → seam ≤ length pre → (u : SegmentationUpid) (n : ℕ) → parse writtenUpid (pre ++ other) seam ≡ got u n
+      → canonical front (pre ++ other) at ≡ canonical front bs at
 
 abbrev made : Bool → Bool → Bool → DeliveryRestrictionFlags → Moded → SegmentationDuration → SegmentationUpid → Fore
 made program lasting free restrictions moded lasts upid =
@@ -164,17 +170,26 @@ split-front bs at f m e =
           ∙ takes-in (duration (r2 .inner)) _ _ (pre ++ other) (r5 .seam) (r6 .inner) (r6 .seam)
           (swapped (duration (r2 .inner)) (blind-duration (r2 .inner)) bs pre r other (r5 .seam) (r6 .inner) (r6 .seam) eq (r6 .front) (omega arith))
           ∙ takes-in writtenUpid _ _ (pre ++ other) (r6 .seam) u n w;
+      beside = λ u. ap (λ (x : Fore). x .components) (z .0);
+      form = λ pre r other eq h u n w.
+          forms-in bit blind-bit _ _ bs pre r other at (r1 .inner) (r1 .seam) eq (r1 .front) (omega arith)
+          (forms-in bit blind-bit _ _ bs pre r other (r1 .seam) (r2 .inner) (r2 .seam) eq (r2 .front) (omega arith)
+          (forms-in bit blind-bit _ _ bs pre r other (r2 .seam) (r3 .inner) (r3 .seam) eq (r3 .front) (omega arith)
+          (forms-in (deliveryRestrictions (r3 .inner)) (blind-delivery (r3 .inner)) _ _ bs pre r other (r3 .seam) (r4 .inner) (r4 .seam) eq (r4 .front) (omega arith)
+          (forms-in (mode (r1 .inner)) (blind-mode (r1 .inner)) _ _ bs pre r other (r4 .seam) (r5 .inner) (r5 .seam) eq (r5 .front) (omega arith)
+          (forms-in (duration (r2 .inner)) (blind-duration (r2 .inner)) _ _ bs pre r other (r5 .seam) (r6 .inner) (r6 .seam) eq (r6 .front) (omega arith)
+          (upid-forms _ _ bs (pre ++ other) (r6 .seam) (r7 .inner) u (r7 .seam) n (r7 .front) w refl))))));
     }
 
 -- ---- the UPID as bytes
 
 pub record Written (s : List ℕ) (q : ℕ) (w : SegmentationUpid) (m : ℕ) : Type 0 where
-  pub kind : ℕ
+  pub «upid_type» : ℕ
   pub bytes : List ℕ
   pub post : List ℕ
-  pub is : s ≡ payload (take q s) post kind bytes
+  pub is : s ≡ payload (take q s) post «upid_type» bytes
   pub inside : q ≤ length s
-  pub upid : w ≡ record { kind = kind; bytes = record { at = q + 2; len = length bytes } }
+  pub upid : w ≡ record { «upid_type» = «upid_type»; bytes = record { at = q + 2; len = length bytes } }
   pub end : m ≡ (q + 2 + length bytes) * 8
 
 two-bytes : (s : List ℕ) (q : ℕ) → q + 2 ≤ length s → s ≡ take q s ++ (getD s q 0 ∷ (getD s (q + 1) 0 ∷ drop (q + 2) s))
@@ -200,20 +215,20 @@ written-is s q w m bytes e =
     let fits : n ≤ length rest = omega (arith, r3 .0, length-drop (q + 2) s) in
     let size : length (take n rest) ≡ n = length-take-le n rest fits in
     let place : (q * 8 + 8 + 8) / 8 ≡ q + 2 = omega arith in
-    let z = got-is (record { kind = field (bitsOf s) (q * 8) 8; bytes = record { at = (q * 8 + 8 + 8) / 8; len = n } }) w (q * 8 + 8 + 8 + n * 8) m (r3 .1) in
+    let z = got-is (record { «upid_type» = field (bitsOf s) (q * 8) 8; bytes = record { at = (q * 8 + 8 + 8) / 8; len = n } }) w (q * 8 + 8 + 8 + n * 8) m (r3 .1) in
     let tail : getD s (q + 1) 0 ∷ rest ≡ length (take n rest) ∷ (take n rest ++ drop n rest) = ap₂ (λ (x : ℕ) (y : List ℕ). x ∷ y) (sym l ∙ sym size) (sym (take-append-drop n rest)) in
     record {
-      kind = getD s q 0;
+      «upid_type» = getD s q 0;
       bytes = take n rest;
       post = drop n rest;
       is = two-bytes s q (omega (arith, r2 .0)) ∙ ap (λ (t : List ℕ). take q s ++ (getD s q 0 ∷ t)) tail;
       inside = omega (arith, r2 .0);
-      upid = sym (z .0) ∙ ap₂ (λ (a : ℕ) (v : View). record { kind = a; bytes = v }) k (ap₂ (λ (a b : ℕ). record { at = a; len = b }) place (sym size));
+      upid = sym (z .0) ∙ ap₂ (λ (a : ℕ) (v : View). record { «upid_type» = a; bytes = v }) k (ap₂ (λ (a b : ℕ). record { at = a; len = b }) place (sym size));
       end = sym (z .1) ∙ omega (arith, size);
     }
 
 pub written-puts : (fore post : List ℕ) (k : ℕ) (u : List ℕ) → k < 256 → length u < 256
-    → parse writtenUpid (bitsOf (payload fore post k u)) (length fore * 8) ≡ got (record { kind = k; bytes = record { at = length fore + 2; len = length u } }) ((length fore + 2 + length u) * 8)
+    → parse writtenUpid (bitsOf (payload fore post k u)) (length fore * 8) ≡ got (record { «upid_type» = k; bytes = record { at = length fore + 2; len = length u } }) ((length fore + 2 + length u) * 8)
 unfolding writtenUpid
 written-puts fore post k u hk hu =
     let s : List ℕ = payload fore post k u in
@@ -229,4 +244,4 @@ written-puts fore post k u hk hu =
     takes-number s (q * 8) 8 k _ _ (omega (arith, size)) e0
     ∙ takes-number s (q * 8 + 8) 8 (length u) _ _ (omega (arith, size)) e1
     ∙ takes-part s (q * 8 + 8 + 8) (length u) _ _ (omega (arith, size))
-    ∙ ap₂ (λ (a m : ℕ). got (record { kind = k; bytes = record { at = a; len = length u } }) m) place end
+    ∙ ap₂ (λ (a m : ℕ). got (record { «upid_type» = k; bytes = record { at = a; len = length u } }) m) place end

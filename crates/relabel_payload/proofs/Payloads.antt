@@ -1,45 +1,59 @@
 -- A segmentation payload is a hole that its UPID fills.
 use Prim.Native.Nat.{ℕ, zero, suc, _+_, _*_, _-_, _/_, _%_, _≤_, _<_}
-use mathlib.Core.Bool.{Bool, true, false}
+use mathlib.Core.Bool.{Bool, true, false, _&&_}
 use mathlib.Core.List.{List, [], _∷_, _++_, append-assoc}
 use mathlib.Core.Path.{_≡_, refl, ap, ap₂, sym, subst, _∙_}
 use native.Mathlib.Omega.{arith}
 use lib.Dec.{eqb}
 use lib.ListN.{length, take, drop, getD, length-append}
 use lib.Seq.{length-take-le, take-at, drop-at, drop-append-add, take-append-seam}
-use borrow.Author.Tests.{le-leb}
+use borrow.Author.Tests.{le-leb, eq-eqb, ne-eqb, eqb-true, eqb-false}
 use Rattle.table.specs.Bits.{pick, bitsOf}
 use Rattle.table.specs.Lent.{viewed}
-use Rattle.table.specs.Table.{Table, number, remaining, Answer, got, short, parse}
+use Rattle.table.specs.Table.{Table, number, remaining, Answer, got, short, parse, canonical, canonicalBy, takesAll}
 use Rattle.table.specs.declared.View.{View}
 use Rattle.table.proofs.Bits.{bits-append, length-bits}
 use Rattle.table.proofs.Lists.{zero-one}
-use Rattle.upid.specs.Upid.{checkOf}
+use Rattle.table.proofs.Steps.{takes-in, canonical-inside}
+use Rattle.table.proofs.Swaps.{swap, swap-form, Sightless, sightless-inside, sightless-pick, later, shift, shift-form, ends-at}
+use Rattle.upid.specs.Upid.{checkOf, eidrOf}
 use Rattle.upid.specs.Private.{Accepted}
 use Rattle.upid.specs.declared.UpidRead.{UpidRead}
 use Rattle.upid.proofs.Walks.{check-short}
 use Rattle.descriptor.specs.Descriptor.{_andThen_, reportedUpid, ifFine, inserted, insertOf, segmentationOf}
-use Rattle.descriptor.specs.Segmentation.{Fore, Head, head, front, back, subSegments, writtenUpid, insertFrom, withUpid}
+use Rattle.descriptor.specs.Segmentation as table
+use Rattle.descriptor.specs.Segmentation.{Fore, Head, head, front, back, subSegments, writtenUpid, insertFrom, withUpid, segmentation}
+use Rattle.descriptor.specs.Whole.{filled, besideIn, besideOf}
 use Rattle.descriptor.specs.declared.Descriptor.the-variants.{Segmentation}
 use Rattle.descriptor.specs.declared.DescriptorRead.{DescriptorRead}
 use Rattle.descriptor.specs.declared.DescriptorRead.the-variants.{Is, Refused}
 use Rattle.descriptor.specs.declared.segmentation.SegmentationDescriptor.{SegmentationDescriptor}
+use Rattle.descriptor.specs.declared.segmentation.DescriptorDetail.{DescriptorDetail}
+use Rattle.descriptor.specs.declared.segmentation.DescriptorDetail.the-variants.{Cancel, Active}
 use Rattle.descriptor.specs.declared.segmentation.SegmentationDetail.{SegmentationDetail}
-use Rattle.descriptor.specs.declared.segmentation.SegmentationDetail.the-variants.{Cancel, Insert}
-use Rattle.descriptor.specs.declared.segmentation.SegmentationInsert.{SegmentationInsert}
+use Rattle.descriptor.specs.declared.segmentation.ModeComponent.{ModeComponent}
 use Rattle.descriptor.specs.declared.segmentation.SegmentationUpid.{SegmentationUpid}
-use Rattle.relabel_payload.specs.Payload.{payload, upidHead, Holed}
-use Rattle.relabel_payload.proofs.Fronts.{blind-head, ends-head, Split, split-front, Written, written-is, written-puts}
-use Rattle.relabel_payload.proofs.Spots.{head-at}
-use Rattle.relabel_payload.proofs.Swaps.{swap, Sightless, sightless-inside, sightless-pick, later, shift, ends-at}
+use Rattle.descriptor.specs.declared.whole.Beside.{Beside}
+use Rattle.descriptor.proofs.Heads.{head-ends, front-told}
+use Rattle.descriptor.proofs.Longer.{blind-head}
+use Rattle.relabel_payload.specs.Payload.{payload, upidHead, upidPlace, Tabled, Holed}
+use Rattle.relabel_payload.proofs.Fronts.{ends-head, Split, split-front, Written, written-is, written-puts}
 
 -- what a table reads
 abbrev Of : {X : Type 0} → Table X → Type 0
 Of {X} t = X
 
+-- the head of the UPID that is read stands where the payload's own bytes say
+head-at : (s : List ℕ) → ((k : ℕ) → getD s k 0 < 256) → (h : Head) (a : ℕ) → parse head (bitsOf s) 0 ≡ got h a → (x : Fore) (m : ℕ) → parse front (bitsOf s) a ≡ got x m
+    → x .front .«segmentation_upid» .bytes .at ≡ upidHead s + 2
+unfolding upidHead
+head-at s bytes h a eh x m e =
+    let p = front-told s bytes x m (ap (parse front (bitsOf s)) (sym (head-ends s h a eh)) ∙ e) in
+    ap (λ (u : SegmentationUpid). u .bytes .at) (p .is) ∙ ap (λ (n : ℕ). n + 2) (p .before)
+
 -- ---- an insert that was read, field by field
 
-record Parsed (s : List ℕ) (event : ℕ) (i : SegmentationInsert) : Type 0 where
+record Parsed (s : List ℕ) (event : ℕ) (i : SegmentationDetail) : Type 0 where
   h : Head
   a : ℕ
   head-is : parse head (bitsOf s) 0 ≡ got h a
@@ -49,23 +63,23 @@ record Parsed (s : List ℕ) (event : ℕ) (i : SegmentationInsert) : Type 0 whe
   m : ℕ
   front-is : parse front (bitsOf s) a ≡ got f m
   q : ℕ
-  fine : checkOf (f .front .«segmentation_upid» .kind) (viewed s (f .front .«segmentation_upid» .bytes)) ≡ UpidRead.Fine q
+  fine : checkOf (f .front .«segmentation_upid» .«upid_type») (viewed s (f .front .«segmentation_upid» .bytes)) ≡ UpidRead.Fine q
   b : Of back
   n : ℕ
   back-is : parse back (bitsOf s) m ≡ got b n
   is : insertFrom (f .front) (reportedUpid q (f .front .«segmentation_upid» .bytes)) b ≡ i
 
-module _ (s : List ℕ) (x : SegmentationDescriptor) (i : SegmentationInsert) (detail : x .«descriptor_detail» ≡ Insert i) where
+module _ (s : List ℕ) (x : SegmentationDescriptor) (i : SegmentationDetail) (detail : x .«descriptor_detail» ≡ Active i) where
   module _ (h : Head) (a : ℕ) (eh : parse head (bitsOf s) 0 ≡ got h a) (stays : h .cancel ≡ false) (f : Fore) (m : ℕ) (ef : parse front (bitsOf s) a ≡ got f m) where
     abbrev upid₀ : SegmentationUpid
     upid₀ = f .front .«segmentation_upid»
 
-    of-back : (q : ℕ) → checkOf (upid₀ .kind) (viewed s (upid₀ .bytes)) ≡ UpidRead.Fine q → (r : Answer (Of back)) → parse back (bitsOf s) m ≡ r
+    of-back : (q : ℕ) → checkOf (upid₀ .«upid_type») (viewed s (upid₀ .bytes)) ≡ UpidRead.Fine q → (r : Answer (Of back)) → parse back (bitsOf s) m ≡ r
         → (r andThen λ b n. inserted (h .event) (f .front) (reportedUpid q (upid₀ .bytes)) b) ≡ Is (Segmentation x) → Parsed s (x .«segmentation_event_id») i
     unfolding inserted
     of-back q fine (got b n) eb e =
-        let z : _≡_ {A = SegmentationDescriptor} (record { «segmentation_event_id» = h .event; «descriptor_detail» = Insert (insertFrom (f .front) (reportedUpid q (upid₀ .bytes)) b) }) x = cc in
-        let y : Insert (insertFrom (f .front) (reportedUpid q (upid₀ .bytes)) b) ≡ Insert i = ap (λ (d : SegmentationDescriptor). d .«descriptor_detail») z ∙ detail in
+        let z : _≡_ {A = SegmentationDescriptor} (record { «segmentation_event_id» = h .event; «descriptor_detail» = Active (insertFrom (f .front) (reportedUpid q (upid₀ .bytes)) b) }) x = cc in
+        let y : Active (insertFrom (f .front) (reportedUpid q (upid₀ .bytes)) b) ≡ Active i = ap (λ (d : SegmentationDescriptor). d .«descriptor_detail») z ∙ detail in
         record {
           h = h;
           a = a;
@@ -84,16 +98,16 @@ module _ (s : List ℕ) (x : SegmentationDescriptor) (i : SegmentationInsert) (d
         }
     of-back q fine (short expected actual) eb e = zero-one cc
 
-    of-check : (r : UpidRead) → checkOf (upid₀ .kind) (viewed s (upid₀ .bytes)) ≡ r
+    of-check : (r : UpidRead) → checkOf (upid₀ .«upid_type») (viewed s (upid₀ .bytes)) ≡ r
         → (ifFine r (upid₀ .bytes) λ upid. parse back (bitsOf s) m andThen λ b n. inserted (h .event) (f .front) upid b) ≡ Is (Segmentation x) → Parsed s (x .«segmentation_event_id») i
     of-check (UpidRead.Fine q) ec e = of-back q ec (parse back (bitsOf s) m) refl e
     of-check (UpidRead.Refused r) ec e = zero-one cc
 
   module _ (h : Head) (a : ℕ) (eh : parse head (bitsOf s) 0 ≡ got h a) where
     of-front : h .cancel ≡ false → (r : Answer Fore) → parse front (bitsOf s) a ≡ r
-        → (r andThen λ f m. ifFine (checkOf (f .front .«segmentation_upid» .kind) (viewed s (f .front .«segmentation_upid» .bytes))) (f .front .«segmentation_upid» .bytes) λ upid.
+        → (r andThen λ f m. ifFine (checkOf (f .front .«segmentation_upid» .«upid_type») (viewed s (f .front .«segmentation_upid» .bytes))) (f .front .«segmentation_upid» .bytes) λ upid.
         parse back (bitsOf s) m andThen λ b n. inserted (h .event) (f .front) upid b) ≡ Is (Segmentation x) → Parsed s (x .«segmentation_event_id») i
-    of-front stays (got f m) ef e = of-check h a eh stays f m ef (checkOf (f .front .«segmentation_upid» .kind) (viewed s (f .front .«segmentation_upid» .bytes))) refl e
+    of-front stays (got f m) ef e = of-check h a eh stays f m ef (checkOf (f .front .«segmentation_upid» .«upid_type») (viewed s (f .front .«segmentation_upid» .bytes))) refl e
     of-front stays (short expected actual) ef e = zero-one cc
 
     of-cancel : (t : Bool) → h .cancel ≡ t
@@ -102,7 +116,7 @@ module _ (s : List ℕ) (x : SegmentationDescriptor) (i : SegmentationInsert) (d
     unfolding insertOf
     of-cancel true ec e =
         let z : _≡_ {A = SegmentationDescriptor} (record { «segmentation_event_id» = h .event; «descriptor_detail» = Cancel }) x = cc in
-        let y : _≡_ {A = SegmentationDetail} Cancel (Insert i) = ap (λ (d : SegmentationDescriptor). d .«descriptor_detail») z ∙ detail in
+        let y : _≡_ {A = DescriptorDetail} Cancel (Active i) = ap (λ (d : SegmentationDescriptor). d .«descriptor_detail») z ∙ detail in
         zero-one cc
     of-cancel false ec e = of-front ec (parse front (bitsOf s) a) refl e
 
@@ -118,10 +132,40 @@ module _ (s : List ℕ) (x : SegmentationDescriptor) (i : SegmentationInsert) (d
 
 -- and the other way round
 assemble : (s : List ℕ) (h : Head) (a : ℕ) (f : Fore) (m q : ℕ) (b : Of back) (n : ℕ) → parse head (bitsOf s) 0 ≡ got h a → h .cancel ≡ false → parse front (bitsOf s) a ≡ got f m
-    → checkOf (f .front .«segmentation_upid» .kind) (viewed s (f .front .«segmentation_upid» .bytes)) ≡ UpidRead.Fine q → parse back (bitsOf s) m ≡ got b n
-    → segmentationOf s ≡ Is (Segmentation (record { «segmentation_event_id» = h .event; «descriptor_detail» = Insert (insertFrom (f .front) (reportedUpid q (f .front .«segmentation_upid» .bytes)) b) }))
+    → checkOf (f .front .«segmentation_upid» .«upid_type») (viewed s (f .front .«segmentation_upid» .bytes)) ≡ UpidRead.Fine q → parse back (bitsOf s) m ≡ got b n
+    → segmentationOf s ≡ Is (Segmentation (record { «segmentation_event_id» = h .event; «descriptor_detail» = Active (insertFrom (f .front) (reportedUpid q (f .front .«segmentation_upid» .bytes)) b) }))
 unfolding segmentationOf insertOf inserted
 assemble s h a f m q b n eh stays ef ec eb = rw (eh, stays, ef, ec, eb)
+
+-- ---- the table
+
+-- of a payload, part by part: its reading, and whether it is canonical
+module _ (s : List ℕ) (h : Head) (a : ℕ) (f : Fore) (m : ℕ) (b : Of back) (n : ℕ) (eh : parse head (bitsOf s) 0 ≡ got h a) (stays : h .cancel ≡ false) (ef : parse front (bitsOf s) a ≡ got f m)
+    (eb : parse back (bitsOf s) m ≡ got b n) where
+  abbrev whole : table.Segmentation
+  whole = record {
+    descriptor = record { «segmentation_event_id» = h .event; «descriptor_detail» = Active (insertFrom (f .front) (f .front .«segmentation_upid») b) };
+    components = f .components;
+  }
+
+  table-reads : parse segmentation (bitsOf s) 0 ≡ got whole n
+  unfolding segmentation
+  table-reads = takes-in head _ _ (bitsOf s) 0 h a eh ∙ rw stays (takes-in front _ _ (bitsOf s) a f m ef ∙ takes-in back _ _ (bitsOf s) m b n eb)
+
+  table-form : canonical segmentation (bitsOf s) 0 ≡ canonical head (bitsOf s) 0 && (canonical front (bitsOf s) a && (canonical back (bitsOf s) m && true))
+  unfolding segmentation
+  table-form =
+      canonical-inside head _ _ (bitsOf s) 0 h a eh
+      ∙ ap (λ (x : Bool). canonical head (bitsOf s) 0 && x)
+      (rw stays (canonical-inside front _ _ (bitsOf s) a f m ef ∙ ap (λ (x : Bool). canonical front (bitsOf s) a && x) (canonical-inside back _ _ (bitsOf s) m b n eb)))
+
+  table-by : canonicalBy segmentation s ≡ eqb n (length s * 8) && (canonical head (bitsOf s) 0 && (canonical front (bitsOf s) a && (canonical back (bitsOf s) m && true)))
+  unfolding canonicalBy
+  table-by = ap₂ (λ (r : Answer table.Segmentation) (x : Bool). takesAll r s && x) table-reads table-form
+
+  table-beside : besideOf s ≡ record { components = filled (f .components); eidr = eidrOf (f .front .«segmentation_upid» .«upid_type») (viewed s (f .front .«segmentation_upid» .bytes)) }
+  unfolding besideOf besideIn
+  table-beside = ap (besideIn s) table-reads
 
 -- ---- the fields behind the UPID
 
@@ -131,10 +175,13 @@ sightless-sub = λ m. sightless-pick (eqb m 0) _ _ tt (λ n of. tt)
 
 sightless-back : Sightless back
 unfolding back number
-sightless-back = λ kind n of. sightless-inside subSegments _ _ sightless-sub λ y. tt
+sightless-back = λ type-id n of. sightless-inside subSegments _ _ sightless-sub λ y. tt
 
-later-got : {X : Type 0} (k : ℕ) (r : Answer X) (x : X) (n : ℕ) → later k r ≡ got x n → (m : ℕ) × (r ≡ got x m)
-later-got k (got y m) x n e = let z : y ≡ x = cc in (m, ap (λ (w : _). got w m) z)
+later-got : {X : Type 0} (k : ℕ) (r : Answer X) (x : X) (n : ℕ) → later k r ≡ got x n → (m : ℕ) × (r ≡ got x m) × (k + m ≡ n)
+later-got k (got y m) x n e =
+    let z : y ≡ x = cc in
+    let w : k + m ≡ n = cc in
+    (m, ap (λ (w : _). got w m) z, w)
 later-got k (short a c) x n e = zero-one cc
 
 back-there : (lead post : List ℕ) → parse back (bitsOf (lead ++ post)) (length lead * 8) ≡ later (length lead * 8) (parse back (bitsOf post) 0)
@@ -144,16 +191,23 @@ back-there lead post =
     ap₂ (λ (bs : List ℕ) (at : ℕ). parse back bs at) (bits-append lead post) z
     ∙ shift (bitsOf lead) (bitsOf post) back sightless-back 0 ∙ ap (λ (k : ℕ). later k (parse back (bitsOf post) 0)) l
 
+-- how many bits behind the UPID they end
 back-same : (lead other post : List ℕ) (b : Of back) (n : ℕ) → parse back (bitsOf (lead ++ post)) (length lead * 8) ≡ got b n
-    → (m : ℕ) × (parse back (bitsOf (other ++ post)) (length other * 8) ≡ got b m)
+    → (m : ℕ) × (parse back (bitsOf (other ++ post)) (length other * 8) ≡ got b (length other * 8 + m)) × (length lead * 8 + m ≡ n)
 back-same lead other post b n e =
     let r = later-got (length lead * 8) (parse back (bitsOf post) 0) b n (sym (back-there lead post) ∙ e) in
-    (length other * 8 + r .0, back-there other post ∙ ap (later (length other * 8)) (r .1))
+    (r .0, back-there other post ∙ ap (later (length other * 8)) (r .1), r .2)
+
+back-form : (lead post : List ℕ) → canonical back (bitsOf (lead ++ post)) (length lead * 8) ≡ canonical back (bitsOf post) 0
+back-form lead post =
+    let l : length (bitsOf lead) ≡ length lead * 8 = length-bits lead in
+    let z : length lead * 8 ≡ length (bitsOf lead) + 0 = omega arith in
+    ap₂ (λ (bs : List ℕ) (at : ℕ). canonical back bs at) (bits-append lead post) z ∙ shift-form (bitsOf lead) (bitsOf post) back sightless-back 0
 
 -- ---- the hole
 
 -- the bytes of the UPID are where its head says
-viewed-payload : (fore post : List ℕ) (k : ℕ) (u : List ℕ) → viewed (payload fore post k u) (record { at = length fore + 2; len = length u }) ≡ u
+viewed-payload : (fore post : List ℕ) (k : ℕ) (u : List ℕ) → viewed (payload fore post k u) (upidPlace fore u) ≡ u
 unfolding viewed
 viewed-payload fore post k u =
     let s : List ℕ = payload fore post k u in
@@ -174,14 +228,25 @@ lead-size fore k u = omega (arith, length-append fore (k ∷ (length u ∷ u)))
 
 -- the fields behind the UPID, whatever UPID it is
 back-refilled : (fore post : List ℕ) (k : ℕ) (u : List ℕ) (c : ℕ) (v : List ℕ) (b : Of back) (n : ℕ) → parse back (bitsOf (payload fore post k u)) ((length fore + 2 + length u) * 8) ≡ got b n
-    → (m : ℕ) × (parse back (bitsOf (payload fore post c v)) ((length fore + 2 + length v) * 8) ≡ got b m)
+    → (m : ℕ) × (parse back (bitsOf (payload fore post c v)) ((length fore + 2 + length v) * 8) ≡ got b ((length fore + 2 + length v) * 8 + m))
+    × ((length fore + 2 + length u) * 8 + m ≡ n)
 back-refilled fore post k u c v b n e =
     let old : parse back (bitsOf (lead fore k u ++ post)) (length (lead fore k u) * 8) ≡ got b n =
     ap₂ (λ (s : List ℕ) (l : ℕ). parse back (bitsOf s) (l * 8)) (sym (payload-lead fore post k u)) (lead-size fore k u) ∙ e in
-    let r = back-same (lead fore k u) (lead fore c v) post b n old in
-    (r .0, ap₂ (λ (s : List ℕ) (l : ℕ). parse back (bitsOf s) (l * 8)) (payload-lead fore post c v) (sym (lead-size fore c v)) ∙ r .1)
+    let r = back-same (lead fore k u) (lead fore c v) post b n old in (
+      r .0,
+      ap₂ (λ (s : List ℕ) (l : ℕ). parse back (bitsOf s) (l * 8)) (payload-lead fore post c v) (sym (lead-size fore c v)) ∙ r .1 ∙ ap (λ (l : ℕ). got b (l * 8 + r .0)) (lead-size fore c v),
+      omega (arith, r .2, lead-size fore k u),
+    )
 
-module _ (s : List ℕ) (event : ℕ) (i : SegmentationInsert) (bytes : (k : ℕ) → getD s k 0 < 256) (p : Parsed s event i) where
+back-forms : (fore post : List ℕ) (k : ℕ) (u : List ℕ) (c : ℕ) (v : List ℕ)
+    → canonical back (bitsOf (payload fore post c v)) ((length fore + 2 + length v) * 8) ≡ canonical back (bitsOf (payload fore post k u)) ((length fore + 2 + length u) * 8)
+back-forms fore post k u c v = of c v ∙ sym (of k u)
+  where
+    of : (c : ℕ) (v : List ℕ) → canonical back (bitsOf (payload fore post c v)) ((length fore + 2 + length v) * 8) ≡ canonical back (bitsOf post) 0
+    of c v = ap₂ (λ (s : List ℕ) (l : ℕ). canonical back (bitsOf s) (l * 8)) (payload-lead fore post c v) (sym (lead-size fore c v)) ∙ back-form (lead fore c v) post
+
+module _ (s : List ℕ) (event : ℕ) (i : SegmentationDetail) (bytes : (k : ℕ) → getD s k 0 < 256) (p : Parsed s event i) where
   split : Split (bitsOf s) (p .a) (p .f) (p .m)
   split = split-front (bitsOf s) (p .a) (p .f) (p .m) (p .front-is)
 
@@ -205,9 +270,9 @@ module _ (s : List ℕ) (event : ℕ) (i : SegmentationInsert) (bytes : (k : ℕ
   fore-size = length-take-le q s (written .inside)
 
   rest : List ℕ
-  rest = written .kind ∷ (length (written .bytes) ∷ (written .bytes ++ written .post))
+  rest = written .«upid_type» ∷ (length (written .bytes) ∷ (written .bytes ++ written .post))
 
-  is-holed : s ≡ payload fore (written .post) (written .kind) (written .bytes)
+  is-holed : s ≡ payload fore (written .post) (written .«upid_type») (written .bytes)
   unfolding fore
   is-holed = written .is
 
@@ -215,22 +280,22 @@ module _ (s : List ℕ) (event : ℕ) (i : SegmentationInsert) (bytes : (k : ℕ
   unfolding rest
   cut = ap bitsOf is-holed ∙ bits-append fore rest
 
-  upid-is : p .f .front .«segmentation_upid» ≡ record { kind = written .kind; bytes = record { at = length fore + 2; len = length (written .bytes) } }
+  upid-is : p .f .front .«segmentation_upid» ≡ record { «upid_type» = written .«upid_type»; bytes = record { at = length fore + 2; len = length (written .bytes) } }
   upid-is =
       ap (λ (x : Fore). x .front .«segmentation_upid») (sym (split .is)) ∙ split .has (split .upid) ∙ written .upid
-      ∙ ap (λ (n : ℕ). record { kind = written .kind; bytes = record { at = n + 2; len = length (written .bytes) } }) (sym fore-size)
+      ∙ ap (λ (n : ℕ). record { «upid_type» = written .«upid_type»; bytes = record { at = n + 2; len = length (written .bytes) } }) (sym fore-size)
 
   place-is : length fore ≡ upidHead s
   place-is = omega (arith, ap (λ (u : SegmentationUpid). u .bytes .at) upid-is, head-at s bytes (p .h) (p .a) (p .head-is) (p .f) (p .m) (p .front-is))
 
-  fine-is : checkOf (written .kind) (written .bytes) ≡ UpidRead.Fine (p .q)
+  fine-is : checkOf (written .«upid_type») (written .bytes) ≡ UpidRead.Fine (p .q)
   fine-is =
-      sym (ap (λ (u : SegmentationUpid). checkOf (u .kind) (viewed s (u .bytes))) upid-is
-      ∙ ap (λ (l : List ℕ). checkOf (written .kind) (viewed l (record { at = length fore + 2; len = length (written .bytes) }))) is-holed
-      ∙ ap (checkOf (written .kind)) (viewed-payload fore (written .post) (written .kind) (written .bytes)))
+      sym (ap (λ (u : SegmentationUpid). checkOf (u .«upid_type») (viewed s (u .bytes))) upid-is
+      ∙ ap (λ (l : List ℕ). checkOf (written .«upid_type») (viewed l (record { at = length fore + 2; len = length (written .bytes) }))) is-holed
+      ∙ ap (checkOf (written .«upid_type»)) (viewed-payload fore (written .post) (written .«upid_type») (written .bytes)))
       ∙ p .fine
 
-  old-back : parse back (bitsOf (payload fore (written .post) (written .kind) (written .bytes))) ((length fore + 2 + length (written .bytes)) * 8) ≡ got (p .b) (p .n)
+  old-back : parse back (bitsOf (payload fore (written .post) (written .«upid_type») (written .bytes))) ((length fore + 2 + length (written .bytes)) * 8) ≡ got (p .b) (p .n)
   old-back =
       ap₂ (λ (l : List ℕ) (n : ℕ). parse back (bitsOf l) ((n + 2 + length (written .bytes)) * 8)) (sym is-holed) fore-size
       ∙ ap (parse back (bitsOf s)) (sym (written .end)) ∙ p .back-is
@@ -253,7 +318,7 @@ module _ (s : List ℕ) (event : ℕ) (i : SegmentationInsert) (bytes : (k : ℕ
     short-enough = let a : Accepted (checkOf k u) = rw ec tt in omega (arith, check-short k u a)
 
     place : SegmentationUpid
-    place = record { kind = k; bytes = record { at = length fore + 2; len = length u } }
+    place = record { «upid_type» = k; bytes = record { at = length fore + 2; len = length u } }
 
     new-head : parse head (bitsOf new) 0 ≡ got (p .h) (p .a)
     new-head =
@@ -272,15 +337,20 @@ module _ (s : List ℕ) (event : ℕ) (i : SegmentationInsert) (bytes : (k : ℕ
         ∙ split .again (bitsOf fore) (bitsOf rest) (bitsOf after) cut (omega (arith, seam-is, size)) place ((length fore + 2 + length u) * 8)
         (ap₂ (λ (bs : List ℕ) (n : ℕ). parse writtenUpid bs n) (sym new-cut) e ∙ new-written)
 
-    new-fine : checkOf (split .make place .front .«segmentation_upid» .kind) (viewed new (split .make place .front .«segmentation_upid» .bytes)) ≡ UpidRead.Fine r
+    new-bytes : viewed new (upidPlace fore u) ≡ u
+    unfolding new
+    new-bytes = viewed-payload fore (written .post) k u
+
+    new-fine : checkOf (split .make place .front .«segmentation_upid» .«upid_type») (viewed new (split .make place .front .«segmentation_upid» .bytes)) ≡ UpidRead.Fine r
     unfolding new place
     new-fine =
-        ap (λ (x : SegmentationUpid). checkOf (x .kind) (viewed new (x .bytes))) (split .has place)
-        ∙ ap (checkOf k) (viewed-payload fore (written .post) k u) ∙ ec
+        ap (λ (x : SegmentationUpid). checkOf (x .«upid_type») (viewed new (x .bytes))) (split .has place)
+        ∙ ap (checkOf k) new-bytes ∙ ec
 
-    new-back : (n : ℕ) × (parse back (bitsOf new) ((length fore + 2 + length u) * 8) ≡ got (p .b) n)
+    new-back : (n : ℕ) × (parse back (bitsOf new) ((length fore + 2 + length u) * 8) ≡ got (p .b) ((length fore + 2 + length u) * 8 + n))
+        × ((length fore + 2 + length (written .bytes)) * 8 + n ≡ p .n)
     unfolding new
-    new-back = back-refilled fore (written .post) (written .kind) (written .bytes) k u (p .b) (p .n) old-back
+    new-back = back-refilled fore (written .post) (written .«upid_type») (written .bytes) k u (p .b) (p .n) old-back
 
     same-insert : insertFrom (split .make place .front) (reportedUpid r (split .make place .front .«segmentation_upid» .bytes)) (p .b)
         ≡ withUpid i (reportedUpid r (record { at = length fore + 2; len = length u }))
@@ -288,29 +358,103 @@ module _ (s : List ℕ) (event : ℕ) (i : SegmentationInsert) (bytes : (k : ℕ
     same-insert =
         ap (λ (x : SegmentationUpid). insertFrom (split .make place .front) (reportedUpid r (x .bytes)) (p .b)) (split .has place)
         ∙ split .keeps place (reportedUpid r (record { at = length fore + 2; len = length u })) (p .b)
-        ∙ ap (λ (j : SegmentationInsert). withUpid j (reportedUpid r (record { at = length fore + 2; len = length u }))) (p .is)
+        ∙ ap (λ (j : SegmentationDetail). withUpid j (reportedUpid r (record { at = length fore + 2; len = length u }))) (p .is)
 
-    new-reads : segmentationOf new ≡ Is (Segmentation (record { «segmentation_event_id» = event; «descriptor_detail» = Insert (withUpid i (reportedUpid r (record { at = length fore + 2; len = length u }))) }))
+    new-reads : segmentationOf new ≡ Is (Segmentation (record { «segmentation_event_id» = event; «descriptor_detail» = Active (withUpid i (reportedUpid r (record { at = length fore + 2; len = length u }))) }))
     new-reads =
-        assemble new (p .h) (p .a) (split .make place) ((length fore + 2 + length u) * 8) r (p .b) (new-back .0) new-head (p .stays) new-front new-fine (new-back .1)
-        ∙ ap₂ (λ (e : ℕ) (j : SegmentationInsert). Is (Segmentation (record { «segmentation_event_id» = e; «descriptor_detail» = Insert j }))) (p .event-is) same-insert
+        assemble new (p .h) (p .a) (split .make place) ((length fore + 2 + length u) * 8) r (p .b) ((length fore + 2 + length u) * 8 + new-back .0) new-head (p .stays) new-front new-fine (new-back .1)
+        ∙ ap₂ (λ (e : ℕ) (j : SegmentationDetail). Is (Segmentation (record { «segmentation_event_id» = e; «descriptor_detail» = Active j }))) (p .event-is) same-insert
+
+    -- ---- the same by its table
+
+    abbrev end : ℕ
+    end = (length fore + 2 + length u) * 8 + new-back .0
+
+    new-size : length new ≡ length fore + 2 + length u + length (written .post)
+    unfolding new after
+    new-size = omega (arith, length-append fore (k ∷ (length u ∷ (u ++ written .post))), length-append u (written .post))
+
+    old-size : length s ≡ length fore + 2 + length (written .bytes) + length (written .post)
+    unfolding rest
+    old-size = omega (arith, ap length is-holed, length-append fore rest, length-append (written .bytes) (written .post))
+
+    -- a byte is spare in the one where it is in the other
+    same-end : eqb end (length new * 8) ≡ eqb (p .n) (length s * 8)
+    same-end = go (eqb (p .n) (length s * 8)) refl
+      where
+        go : (t : Bool) → eqb (p .n) (length s * 8) ≡ t → eqb end (length new * 8) ≡ t
+        go true e = eq-eqb end (length new * 8) (omega (arith, eqb-true (p .n) (length s * 8) e, new-back .2, new-size, old-size))
+        go false e = ne-eqb end (length new * 8) (λ z. eqb-false (p .n) (length s * 8) e (omega (arith, z, new-back .2, new-size, old-size)))
+
+    head-form : canonical head (bitsOf new) 0 ≡ canonical head (bitsOf s) 0
+    head-form =
+        ap (λ (bs : List ℕ). canonical head bs 0) new-cut
+        ∙ swap-form head blind-head (bitsOf fore) (bitsOf rest) (bitsOf after) 0 (p .h) (p .a) (ap (λ (bs : List ℕ). parse head bs 0) (sym cut) ∙ p .head-is)
+        (omega (arith, split .from, seam-is, size))
+        ∙ ap (λ (bs : List ℕ). canonical head bs 0) (sym cut)
+
+    front-form : canonical front (bitsOf new) (p .a) ≡ canonical front (bitsOf s) (p .a)
+    front-form =
+        let e : split .seam ≡ length fore * 8 = omega (arith, seam-is, fore-size) in
+        ap (λ (bs : List ℕ). canonical front bs (p .a)) new-cut
+        ∙ split .form (bitsOf fore) (bitsOf rest) (bitsOf after) cut (omega (arith, seam-is, size)) place ((length fore + 2 + length u) * 8)
+        (ap₂ (λ (bs : List ℕ) (n : ℕ). parse writtenUpid bs n) (sym new-cut) e ∙ new-written)
+
+    behind-form : canonical back (bitsOf new) ((length fore + 2 + length u) * 8) ≡ canonical back (bitsOf s) (p .m)
+    unfolding new
+    behind-form =
+        back-forms fore (written .post) (written .«upid_type») (written .bytes) k u
+        ∙ ap₂ (λ (l : List ℕ) (n : ℕ). canonical back (bitsOf l) ((n + 2 + length (written .bytes)) * 8)) (sym is-holed) fore-size
+        ∙ ap (canonical back (bitsOf s)) (sym (written .end))
+
+    new-form : canonicalBy segmentation new ≡ canonicalBy segmentation s
+    new-form =
+        table-by new (p .h) (p .a) (split .make place) ((length fore + 2 + length u) * 8) (p .b) end new-head (p .stays) new-front (new-back .1)
+        ∙ four same-end head-form front-form behind-form
+        ∙ sym (table-by s (p .h) (p .a) (p .f) (p .m) (p .b) (p .n) (p .head-is) (p .stays) (p .front-is) (p .back-is))
+      where
+        four : {a b c d w x y z : Bool} → a ≡ w → b ≡ x → c ≡ y → d ≡ z → a && (b && (c && (d && true))) ≡ w && (x && (y && (z && true)))
+        four e f g h = rw (e, f, g, h)
+
+    new-beside : besideOf new ≡ record { components = besideOf s .components; eidr = eidrOf k u }
+    unfolding place
+    new-beside =
+        table-beside new (p .h) (p .a) (split .make place) ((length fore + 2 + length u) * 8) (p .b) end new-head (p .stays) new-front (new-back .1)
+        ∙ ap₂ (λ (cs : List ModeComponent) (l : List ℕ). record { components = cs; eidr = l })
+        (ap filled (split .beside place)
+        ∙ sym (ap (λ (x : Beside). x .components) (table-beside s (p .h) (p .a) (p .f) (p .m) (p .b) (p .n) (p .head-is) (p .stays) (p .front-is) (p .back-is))))
+        (ap (λ (x : SegmentationUpid). eidrOf (x .«upid_type») (viewed new (x .bytes))) (split .has place) ∙ ap (eidrOf k) new-bytes)
+
+    new-tabled : Tabled s fore (written .post) k u
+    unfolding new place
+    new-tabled =
+        record {
+          reading = whole new (p .h) (p .a) (split .make place) ((length fore + 2 + length u) * 8) (p .b) end new-head (p .stays) new-front (new-back .1);
+          end = end;
+          reads = table-reads new (p .h) (p .a) (split .make place) ((length fore + 2 + length u) * 8) (p .b) end new-head (p .stays) new-front (new-back .1);
+          upid = split .has place;
+          bytes = new-bytes;
+          form = new-form;
+          beside = new-beside;
+        }
 
   holed-parsed : Holed s event i
   unfolding new
   holed-parsed =
       record {
         fore = fore;
-        kind = written .kind;
+        «upid_type» = written .«upid_type»;
         bytes = written .bytes;
         post = written .post;
         is = is-holed;
         place = place-is;
         reported = p .q;
         fine = fine-is;
-        upid = ap (λ (j : SegmentationInsert). j .«segmentation_upid») (sym (p .is)) ∙ ap (λ (w : SegmentationUpid). reportedUpid (p .q) (w .bytes)) upid-is;
+        upid = ap (λ (j : SegmentationDetail). j .«segmentation_upid») (sym (p .is)) ∙ ap (λ (w : SegmentationUpid). reportedUpid (p .q) (w .bytes)) upid-is;
         refilled = new-reads;
+        tabled = new-tabled;
       }
 
-pub holed : (s : List ℕ) (x : SegmentationDescriptor) (i : SegmentationInsert) → ((k : ℕ) → getD s k 0 < 256) → segmentationOf s ≡ Is (Segmentation x) → x .«descriptor_detail» ≡ Insert i
+pub holed : (s : List ℕ) (x : SegmentationDescriptor) (i : SegmentationDetail) → ((k : ℕ) → getD s k 0 < 256) → segmentationOf s ≡ Is (Segmentation x) → x .«descriptor_detail» ≡ Active i
     → Holed s (x .«segmentation_event_id») i
 holed s x i bytes e d = holed-parsed s (x .«segmentation_event_id») i bytes (parsed s x i d e)

@@ -22,6 +22,7 @@ use Rattle.table.specs.Lent.{viewed}
 use Rattle.table.specs.Table.{Table, number, bit, got, short, parse}
 use Rattle.table.specs.declared.View.{View}
 use Rattle.table.proofs.Bits.{bits-append, length-bits, length-bigEndian}
+use Rattle.table.proofs.Fields.{field-in, field-byte}
 use Rattle.table.proofs.Lists.{zero-one}
 use Rattle.table.proofs.Longer.{Blind}
 use Rattle.section.specs.Section.{commandLength, commandType, commandBytes, roomAfter, loopLength, loopPlace, loopBytes, frameIn, frameOf, movedRead, accepted, through, sectionOf, conditions, None}
@@ -31,7 +32,7 @@ use Rattle.section.specs.declared.Section.{Section}
 use Rattle.section.specs.declared.SectionRead.{SectionRead}
 use Rattle.section.proofs.Acceptance.{none-if-accepted}
 use Rattle.section.proofs.Framing.{number-of, extent-is, commandRead, is-accepted}
-use Rattle.relabel_payload.proofs.Swaps.{swap}
+use Rattle.table.proofs.Swaps.{swap}
 use Rattle.relabel_section.specs.Frame.{foreOf, spareOf, restWith, bodyWith, sectionWith}
 
 -- ---- fields behind three bytes that may differ, of bytes that begin alike
@@ -324,6 +325,51 @@ module _ (s loop : List ℕ) (x : Section) (is : sectionOf s ≡ SectionRead.Is 
   pub size-with : length (sectionWith s loop) ≡ 20 + commandLength s + (length loop + length (spareOf s))
   unfolding new
   size-with = new-size
+
+  -- ---- what its head says
+
+  pub command-with : (commandLength (sectionWith s loop) ≡ commandLength s) × (commandType (sectionWith s loop) ≡ commandType s) × (commandBytes (sectionWith s loop) ≡ commandBytes s)
+  unfolding new
+  command-with = (command-length-same, command-type-same, command-bytes-same)
+
+  pub loop-length-with : loopLength (sectionWith s loop) ≡ length loop
+  unfolding new
+  loop-length-with = sym loop-length
+
+  counted : length new ≡ 3 + n
+  unfolding n fore
+  counted = omega (arith, new-size, length-append fore (bigEndian 2 (length loop) ++ (loop ++ spareOf s)), length-append loop (spareOf s), fore-size)
+
+  second-is : getD new 1 0 ≡ getD s 1 0 / 16 * 16 + n / 256
+  second-is = ap (λ (l : List ℕ). getD l 1 0) new-is
+
+  third-is : getD new 2 0 ≡ n % 256
+  third-is = ap (λ (l : List ℕ). getD l 2 0) new-is
+
+  module _ (byte : getD s 1 0 < 256) where
+    short-n : n ≤ 4093
+    short-n = omega (arith, counted, new-fits)
+
+    second-byte : getD new 1 0 < 256
+    second-byte = let h : n ≤ 4093 = short-n in omega (arith, second-is)
+
+    -- the four bits before section_length
+    pub four-with : field (bitsOf (sectionWith s loop)) 8 4 ≡ field (bitsOf s) 8 4
+    unfolding new
+    four-with =
+        let h : n ≤ 4093 = short-n in
+        let z : getD new 1 0 / 16 % 16 ≡ getD s 1 0 / 16 % 16 = omega (arith, second-is) in
+        field-in new 1 (omega (arith, new-size)) second-byte 0 4 4 refl ∙ z ∙ sym (field-in s 1 (omega (arith, long)) byte 0 4 4 refl)
+
+    -- section_length
+    pub length-with : field (bitsOf (sectionWith s loop)) 12 12 ≡ length (sectionWith s loop) - 3
+    unfolding new
+    length-with =
+        let h : n ≤ 4093 = short-n in
+        let low : field (bitsOf new) 12 4 ≡ getD new 1 0 / 1 % 16 = field-in new 1 (omega (arith, new-size)) second-byte 4 4 0 refl in
+        let third : getD new 2 0 < 256 = omega (arith, third-is) in
+        let z : getD new 1 0 / 1 % 16 * 256 + getD new 2 0 ≡ length new - 3 = omega (arith, second-is, third-is, counted) in
+        field-byte new 2 (omega (arith, new-size)) third 12 4 refl ∙ ap (λ (m : ℕ). m * 256 + getD new 2 0) low ∙ z
 
   -- both loops are short enough to be read
   pub new-loop-fits : length loop ≤ 4076

@@ -1,7 +1,7 @@
 -- From holes to the public definitions, for the statements in Theorems.antt.
 use Prim.Native.Nat.{ℕ, zero, suc, _+_, _-_, _≤_, _<_}
 use mathlib.Core.Path.{_≡_, refl, sym, ap, ap₂, subst, _∙_}
-use mathlib.Core.Bool.{Bool, true, false, cond, not, _||_}
+use mathlib.Core.Bool.{Bool, true, false, not, _||_}
 use mathlib.Core.List.{List, [], _∷_, _++_, map, append-assoc, append-nil}
 use native.Mathlib.Omega.{arith}
 use lib.Dec.{eqb, leb, ltb}
@@ -21,9 +21,9 @@ use Rattle.upid.proofs.Cutting.{after-head}
 use Rattle.upid.proofs.Answers.{no-mid-no-parts, refused-no-parts}
 use Rattle.upid.proofs.Walks.{check-mid, check-short}
 use Rattle.relabel_upid.specs.Hole.{Hole, headed, filled}
-use Rattle.relabel_upid.specs.Kept.{Identifier, identifiersIn, identifiersAt, insideOf, afterPart, identifiersThen, widened, moved, renewed, partsThen, writtenKind, Relabelled}
+use Rattle.relabel_upid.specs.Kept.{Identifier, identifiersIn, identifiersAt, insideOf, afterPart, identifiersThen, widened, moved, renewed, partsThen, writtenType, Relabelled}
 use Rattle.relabel_upid.specs.Relabel.{instead, mended, spliced, partAt, replacedIn, replaced, taken, wholeMade, partMade, upidMade}
-use Rattle.relabel_upid.proofs.Holes.{levelAt, startAt, recorded, inner, before, behind, list-filled, Fair, FairCut, accepted-filled, Found, find, front, back, cut-filled, length-front, length-filled}
+use Rattle.relabel_upid.proofs.Holes.{levelAt, startAt, recorded, inner, before, behind, list-filled, AcceptedBeside, AcceptedCut, accepted-filled, Found, find, front, back, cut-filled, length-front, length-filled}
 use Rattle.relabel_upid.proofs.Places.{spot, mend-front, before-widened, behind-moved}
 use Rattle.relabel_upid.proofs.Told.{told-append, same-before, same-behind, reported-list, told-own}
 
@@ -58,17 +58,17 @@ module _ (c : Cut) (h : Hole) where
   there = ap (drop (startAt 0 h)) (cut-filled c h) ∙ drop-at (front c h) (headed c (back h)) (startAt 0 h) place
 
   run-is : bytesOf full (spot c 1 0 h) ≡ c .payload
-  run-is = ap (take (length (c .payload))) (after-head full (startAt 0 h) (c .kind) (length (c .payload)) (c .payload ++ back h) there) ∙ take-append-seam (c .payload) (back h)
+  run-is = ap (take (length (c .payload))) (after-head full (startAt 0 h) (c .«upid_type») (length (c .payload)) (c .payload ++ back h) there) ∙ take-append-seam (c .payload) (back h)
 
-  kind-is : getD full (spot c 1 0 h .start - 2) 0 ≡ c .kind
-  kind-is =
+  type-is : getD full (spot c 1 0 h .start - 2) 0 ≡ c .«upid_type»
+  type-is =
       let at : startAt 0 h + 2 - 2 ≡ startAt 0 h = omega arith in
-      ap₂ (λ (n : ℕ) (s : List ℕ). getD s n 0) at (cut-filled c h) ∙ getD-at (front c h) (c .kind) (length (c .payload) ∷ (c .payload ++ back h)) 0 (startAt 0 h) place
+      ap₂ (λ (n : ℕ) (s : List ℕ). getD s n 0) at (cut-filled c h) ∙ getD-at (front c h) (c .«upid_type») (length (c .payload) ∷ (c .payload ++ back h)) 0 (startAt 0 h) place
 
   inside-is : insideOf full (spot c 1 0 h) ≡ inner (levelAt 1 h) (startAt 0 h) c
   inside-is =
-      ap (listOf (reportedOf (c .kind)) (levelAt 1 h + 1) (startAt 0 h + 2)) run-is
-      ∙ reported-list (c .kind) (levelAt 1 h + 1) (startAt 0 h + 2) (c .payload)
+      ap (listOf (reportedOf (c .«upid_type»)) (levelAt 1 h + 1) (startAt 0 h + 2)) run-is
+      ∙ reported-list (c .«upid_type») (levelAt 1 h + 1) (startAt 0 h + 2) (c .payload)
 
   after-is : afterPart full parts number ≡ behind c 1 0 h
   unfolding rest
@@ -89,7 +89,7 @@ by-part : (top : List ℕ) (ps : List Part) (i k : ℕ) (new : List ℕ) (p : Pa
 unfolding spliced
 by-part top ps i k new p qs e f = ap₂ (λ (p : Part) (qs : List Part). spliced top qs p k new) e f
 
-module _ (c d : Cut) (h : Hole) (f : Fair h) where
+module _ (c d : Cut) (h : Hole) (f : AcceptedBeside h) where
   before-hole : take (spot c 1 0 h .start - 2) (full c h) ≡ front c h
   before-hole =
       let at : startAt 0 h + 2 - 2 ≡ startAt 0 h = omega arith in
@@ -97,14 +97,14 @@ module _ (c d : Cut) (h : Hole) (f : Fair h) where
 
   after-hole : drop (spot c 1 0 h .start + spot c 1 0 h .len) (full c h) ≡ back h
   after-hole =
-      let lead : List ℕ = front c h ++ (c .kind ∷ (length (c .payload) ∷ c .payload)) in
-      let size : length lead ≡ startAt 0 h + 2 + length (c .payload) = omega (arith, place c h, length-append (front c h) (c .kind ∷ (length (c .payload) ∷ c .payload))) in
-      let split : full c h ≡ lead ++ back h = cut-filled c h ∙ sym (append-assoc (front c h) (c .kind ∷ (length (c .payload) ∷ c .payload)) (back h)) in
+      let lead : List ℕ = front c h ++ (c .«upid_type» ∷ (length (c .payload) ∷ c .payload)) in
+      let size : length lead ≡ startAt 0 h + 2 + length (c .payload) = omega (arith, place c h, length-append (front c h) (c .«upid_type» ∷ (length (c .payload) ∷ c .payload))) in
+      let split : full c h ≡ lead ++ back h = cut-filled c h ∙ sym (append-assoc (front c h) (c .«upid_type» ∷ (length (c .payload) ∷ c .payload)) (back h)) in
       ap (drop (startAt 0 h + 2 + length (c .payload))) split ∙ drop-at lead (back h) (startAt 0 h + 2 + length (c .payload)) size
 
-  pub refilled : replacedIn (full c h) (parts c h) (number c h) (d .kind) (d .payload) ≡ filled h d
+  pub refilled : replacedIn (full c h) (parts c h) (number c h) (d .«upid_type») (d .payload) ≡ filled h d
   refilled =
-      by-part (full c h) (parts c h) (number c h) (d .kind) (d .payload) (spot c 1 0 h) (before c 1 0 h) (part-is c h) (take-is c h)
+      by-part (full c h) (parts c h) (number c h) (d .«upid_type») (d .payload) (spot c 1 0 h) (before c 1 0 h) (part-is c h) (take-is c h)
       ∙ ap₂ (λ (s t : List ℕ). mended (spot c 1 0 h) (length (d .payload)) (before c 1 0 h) s ++ headed d t) before-hole after-hole
       ∙ ap (λ (s : List ℕ). s ++ headed d (back h)) (mend-front c d 1 0 h [] refl f)
       ∙ sym (cut-filled d h)
@@ -118,7 +118,7 @@ module _ (c d : Cut) (h : Hole) (f : Fair h) where
       let e : partAt (parts c h) (number c h) .len ≡ length (c .payload) = ap (λ (p : Part). p .len) (part-is c h) in
       omega (arith, length-filled c 0 h, length-filled d 0 h, e)
 
-  new-parts : listOf 13 1 0 (filled h d) ≡ partsThen (full c h) (parts c h) (number c h) (d .kind) (d .payload)
+  new-parts : listOf 13 1 0 (filled h d) ≡ partsThen (full c h) (parts c h) (number c h) (d .«upid_type») (d .payload)
   unfolding partsThen
   new-parts =
       let n : ℕ = length (d .payload) in
@@ -128,12 +128,12 @@ module _ (c d : Cut) (h : Hole) (f : Fair h) where
       ap₂ (λ (q : Part) (qs : List Part). map (widened q n) qs) (part-is c h) (take-is c h) ∙ before-widened c d 1 0 h f in
       let tail : map (moved old n) (afterPart (full c h) (parts c h) (number c h)) ≡ behind d 1 0 h =
       ap₂ (λ (q : Part) (qs : List Part). map (moved q n) qs) (part-is c h) (after-is c h) ∙ behind-moved c d 1 0 h p refl in
-      let own : renewed old (d .kind) (d .payload) ∷ listOf (d .kind) (old .level + 1) (old .start) (d .payload) ≡ spot d 1 0 h ∷ inner (levelAt 1 h) (startAt 0 h) d =
-      ap (λ (q : Part). renewed q (d .kind) (d .payload) ∷ listOf (d .kind) (q .level + 1) (q .start) (d .payload)) (part-is c h) in
+      let own : renewed old (d .«upid_type») (d .payload) ∷ listOf (d .«upid_type») (old .level + 1) (old .start) (d .payload) ≡ spot d 1 0 h ∷ inner (levelAt 1 h) (startAt 0 h) d =
+      ap (λ (q : Part). renewed q (d .«upid_type») (d .payload) ∷ listOf (d .«upid_type») (q .level + 1) (q .start) (d .payload)) (part-is c h) in
       list-filled d 1 0 h
       ∙ sym (ap₂ (λ (xs ys : List Part). xs ++ ys) lead (ap₂ (λ (xs ys : List Part). xs ++ ys) own tail))
 
-  new-told : FairCut d → identifiersIn (filled h d) (listOf 13 1 0 (filled h d)) ≡ identifiersThen (full c h) (parts c h) (number c h) (d .kind) (d .payload)
+  new-told : AcceptedCut d → identifiersIn (filled h d) (listOf 13 1 0 (filled h d)) ≡ identifiersThen (full c h) (parts c h) (number c h) (d .«upid_type») (d .payload)
   unfolding identifiersThen
   new-told g =
       let own : List Part = spot d 1 0 h ∷ inner (levelAt 1 h) (startAt 0 h) d in
@@ -145,7 +145,7 @@ module _ (c d : Cut) (h : Hole) (f : Fair h) where
       ∙ ap₂ (λ (xs ys : List Identifier). xs ++ ys)
       (sym (same-before c d 1 0 h (full c h) (filled h d) [] [] f old new) ∙ ap (identifiersIn (full c h)) (sym (take-is c h)))
       (ap₂ (λ (xs ys : List Identifier). xs ++ ys)
-      (told-own (levelAt 1 h) (startAt 0 h) d (filled h d) (back h) g (there d h) ∙ ap (λ (p : Part). identifiersAt (p .level) (d .kind) (d .payload)) (sym (part-is c h)))
+      (told-own (levelAt 1 h) (startAt 0 h) d (filled h d) (back h) g (there d h) ∙ ap (λ (p : Part). identifiersAt (p .level) (d .«upid_type») (d .payload)) (sym (part-is c h)))
       (sym (same-behind c d 1 0 h (full c h) (filled h d) [] [] f old new) ∙ ap (identifiersIn (full c h)) (sym (after-is c h))))
 
   new-there : number c h < length (listOf 13 1 0 (filled h d))
@@ -157,13 +157,13 @@ module _ (c d : Cut) (h : Hole) (f : Fair h) where
         length-append (before d 1 0 h) (spot d 1 0 h ∷ (inner (levelAt 1 h) (startAt 0 h) d ++ behind d 1 0 h)),
       )
 
-  new-spot : partAt (listOf 13 1 0 (filled h d)) (number c h) ≡ renewed (partAt (parts c h) (number c h)) (d .kind) (d .payload)
+  new-spot : partAt (listOf 13 1 0 (filled h d)) (number c h) ≡ renewed (partAt (parts c h) (number c h)) (d .«upid_type») (d .payload)
   new-spot =
       ap (partAt (parts d h)) (sym same-number) ∙ part-is d h
-      ∙ ap (λ (p : Part). renewed p (d .kind) (d .payload)) (sym (part-is c h))
+      ∙ ap (λ (p : Part). renewed p (d .«upid_type») (d .payload)) (sym (part-is c h))
 
-  new-run : bytesOf (filled h d) (renewed (partAt (parts c h) (number c h)) (d .kind) (d .payload)) ≡ d .payload
-  new-run = ap (λ (p : Part). bytesOf (filled h d) (renewed p (d .kind) (d .payload))) (part-is c h) ∙ run-is d h
+  new-run : bytesOf (filled h d) (renewed (partAt (parts c h) (number c h)) (d .«upid_type») (d .payload)) ≡ d .payload
+  new-run = ap (λ (p : Part). bytesOf (filled h d) (renewed p (d .«upid_type») (d .payload))) (part-is c h) ∙ run-is d h
 
 -- ---- all of it, for any part of an accepted MID
 
@@ -176,17 +176,17 @@ pub record Done (top : List ℕ) (ps : List Part) (i k : ℕ) (new : List ℕ) (
   pub run : bytesOf result (renewed (partAt ps i) k new) ≡ new
   pub there : i < length (listOf 13 1 0 result)
   pub spot : partAt (listOf 13 1 0 result) i ≡ renewed (partAt ps i) k new
-  pub again : replacedIn result (listOf 13 1 0 result) i (writtenKind top (partAt ps i)) (bytesOf top (partAt ps i)) ≡ top
+  pub again : replacedIn result (listOf 13 1 0 result) i (writtenType top (partAt ps i)) (bytesOf top (partAt ps i)) ≡ top
 
-module _ (c d : Cut) (h : Hole) (f : Fair h) where
-  put-back : replacedIn (filled h d) (parts d h) (number c h) (writtenKind (full c h) (partAt (parts c h) (number c h))) (bytesOf (full c h) (partAt (parts c h) (number c h))) ≡ full c h
+module _ (c d : Cut) (h : Hole) (f : AcceptedBeside h) where
+  put-back : replacedIn (filled h d) (parts d h) (number c h) (writtenType (full c h) (partAt (parts c h) (number c h))) (bytesOf (full c h) (partAt (parts c h) (number c h))) ≡ full c h
   put-back =
-      ap (λ (p : Part). replacedIn (filled h d) (parts d h) (number c h) (writtenKind (full c h) p) (bytesOf (full c h) p)) (part-is c h)
-      ∙ ap₂ (replacedIn (filled h d) (parts d h) (number c h)) (kind-is c h) (run-is c h)
-      ∙ ap (λ (i : ℕ). replacedIn (filled h d) (parts d h) i (c .kind) (c .payload)) (sym (same-number c d h f))
+      ap (λ (p : Part). replacedIn (filled h d) (parts d h) (number c h) (writtenType (full c h) p) (bytesOf (full c h) p)) (part-is c h)
+      ∙ ap₂ (replacedIn (filled h d) (parts d h) (number c h)) (type-is c h) (run-is c h)
+      ∙ ap (λ (i : ℕ). replacedIn (filled h d) (parts d h) i (c .«upid_type») (c .payload)) (sym (same-number c d h f))
       ∙ refilled d c h f
 
-  done-filled : FairCut d → Done (full c h) (parts c h) (number c h) (d .kind) (d .payload) (filled h d)
+  done-filled : AcceptedCut d → Done (full c h) (parts c h) (number c h) (d .«upid_type») (d .payload) (filled h d)
   done-filled g =
       record {
         is = refilled c d h f;
@@ -200,29 +200,29 @@ module _ (c d : Cut) (h : Hole) (f : Fair h) where
         again = put-back;
       }
 
-pub done : (top : List ℕ) (i : ℕ) (d : Cut) → Accepted (readOf 13 0 top) → i < length (listOf 13 1 0 top) → FairCut d
-    → (result : List ℕ) × Done top (listOf 13 1 0 top) i (d .kind) (d .payload) result
+pub done : (top : List ℕ) (i : ℕ) (d : Cut) → Accepted (readOf 13 0 top) → i < length (listOf 13 1 0 top) → AcceptedCut d
+    → (result : List ℕ) × Done top (listOf 13 1 0 top) i (d .«upid_type») (d .payload) result
 done top i d a hi g =
     let x : Found 1 0 i top = find (length top) 1 0 i top (omega arith) a hi in
     let c : Cut = x .part in
     let h : Hole = x .hole in (
       filled h d,
-      subst (λ (s : List ℕ). Done s (listOf 13 1 0 s) i (d .kind) (d .payload) (filled h d)) (x .is)
-          (subst (λ (j : ℕ). Done (filled h c) (listOf 13 1 0 (filled h c)) j (d .kind) (d .payload) (filled h d)) (x .count) (done-filled c d h (x .fair) g)),
+      subst (λ (s : List ℕ). Done s (listOf 13 1 0 s) i (d .«upid_type») (d .payload) (filled h d)) (x .is)
+          (subst (λ (j : ℕ). Done (filled h c) (listOf 13 1 0 (filled h c)) j (d .«upid_type») (d .payload) (filled h d)) (x .count) (done-filled c d h (x .accepted) g)),
     )
 
 -- a part of what is accepted is accepted by itself
-pub own-fair : (top : List ℕ) (i : ℕ) → Accepted (readOf 13 0 top) → i < length (listOf 13 1 0 top)
-    → Accepted (readOf (writtenKind top (partAt (listOf 13 1 0 top) i)) 0 (bytesOf top (partAt (listOf 13 1 0 top) i)))
-own-fair top i a hi =
+pub own-accepted : (top : List ℕ) (i : ℕ) → Accepted (readOf 13 0 top) → i < length (listOf 13 1 0 top)
+    → Accepted (readOf (writtenType top (partAt (listOf 13 1 0 top) i)) 0 (bytesOf top (partAt (listOf 13 1 0 top) i)))
+own-accepted top i a hi =
     let x : Found 1 0 i top = find (length top) 1 0 i top (omega arith) a hi in
     let c : Cut = x .part in
     let h : Hole = x .hole in
-    let e : Accepted (readOf (writtenKind (filled h c) (spot c 1 0 h)) 0 (bytesOf (filled h c) (spot c 1 0 h))) = rw (kind-is c h, run-is c h) (x .own) in
-    let g : Accepted (readOf (writtenKind (filled h c) (partAt (parts c h) (number c h))) 0 (bytesOf (filled h c) (partAt (parts c h) (number c h)))) =
-    subst (λ (p : Part). Accepted (readOf (writtenKind (filled h c) p) 0 (bytesOf (filled h c) p))) (sym (part-is c h)) e in
-    subst (λ (s : List ℕ). Accepted (readOf (writtenKind s (partAt (listOf 13 1 0 s) i)) 0 (bytesOf s (partAt (listOf 13 1 0 s) i)))) (x .is)
-    (subst (λ (j : ℕ). Accepted (readOf (writtenKind (filled h c) (partAt (parts c h) j)) 0 (bytesOf (filled h c) (partAt (parts c h) j)))) (x .count) g)
+    let e : Accepted (readOf (writtenType (filled h c) (spot c 1 0 h)) 0 (bytesOf (filled h c) (spot c 1 0 h))) = rw (type-is c h, run-is c h) (x .own) in
+    let g : Accepted (readOf (writtenType (filled h c) (partAt (parts c h) (number c h))) 0 (bytesOf (filled h c) (partAt (parts c h) (number c h)))) =
+    subst (λ (p : Part). Accepted (readOf (writtenType (filled h c) p) 0 (bytesOf (filled h c) p))) (sym (part-is c h)) e in
+    subst (λ (s : List ℕ). Accepted (readOf (writtenType s (partAt (listOf 13 1 0 s) i)) 0 (bytesOf s (partAt (listOf 13 1 0 s) i)))) (x .is)
+    (subst (λ (j : ℕ). Accepted (readOf (writtenType (filled h c) (partAt (parts c h) j)) 0 (bytesOf (filled h c) (partAt (parts c h) j)))) (x .count) g)
 
 -- it ends within the MID
 pub own-short : (top : List ℕ) (i : ℕ) → Accepted (readOf 13 0 top) → i < length (listOf 13 1 0 top)
@@ -239,14 +239,14 @@ own-short top i a hi =
 
 -- the part, with its own head and payload, put where it is
 pub stays : (top : List ℕ) (i : ℕ) → Accepted (readOf 13 0 top) → i < length (listOf 13 1 0 top)
-    → replacedIn top (listOf 13 1 0 top) i (writtenKind top (partAt (listOf 13 1 0 top) i)) (bytesOf top (partAt (listOf 13 1 0 top) i)) ≡ top
+    → replacedIn top (listOf 13 1 0 top) i (writtenType top (partAt (listOf 13 1 0 top) i)) (bytesOf top (partAt (listOf 13 1 0 top) i)) ≡ top
 stays top i a hi =
     let x : Found 1 0 i top = find (length top) 1 0 i top (omega arith) a hi in
     let c : Cut = x .part in
     let h : Hole = x .hole in
-    subst (λ (s : List ℕ). replacedIn s (listOf 13 1 0 s) i (writtenKind s (partAt (listOf 13 1 0 s) i)) (bytesOf s (partAt (listOf 13 1 0 s) i)) ≡ s) (x .is)
-    (subst (λ (j : ℕ). replacedIn (filled h c) (listOf 13 1 0 (filled h c)) j (writtenKind (filled h c) (partAt (listOf 13 1 0 (filled h c)) j)) (bytesOf (filled h c) (partAt (listOf 13 1 0 (filled h c)) j)) ≡ filled h c)
-    (x .count) (put-back c c h (x .fair)))
+    subst (λ (s : List ℕ). replacedIn s (listOf 13 1 0 s) i (writtenType s (partAt (listOf 13 1 0 s) i)) (bytesOf s (partAt (listOf 13 1 0 s) i)) ≡ s) (x .is)
+    (subst (λ (j : ℕ). replacedIn (filled h c) (listOf 13 1 0 (filled h c)) j (writtenType (filled h c) (partAt (listOf 13 1 0 (filled h c)) j)) (bytesOf (filled h c) (partAt (listOf 13 1 0 (filled h c)) j)) ≡ filled h c)
+    (x .count) (put-back c c h (x .accepted)))
 
 -- ---- the reader's own answers
 
@@ -262,7 +262,7 @@ pub check-of-read : (k : ℕ) (s : List ℕ) → length s ≤ 255 → Accepted (
 unfolding checkOf
 check-of-read k s n a = rw (le-ltb _ _ n) (go (eqb (length s) 0))
   where
-    go : (t : Bool) → Accepted (cond t (Fine 0) (readOf k 0 s))
+    go : (t : Bool) → Accepted (pick t (Fine 0) (readOf k 0 s))
     go true = tt
     go false = a
 
@@ -279,42 +279,42 @@ accepted-taken (Fine k) h = refl
 accepted-taken (Refused r) h = absurd h
 
 -- a MID whose i-th part can be replaced by an identifier of type k with these bytes
-pub record Able (kind : ℕ) (top : List ℕ) (i k : ℕ) (new : List ℕ) : Type 0 where
-  pub there : i < length (partsIn (upidOf kind top))
-  pub short : instead (partAt (partsIn (upidOf kind top)) i) (length new) (length top) ≤ 255
-  pub fair : taken (readOf k 0 new) ≡ true
+pub record Able (upid-type : ℕ) (top : List ℕ) (i k : ℕ) (new : List ℕ) : Type 0 where
+  pub there : i < length (partsIn (upidOf upid-type top))
+  pub short : instead (partAt (partsIn (upidOf upid-type top)) i) (length new) (length top) ≤ 255
+  pub accepted : taken (readOf k 0 new) ≡ true
 
-pub able-made : (kind : ℕ) (top : List ℕ) (i k : ℕ) (new : List ℕ) → Able kind top i k new → upidMade kind top (suc i) k new ≡ made (replacedIn top (partsIn (upidOf kind top)) i k new)
+pub able-made : (upid-type : ℕ) (top : List ℕ) (i k : ℕ) (new : List ℕ) → Able upid-type top i k new → upidMade upid-type top (suc i) k new ≡ made (replacedIn top (partsIn (upidOf upid-type top)) i k new)
 unfolding upidMade partMade
-able-made kind top i k new h = rw (lt-leb _ _ (h .there), le-ltb _ _ (h .short), h .fair)
+able-made upid-type top i k new h = rw (lt-leb _ _ (h .there), le-ltb _ _ (h .short), h .accepted)
 
-pub made-able : (kind : ℕ) (top : List ℕ) (i k : ℕ) (new b : List ℕ) → upidMade kind top (suc i) k new ≡ made b
-    → Able kind top i k new × (b ≡ replacedIn top (partsIn (upidOf kind top)) i k new)
+pub made-able : (upid-type : ℕ) (top : List ℕ) (i k : ℕ) (new b : List ℕ) → upidMade upid-type top (suc i) k new ≡ made b
+    → Able upid-type top i k new × (b ≡ replacedIn top (partsIn (upidOf upid-type top)) i k new)
 unfolding upidMade partMade
-made-able kind top i k new b = go (leb (length (partsIn (upidOf kind top))) i) refl (ltb 255 (instead (partAt (partsIn (upidOf kind top)) i) (length new) (length top))) refl (taken (readOf k 0 new)) refl
+made-able upid-type top i k new b = go (leb (length (partsIn (upidOf upid-type top))) i) refl (ltb 255 (instead (partAt (partsIn (upidOf upid-type top)) i) (length new) (length top))) refl (taken (readOf k 0 new)) refl
   where
     result : List ℕ
-    result = replacedIn top (partsIn (upidOf kind top)) i k new
+    result = replacedIn top (partsIn (upidOf upid-type top)) i k new
 
-    go : (t : Bool) → leb (length (partsIn (upidOf kind top))) i ≡ t → (u : Bool) → ltb 255 (instead (partAt (partsIn (upidOf kind top)) i) (length new) (length top)) ≡ u
+    go : (t : Bool) → leb (length (partsIn (upidOf upid-type top))) i ≡ t → (u : Bool) → ltb 255 (instead (partAt (partsIn (upidOf upid-type top)) i) (length new) (length top)) ≡ u
         → (v : Bool) → taken (readOf k 0 new) ≡ v
-        → pick t (refused 41) (pick u (refused 32) (pick (not v) (refused 33) (made result))) ≡ made b → Able kind top i k new × (b ≡ result)
+        → pick t (refused 41) (pick u (refused 32) (pick (not v) (refused 33) (made result))) ≡ made b → Able upid-type top i k new × (b ≡ result)
     go true et u eu v ev e = let z : _≡_ {A = ℕ} 0 1 = cc in absurd (omega arith)
     go false et true eu v ev e = let z : _≡_ {A = ℕ} 0 1 = cc in absurd (omega arith)
     go false et false eu false ev e = let z : _≡_ {A = ℕ} 0 1 = cc in absurd (omega arith)
-    go false et false eu true ev e = (record { there = leb-false _ _ et; short = ltb-false _ _ eu; fair = ev }, cc)
+    go false et false eu true ev e = (record { there = leb-false _ _ et; short = ltb-false _ _ eu; accepted = ev }, cc)
 
 -- only an accepted MID has parts
-pub has-parts : (kind : ℕ) (top : List ℕ) (i : ℕ) → i < length (partsIn (upidOf kind top)) → (kind ≡ 13) × Accepted (checkOf kind top)
-has-parts kind top i h = (go (eqb kind 13) refl, of-read (checkOf kind top) refl)
+pub has-parts : (upid-type : ℕ) (top : List ℕ) (i : ℕ) → i < length (partsIn (upidOf upid-type top)) → (upid-type ≡ 13) × Accepted (checkOf upid-type top)
+has-parts upid-type top i h = (go (eqb upid-type 13) refl, of-read (checkOf upid-type top) refl)
   where
-    go : (t : Bool) → eqb kind 13 ≡ t → kind ≡ 13
-    go true e = eqb-true kind 13 e
-    go false e = absurd (omega (arith, ap length (no-mid-no-parts kind top (eqb-false kind 13 e))))
+    go : (t : Bool) → eqb upid-type 13 ≡ t → upid-type ≡ 13
+    go true e = eqb-true upid-type 13 e
+    go false e = absurd (omega (arith, ap length (no-mid-no-parts upid-type top (eqb-false upid-type 13 e))))
 
-    of-read : (a : UpidRead) → checkOf kind top ≡ a → Accepted (checkOf kind top)
+    of-read : (a : UpidRead) → checkOf upid-type top ≡ a → Accepted (checkOf upid-type top)
     of-read (Fine q) e = rw e tt
-    of-read (Refused r) e = absurd (omega (arith, ap length (refused-no-parts kind top r e)))
+    of-read (Refused r) e = absurd (omega (arith, ap length (refused-no-parts upid-type top r e)))
 
 module _ (top : List ℕ) (i k : ℕ) (new : List ℕ) (a : Accepted (checkOf 13 top)) (h : Able 13 top i k new) where
   ps-are : partsIn (upidOf 13 top) ≡ listOf 13 1 0 top
@@ -327,7 +327,7 @@ module _ (top : List ℕ) (i k : ℕ) (new : List ℕ) (a : Accepted (checkOf 13
   whole : (result : List ℕ) × Done top (partsIn (upidOf 13 top)) i k new result
   whole =
       subst (λ (ps : List Part). (result : List ℕ) × Done top ps i k new result) (sym ps-are)
-      (done top i (record { kind = k; payload = new }) (check-mid top a) there-is (taken-accepted _ (h .fair)))
+      (done top i (record { «upid_type» = k; payload = new }) (check-mid top a) there-is (taken-accepted _ (h .accepted)))
 
   result-is : replaced top i k new ≡ whole .0
   result-is = whole .1 .is
@@ -345,8 +345,8 @@ module _ (top : List ℕ) (i k : ℕ) (new : List ℕ) (a : Accepted (checkOf 13
   abbrev old : Part
   old = partAt (partsIn (upidOf 13 top)) i
 
-  old-fair : Accepted (readOf (writtenKind top old) 0 (bytesOf top old))
-  old-fair = subst (λ (ps : List Part). Accepted (readOf (writtenKind top (partAt ps i)) 0 (bytesOf top (partAt ps i)))) (sym ps-are) (own-fair top i (check-mid top a) there-is)
+  old-accepted : Accepted (readOf (writtenType top old) 0 (bytesOf top old))
+  old-accepted = subst (λ (ps : List Part). Accepted (readOf (writtenType top (partAt ps i)) 0 (bytesOf top (partAt ps i)))) (sym ps-are) (own-accepted top i (check-mid top a) there-is)
 
   old-short : (old .len ≤ length top) × (length (bytesOf top old) ≡ old .len)
   old-short = subst (λ (ps : List Part). (partAt ps i .len ≤ length top) × (length (bytesOf top (partAt ps i)) ≡ partAt ps i .len)) (sym ps-are) (own-short top i (check-mid top a) there-is)
@@ -354,18 +354,18 @@ module _ (top : List ℕ) (i k : ℕ) (new : List ℕ) (a : Accepted (checkOf 13
   new-len : partAt (partsIn (upidOf 13 (whole .0))) i .len ≡ length new
   new-len = ap (λ (ps : List Part). partAt ps i .len) result-parts ∙ ap (λ (p : Part). p .len) (whole .1 .spot)
 
-  back-able : Able 13 (whole .0) i (writtenKind top old) (bytesOf top old)
+  back-able : Able 13 (whole .0) i (writtenType top old) (bytesOf top old)
   back-able =
       record {
         there = rw result-parts (whole .1 .there);
         short = omega (arith, whole .1 .size, old-short .0, old-short .1, new-len, check-short 13 top a);
-        fair = accepted-taken _ old-fair;
+        accepted = accepted-taken _ old-accepted;
       }
 
-  back-is : upidMade 13 (whole .0) (suc i) (writtenKind top old) (bytesOf top old) ≡ made top
+  back-is : upidMade 13 (whole .0) (suc i) (writtenType top old) (bytesOf top old) ≡ made top
   back-is =
-      able-made 13 (whole .0) i (writtenKind top old) (bytesOf top old) back-able
-      ∙ ap (λ (ps : List Part). made (replacedIn (whole .0) ps i (writtenKind top old) (bytesOf top old))) result-parts
+      able-made 13 (whole .0) i (writtenType top old) (bytesOf top old) back-able
+      ∙ ap (λ (ps : List Part). made (replacedIn (whole .0) ps i (writtenType top old) (bytesOf top old))) result-parts
       ∙ ap made (whole .1 .again)
 
   told-is : identifiersIn (whole .0) (partsIn (upidOf 13 (whole .0))) ≡ identifiersThen top (partsIn (upidOf 13 top)) i k new
@@ -385,13 +385,13 @@ module _ (top : List ℕ) (i k : ℕ) (new : List ℕ) (a : Accepted (checkOf 13
   pub relabelled : Relabelled top i k new (replaced top i k new)
   relabelled = subst (Relabelled top i k new) (sym result-is) relabelled-whole
 
-pub relabelled-made : (kind : ℕ) (top : List ℕ) (i k : ℕ) (new b : List ℕ) → upidMade kind top (suc i) k new ≡ made b → (kind ≡ 13) × Relabelled top i k new b
-relabelled-made kind top i k new b e =
-    let x = made-able kind top i k new b e in
-    let y = has-parts kind top i (x .0 .there) in
+pub relabelled-made : (upid-type : ℕ) (top : List ℕ) (i k : ℕ) (new b : List ℕ) → upidMade upid-type top (suc i) k new ≡ made b → (upid-type ≡ 13) × Relabelled top i k new b
+relabelled-made upid-type top i k new b e =
+    let x = made-able upid-type top i k new b e in
+    let y = has-parts upid-type top i (x .0 .there) in
     (y .0, of-mid (y .0) (y .1) (x .0) (x .1))
   where
-    of-mid : kind ≡ 13 → Accepted (checkOf kind top) → Able kind top i k new → b ≡ replacedIn top (partsIn (upidOf kind top)) i k new → Relabelled top i k new b
+    of-mid : upid-type ≡ 13 → Accepted (checkOf upid-type top) → Able upid-type top i k new → b ≡ replacedIn top (partsIn (upidOf upid-type top)) i k new → Relabelled top i k new b
     of-mid e a h r =
         subst (Relabelled top i k new) (sym (r ∙ ap (λ (q : ℕ). replacedIn top (partsIn (upidOf q top)) i k new) e))
         (relabelled top i k new (rw e at a) (subst (λ (q : ℕ). Able q top i k new) e h))
@@ -404,25 +404,25 @@ module _ (top : List ℕ) (i : ℕ) (a : Accepted (checkOf 13 top)) (h : i < len
   mine-there : i < length (listOf 13 1 0 top)
   mine-there = rw (parts-of-mid top a) at h
 
-  mine-fair : Accepted (readOf (writtenKind top mine) 0 (bytesOf top mine))
-  mine-fair = subst (λ (ps : List Part). Accepted (readOf (writtenKind top (partAt ps i)) 0 (bytesOf top (partAt ps i)))) (sym (parts-of-mid top a)) (own-fair top i (check-mid top a) mine-there)
+  mine-accepted : Accepted (readOf (writtenType top mine) 0 (bytesOf top mine))
+  mine-accepted = subst (λ (ps : List Part). Accepted (readOf (writtenType top (partAt ps i)) 0 (bytesOf top (partAt ps i)))) (sym (parts-of-mid top a)) (own-accepted top i (check-mid top a) mine-there)
 
   mine-short : (mine .len ≤ length top) × (length (bytesOf top mine) ≡ mine .len)
   mine-short = subst (λ (ps : List Part). (partAt ps i .len ≤ length top) × (length (bytesOf top (partAt ps i)) ≡ partAt ps i .len)) (sym (parts-of-mid top a)) (own-short top i (check-mid top a) mine-there)
 
-  mine-stays : replacedIn top (partsIn (upidOf 13 top)) i (writtenKind top mine) (bytesOf top mine) ≡ top
-  mine-stays = subst (λ (ps : List Part). replacedIn top ps i (writtenKind top (partAt ps i)) (bytesOf top (partAt ps i)) ≡ top) (sym (parts-of-mid top a)) (stays top i (check-mid top a) mine-there)
+  mine-stays : replacedIn top (partsIn (upidOf 13 top)) i (writtenType top mine) (bytesOf top mine) ≡ top
+  mine-stays = subst (λ (ps : List Part). replacedIn top ps i (writtenType top (partAt ps i)) (bytesOf top (partAt ps i)) ≡ top) (sym (parts-of-mid top a)) (stays top i (check-mid top a) mine-there)
 
-  pub same-again : upidMade 13 top (suc i) (writtenKind top mine) (bytesOf top mine) ≡ made top
+  pub same-again : upidMade 13 top (suc i) (writtenType top mine) (bytesOf top mine) ≡ made top
   same-again =
-      able-made 13 top i (writtenKind top mine) (bytesOf top mine)
-      (record { there = h; short = omega (arith, mine-short .0, mine-short .1, check-short 13 top a); fair = accepted-taken _ mine-fair })
+      able-made 13 top i (writtenType top mine) (bytesOf top mine)
+      (record { there = h; short = omega (arith, mine-short .0, mine-short .1, check-short 13 top a); accepted = accepted-taken _ mine-accepted })
       ∙ ap made mine-stays
 
 -- ---- the hole, and the UPID itself
 
 pub one-hole : (top : List ℕ) (i : ℕ) → Accepted (checkOf 13 top) → i < length (partsIn (upidOf 13 top))
-    → (h : Hole) × (c : Cut) × (filled h c ≡ top) × ((d : Cut) → replaced top i (d .kind) (d .payload) ≡ filled h d)
+    → (h : Hole) × (c : Cut) × (filled h c ≡ top) × ((d : Cut) → replaced top i (d .«upid_type») (d .payload) ≡ filled h d)
 one-hole top i a hi =
     let x : Found 1 0 i top = find (length top) 1 0 i top (omega arith) (check-mid top a) (rw (parts-of-mid top a) at hi) in
     let c : Cut = x .part in
@@ -431,14 +431,14 @@ one-hole top i a hi =
       c,
       x .is,
       λ d.
-          ap (λ (ps : List Part). replacedIn top ps i (d .kind) (d .payload)) (parts-of-mid top a)
-          ∙ subst (λ (s : List ℕ). replacedIn s (listOf 13 1 0 s) i (d .kind) (d .payload) ≡ filled h d) (x .is)
-          (subst (λ (j : ℕ). replacedIn (filled h c) (listOf 13 1 0 (filled h c)) j (d .kind) (d .payload) ≡ filled h d) (x .count) (refilled c d h (x .fair))),
+          ap (λ (ps : List Part). replacedIn top ps i (d .«upid_type») (d .payload)) (parts-of-mid top a)
+          ∙ subst (λ (s : List ℕ). replacedIn s (listOf 13 1 0 s) i (d .«upid_type») (d .payload) ≡ filled h d) (x .is)
+          (subst (λ (j : ℕ). replacedIn (filled h c) (listOf 13 1 0 (filled h c)) j (d .«upid_type») (d .payload) ≡ filled h d) (x .count) (refilled c d h (x .accepted))),
     )
 
-pub whole-made-is : (kind : ℕ) (top : List ℕ) (k : ℕ) (new b : List ℕ) → upidMade kind top 0 k new ≡ made b → (b ≡ new) × Accepted (checkOf k b) × (0 < length b)
+pub whole-made-is : (upid-type : ℕ) (top : List ℕ) (k : ℕ) (new b : List ℕ) → upidMade upid-type top 0 k new ≡ made b → (b ≡ new) × Accepted (checkOf k b) × (0 < length b)
 unfolding upidMade wholeMade
-whole-made-is kind top k new b = go (eqb (length top) 0 || not (taken (checkOf kind top))) (ltb 255 (length new)) refl (eqb (length new) 0) refl (taken (readOf k 0 new)) refl
+whole-made-is upid-type top k new b = go (eqb (length top) 0 || not (taken (checkOf upid-type top))) (ltb 255 (length new)) refl (eqb (length new) 0) refl (taken (readOf k 0 new)) refl
   where
     go : (t u : Bool) → ltb 255 (length new) ≡ u → (v : Bool) → eqb (length new) 0 ≡ v → (x : Bool) → taken (readOf k 0 new) ≡ x
         → pick t (refused 41) (pick u (refused 32) (pick (v || not x) (refused 33) (made new))) ≡ made b → (b ≡ new) × Accepted (checkOf k b) × (0 < length b)

@@ -1,6 +1,6 @@
 -- Where a payload lies in the top UPID does not matter to whether it is accepted (upid proves this in its Answers.antt, where it is private).
 use Prim.Native.Nat.{ℕ, zero, suc, _+_, _≤_}
-use mathlib.Core.Bool.{Bool, true, false, cond, not, _&&_}
+use mathlib.Core.Bool.{Bool, true, false, not, _&&_, cond as pick}
 use mathlib.Core.List.{List, [], _∷_, _++_}
 use native.Mathlib.Omega.{arith}
 use lib.Dec.{ltb, eqb}
@@ -16,7 +16,7 @@ use Rattle.upid.specs.declared.UpidRead.the-variants.{Fine, Refused}
 use Rattle.upid.proofs.Laws.{read-more, then-both}
 use Rattle.relabel_upid.specs.Hole.{headed}
 
-either : (t : Bool) (a b c d : UpidRead) → (Accepted a → Accepted c) → (Accepted b → Accepted d) → Accepted (cond t a b) → Accepted (cond t c d)
+either : (t : Bool) (a b c d : UpidRead) → (Accepted a → Accepted c) → (Accepted b → Accepted d) → Accepted (pick t a b) → Accepted (pick t c d)
 either true a b c d f g h = f h
 either false a b c d f g h = g h
 
@@ -52,8 +52,8 @@ unfolding readOf
 anywhere k s t bytes = either (eqb k 13) _ _ _ _ (walk-anywhere (length bytes) s t bytes) (plain-anywhere k s t bytes)
 
 -- a piece that is accepted, in front of what is accepted
-pub accepted-headed : (start : ℕ) (c : Cut) (rest : List ℕ) → Accepted (readOf (c .kind) 0 (c .payload)) → Accepted (readOf 13 0 rest) → Accepted (readOf 13 start (headed c rest))
+pub accepted-headed : (start : ℕ) (c : Cut) (rest : List ℕ) → Accepted (readOf (c .«upid_type») 0 (c .payload)) → Accepted (readOf 13 0 rest) → Accepted (readOf 13 start (headed c rest))
 accepted-headed start c rest ha hb =
     let n : length (c .payload) ≤ length (c .payload ++ rest) = omega (arith, length-append (c .payload) rest) in
     rw (read-more, le-ltb _ _ n, take-append-seam, drop-append-seam)
-    (then-all _ _ (anywhere (c .kind) 0 (start + 2) (c .payload) ha) (anywhere 13 0 (start + (2 + length (c .payload))) rest hb))
+    (then-all _ _ (anywhere (c .«upid_type») 0 (start + 2) (c .payload) ha) (anywhere 13 0 (start + (2 + length (c .payload))) rest hb))

@@ -1,7 +1,7 @@
 -- A MID with a hole: how it reads when the hole is filled.
 use Prim.Native.Nat.{ℕ, zero, suc, _+_, _-_, _≤_, _<_}
 use mathlib.Core.Path.{_≡_, refl, sym, ap, subst, _∙_}
-use mathlib.Core.Bool.{Bool, true, false, cond}
+use mathlib.Core.Bool.{Bool, true, false, cond as pick}
 use mathlib.Core.List.{List, [], _∷_, _++_, append-assoc}
 use native.Mathlib.Omega.{arith}
 use lib.ListN.{length, take, drop, length-append, length-take, length-drop, take-append-drop}
@@ -29,15 +29,15 @@ startAt start (past d h) = startAt (start + (2 + length (d .payload))) h
 
 -- the part of a piece whose head is at `start`, and those inside it
 abbrev pub recorded : ℕ → ℕ → Cut → Part
-recorded level start c = record { kind = reportedOf (c .kind); level = level; start = start + 2; len = length (c .payload) }
+recorded level start c = record { «upid_type» = reportedOf (c .«upid_type»); level = level; start = start + 2; len = length (c .payload) }
 
 abbrev pub inner : ℕ → ℕ → Cut → List Part
-inner level start c = listOf (c .kind) (level + 1) (start + 2) (c .payload)
+inner level start c = listOf (c .«upid_type») (level + 1) (start + 2) (c .payload)
 
 -- the parts before the hole, and those after it
 abbrev pub before : Cut → ℕ → ℕ → Hole → List Part
 before c level start (here a) = []
-before c level start (inside h a) = recorded level start (record { kind = 13; payload = filled h c }) ∷ before c (level + 1) (start + 2) h
+before c level start (inside h a) = recorded level start (record { «upid_type» = 13; payload = filled h c }) ∷ before c (level + 1) (start + 2) h
 before c level start (past d h) = recorded level start d ∷ (inner level start d ++ before c level (start + (2 + length (d .payload))) h)
 
 abbrev pub behind : Cut → ℕ → ℕ → Hole → List Part
@@ -58,15 +58,15 @@ list-filled c level start (past d h) =
 -- ---- what is accepted
 
 -- the parts beside the hole, and the bytes after it, are accepted
-abbrev pub Fair : Hole → Type 0
-Fair (here a) = Accepted (readOf 13 0 a)
-Fair (inside h a) = Fair h × Accepted (readOf 13 0 a)
-Fair (past d h) = Accepted (readOf (d .kind) 0 (d .payload)) × Fair h
+abbrev pub AcceptedBeside : Hole → Type 0
+AcceptedBeside (here a) = Accepted (readOf 13 0 a)
+AcceptedBeside (inside h a) = AcceptedBeside h × Accepted (readOf 13 0 a)
+AcceptedBeside (past d h) = Accepted (readOf (d .«upid_type») 0 (d .payload)) × AcceptedBeside h
 
-abbrev pub FairCut : Cut → Type 0
-FairCut c = Accepted (readOf (c .kind) 0 (c .payload))
+abbrev pub AcceptedCut : Cut → Type 0
+AcceptedCut c = Accepted (readOf (c .«upid_type») 0 (c .payload))
 
-pub accepted-filled : (h : Hole) (c : Cut) (start : ℕ) → Fair h → FairCut c → Accepted (readOf 13 start (filled h c))
+pub accepted-filled : (h : Hole) (c : Cut) (start : ℕ) → AcceptedBeside h → AcceptedCut c → Accepted (readOf 13 start (filled h c))
 unfolding filled
 accepted-filled (here a) c start f g = accepted-headed start c a g f
 accepted-filled (inside h a) c start f g = accepted-headed start _ a (accepted-filled h c 0 (f .0) g) (f .1)
@@ -80,19 +80,19 @@ pub record Found (level start i : ℕ) (s : List ℕ) : Type 0 where
   pub part : Cut
   pub is : filled hole part ≡ s
   pub count : length (before part level start hole) ≡ i
-  pub fair : Fair hole
-  pub own : FairCut part
+  pub accepted : AcceptedBeside hole
+  pub own : AcceptedCut part
 
-found-more : (level start i : ℕ) (d : Cut) (r : List ℕ) → FairCut d → Accepted (readOf 13 0 r) → i < length (listOf 13 level start (headed d r))
-    → ((j : ℕ) → d .kind ≡ 13 → j < length (listOf 13 (level + 1) (start + 2) (d .payload)) → Found (level + 1) (start + 2) j (d .payload))
+found-more : (level start i : ℕ) (d : Cut) (r : List ℕ) → AcceptedCut d → Accepted (readOf 13 0 r) → i < length (listOf 13 level start (headed d r))
+    → ((j : ℕ) → d .«upid_type» ≡ 13 → j < length (listOf 13 (level + 1) (start + 2) (d .payload)) → Found (level + 1) (start + 2) j (d .payload))
     → ((j : ℕ) → j < length (listOf 13 level (start + (2 + length (d .payload))) r) → Found level (start + (2 + length (d .payload))) j r)
     → Found level start i (headed d r)
 unfolding filled
 found-more level start zero d r fd fr hi within after =
-    record { hole = here r; part = d; is = refl; count = refl; fair = fr; own = fd }
+    record { hole = here r; part = d; is = refl; count = refl; accepted = fr; own = fd }
 found-more level start (suc j) d r fd fr hi within after =
     by-cases j (length (inner level start d))
-    (λ less. go less (eqb (d .kind) 13) refl)
+    (λ less. go less (eqb (d .«upid_type») 13) refl)
     (λ more.
     let f = after (j - length (inner level start d)) (omega (arith, size, hi)) in
     record {
@@ -100,16 +100,16 @@ found-more level start (suc j) d r fd fr hi within after =
       part = f .part;
       is = ap (headed d) (f .is);
       count = omega (arith, length-append (inner level start d) (before (f .part) level (start + (2 + length (d .payload))) (f .hole)), f .count);
-      fair = (fd, f .fair);
+      accepted = (fd, f .accepted);
       own = f .own;
     })
   where
     size : length (listOf 13 level start (headed d r)) ≡ suc (length (inner level start d) + length (listOf 13 level (start + (2 + length (d .payload))) r))
     size = rw (list-more, take-append-seam, drop-append-seam) (ap suc (length-append (inner level start d) (listOf 13 level (start + (2 + length (d .payload))) r)))
 
-    go : j < length (inner level start d) → (t : Bool) → eqb (d .kind) 13 ≡ t → Found level start (suc j) (headed d r)
+    go : j < length (inner level start d) → (t : Bool) → eqb (d .«upid_type») 13 ≡ t → Found level start (suc j) (headed d r)
     go less true e =
-        let k13 : d .kind ≡ 13 = eqb-true _ _ e in
+        let k13 : d .«upid_type» ≡ 13 = eqb-true _ _ e in
         let f = within j k13 (rw k13 at less) in
         let same : filled (inside (f .hole) r) (f .part) ≡ headed d r = rw (f .is, k13) in
         record {
@@ -117,14 +117,14 @@ found-more level start (suc j) d r fd fr hi within after =
           part = f .part;
           is = same;
           count = ap suc (f .count);
-          fair = (f .fair, fr);
+          accepted = (f .accepted, fr);
           own = f .own;
         }
-    go less false e = absurd (omega (arith, ap length (list-plain (d .kind) (level + 1) (start + 2) (d .payload) (eqb-false _ _ e))))
+    go less false e = absurd (omega (arith, ap length (list-plain (d .«upid_type») (level + 1) (start + 2) (d .payload) (eqb-false _ _ e))))
 
 -- the part that a head announces, and what follows it
 unfoldable pub first : ℕ → ℕ → List ℕ → Cut
-first k l rest = record { kind = k; payload = take l rest }
+first k l rest = record { «upid_type» = k; payload = take l rest }
 
 pub first-headed : (k l : ℕ) (rest : List ℕ) → l ≤ length rest → headed (first k l rest) (drop l rest) ≡ k ∷ (l ∷ rest)
 unfolding first
@@ -132,7 +132,7 @@ first-headed k l rest h =
     let m : length (take l rest) ≡ l = omega (arith, length-take l rest) in
     rw (m, take-append-drop)
 
-pub both : (start k l : ℕ) (rest : List ℕ) → l ≤ length rest → Accepted (readOf 13 start (k ∷ (l ∷ rest))) → FairCut (first k l rest) × Accepted (readOf 13 0 (drop l rest))
+pub both : (start k l : ℕ) (rest : List ℕ) → l ≤ length rest → Accepted (readOf 13 start (k ∷ (l ∷ rest))) → AcceptedCut (first k l rest) × Accepted (readOf 13 0 (drop l rest))
 unfolding first
 both start k l rest present a =
     let b = then-both (readOf k (start + 2) (take l rest)) (readOf 13 (start + (2 + l)) (drop l rest)) (rw (read-more start k l rest, le-ltb _ _ present) at a) in
@@ -141,12 +141,12 @@ both start k l rest present a =
 Finds : ℕ → Type 0
 Finds n = (level start i : ℕ) (s : List ℕ) → length s ≤ n → Accepted (readOf 13 0 s) → i < length (listOf 13 level start s) → Found level start i s
 
-find-more : (n level start i : ℕ) (d : Cut) (r : List ℕ) → Finds n → length (d .payload) ≤ n → length r ≤ n → FairCut d → Accepted (readOf 13 0 r)
+find-more : (n level start i : ℕ) (d : Cut) (r : List ℕ) → Finds n → length (d .payload) ≤ n → length r ≤ n → AcceptedCut d → Accepted (readOf 13 0 r)
     → i < length (listOf 13 level start (headed d r)) → Found level start i (headed d r)
 unfolding Finds
 find-more n level start i d r again hd hr fd fr hi =
     found-more level start i d r fd fr hi
-    (λ j k13 hj. again (level + 1) (start + 2) j (d .payload) hd (accepted-mid (d .kind) 0 (d .payload) k13 fd) hj)
+    (λ j k13 hj. again (level + 1) (start + 2) j (d .payload) hd (accepted-mid (d .«upid_type») 0 (d .payload) k13 fd) hj)
     (λ j hj. again level (start + (2 + length (d .payload))) j r hr fr hj)
 
 find-turn : (n level start i k l : ℕ) (rest : List ℕ) → Finds n → length rest ≤ n → l ≤ length rest → Accepted (readOf 13 0 (k ∷ (l ∷ rest)))

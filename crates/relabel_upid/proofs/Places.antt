@@ -1,7 +1,7 @@
 -- The parts before a hole and those after it, where another piece fills it: what the positions of specs/Relabel.antt come to.
 use Prim.Native.Nat.{ℕ, zero, suc, _+_, _-_, _≤_, _<_}
 use mathlib.Core.Path.{_≡_, refl, sym, ap, ap₂, subst, _∙_}
-use mathlib.Core.Bool.{Bool, true, false, cond}
+use mathlib.Core.Bool.{Bool, true, false, cond as pick}
 use mathlib.Core.List.{List, [], _∷_, _++_, map, map-append, append-assoc}
 use native.Mathlib.Omega.{arith}
 use lib.Dec.{eqb}
@@ -18,7 +18,7 @@ use Rattle.relabel_upid.specs.Hole.{Hole, here, inside, past, headed, fi
 use Rattle.relabel_upid.specs.Kept.{widened, moved}
 use Rattle.relabel_upid.specs.Relabel.{instead, around, mended}
 use Rattle.relabel_upid.proofs.Anywhere.{anywhere}
-use Rattle.relabel_upid.proofs.Holes.{levelAt, startAt, recorded, inner, before, behind, Fair, FairCut, front, back, length-front, length-filled}
+use Rattle.relabel_upid.proofs.Holes.{levelAt, startAt, recorded, inner, before, behind, AcceptedBeside, AcceptedCut, front, back, length-front, length-filled}
 
 pub all-append : {A : Type 0} {P : A → Type 0} {xs ys : List A} → All P xs → All P ys → All P (xs ++ ys)
 all-append none hy = hy
@@ -46,7 +46,7 @@ unfolding LiesIn
 lies-turn n level start low high k l rest again hn hl hh present a =
     let b = then-both (readOf k (0 + 2) (take l rest)) (readOf 13 (0 + (2 + l)) (drop l rest)) (rw (read-more 0 k l rest, le-ltb _ _ present) at a) in
     rw list-more
-    (more {x = record { kind = reportedOf k; level = level; start = start + 2; len = l }} (omega arith, omega arith)
+    (more {x = record { «upid_type» = reportedOf k; level = level; start = start + 2; len = l }} (omega arith, omega arith)
     (all-append
     (lies-if-mid n k (level + 1) (start + 2) low high (take l rest) again (omega (arith, length-take l rest)) (omega arith) (omega (arith, length-take l rest)) (anywhere _ _ 0 _ (b .0)))
     (again level (start + (2 + l)) low high (drop l rest) (omega (arith, length-drop l rest)) (omega arith) (omega (arith, length-drop l rest)) (anywhere _ _ 0 _ (b .1)))))
@@ -63,11 +63,11 @@ lies-mid (suc n) level start low high (k ∷ (l ∷ rest)) hn hl hh a =
     (λ present. lies-turn n level start low high k l rest (lies-mid n) (omega arith) hl (omega arith) present a)
 
 -- those of a piece, its own included
-pub lies-in : (level start : ℕ) (d : Cut) → FairCut d → All (Lies start (start + (2 + length (d .payload)))) (recorded level start d ∷ inner level start d)
+pub lies-in : (level start : ℕ) (d : Cut) → AcceptedCut d → All (Lies start (start + (2 + length (d .payload)))) (recorded level start d ∷ inner level start d)
 unfolding LiesIn
 lies-in level start d f =
     more {x = recorded level start d} (omega arith, omega arith)
-    (lies-if-mid (length (d .payload)) (d .kind) (level + 1) (start + 2) start (start + (2 + length (d .payload))) (d .payload)
+    (lies-if-mid (length (d .payload)) (d .«upid_type») (level + 1) (start + 2) start (start + (2 + length (d .payload))) (d .payload)
     (lies-mid (length (d .payload))) (omega arith) (omega arith) (omega arith) f)
 
 -- ---- which of the parts before the hole are around it
@@ -81,7 +81,7 @@ mended-beside : (p : Part) (n : ℕ) (qs rs : List Part) (s : List ℕ) → All 
 unfolding mended
 mended-beside p n [] rs s none = refl
 mended-beside p n (q ∷ qs) rs s (more h hs) =
-    ap (λ (t : Bool). mended p n (qs ++ rs) (cond t (set s (q .start - 1) (instead p n (q .len))) s)) h ∙ mended-beside p n qs rs s hs
+    ap (λ (t : Bool). mended p n (qs ++ rs) (pick t (set s (q .start - 1) (instead p n (q .len))) s)) h ∙ mended-beside p n qs rs s hs
 
 widened-beside : (p : Part) (n : ℕ) (qs : List Part) → All (λ (q : Part). around p q ≡ false) qs → map (widened p n) qs ≡ qs
 widened-beside p n [] none = refl
@@ -101,7 +101,7 @@ is-around c level start h q es el =
     let z : startAt start h + 2 + length (c .payload) ≤ q .start + q .len = omega (arith, length-filled c start h) in
     le-leb (startAt start h + 2 + length (c .payload)) (q .start + q .len) z
 
-beside-past : (c d : Cut) (level start : ℕ) (h : Hole) → FairCut d
+beside-past : (c d : Cut) (level start : ℕ) (h : Hole) → AcceptedCut d
     → All (λ (q : Part). around (spot c level (start + (2 + length (d .payload))) h) q ≡ false) (recorded level start d ∷ inner level start d)
 beside-past c d level start h f =
     beside (spot c level (start + (2 + length (d .payload))) h) start (start + (2 + length (d .payload))) (recorded level start d ∷ inner level start d)
@@ -115,18 +115,18 @@ store-length pre start l v rest e =
     ap (λ (s : List ℕ). set s (start + 2 - 1) v) f ∙ set-at (pre ++ (13 ∷ [])) l rest v (start + 2 - 1) n ∙ simp append-assoc
 
 -- what stands before the hole, mended
-pub mend-front : (c d : Cut) (level start : ℕ) (h : Hole) (pre : List ℕ) → length pre ≡ start → Fair h
+pub mend-front : (c d : Cut) (level start : ℕ) (h : Hole) (pre : List ℕ) → length pre ≡ start → AcceptedBeside h
     → mended (spot c level start h) (length (d .payload)) (before c level start h) (pre ++ front c h) ≡ pre ++ front d h
 unfolding mended
 mend-front c d level start (here a) pre e f = refl
 mend-front c d level start (inside h a) pre e f =
     let p : Part = spot c (level + 1) (start + 2) h in
-    let q : Part = recorded level start (record { kind = 13; payload = filled h c }) in
+    let q : Part = recorded level start (record { «upid_type» = 13; payload = filled h c }) in
     let v : ℕ = length (filled h c) - length (c .payload) + length (d .payload) in
     let n : length (pre ++ (13 ∷ (v ∷ []))) ≡ start + 2 = omega (arith, length-append pre (13 ∷ (v ∷ []))) in
     let r : List Part = before c (level + 1) (start + 2) h in
     let s : List ℕ = pre ++ (13 ∷ (length (filled h c) ∷ front c h)) in
-    ap (λ (t : Bool). mended p (length (d .payload)) r (cond t (set s (start + 2 - 1) v) s)) (is-around c (level + 1) (start + 2) h q refl refl)
+    ap (λ (t : Bool). mended p (length (d .payload)) r (pick t (set s (start + 2 - 1) v) s)) (is-around c (level + 1) (start + 2) h q refl refl)
     ∙ ap (mended p (length (d .payload)) r) (store-length pre start (length (filled h c)) v (front c h) e)
     ∙ mend-front c d (level + 1) (start + 2) h (pre ++ (13 ∷ (v ∷ []))) n (f .0)
     ∙ append-assoc pre (13 ∷ (v ∷ [])) (front d h)
@@ -134,7 +134,7 @@ mend-front c d level start (inside h a) pre e f =
 mend-front c d level start (past x h) pre e f =
     let there : ℕ = start + (2 + length (x .payload)) in
     let p : Part = spot c level there h in
-    let head : List ℕ = x .kind ∷ (length (x .payload) ∷ x .payload) in
+    let head : List ℕ = x .«upid_type» ∷ (length (x .payload) ∷ x .payload) in
     let n : length (pre ++ head) ≡ there = omega (arith, length-append pre head) in
     mended-beside p (length (d .payload)) (recorded level start x ∷ inner level start x) (before c level there h) (pre ++ headed x (front c h)) (beside-past c x level start h (f .0))
     ∙ ap (mended p (length (d .payload)) (before c level there h)) (sym (append-assoc pre head (front c h)))
@@ -142,13 +142,13 @@ mend-front c d level start (past x h) pre e f =
     ∙ append-assoc pre head (front d h)
 
 -- the parts before the hole: those around it are longer
-pub before-widened : (c d : Cut) (level start : ℕ) (h : Hole) → Fair h → map (widened (spot c level start h) (length (d .payload))) (before c level start h) ≡ before d level start h
+pub before-widened : (c d : Cut) (level start : ℕ) (h : Hole) → AcceptedBeside h → map (widened (spot c level start h) (length (d .payload))) (before c level start h) ≡ before d level start h
 before-widened c d level start (here a) f = refl
 before-widened c d level start (inside h a) f =
-    let q : Part = recorded level start (record { kind = 13; payload = filled h c }) in
+    let q : Part = recorded level start (record { «upid_type» = 13; payload = filled h c }) in
     ap₂ (λ (x : Part) (xs : List Part). x ∷ xs)
-    (ap (λ (t : Bool). cond t (record { kind = q .kind; level = level; start = start + 2; len = length (filled h c) - length (c .payload) + length (d .payload) }) q) (is-around c (level + 1) (start + 2) h q refl refl)
-    ∙ ap (λ (x : ℕ). record { kind = q .kind; level = level; start = start + 2; len = x }) (counts c d start h))
+    (ap (λ (t : Bool). pick t (record { «upid_type» = q .«upid_type»; level = level; start = start + 2; len = length (filled h c) - length (c .payload) + length (d .payload) }) q) (is-around c (level + 1) (start + 2) h q refl refl)
+    ∙ ap (λ (x : ℕ). record { «upid_type» = q .«upid_type»; level = level; start = start + 2; len = x }) (counts c d start h))
     (before-widened c d (level + 1) (start + 2) h (f .0))
 before-widened c d level start (past x h) f =
     let there : ℕ = start + (2 + length (x .payload)) in
@@ -169,12 +169,12 @@ moved-parts (suc n) m level start to p (k ∷ (l ∷ rest)) h e =
     let at : instead p m (start + 2) ≡ to + 2 = omega arith in
     let i : map (moved p m) (partsOf n (level + 1) (start + 2) (take l rest)) ≡ partsOf n (level + 1) (to + 2) (take l rest) = moved-parts n m (level + 1) (start + 2) (to + 2) p (take l rest) (omega arith) (omega arith) in
     let j : map (moved p m) (partsOf n level (start + (2 + l)) (drop l rest)) ≡ partsOf n level (to + (2 + l)) (drop l rest) = moved-parts n m level (start + (2 + l)) (to + (2 + l)) p (drop l rest) (omega arith) (omega arith) in
-    ap₂ (λ (x : ℕ) (xs : List Part). record { kind = reportedOf k; level = level; start = x; len = l } ∷ xs) at
-    (map-append (moved p m) (cond (eqb k 13) (partsOf n (level + 1) (start + 2) (take l rest)) []) (partsOf n level (start + (2 + l)) (drop l rest))
+    ap₂ (λ (x : ℕ) (xs : List Part). record { «upid_type» = reportedOf k; level = level; start = x; len = l } ∷ xs) at
+    (map-append (moved p m) (pick (eqb k 13) (partsOf n (level + 1) (start + 2) (take l rest)) []) (partsOf n level (start + (2 + l)) (drop l rest))
     ∙ ap₂ (λ (xs ys : List Part). xs ++ ys) (go (eqb k 13) i) j)
   where
     go : (t : Bool) → map (moved p m) (partsOf n (level + 1) (start + 2) (take l rest)) ≡ partsOf n (level + 1) (to + 2) (take l rest)
-        → map (moved p m) (cond t (partsOf n (level + 1) (start + 2) (take l rest)) []) ≡ cond t (partsOf n (level + 1) (to + 2) (take l rest)) []
+        → map (moved p m) (pick t (partsOf n (level + 1) (start + 2) (take l rest)) []) ≡ pick t (partsOf n (level + 1) (to + 2) (take l rest)) []
     go true e = e
     go false e = refl
 

@@ -4,7 +4,7 @@
 --     whole-.., part-..            what is made, or refused
 use Prim.Native.Nat.{ℕ, zero, suc, _+_, _-_, _≤_, _<_}
 use mathlib.Core.Path.{_≡_, refl, sym, ap, ap₂, subst, _∙_}
-use mathlib.Core.Bool.{Bool, true, false, cond, not, _||_}
+use mathlib.Core.Bool.{Bool, true, false, not, _||_}
 use mathlib.Core.List.{List, [], _∷_, _++_}
 use native.Mathlib.Omega.{arith}
 use native.Mathlib.Numerals.{add-one}
@@ -18,12 +18,11 @@ use Rattle.upid.specs.Cover.{All, none, more}
 use Rattle.upid.specs.Upid.{readOf, checkOf, upidOf, partsIn, blankPart, _then_}
 use Rattle.upid.specs.Private.{Accepted}
 use Rattle.upid.specs.declared.Part.{Part}
-use Rattle.upid.specs.declared.PartList.{PartList}
 use Rattle.upid.specs.declared.UpidRead.{UpidRead}
 use Rattle.upid.specs.declared.UpidRead.the-variants.{Fine, Refused}
 use Rattle.upid.proofs.Laws.{read-nil, read-more}
 use Rattle.relabel_upid.specs.Relabel.{instead, around, mended, partAt, replacedIn, taken, wholeMade, partMade, upTo}
-use Rattle.relabel_upid.specs.Private.{Mends, Mendable}
+use Rattle.relabel_upid.specs.Private.{Mends}
 use Rattle.relabel_upid.proofs.Anywhere.{anywhere}
 
 -- ---- whether an identifier is taken
@@ -64,39 +63,39 @@ all-at d j none h = absurd (omega arith)
 all-at d zero (more x xs) h = x
 all-at d (suc j) (more x xs) h = all-at d j xs (omega arith)
 
-module _ (list : PartList) (count j : ℕ) (p : Part) (n : ℕ) (h : j < count) (all : count ≤ length (list .parts)) where
+module _ (ps : List Part) (count j : ℕ) (p : Part) (n : ℕ) (h : j < count) (all : count ≤ length ps) where
   abbrev one : Part
-  one = getD (list .parts) j blankPart
+  one = getD ps j blankPart
 
-  size : length (take count (list .parts)) ≡ count
-  size = omega (arith, length-take count (list .parts))
+  size : length (take count ps) ≡ count
+  size = omega (arith, length-take count ps)
 
-  one-is : getD (take count (list .parts)) j blankPart ≡ one
-  one-is = getD-take count (list .parts) j blankPart h
+  one-is : getD (take count ps) j blankPart ≡ one
+  one-is = getD-take count ps j blankPart h
 
-  pub mends-one : (target : List ℕ) → All (Mends p n target) (take count (list .parts)) → Mends p n target one
+  pub mends-one : (target : List ℕ) → All (Mends p n target) (take count ps) → Mends p n target one
   mends-one target a = subst (Mends p n target) one-is (all-at blankPart j a (omega (arith, size)))
 
-  next : drop j (take count (list .parts)) ≡ one ∷ drop (j + 1) (take count (list .parts))
+  next : drop j (take count ps) ≡ one ∷ drop (j + 1) (take count ps)
   next =
-      drop-cons (take count (list .parts)) j blankPart (omega (arith, size))
-      ∙ ap₂ (λ (q : Part) (m : ℕ). q ∷ drop m (take count (list .parts))) one-is (sym (add-one j))
+      drop-cons (take count ps) j blankPart (omega (arith, size))
+      ∙ ap₂ (λ (q : Part) (m : ℕ). q ∷ drop m (take count ps)) one-is (sym (add-one j))
 
-  turn : (target : List ℕ) → mended p n (drop j (take count (list .parts))) target ≡ mended p n (drop (j + 1) (take count (list .parts))) (pick (around p one) (set target (one .start - 1) (instead p n (one .len))) target)
+  turn : (target : List ℕ) → mended p n (drop j (take count ps)) target ≡ mended p n (drop (j + 1) (take count ps)) (pick (around p one) (set target (one .start - 1) (instead p n (one .len))) target)
   unfolding mended
   turn target = ap (λ (qs : List Part). mended p n qs target) next
 
   pub mended-on : (target later : List ℕ) (v at : ℕ) → around p one ≡ true → at ≡ one .start → v ≡ instead p n (one .len) → later ≡ set target (at - 1) v
-      → mended p n (drop (j + 1) (take count (list .parts))) later ≡ mended p n (drop j (take count (list .parts))) target
+      → mended p n (drop (j + 1) (take count ps)) later ≡ mended p n (drop j (take count ps)) target
   mended-on target later v at e ea ev el =
-      sym (turn target ∙ ap (λ (t : Bool). mended p n (drop (j + 1) (take count (list .parts))) (cond t (set target (one .start - 1) (instead p n (one .len))) target)) e
-      ∙ ap (mended p n (drop (j + 1) (take count (list .parts)))) (sym (el ∙ ap₂ (λ (a w : ℕ). set target (a - 1) w) ea ev)))
+      sym (turn target ∙ ap (λ (t : Bool). mended p n (drop (j + 1) (take count ps)) (pick t (set target (one .start - 1) (instead p n (one .len))) target)) e
+      ∙ ap (mended p n (drop (j + 1) (take count ps))) (sym (el ∙ ap₂ (λ (a w : ℕ). set target (a - 1) w) ea ev)))
 
   pub mended-off : (target later : List ℕ) → around p one ≡ false → later ≡ target
-      → mended p n (drop (j + 1) (take count (list .parts))) later ≡ mended p n (drop j (take count (list .parts))) target
+      → mended p n (drop (j + 1) (take count ps)) later ≡ mended p n (drop j (take count ps)) target
   mended-off target later e el =
-      sym (turn target ∙ ap (λ (t : Bool). mended p n (drop (j + 1) (take count (list .parts))) (cond t (set target (one .start - 1) (instead p n (one .len))) target)) e
-      ∙ ap (mended p n (drop (j + 1) (take count (list .parts)))) (sym el))
+      sym (turn target ∙ ap (λ (t : Bool). mended p n (drop (j + 1) (take count ps)) (pick t (set target (one .start - 1) (instead p n (one .len))) target)) e
+      ∙ ap (mended p n (drop (j + 1) (take count ps))) (sym el))
 
 pub mended-end : (qs : List Part) (p : Part) (n j count : ℕ) (target : List ℕ) → count ≤ j → mended p n (drop j (take count qs)) target ≡ target
 unfolding mended
@@ -131,56 +130,56 @@ mended-append p n (q ∷ qs) s t (more h hs) =
 
 -- ---- the UPID itself
 
-module _ (kind k : ℕ) (top new : List ℕ) where
-  pub whole-none : length top ≡ 0 → wholeMade kind top k new ≡ refused 41
+module _ (upid-type k : ℕ) (top new : List ℕ) where
+  pub whole-none : length top ≡ 0 → wholeMade upid-type top k new ≡ refused 41
   unfolding wholeMade
   whole-none h = rw (eq-eqb _ _ h)
 
   module _ (some : length top ≡ 0 → ⊥) where
-    pub whole-refused : taken (checkOf kind top) ≡ false → wholeMade kind top k new ≡ refused 41
+    pub whole-refused : taken (checkOf upid-type top) ≡ false → wholeMade upid-type top k new ≡ refused 41
     unfolding wholeMade
     whole-refused h = rw (ne-eqb _ _ some, h)
 
-    module _ (fine : taken (checkOf kind top) ≡ true) where
-      pub whole-long : 255 < length new → wholeMade kind top k new ≡ refused 32
+    module _ (fine : taken (checkOf upid-type top) ≡ true) where
+      pub whole-long : 255 < length new → wholeMade upid-type top k new ≡ refused 32
       unfolding wholeMade
       whole-long h = rw (ne-eqb _ _ some, fine, lt-ltb _ _ h)
 
       module _ (short : length new ≤ 255) where
-        pub whole-empty : length new ≡ 0 → wholeMade kind top k new ≡ refused 33
+        pub whole-empty : length new ≡ 0 → wholeMade upid-type top k new ≡ refused 33
         unfolding wholeMade
         whole-empty h = rw (ne-eqb _ _ some, fine, le-ltb _ _ short, eq-eqb _ _ h)
 
         module _ (full : length new ≡ 0 → ⊥) where
-          pub whole-unfit : taken (readOf k 0 new) ≡ false → wholeMade kind top k new ≡ refused 33
+          pub whole-unfit : taken (readOf k 0 new) ≡ false → wholeMade upid-type top k new ≡ refused 33
           unfolding wholeMade
           whole-unfit h = rw (ne-eqb _ _ some, fine, le-ltb _ _ short, ne-eqb _ _ full, h)
 
-          pub whole-made : taken (readOf k 0 new) ≡ true → wholeMade kind top k new ≡ made new
+          pub whole-made : taken (readOf k 0 new) ≡ true → wholeMade upid-type top k new ≡ made new
           unfolding wholeMade
           whole-made h = rw (ne-eqb _ _ some, fine, le-ltb _ _ short, ne-eqb _ _ full, h)
 
 -- ---- a part
 
-module _ (kind k i : ℕ) (top new : List ℕ) where
+module _ (upid-type k i : ℕ) (top new : List ℕ) where
   abbrev ps : List Part
-  ps = partsIn (upidOf kind top)
+  ps = partsIn (upidOf upid-type top)
 
-  pub part-none : length ps ≤ i → partMade kind top i k new ≡ refused 41
+  pub part-none : length ps ≤ i → partMade upid-type top i k new ≡ refused 41
   unfolding partMade
   part-none h = rw (le-leb _ _ h)
 
   module _ (there : i < length ps) where
-    pub part-long : 255 < instead (partAt ps i) (length new) (length top) → partMade kind top i k new ≡ refused 32
+    pub part-long : 255 < instead (partAt ps i) (length new) (length top) → partMade upid-type top i k new ≡ refused 32
     unfolding partMade
     part-long h = rw (lt-leb _ _ there, lt-ltb _ _ h)
 
     module _ (short : instead (partAt ps i) (length new) (length top) ≤ 255) where
-      pub part-unfit : taken (readOf k 0 new) ≡ false → partMade kind top i k new ≡ refused 33
+      pub part-unfit : taken (readOf k 0 new) ≡ false → partMade upid-type top i k new ≡ refused 33
       unfolding partMade
       part-unfit h = rw (lt-leb _ _ there, le-ltb _ _ short, h)
 
-      pub part-made : taken (readOf k 0 new) ≡ true → partMade kind top i k new ≡ made (replacedIn top ps i k new)
+      pub part-made : taken (readOf k 0 new) ≡ true → partMade upid-type top i k new ≡ made (replacedIn top ps i k new)
       unfolding partMade
       part-made h = rw (lt-leb _ _ there, le-ltb _ _ short, h)
 

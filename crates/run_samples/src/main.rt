@@ -3,8 +3,8 @@
 ghost use Prim.Native.Nat.{_<_};
 use command::SpliceCommand;
 use command::insert::Break;
-use command::insert::Insert;
-use command::insert::Insertion;
+use command::insert::InsertDetail;
+use command::insert::SpliceDetail;
 use command::insert::SpliceInsert;
 use command::insert::SpliceMode;
 use section::Section;
@@ -37,7 +37,7 @@ fn time(t: SpliceTime) {
 }
 
 // What is not cancelled.
-fn active(event: u64, x: Insert) {
+fn active(event: u64, x: InsertDetail) {
     let mode = x.splice_mode;
     match mode {
         SpliceMode::Program(t) => time(t),
@@ -52,12 +52,12 @@ fn active(event: u64, x: Insert) {
     }
 }
 
-fn insert(i: Insertion) {
+fn insert(i: SpliceInsert) {
     let event = i.splice_event_id as u64;
     let detail = i.splice_detail;
     match detail {
-        SpliceInsert::Cancel => item(b";cancelled=", event),
-        SpliceInsert::Insert(x) => active(event, x),
+        SpliceDetail::Cancel => item(b";cancelled=", event),
+        SpliceDetail::Insert(x) => active(event, x),
     }
 }
 

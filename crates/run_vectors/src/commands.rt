@@ -7,8 +7,8 @@ use command::SpliceCommand;
 use command::components::ComponentSplice;
 use command::components::read_components;
 use command::insert::Break;
-use command::insert::Insert;
-use command::insert::Insertion;
+use command::insert::InsertDetail;
+use command::insert::SpliceDetail;
 use command::insert::SpliceInsert;
 use command::insert::SpliceMode;
 use header::header::SpliceInfoHeader;
@@ -18,7 +18,7 @@ use table::lent::view;
 
 pub fn header(h: SpliceInfoHeader) {
     let algorithm = h.encryption_algorithm;
-    let kind = h.splice_command_type;
+    let command_type = h.splice_command_type;
     io::write_all(1, b"header");
     value(h.protocol_version as u64);
     flag(h.encrypted_packet);
@@ -27,7 +27,7 @@ pub fn header(h: SpliceInfoHeader) {
     value(h.cw_index as u64);
     value(h.tier as u64);
     value(h.splice_command_length as u64);
-    value(kind.id() as u64);
+    value(command_type.id() as u64);
 }
 
 pub fn command(s: &[u8], h: SpliceInfoHeader, c: SpliceCommand) {
@@ -57,15 +57,15 @@ pub fn command(s: &[u8], h: SpliceInfoHeader, c: SpliceCommand) {
     }
 }
 
-fn insertion(payload: &[u8], i: Insertion) {
+fn insertion(payload: &[u8], i: SpliceInsert) {
     let detail = i.splice_detail;
     match detail {
-        SpliceInsert::Cancel => {
+        SpliceDetail::Cancel => {
             io::write_all(1, b" cancelled");
             value(i.splice_event_id as u64);
             value(i.reserved as u64);
         }
-        SpliceInsert::Insert(x) => {
+        SpliceDetail::Insert(x) => {
             io::write_all(1, b" insert");
             value(i.splice_event_id as u64);
             value(i.reserved as u64);
@@ -74,7 +74,7 @@ fn insertion(payload: &[u8], i: Insertion) {
     }
 }
 
-fn insert(payload: &[u8], x: Insert) {
+fn insert(payload: &[u8], x: InsertDetail) {
     let out = x.network_indicator;
     let mode = x.splice_mode;
     let duration = x.duration;
@@ -101,7 +101,8 @@ fn components(payload: &[u8], n: u8) {
     io::write_all(1, b" components");
     value(n as u64);
     let count = n as usize;
-    let list = read_components(payload);
+    let listed = read_components(payload);
+    let list = listed.components;
     let mut i: usize = 0;
     while i < 255 {
         if i < count {

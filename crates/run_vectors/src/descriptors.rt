@@ -6,15 +6,17 @@ use crate::upids::contents;
 use crate::upids::refused;
 use descriptor::Descriptor;
 use descriptor::segmentation::DeliveryRestrictionFlags;
+use descriptor::segmentation::DescriptorDetail;
 use descriptor::segmentation::ModeComponent;
 use descriptor::segmentation::SegmentationDescriptor;
 use descriptor::segmentation::SegmentationDetail;
 use descriptor::segmentation::SegmentationDuration;
-use descriptor::segmentation::SegmentationInsert;
 use descriptor::segmentation::SegmentationMode;
 use descriptor::segmentation::SegmentationUpid;
 use descriptor::segmentation::SubSegments;
-use descriptor::whole::read_beside;
+use descriptor::segmentation::read_segmentation;
+use descriptor::whole::Beside;
+use descriptor::whole::beside_of;
 use descriptor_loop::Item;
 use descriptor_loop::ItemRefusal;
 use descriptor_loop::Step;
@@ -109,11 +111,11 @@ fn descriptor(d: Descriptor, part: &[u8], payload: &[u8], identifier: [u8; 4]) {
 fn segmentation(x: SegmentationDescriptor, part: &[u8], payload: &[u8]) {
     let detail = x.descriptor_detail;
     match detail {
-        SegmentationDetail::Cancel => {
+        DescriptorDetail::Cancel => {
             io::write_all(1, b" cancel");
             value(x.segmentation_event_id as u64);
         }
-        SegmentationDetail::Insert(i) => {
+        DescriptorDetail::Active(i) => {
             io::write_all(1, b" segment");
             value(x.segmentation_event_id as u64);
             front(i, payload);
@@ -124,7 +126,7 @@ fn segmentation(x: SegmentationDescriptor, part: &[u8], payload: &[u8]) {
     }
 }
 
-fn front(i: SegmentationInsert, payload: &[u8]) {
+fn front(i: SegmentationDetail, payload: &[u8]) {
     flag(i.program_segmentation_flag);
     flag(i.segmentation_duration_flag);
     flag(i.delivery_not_restricted_flag);
@@ -152,11 +154,15 @@ fn restrictions(flags: DeliveryRestrictionFlags) {
     }
 }
 
+fn beside_segmentation(payload: &[u8]) -> Beside {
+    beside_of(read_segmentation(payload), payload)
+}
+
 fn components(payload: &[u8], n: u8) {
     io::write_all(1, b" components");
     value(n as u64);
     let count = n as usize;
-    let beside = read_beside(payload);
+    let beside = beside_segmentation(payload);
     let list = beside.components;
     let mut i: usize = 0;
     while i < 255 {
@@ -174,19 +180,19 @@ fn component(c: ModeComponent) {
 
 // An EIDR is held by value; any other UPID is a part of what was lent.
 fn identifier(u: SegmentationUpid, part: &[u8], payload: &[u8]) {
-    if u.kind == 10 {
-        let beside = read_beside(payload);
+    if u.upid_type == 10 {
+        let beside = beside_segmentation(payload);
         let eidr = beside.eidr;
-        contents(u.kind, &eidr);
+        contents(u.upid_type, &eidr);
         return;
     }
-    contents(u.kind, part);
+    contents(u.upid_type, part);
 }
 
-fn back(i: SegmentationInsert) {
-    let kind = i.segmentation_type_id;
+fn back(i: SegmentationDetail) {
+    let type_id = i.segmentation_type_id;
     io::write_all(1, b" type");
-    value(kind.id() as u64);
+    value(type_id.id() as u64);
     value(i.segment_num as u64);
     value(i.segments_expected as u64);
     let subs = i.sub_segments;

@@ -9,8 +9,8 @@ use upid::UpidRead;
 use upid::read_upid;
 
 // A UPID alone.
-pub fn upid(kind: u8, lent: &[u8]) {
-    let u = read_upid(kind, lent);
+pub fn upid(upid_type: u8, lent: &[u8]) {
+    let u = read_upid(upid_type, lent);
     let read = u.read;
     match read {
         UpidRead::Fine(reported) => {
@@ -23,7 +23,7 @@ pub fn upid(kind: u8, lent: &[u8]) {
         }
         UpidRead::Refused(r) => {
             if let Refusal::InvalidUpidContent {
-                kind: _,
+                upid_type: _,
                 bytes: place,
             } = r {
                 refused(r, view(lent, place));
@@ -36,11 +36,11 @@ pub fn upid(kind: u8, lent: &[u8]) {
 }
 
 // The reported type and the bytes; of a MID, its parts too.
-pub fn contents(kind: u8, part: &[u8]) {
+pub fn contents(upid_type: u8, part: &[u8]) {
     io::write_all(1, b" upid");
-    value(kind as u64);
+    value(upid_type as u64);
     bytes(part);
-    if kind == 13 {
+    if upid_type == 13 {
         let u = read_upid(13, part);
         let list = u.list;
         parts(list);
@@ -63,7 +63,7 @@ fn parts(list: PartList) {
 
 fn part(p: Part) {
     io::write_all(1, b" ");
-    value(p.kind as u64);
+    value(p.upid_type as u64);
     value(p.level as u64);
     value(p.start as u64);
     value(p.len as u64);
@@ -83,18 +83,21 @@ pub fn refused(r: Refusal, part: &[u8]) {
         Refusal::UpidLengthTypeMismatch => {
             io::write_all(1, b" mismatch 0");
         }
-        Refusal::InvalidUpidContent { kind, bytes: _ } => {
+        Refusal::InvalidUpidContent {
+            upid_type,
+            bytes: _,
+        } => {
             io::write_all(1, b" text");
-            value(kind as u64);
+            value(upid_type as u64);
             bytes(part);
         }
         Refusal::InvalidUpidLength {
-            kind,
+            upid_type,
             expected,
             actual,
         } => {
             io::write_all(1, b" length");
-            value(kind as u64);
+            value(upid_type as u64);
             value(expected as u64);
             value(actual as u64);
         }

@@ -6,7 +6,7 @@ use lib.ListN.{length}
 use borrow.Author.Tests.{eqb-true}
 use types.Run.{OneOf}
 use Rattle.names.specs.Flags.{Answer, gives, refuses}
-use Rattle.names.specs.Numbering.{Numbering, numberIn, classIn, named, valueOf, fair}
+use Rattle.names.specs.Numbering.{Numbering, numberIn, classIn, named, valueOf, writable}
 use Rattle.names.proofs.Laws.{Sound, inverse, own-name, upto}
 use Rattle.scte35.specs.FlatNumber.{flatName, flatAnswer}
 use Rattle.scte35.specs.declared.numbers.FlatNumber.{FlatNumber}
@@ -19,7 +19,7 @@ module _ {A : Type 0} (T : Numbering A) (tag : A → ℕ) (s : Sound T tag) (n :
   is-named : OneOf (upto 0 (length (T .names))) (tag x) → classIn T x ≡ named
   is-named o =
       let m : numberIn T x ≡ n = ap (numberIn T) e ∙ inverse T tag s .there n in
-      sym (eqb-true named (classIn T x) (own-name T tag s x x (e ∙ ap (valueOf T) (sym m)) o ∙ ap (fair T) e ∙ inverse T tag s .is-fair n))
+      sym (eqb-true named (classIn T x) (own-name T tag s x x (e ∙ ap (valueOf T) (sym m)) o ∙ ap (writable T) e ∙ inverse T tag s .is-writable n))
 
   -- a name
   pub of-name : OneOf (upto 0 (length (T .names))) (tag x) → (k : ℕ) → k ≡ numberIn T x → flat named k ≡ flatName (T .entry) (valueOf T n)

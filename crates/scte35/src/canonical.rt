@@ -1,8 +1,8 @@
 // The tests of the canonical form: of all bytes from the offset on.
 ghost use mathlib.Core.Path.{_≡_};
 ghost use lib.ListN.{drop};
-ghost use Rattle.descriptor_measure.specs.Canonical.{canonicalDescriptor, canonicalLoop};
-ghost use Rattle.section_writer.specs.Canonical.{canonicalSection};
+ghost use Rattle.canonical_form.specs.Descriptor.{canonicalDescriptor, canonicalLoop};
+ghost use Rattle.canonical_form.specs.Section.{canonicalSection};
 use crate::rest;
 use descriptor_canonical::is_canonical_descriptor;
 use descriptor_canonical::is_canonical_loop;

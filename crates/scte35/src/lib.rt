@@ -124,10 +124,10 @@ pub extern "C" fn scte35_read_section(s: &[u8], at: usize) -> FlatSection
 
 // The command of a type, in its payload.
 #[no_mangle]
-pub extern "C" fn scte35_read_command(kind: u8, s: &[u8], at: usize) -> FlatCommand
-    ensures { λ r. ⌜ r ≡ flatCommandRead (commandOf kind (drop at (now (s .entry)))) ⌝ }
+pub extern "C" fn scte35_read_command(command_type: u8, s: &[u8], at: usize) -> FlatCommand
+    ensures { λ r. ⌜ r ≡ flatCommandRead (commandOf «command_type» (drop at (now (s .entry)))) ⌝ }
 {
-    flat_command_read(read_command(kind, rest(s, at)))
+    flat_command_read(read_command(command_type, rest(s, at)))
 }
 
 // The components of an insert, in its payload.
@@ -135,8 +135,10 @@ pub extern "C" fn scte35_read_command(kind: u8, s: &[u8], at: usize) -> FlatComm
 pub extern "C" fn scte35_read_insert_components(s: &[u8], at: usize) -> FlatSplices
     ensures { λ r. ⌜ r ≡ flatSplices (commandOf 0x05 (drop at (now (s .entry)))) (componentsOf (drop at (now (s .entry)))) ⌝ }
 {
-    let payload = rest(s, at);
-    flat_splices(read_command(5, payload), read_components(payload))
+    let listed = read_components(rest(s, at));
+    let read = listed.read;
+    let components = listed.components;
+    flat_splices(read, components)
 }
 
 // The item at an offset of a loop.
@@ -157,10 +159,10 @@ pub extern "C" fn scte35_read_item_components(s: &[u8], offset: usize) -> FlatBe
 
 // The UPID of a type, in all bytes from the offset on.
 #[no_mangle]
-pub extern "C" fn scte35_read_upid(kind: u8, s: &[u8], at: usize) -> FlatUpid
-    ensures { λ r. ⌜ r ≡ flatUpid (upidOf kind (drop at (now (s .entry)))) ⌝ }
+pub extern "C" fn scte35_read_upid(upid_type: u8, s: &[u8], at: usize) -> FlatUpid
+    ensures { λ r. ⌜ r ≡ flatUpid (upidOf «upid_type» (drop at (now (s .entry)))) ⌝ }
 {
-    flat_upid(read_upid(kind, rest(s, at)))
+    flat_upid(read_upid(upid_type, rest(s, at)))
 }
 
 #[no_mangle]

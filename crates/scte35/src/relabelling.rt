@@ -7,19 +7,19 @@ use c_command_writer::FlatWritten;
 use c_command_writer::flat_written;
 use relabel::relabel;
 
-// The section in which part number `part` of the item at `offset` of its loop becomes an identifier of type `kind` with these bytes. Part 0 is the UPID itself,
-// part n the n-th of its MID's parts as `scte35_read_upid` lists them.
+// The section in which part number `part` of the item at `offset` of its loop becomes an identifier of type `upid_type` with these bytes. Part 0 is the UPID
+// itself, part n the n-th of its MID's parts as `scte35_read_upid` lists them.
 #[no_mangle]
 pub extern "C" fn scte35_relabel(
     s: &[u8],
     offset: usize,
     part: usize,
-    kind: u8,
+    upid_type: u8,
     bytes: &[u8],
     target: &mut [u8],
 ) -> FlatWritten
-    ensures answer { λ r. ⌜ r ≡ flatWritten (answerOf (relabelMade (now (s .entry)) offset part kind (now (bytes .entry))) (now (target .entry))) ⌝ }
-    ensures bytes { λ _. ⌜ now (target .exit) ≡ laterOf (relabelMade (now (s .entry)) offset part kind (now (bytes .entry))) (now (target .entry)) ⌝ }
+    ensures answer { λ r. ⌜ r ≡ flatWritten (answerOf (relabelMade (now (s .entry)) offset part «upid_type» (now (bytes .entry))) (now (target .entry))) ⌝ }
+    ensures bytes { λ _. ⌜ now (target .exit) ≡ laterOf (relabelMade (now (s .entry)) offset part «upid_type» (now (bytes .entry))) (now (target .entry)) ⌝ }
 {
-    flat_written(relabel(s, offset, part, kind, bytes, target))
+    flat_written(relabel(s, offset, part, upid_type, bytes, target))
 }

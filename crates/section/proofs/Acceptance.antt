@@ -77,25 +77,31 @@ first-none n [] e = tt
 first-none n (true ∷ bs) e = absurd (omega arith)
 first-none n (false ∷ bs) e = (refl, first-none (suc n) bs e)
 
-is : (r : SectionRead) → numberOf r ≡ 0 → (x : Section) × (r ≡ SectionRead.Is x)
+pub is-read : (r : SectionRead) → numberOf r ≡ 0 → (x : Section) × (r ≡ SectionRead.Is x)
 unfolding numberOf
-is (SectionRead.Is x) e = (x, refl)
-is (SectionRead.Refused Refusal.SectionTooShort) e = absurd (omega arith)
-is (SectionRead.Refused Refusal.InputTooLong) e = absurd (omega arith)
-is (SectionRead.Refused Refusal.OtherTable) e = absurd (omega arith)
-is (SectionRead.Refused Refusal.WrongCrc) e = absurd (omega arith)
-is (SectionRead.Refused Refusal.NoHeader) e = absurd (omega arith)
-is (SectionRead.Refused Refusal.Encrypted) e = absurd (omega arith)
-is (SectionRead.Refused Refusal.CommandTooLong) e = absurd (omega arith)
-is (SectionRead.Refused Refusal.NoLoopLength) e = absurd (omega arith)
-is (SectionRead.Refused Refusal.LoopTooLong) e = absurd (omega arith)
-is (SectionRead.Refused Refusal.UnknownCommand) e = absurd (omega arith)
-is (SectionRead.Refused Refusal.MalformedCommand) e = absurd (omega arith)
+is-read (SectionRead.Is x) e = (x, refl)
+is-read (SectionRead.Refused Refusal.SectionTooShort) e = absurd (omega arith)
+is-read (SectionRead.Refused Refusal.InputTooLong) e = absurd (omega arith)
+is-read (SectionRead.Refused Refusal.OtherTable) e = absurd (omega arith)
+is-read (SectionRead.Refused Refusal.WrongCrc) e = absurd (omega arith)
+is-read (SectionRead.Refused Refusal.NoHeader) e = absurd (omega arith)
+is-read (SectionRead.Refused Refusal.Encrypted) e = absurd (omega arith)
+is-read (SectionRead.Refused Refusal.CommandTooLong) e = absurd (omega arith)
+is-read (SectionRead.Refused Refusal.NoLoopLength) e = absurd (omega arith)
+is-read (SectionRead.Refused Refusal.LoopTooLong) e = absurd (omega arith)
+is-read (SectionRead.Refused Refusal.UnknownCommand) e = absurd (omega arith)
+is-read (SectionRead.Refused Refusal.MalformedCommand) e = absurd (omega arith)
+
+pub number-some : (r : Refusal) → numberOf (SectionRead.Refused r) ≡ 0 → ⊥
+number-some r e = let i = is-read (SectionRead.Refused r) e in zero-one (cc (i .1))
+
+pub none-holds : (s : List ℕ) → numberOf (sectionOf s) ≡ 0 → None (conditions s)
+none-holds s e = first-none 0 (conditions s) (sym (refusals-in-order s) ∙ e)
 
 -- 01: "A section is accepted exactly when none of 1 to 11 applies"
 pub accepted-if-none : (s : List ℕ) → None (conditions s) → (x : Section) × (sectionOf s ≡ SectionRead.Is x)
-accepted-if-none s h = is (sectionOf s) (refusals-in-order s ∙ none-first 1 (conditions s) h)
+accepted-if-none s h = is-read (sectionOf s) (refusals-in-order s ∙ none-first 1 (conditions s) h)
 
 pub none-if-accepted : (s : List ℕ) (x : Section) → sectionOf s ≡ SectionRead.Is x → None (conditions s)
 unfolding numberOf
-none-if-accepted s x e = first-none 0 (conditions s) (sym (refusals-in-order s) ∙ ap numberOf e)
+none-if-accepted s x e = none-holds s (ap numberOf e)

@@ -19,6 +19,7 @@ use Rattle.section.specs.declared.Frame.{Frame}
 use Rattle.section.specs.declared.FrameRead.{FrameRead}
 use Rattle.section.specs.declared.Refusal.{Refusal}
 use Rattle.section.specs.declared.SectionRead.{SectionRead}
+use Rattle.section.specs.declared.Section.{Section}
 
 -- ---- the layout: the splice header begins at byte 3, the command at byte 14, and the last four bytes are the CRC
 -- splice_command_length: 12 bits from the middle of byte 11 on
@@ -155,3 +156,11 @@ numberOf (SectionRead.Refused Refusal.MalformedCommand) = 11
 -- where a private command's bytes lie; any other command has none
 abbrev pub privateView : SpliceCommand → View
 privateView c = ofPrivate (λ p. p .«private_bytes») noView c
+
+-- the loop of a reading, as it stands in the section
+abbrev pub loopIn : List ℕ → Section → List ℕ
+loopIn s x = viewed s (x .descriptors)
+
+-- how many bytes a section has whose command has `size` and whose loop has `extent`
+abbrev pub sectionLength : ℕ → ℕ → ℕ
+sectionLength size extent = 20 + size + extent

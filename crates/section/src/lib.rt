@@ -24,6 +24,12 @@ use table::numbers::wide;
 
 pub mod whole;
 
+// A section has at most so many bytes.
+pub const MAX_SECTION: usize = 4096;
+
+// Its command's payload starts at this byte.
+pub const COMMAND_AT: usize = 14;
+
 // What a section says. Views count from its first byte; the items of the loop are read one step at a time. The payload is the command's.
 pub struct Section {
     pub header: SpliceInfoHeader,
@@ -142,12 +148,15 @@ fn read_layout(s: &[u8]) -> FrameRead
     if room < 2 {
         return FrameRead::Refused(Refusal::NoLoopLength);
     }
-    let extent = two_bytes(s, 14 + size);
+    let extent = two_bytes(s, COMMAND_AT + size);
     if room < extent + 2 {
         return FrameRead::Refused(Refusal::LoopTooLong);
     }
     FrameRead::Whole(Frame {
-        command: View { at: 14, len: size },
+        command: View {
+            at: COMMAND_AT,
+            len: size,
+        },
         descriptors: View {
             at: 16 + size,
             len: extent,
@@ -163,7 +172,7 @@ fn test_frame(s: &[u8]) -> FrameRead
     if s.len() < 3 {
         return FrameRead::Refused(Refusal::SectionTooShort);
     }
-    if 4096 < s.len() {
+    if MAX_SECTION < s.len() {
         return FrameRead::Refused(Refusal::InputTooLong);
     }
     if s[0] != 0xFC {
@@ -189,11 +198,11 @@ pub fn read_frame(s: &[u8]) -> FrameRead
 
 // The command of a type, in its payload, as a section has it: its views count from the section's first byte, 14 bytes before the payload. The C boundary's:
 // it has one caller, so that no command is handed on by value.
-pub fn read_command_part(kind: u8, payload: &[u8]) -> CommandRead
-    ensures { λ r. ⌜ r ≡ movedRead (commandOf kind (now (payload .entry))) ⌝ }
+pub fn read_command_part(command_type: u8, payload: &[u8]) -> CommandRead
+    ensures { λ r. ⌜ r ≡ movedRead (commandOf «command_type» (now (payload .entry))) ⌝ }
 {
-    match read_command(kind, payload) {
-        CommandRead::Is(c) => CommandRead::Is(move_command(c, 14)),
+    match read_command(command_type, payload) {
+        CommandRead::Is(c) => CommandRead::Is(move_command(c, COMMAND_AT)),
         CommandRead::UnknownType => CommandRead::UnknownType,
         CommandRead::Malformed => CommandRead::Malformed,
     }
@@ -210,11 +219,11 @@ fn read_parts(s: &[u8], frame: Frame) -> SectionRead
     };
     let payload = frame.command;
     let descriptors = frame.descriptors;
-    let end = 14 + payload.len;
-    match read_command(s[13], &s[14..end]) {
+    let end = COMMAND_AT + payload.len;
+    match read_command(s[13], &s[COMMAND_AT..end]) {
         CommandRead::Is(c) => SectionRead::Is(Section {
             header,
-            command: move_command(c, 14),
+            command: move_command(c, COMMAND_AT),
             descriptors,
             payload,
         }),

@@ -21,7 +21,10 @@ fn beside_command(c: SpliceCommand, payload: &[u8]) -> [ComponentSplice; 255]
 {
     match c {
         SpliceCommand::SpliceNull => blanks(),
-        SpliceCommand::SpliceInsert(_) => read_components(payload),
+        SpliceCommand::SpliceInsert(_) => {
+            let listed = read_components(payload);
+            listed.components
+        }
         SpliceCommand::TimeSignal(_) => blanks(),
         SpliceCommand::BandwidthReservation => blanks(),
         SpliceCommand::PrivateCommand(_) => blanks(),

@@ -1,5 +1,5 @@
 -- What the writer answers and leaves, return by return.
---     refused-for, short-for, wrote-for    what `answer_for` answers
+--     refused-for, short-for, wrote-for    what `answer_section` answers
 --     section-answer                       that it is what the section's definition says
 --     allowed, wrote-section               what stands where the answer is that it is written
 use Prim.Native.Nat.{ℕ, zero, suc, _+_, _<_, _≤_}
@@ -14,20 +14,20 @@ use Rattle.command.specs.declared.SpliceCommand.{SpliceCommand}
 use Rattle.command.specs.declared.components.ComponentSplice.{ComponentSplice}
 use Rattle.command_measure.specs.Made.{commandMade, measuredOf}
 use Rattle.command_measure.specs.declared.Measured.{Measured}
-use Rattle.descriptor_measure.specs.Canonical.{canonicalLoop}
+use Rattle.canonical_form.specs.Descriptor.{canonicalLoop}
 use Rattle.header.specs.declared.header.SpliceInfoHeader.{SpliceInfoHeader}
 use Rattle.bit_stores.specs.Written.{answerOf, laterOf, refusalIn, bytesIn}
 use Rattle.bit_stores.specs.declared.Written.{Written}
 use Rattle.bit_stores.proofs.Writes.{refused-answer, short-answer, wrote-answer}
-use Rattle.section.specs.Section.{first}
+use Rattle.section.specs.Section.{first, sectionLength}
 use Rattle.table.specs.Bits.{pick}
 use Rattle.table.specs.Lent.{stored}
 use Rattle.table.specs.Writing.{Made, made, refused}
 use Rattle.table.proofs.Lists.{zero-one}
 use Rattle.table.proofs.Stores.{length-stored}
-use Rattle.section_writer.specs.Frame.{sectionLength, head, frame, numbersFit, fairHead}
-use Rattle.section_writer.specs.Private.{tail, answerFor}
-use Rattle.section_writer.specs.Writing.{writerConditions, unless, sectionMade, kindOf}
+use Rattle.section_writer.specs.Frame.{head, frame, numbersFit, writableHead}
+use Rattle.section_writer.specs.Private.{tail, answerSection}
+use Rattle.section_writer.specs.Writing.{writerConditions, unless, sectionMade, typeOf}
 use Rattle.section_writer.proofs.Frames.{length-frame}
 use Rattle.section_writer.proofs.Stored.{section-stored}
 use Rattle.section_writer.proofs.Trips.{tests-passed}
@@ -39,16 +39,16 @@ unless-refused (suc n) b h = refl
 -- ---- the answer, by the first refusal that applies
 module _ (h : SpliceInfoHeader) (m : Measured) (loop : List ℕ) (room : ℕ) (k : Bool) (n : ℕ)
     (ek : k ≡ canonicalLoop loop) (en : n ≡ first 31 (writerConditions h (m .refusal) (m .size) (length loop) k)) where
-  pub refused-for : 0 < n → Written.Refused n ≡ answerFor h m loop room
-  unfolding answerFor
+  pub refused-for : 0 < n → Written.Refused n ≡ answerSection h m loop room
+  unfolding answerSection
   refused-for z = rw (← ek, ← en, ne-eqb n 0 (λ e. omega (arith, e, z)))
 
-  pub short-for : n ≤ 0 → room < sectionLength (m .size) (length loop) → Written.Refused 36 ≡ answerFor h m loop room
-  unfolding answerFor
+  pub short-for : n ≤ 0 → room < sectionLength (m .size) (length loop) → Written.Refused 36 ≡ answerSection h m loop room
+  unfolding answerSection
   short-for z l = rw (← ek, ← en, eq-eqb n 0 (omega arith), lt-leb (sectionLength (m .size) (length loop)) room l)
 
-  pub wrote-for : n ≤ 0 → sectionLength (m .size) (length loop) ≤ room → Written.Wrote (sectionLength (m .size) (length loop)) ≡ answerFor h m loop room
-  unfolding answerFor
+  pub wrote-for : n ≤ 0 → sectionLength (m .size) (length loop) ≤ room → Written.Wrote (sectionLength (m .size) (length loop)) ≡ answerSection h m loop room
+  unfolding answerSection
   wrote-for z l = rw (← ek, ← en, eq-eqb n 0 (omega arith), le-leb (sectionLength (m .size) (length loop)) room l)
 
   pub short-enough : n ≤ 0 → sectionLength (m .size) (length loop) ≤ 4096
@@ -63,7 +63,7 @@ module _ (h : SpliceInfoHeader) (c : SpliceCommand) (cs : List ComponentSplice) 
   n = first 31 (writerConditions h (m .refusal) (m .size) (length loop) (canonicalLoop loop))
 
   abbrev section : Made
-  section = sectionMade h (commandMade c cs lent) (kindOf c) loop
+  section = sectionMade h (commandMade c cs lent) (typeOf c) loop
 
   size-is : m .size ≡ length payload
   unfolding measuredOf
@@ -75,29 +75,29 @@ module _ (h : SpliceInfoHeader) (c : SpliceCommand) (cs : List ComponentSplice) 
 
   is-refused : 0 < n → section ≡ refused n
   unfolding sectionMade
-  is-refused z = rw (← tests) (unless-refused n (frame h (kindOf c) payload loop) z)
+  is-refused z = rw (← tests) (unless-refused n (frame h (typeOf c) payload loop) z)
 
-  is-made : n ≡ 0 → section ≡ made (frame h (kindOf c) payload loop)
+  is-made : n ≡ 0 → section ≡ made (frame h (typeOf c) payload loop)
   unfolding sectionMade
   is-made e = rw (← tests, e)
 
-  long : length (frame h (kindOf c) payload loop) ≡ sectionLength (m .size) (length loop)
-  long = length-frame h (kindOf c) payload loop ∙ omega (arith, size-is)
+  long : length (frame h (typeOf c) payload loop) ≡ sectionLength (m .size) (length loop)
+  long = length-frame h (typeOf c) payload loop ∙ omega (arith, size-is)
 
-  pub section-answer : (t : List ℕ) → answerFor h m loop (length t) ≡ answerOf section t
-  unfolding answerFor
+  pub section-answer : (t : List ℕ) → answerSection h m loop (length t) ≡ answerOf section t
+  unfolding answerSection
   section-answer t = go (eqb n 0) refl (leb (sectionLength (m .size) (length loop)) (length t)) refl
     where
       go : (z : Bool) → eqb n 0 ≡ z → (f : Bool) → leb (sectionLength (m .size) (length loop)) (length t) ≡ f
           → pick z (pick f (Written.Wrote (sectionLength (m .size) (length loop))) (Written.Refused 36)) (Written.Refused n) ≡ answerOf section t
       go false e f l = refused-answer section t n (is-refused (let o = eqb-false n 0 e in omega (arith, o))) .0
-      go true e false l = short-answer section t (frame h (kindOf c) payload loop) (is-made (eqb-true n 0 e)) (let o = leb-false (sectionLength (m .size) (length loop)) (length t) l in omega (arith, o, long)) .0
-      go true e true l = rw long at (wrote-answer section t (frame h (kindOf c) payload loop) (is-made (eqb-true n 0 e)) (let o = leb-true (sectionLength (m .size) (length loop)) (length t) l in omega (arith, o, long)) .0)
+      go true e false l = short-answer section t (frame h (typeOf c) payload loop) (is-made (eqb-true n 0 e)) (let o = leb-false (sectionLength (m .size) (length loop)) (length t) l in omega (arith, o, long)) .0
+      go true e true l = rw long at (wrote-answer section t (frame h (typeOf c) payload loop) (is-made (eqb-true n 0 e)) (let o = leb-true (sectionLength (m .size) (length loop)) (length t) l in omega (arith, o, long)) .0)
 
   -- where the answer is that it is written
-  module _ (t : List ℕ) (r : Written) (k : ℕ) (is : r ≡ answerFor h m loop (length t)) (e : r ≡ Written.Wrote k) where
+  module _ (t : List ℕ) (r : Written) (k : ℕ) (is : r ≡ answerSection h m loop (length t)) (e : r ≡ Written.Wrote k) where
     no-refusal : (n ≡ 0) × (sectionLength (m .size) (length loop) ≤ length t)
-    unfolding answerFor
+    unfolding answerSection
     no-refusal = go (eqb n 0) refl (leb (sectionLength (m .size) (length loop)) (length t)) refl (sym is ∙ e)
       where
         go : (z : Bool) → eqb n 0 ≡ z → (f : Bool) → leb (sectionLength (m .size) (length loop)) (length t) ≡ f
@@ -107,15 +107,15 @@ module _ (h : SpliceInfoHeader) (c : SpliceCommand) (cs : List ComponentSplice) 
         go true a false l w = zero-one cc
         go true a true l w = (eqb-true n 0 a, leb-true (sectionLength (m .size) (length loop)) (length t) l)
 
-    pub allowed : (numbersFit h ≡ true) × (fairHead h ≡ true) × (sectionLength (m .size) (length loop) ≤ 4096) × (sectionLength (m .size) (length loop) ≤ length t)
+    pub allowed : (numbersFit h ≡ true) × (writableHead h ≡ true) × (sectionLength (m .size) (length loop) ≤ 4096) × (sectionLength (m .size) (length loop) ≤ length t)
     allowed = let p = tests-passed h (m .refusal) (m .size) (length loop) (canonicalLoop loop) (no-refusal .0) in (p .0, p .1, p .2, no-refusal .1)
 
-    pub wrote-section : (u v w : List ℕ) (q : ℕ) → q ≡ kindOf c → u ≡ stored t 0 (head h q (m .size) (length loop)) → v ≡ stored u 14 payload
+    pub wrote-section : (u v w : List ℕ) (q : ℕ) → q ≡ typeOf c → u ≡ stored t 0 (head h q (m .size) (length loop)) → v ≡ stored u 14 payload
         → w ≡ stored v (14 + m .size) (tail (take (14 + m .size) v) loop) → w ≡ laterOf section t
     wrote-section u v w q eq eu ev ew =
         let room = no-refusal .1 in
-        section-stored t u v w h (kindOf c) payload loop (rw (eq, size-is) at eu) ev (rw size-is at ew) (omega (arith, size-is, room))
-        ∙ wrote-answer section t (frame h (kindOf c) payload loop) (is-made (no-refusal .0)) (omega (arith, long, room)) .1
+        section-stored t u v w h (typeOf c) payload loop (rw (eq, size-is) at eu) ev (rw size-is at ew) (omega (arith, size-is, room))
+        ∙ wrote-answer section t (frame h (typeOf c) payload loop) (is-made (no-refusal .0)) (omega (arith, long, room)) .1
 
 -- stores keep the target's length
 pub kept-length : (t u v : List ℕ) (i j : ℕ) (a b : List ℕ) → u ≡ stored t i a → v ≡ stored u j b → length v ≡ length t

@@ -13,18 +13,18 @@ use Rattle.crc.proofs.Laws.{crc-last}
 use Rattle.header.specs.Header.{spliceHeader, headerOf, headerRead}
 use Rattle.header.specs.declared.header.HeaderRead.{HeaderRead}
 use Rattle.header.specs.declared.header.SpliceInfoHeader.{SpliceInfoHeader}
-use Rattle.header.proofs.Headers.{fairHeader, header-got, header-read-write}
+use Rattle.header.proofs.Headers.{writableHeader, header-got, header-read-write}
 use Rattle.names.specs.Algorithm.{algorithmOf}
 use Rattle.names.specs.Command.{commandTypeOf}
-use Rattle.section.specs.Section.{commandLength, commandType, commandBytes, loopLength}
+use Rattle.section.specs.Section.{commandLength, commandType, commandBytes, loopLength, sectionLength}
 use Rattle.table.specs.Bits.{bitsOfNum, bitsOf, field, bytesN, bytesOf, bigEndian, AllBytes}
 use Rattle.table.specs.Table.{number, bit}
 use Rattle.table.specs.Writing.{walk, contents, print}
-use Rattle.table.proofs.Bits.{bits-join, bytes-num, length-bits}
+use Rattle.table.proofs.Bits.{bits-join, bytes-num, length-bits, byte-in}
 use Rattle.table.proofs.Fields.{field-add, field-byte}
-use Rattle.table.proofs.Structure.{wrote}
-use Rattle.section_writer.specs.Frame.{headed, headerBytes, opening, sectionLength, head, withLength, body, frame}
-use Rattle.section_writer.proofs.Numbers.{number-bytes, bytes-take, bytes-drop, byte-in, field-behind, field-front}
+use Rattle.table.proofs.Structure.{wrote, bytes-take, bytes-drop}
+use Rattle.section_writer.specs.Frame.{headed, headerBytes, opening, head, withLength, body, frame}
+use Rattle.section_writer.proofs.Numbers.{number-bytes, field-behind, field-front}
 
 -- ---- the first three bytes
 pub opening-is : (n : ℕ) → n - 3 < 2 ^ 12 → opening n ≡ 0xfc ∷ bigEndian 2 (0x3000 + (n - 3))
@@ -64,7 +64,7 @@ no-views t x = refl
 -- eleven bytes are those of the header that they are read as
 header-again : (t : List ℕ) (x : SpliceInfoHeader) → AllBytes t → length t ≡ 11 → headerOf t ≡ HeaderRead.Header x → t ≡ headerBytes x
 unfolding headerBytes
-header-again t x a n e = wrote (fairHeader x) t (walk spliceHeader x 0 .fields) t (header-read-write t x a n e) .bytes ∙ ap (λ l. bytesOf (print l)) (no-views t x)
+header-again t x a n e = wrote (writableHeader x) t (walk spliceHeader x 0 .fields) t (header-read-write t x a n e) .bytes ∙ ap (λ l. bytesOf (print l)) (no-views t x)
 
 module _ (s : List ℕ) (a : AllBytes s) (long : 18 ≤ length s) (x : SpliceInfoHeader) (is : headerOf (drop 3 s) ≡ HeaderRead.Header x) where
   abbrev tail : List ℕ

@@ -1,6 +1,6 @@
 -- Commands in their canonical form.
 --     null-canonical, ..       what is written of a command is canonical
---     one-command              canonical commands of equal readings are equal
+--     command-one              canonical commands of equal readings are equal
 use Prim.Native.Nat.{ℕ, _*_}
 use mathlib.Core.Bool.{Bool, true, false}
 use mathlib.Core.List.{List, [], _∷_, _++_}
@@ -9,12 +9,12 @@ use native.Mathlib.Omega.{arith}
 use lib.Dec.{eqb}
 use lib.ListN.{length}
 use borrow.Author.Tests.{eqb-true, eq-eqb}
-use Rattle.command_canonical.specs.Canonical.{canonicalCommand}
+use Rattle.canonical_form.specs.Command.{canonicalCommand}
 use Rattle.command.specs.Command.{private}
-use Rattle.command.specs.Fair.{fairInsert}
+use Rattle.command.specs.Writable.{writableInsert}
 use Rattle.command.specs.Insert.{WithComponents, insert}
 use Rattle.command.specs.declared.Private.{Private}
-use Rattle.command.specs.declared.insert.Insertion.{Insertion}
+use Rattle.command.specs.declared.insert.SpliceInsert.{SpliceInsert}
 use Rattle.command.proofs.InsertLeads.{Counted}
 use Rattle.command.proofs.InsertTrips.{insert-write-read, insert-one}
 use Rattle.command.proofs.PrivateTrips.{moved, private-write-read, private-one}
@@ -64,7 +64,7 @@ pub time-canonical : (lent : List ℕ) (t : SpliceTime) (b : List ℕ) → make 
 unfolding canonicalCommand
 time-canonical lent t b e = let w = time-write-read lent t b [] e in by-table spliceTime b t (w .0) (w .1)
 
-pub insert-canonical : (lent : List ℕ) (x : WithComponents Insertion) (b : List ℕ) → Counted x → make insert (fairInsert x) lent x ≡ made b → canonicalCommand 0x05 b ≡ true
+pub insert-canonical : (lent : List ℕ) (x : WithComponents SpliceInsert) (b : List ℕ) → Counted x → make insert (writableInsert x) lent x ≡ made b → canonicalCommand 0x05 b ≡ true
 unfolding canonicalCommand
 insert-canonical lent x b h e = let w = insert-write-read lent x b [] h e in by-table insert b x (w .0) (w .1)
 
@@ -82,9 +82,9 @@ same-by : {X : Type 0} (t : Table X) (p q : List ℕ) (x y : X) (m n : ℕ) → 
 unfolding SameBy
 same-by t p q x y m n e f h = rw (e, f) at h
 
-pub one-command : (kind : ℕ) (p q : List ℕ) → AllBytes p → AllBytes q → canonicalCommand kind p ≡ true → canonicalCommand kind q ≡ true → SameCommand kind p q → p ≡ q
+pub command-one : (command-type : ℕ) (p q : List ℕ) → AllBytes p → AllBytes q → canonicalCommand command-type p ≡ true → canonicalCommand command-type q ≡ true → SameCommand command-type p q → p ≡ q
 unfolding canonicalCommand SameCommand
-one-command kind p q a b c d h = go (eqb kind 0x00) (eqb kind 0x05) (eqb kind 0x06) (eqb kind 0x07) (eqb kind 0xff) c d h
+command-one command-type p q a b c d h = go (eqb command-type 0x00) (eqb command-type 0x05) (eqb command-type 0x06) (eqb command-type 0x07) (eqb command-type 0xff) c d h
   where
     go : (b₀ b₅ b₆ b₇ b₈ : Bool)
         → pick b₀ (eqb (length p) 0) (pick b₅ (canonicalBy insert p) (pick b₆ (canonicalBy spliceTime p) (pick b₇ (eqb (length p) 0) (pick b₈ (canonicalBy private p) false)))) ≡ true

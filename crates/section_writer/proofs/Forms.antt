@@ -14,8 +14,9 @@ use Rattle.header.specs.Header.{headerOf}
 use Rattle.header.specs.declared.header.HeaderRead.{HeaderRead}
 use Rattle.header.specs.declared.header.SpliceInfoHeader.{SpliceInfoHeader}
 use Rattle.header.proofs.Headers.{header-there}
+use Rattle.section.proofs.Acceptance.{number-some}
 use Rattle.section.proofs.Framing as frame
-use Rattle.section.specs.Section.{commandLength, loopLength, loopPlace, moved, frameOf, sectionOf, numberOf}
+use Rattle.section.specs.Section.{commandLength, loopLength, loopPlace, moved, frameOf, sectionOf, numberOf, sectionLength}
 use Rattle.section.specs.declared.Frame.{Frame}
 use Rattle.section.specs.declared.FrameRead.{FrameRead}
 use Rattle.section.specs.declared.Refusal.{Refusal}
@@ -25,28 +26,13 @@ use Rattle.table.specs.Bits.{bitsOf, field}
 use Rattle.table.specs.declared.View.{View}
 use Rattle.table.proofs.Lists.{and-true}
 use Rattle.table.proofs.Reading.{bits-are}
-use Rattle.section_writer.specs.Canonical.{canonicalFrame}
-use Rattle.section_writer.specs.Frame.{sectionLength}
-use Rattle.section_writer.proofs.Parts.{Parts, parts-of}
-
-refusal-counts : (r : Refusal) → eqb (numberOf (SectionRead.Refused r)) 0 ≡ false
-unfolding numberOf
-refusal-counts Refusal.SectionTooShort = refl
-refusal-counts Refusal.InputTooLong = refl
-refusal-counts Refusal.OtherTable = refl
-refusal-counts Refusal.WrongCrc = refl
-refusal-counts Refusal.NoHeader = refl
-refusal-counts Refusal.Encrypted = refl
-refusal-counts Refusal.CommandTooLong = refl
-refusal-counts Refusal.NoLoopLength = refl
-refusal-counts Refusal.LoopTooLong = refl
-refusal-counts Refusal.UnknownCommand = refl
-refusal-counts Refusal.MalformedCommand = refl
+use Rattle.canonical_form.specs.Section.{canonicalFrame}
+use Rattle.section.proofs.Parts.{Parts, parts-of}
 
 module _ (s : List ℕ) where
   pub not-accepted : (r : Refusal) → sectionOf s ≡ SectionRead.Refused r → false ≡ canonicalFrame s
   unfolding canonicalFrame
-  not-accepted r e = rw (e, refusal-counts r)
+  not-accepted r e = rw (e, ne-eqb (numberOf (SectionRead.Refused r)) 0 (number-some r))
 
   module _ (x : Section) (e : sectionOf s ≡ SectionRead.Is x) where
     pub loop-at : (x .descriptors .at ≡ 16 + commandLength s) × (x .descriptors .len ≡ loopLength s)

@@ -24,7 +24,7 @@ use Rattle.header.proofs.Headers.{header-got, header-write-read}
 use Rattle.names.specs.Algorithm.{algorithmOf}
 use Rattle.names.specs.Command.{commandNumber, commandTypeOf}
 use Rattle.names.proofs.Commands.{command-laws}
-use Rattle.section.specs.Section.{commandLength, commandType, commandBytes, loopLength, loopPlace, frameIn, loopBytes, moved, sectionOf}
+use Rattle.section.specs.Section.{commandLength, commandType, commandBytes, loopLength, loopPlace, frameIn, loopBytes, moved, sectionOf, sectionLength}
 use Rattle.section.specs.declared.SectionRead.{SectionRead}
 use Rattle.section.proofs.Framing.{is-framed, has-parts, is-accepted, is-section}
 use Rattle.table.specs.Bits.{bitsOf, field, bytesOf, bigEndian, AllBytes}
@@ -32,14 +32,14 @@ use Rattle.table.specs.Lent.{viewed}
 use Rattle.table.specs.Table.{got, parse}
 use Rattle.table.specs.Writing.{walk, contents, print}
 use Rattle.table.specs.declared.View.{View}
-use Rattle.table.proofs.Bits.{all-bytesN}
+use Rattle.table.proofs.Bits.{all-bytesN, byte-in}
 use Rattle.table.proofs.Fields.{field-byte}
 use Rattle.table.proofs.Lists.{zero-one}
 use Rattle.table.proofs.Reading.{field-exact}
 use Rattle.table.proofs.Walks.{print-bits}
-use Rattle.section_writer.specs.Frame.{headed, headerBytes, opening, sectionLength, head, withLength, body, frame, numbersFit, fairHead}
+use Rattle.section_writer.specs.Frame.{headed, headerBytes, opening, head, withLength, body, frame, numbersFit, writableHead}
 use Rattle.section_writer.proofs.Heads.{Fitting, fitting, clear, header-is-made, length-header, length-opening, length-head}
-use Rattle.section_writer.proofs.Numbers.{number-at, byte-in, field-behind}
+use Rattle.section_writer.proofs.Numbers.{number-at, field-behind}
 
 header-bytes : (x : SpliceInfoHeader) → AllBytes (headerBytes x)
 unfolding headerBytes
@@ -51,64 +51,64 @@ pub length-with-length : (loop : List ℕ) → length (withLength loop) ≡ 2 + 
 unfolding withLength
 length-with-length loop = omega arith
 
-module _ (h : SpliceInfoHeader) (kind : ℕ) (payload loop : List ℕ) where
-  pub length-body : length (body h kind payload loop) ≡ 16 + length payload + length loop
+module _ (h : SpliceInfoHeader) (command-type : ℕ) (payload loop : List ℕ) where
+  pub length-body : length (body h command-type payload loop) ≡ 16 + length payload + length loop
   unfolding body
   length-body =
-      let t = head h kind (length payload) (length loop) in
-      length-append (t ++ payload) (withLength loop) ∙ omega (arith, length-append t payload, length-head h kind (length payload) (length loop), length-with-length loop)
+      let t = head h command-type (length payload) (length loop) in
+      length-append (t ++ payload) (withLength loop) ∙ omega (arith, length-append t payload, length-head h command-type (length payload) (length loop), length-with-length loop)
 
-  pub length-frame : length (frame h kind payload loop) ≡ sectionLength (length payload) (length loop)
+  pub length-frame : length (frame h command-type payload loop) ≡ sectionLength (length payload) (length loop)
   unfolding frame
-  length-frame = length-append (body h kind payload loop) (crcBytesOf (body h kind payload loop)) ∙ omega (arith, length-body)
+  length-frame = length-append (body h command-type payload loop) (crcBytesOf (body h command-type payload loop)) ∙ omega (arith, length-body)
 
-  pub frame-crc : crcOf (frame h kind payload loop) ≡ 0
+  pub frame-crc : crcOf (frame h command-type payload loop) ≡ 0
   unfolding frame
-  frame-crc = crc-appended (body h kind payload loop)
+  frame-crc = crc-appended (body h command-type payload loop)
 
   -- what stands behind the header, behind the command, and behind the loop
   abbrev pub crc : List ℕ
-  crc = crcBytesOf (body h kind payload loop)
+  crc = crcBytesOf (body h command-type payload loop)
 
-  pub behind-three : frame h kind payload loop ≡ opening (sectionLength (length payload) (length loop)) ++ (headerBytes (headed h (length payload) kind) ++ (payload ++ (withLength loop ++ crc)))
+  pub behind-three : frame h command-type payload loop ≡ opening (sectionLength (length payload) (length loop)) ++ (headerBytes (headed h (length payload) command-type) ++ (payload ++ (withLength loop ++ crc)))
   unfolding frame body head
   behind-three = simp append-assoc
 
-  pub behind-head : frame h kind payload loop ≡ head h kind (length payload) (length loop) ++ (payload ++ (withLength loop ++ crc))
+  pub behind-head : frame h command-type payload loop ≡ head h command-type (length payload) (length loop) ++ (payload ++ (withLength loop ++ crc))
   unfolding frame body
   behind-head = simp append-assoc
 
-  behind-command : frame h kind payload loop ≡ head h kind (length payload) (length loop) ++ payload ++ (bigEndian 2 (length loop) ++ (loop ++ crc))
+  behind-command : frame h command-type payload loop ≡ head h command-type (length payload) (length loop) ++ payload ++ (bigEndian 2 (length loop) ++ (loop ++ crc))
   unfolding frame body withLength
   behind-command = simp append-assoc
 
-  before-crc : frame h kind payload loop ≡ head h kind (length payload) (length loop) ++ payload ++ bigEndian 2 (length loop) ++ (loop ++ crc)
+  before-crc : frame h command-type payload loop ≡ head h command-type (length payload) (length loop) ++ payload ++ bigEndian 2 (length loop) ++ (loop ++ crc)
   unfolding frame body withLength
   before-crc = simp append-assoc
 
-  pub frame-first : getD (frame h kind payload loop) 0 0 ≡ 0xfc
+  pub frame-first : getD (frame h command-type payload loop) 0 0 ≡ 0xfc
   unfolding opening
   frame-first = rw behind-three
 
-  after-three : drop 3 (frame h kind payload loop) ≡ headerBytes (headed h (length payload) kind) ++ (payload ++ (withLength loop ++ crc))
+  after-three : drop 3 (frame h command-type payload loop) ≡ headerBytes (headed h (length payload) command-type) ++ (payload ++ (withLength loop ++ crc))
   after-three = ap (drop 3) behind-three ∙ drop-at (opening (sectionLength (length payload) (length loop))) _ 3 (length-opening (sectionLength (length payload) (length loop)))
 
-  module _ (fits : numbersFit h ≡ true) (fair : fairHead h ≡ true) (byte : kind < 2 ^ 8) (small : sectionLength (length payload) (length loop) ≤ 4096) where
-    header-parsed : parse spliceHeader (bitsOf (drop 3 (frame h kind payload loop))) 0 ≡ got (headed h (length payload) kind) 88
+  module _ (fits : numbersFit h ≡ true) (writable : writableHead h ≡ true) (byte : command-type < 2 ^ 8) (small : sectionLength (length payload) (length loop) ≤ 4096) where
+    header-parsed : parse spliceHeader (bitsOf (drop 3 (frame h command-type payload loop))) 0 ≡ got (headed h (length payload) command-type) 88
     header-parsed =
-        let x = headed h (length payload) kind in
-        let m = header-is-made h (length payload) kind (fitting h fits) (clear h fair .1) (omega arith) byte in
+        let x = headed h (length payload) command-type in
+        let m = header-is-made h (length payload) command-type (fitting h fits) (clear h writable .1) (omega arith) byte in
         rw after-three (header-write-read [] x (headerBytes x) (payload ++ (withLength loop ++ crc)) m ∙ ap (λ (n : ℕ). got x (n * 8)) (length-header x))
 
-    pub frame-header : headerOf (drop 3 (frame h kind payload loop)) ≡ HeaderRead.Header (headed h (length payload) kind)
+    pub frame-header : headerOf (drop 3 (frame h command-type payload loop)) ≡ HeaderRead.Header (headed h (length payload) command-type)
     unfolding headerOf headerRead
     frame-header = ap headerRead header-parsed
 
     abbrev tail : List ℕ
-    tail = drop 3 (frame h kind payload loop)
+    tail = drop 3 (frame h command-type payload loop)
 
     room : 11 ≤ length tail
-    room = omega (arith, length-drop 3 (frame h kind payload loop), length-frame)
+    room = omega (arith, length-drop 3 (frame h command-type payload loop), length-frame)
 
     header-numbers : record {
       «protocol_version» = field (bitsOf tail) 0 8;
@@ -119,80 +119,80 @@ module _ (h : SpliceInfoHeader) (kind : ℕ) (payload loop : List ℕ) where
       tier = field (bitsOf tail) 56 12;
       «splice_command_length» = field (bitsOf tail) 68 12;
       «splice_command_type» = commandTypeOf (field (bitsOf tail) 80 8);
-    } ≡ headed h (length payload) kind
+    } ≡ headed h (length payload) command-type
     header-numbers =
         let e = sym (header-got tail room) ∙ header-parsed in
         cc
 
-    pub frame-clear : field (bitsOf (frame h kind payload loop)) 32 1 ≡ 1 → ⊥
+    pub frame-clear : field (bitsOf (frame h command-type payload loop)) 32 1 ≡ 1 → ⊥
     unfolding headed
     frame-clear e =
-        let f : eqb (field (bitsOf tail) 8 1) 1 ≡ false = ap (λ (x : SpliceInfoHeader). x .«encrypted_packet») header-numbers ∙ clear h fair .0 in
-        eqb-false _ _ f (sym (field-behind (frame h kind payload loop) 3 8 1) ∙ e)
+        let f : eqb (field (bitsOf tail) 8 1) 1 ≡ false = ap (λ (x : SpliceInfoHeader). x .«encrypted_packet») header-numbers ∙ clear h writable .0 in
+        eqb-false _ _ f (sym (field-behind (frame h command-type payload loop) 3 8 1) ∙ e)
 
-    pub frame-command-length : commandLength (frame h kind payload loop) ≡ length payload
+    pub frame-command-length : commandLength (frame h command-type payload loop) ≡ length payload
     unfolding commandLength headed
-    frame-command-length = field-behind (frame h kind payload loop) 3 68 12 ∙ ap (λ (x : SpliceInfoHeader). x .«splice_command_length») header-numbers
+    frame-command-length = field-behind (frame h command-type payload loop) 3 68 12 ∙ ap (λ (x : SpliceInfoHeader). x .«splice_command_length») header-numbers
 
     -- the header's last byte
-    last-byte : getD (frame h kind payload loop) 13 0 ≡ field (bitsOf tail) 80 8
+    last-byte : getD (frame h command-type payload loop) 13 0 ≡ field (bitsOf tail) 80 8
     last-byte =
-        let x = headed h (length payload) kind in
-        let g : getD (frame h kind payload loop) 13 0 ≡ getD tail 10 0 = sym (getD-drop 3 (frame h kind payload loop) 10 0) in
+        let x = headed h (length payload) command-type in
+        let g : getD (frame h command-type payload loop) 13 0 ≡ getD tail 10 0 = sym (getD-drop 3 (frame h command-type payload loop) 10 0) in
         let k : getD tail 10 0 ≡ getD (headerBytes x) 10 0 = ap (λ (l : List ℕ). getD l 10 0) after-three ∙ List·getD-append (headerBytes x) _ 0 10 (omega (arith, length-header x)) in
         let b : getD tail 10 0 < 256 = omega (arith, byte-in (headerBytes x) (header-bytes x) 10) in
         omega (arith, field-byte tail 10 (omega (arith, room)) b 80 0 refl)
 
-    pub frame-command-type : commandType (frame h kind payload loop) ≡ kind
+    pub frame-command-type : commandType (frame h command-type payload loop) ≡ command-type
     unfolding commandType headed
     frame-command-type =
-        last-byte ∙ sym (command-laws .there (field (bitsOf tail) 80 8)) ∙ ap (λ (x : SpliceInfoHeader). commandNumber (x .«splice_command_type»)) header-numbers ∙ command-laws .there kind
+        last-byte ∙ sym (command-laws .there (field (bitsOf tail) 80 8)) ∙ ap (λ (x : SpliceInfoHeader). commandNumber (x .«splice_command_type»)) header-numbers ∙ command-laws .there command-type
 
-    pub frame-command-bytes : commandBytes (frame h kind payload loop) ≡ payload
+    pub frame-command-bytes : commandBytes (frame h command-type payload loop) ≡ payload
     unfolding commandBytes
     frame-command-bytes =
-        let t = head h kind (length payload) (length loop) in
-        let d : drop 14 (frame h kind payload loop) ≡ payload ++ (withLength loop ++ crc) = ap (drop 14) behind-head ∙ drop-at t _ 14 (length-head h kind (length payload) (length loop)) in
+        let t = head h command-type (length payload) (length loop) in
+        let d : drop 14 (frame h command-type payload loop) ≡ payload ++ (withLength loop ++ crc) = ap (drop 14) behind-head ∙ drop-at t _ 14 (length-head h command-type (length payload) (length loop)) in
         rw (frame-command-length, d) (take-at payload (withLength loop ++ crc) (length payload) refl)
 
-    front : length (head h kind (length payload) (length loop) ++ payload) ≡ 14 + length payload
-    front = length-append (head h kind (length payload) (length loop)) payload ∙ omega (arith, length-head h kind (length payload) (length loop))
+    front : length (head h command-type (length payload) (length loop) ++ payload) ≡ 14 + length payload
+    front = length-append (head h command-type (length payload) (length loop)) payload ∙ omega (arith, length-head h command-type (length payload) (length loop))
 
-    pub frame-loop-length : loopLength (frame h kind payload loop) ≡ length loop
+    pub frame-loop-length : loopLength (frame h command-type payload loop) ≡ length loop
     unfolding loopLength
     frame-loop-length =
         rw frame-command-length
         (ap (λ (l : List ℕ). field (bitsOf l) ((14 + length payload) * 8) 16) behind-command
-        ∙ number-at (head h kind (length payload) (length loop) ++ payload) (loop ++ crc) (14 + length payload) 2 (length loop) front (omega arith))
+        ∙ number-at (head h command-type (length payload) (length loop) ++ payload) (loop ++ crc) (14 + length payload) 2 (length loop) front (omega arith))
 
-    pub frame-loop-place : loopPlace (frame h kind payload loop) ≡ record { at = 16 + length payload; len = length loop }
+    pub frame-loop-place : loopPlace (frame h command-type payload loop) ≡ record { at = 16 + length payload; len = length loop }
     unfolding loopPlace
     frame-loop-place = rw (frame-command-length, frame-loop-length)
 
-    frame-places : frameIn (frame h kind payload loop) ≡ record { command = record { at = 14; len = length payload }; descriptors = record { at = 16 + length payload; len = length loop } }
+    frame-places : frameIn (frame h command-type payload loop) ≡ record { command = record { at = 14; len = length payload }; descriptors = record { at = 16 + length payload; len = length loop } }
     unfolding frameIn
     frame-places = rw (frame-command-length, frame-loop-place)
 
     -- the loop's bytes are those that were lent
-    pub frame-loop : loopBytes (frame h kind payload loop) ≡ loop
+    pub frame-loop : loopBytes (frame h command-type payload loop) ≡ loop
     unfolding viewed
     frame-loop =
-        let p = head h kind (length payload) (length loop) ++ payload ++ bigEndian 2 (length loop) in
-        let n : length p ≡ 16 + length payload = length-append (head h kind (length payload) (length loop) ++ payload) (bigEndian 2 (length loop)) ∙ omega (arith, front) in
-        let d : drop (16 + length payload) (frame h kind payload loop) ≡ loop ++ crc = ap (drop (16 + length payload)) before-crc ∙ drop-at p (loop ++ crc) _ n in
-        rw (frame-loop-place, le-leb (16 + length payload + length loop) (length (frame h kind payload loop)) (omega (arith, length-frame)), d)
+        let p = head h command-type (length payload) (length loop) ++ payload ++ bigEndian 2 (length loop) in
+        let n : length p ≡ 16 + length payload = length-append (head h command-type (length payload) (length loop) ++ payload) (bigEndian 2 (length loop)) ∙ omega (arith, front) in
+        let d : drop (16 + length payload) (frame h command-type payload loop) ≡ loop ++ crc = ap (drop (16 + length payload)) before-crc ∙ drop-at p (loop ++ crc) _ n in
+        rw (frame-loop-place, le-leb (16 + length payload + length loop) (length (frame h command-type payload loop)) (omega (arith, length-frame)), d)
         (take-at loop crc (length loop) refl)
 
     -- a frame is accepted, and is read as what it was made of
-    pub frame-accepted : (c : SpliceCommand) → command.commandOf kind payload ≡ CommandRead.Is c
-        → sectionOf (frame h kind payload loop) ≡ SectionRead.Is (record { header = headed h (length payload) kind; command = moved 14 c; descriptors = record { at = 16 + length payload; len = length loop }; payload = record { at = 14; len = length payload } })
+    pub frame-accepted : (c : SpliceCommand) → command.commandOf command-type payload ≡ CommandRead.Is c
+        → sectionOf (frame h command-type payload loop) ≡ SectionRead.Is (record { header = headed h (length payload) command-type; command = moved 14 c; descriptors = record { at = 16 + length payload; len = length loop }; payload = record { at = 14; len = length payload } })
     frame-accepted c e =
-        let s = frame h kind payload loop in
+        let s = frame h command-type payload loop in
         let n : length s ≡ sectionLength (length payload) (length loop) = length-frame in
         let k : command.commandOf (commandType s) (commandBytes s) ≡ CommandRead.Is c = rw (frame-command-type, frame-command-bytes) e in
-        let r = SectionRead.Is (record { header = headed h (length payload) kind; command = moved 14 c; descriptors = record { at = 16 + length payload; len = length loop }; payload = record { at = 14; len = length payload } }) in
+        let r = SectionRead.Is (record { header = headed h (length payload) command-type; command = moved 14 c; descriptors = record { at = 16 + length payload; len = length loop }; payload = record { at = 14; len = length payload } }) in
         sym
         (is-accepted s (frameIn s) r
         (is-framed s (omega arith) (omega arith) frame-first frame-crc _ (omega arith)
         (has-parts s (field (bitsOf s) 32 1) (sym (field-exact s 32 1 (omega arith))) frame-clear (length payload) (sym frame-command-length) (omega arith) (omega arith) (length loop) (sym frame-loop-length) (omega arith)))
-        (is-section (headerOf (drop 3 s)) (headed h (length payload) kind) frame-header (command.commandOf (commandType s) (commandBytes s)) (frameIn s) c (moved 14 c) _ k refl (sym frame-places)))
+        (is-section (headerOf (drop 3 s)) (headed h (length payload) command-type) frame-header (command.commandOf (commandType s) (commandBytes s)) (frameIn s) c (moved 14 c) _ k refl (sym frame-places)))

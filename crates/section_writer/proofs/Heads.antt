@@ -12,16 +12,17 @@ use lib.ListN.{length, length-append}
 use borrow.Author.Tests.{ltb-true, lt-ltb, not-true}
 use Rattle.header.specs.Header.{spliceHeader}
 use Rattle.header.specs.declared.header.SpliceInfoHeader.{SpliceInfoHeader}
-use Rattle.header.proofs.Headers.{fairHeader}
-use Rattle.names.specs.Algorithm.{algorithmNumber, fairAlgorithm}
-use Rattle.names.specs.Command.{commandNumber, commandTypeOf, fairCommand}
+use Rattle.header.proofs.Headers.{writableHeader}
+use Rattle.names.specs.Algorithm.{algorithmNumber, writableAlgorithm}
+use Rattle.names.specs.Command.{commandNumber, commandTypeOf, writableCommand}
 use Rattle.names.proofs.Commands.{command-laws}
 use Rattle.table.specs.Bits.{bitsOfNum, bytesOf, bigEndian}
 use Rattle.table.specs.Table.{flagNumber, number, bit}
 use Rattle.table.specs.Writing.{walk, seen, within, contents, print, made, make}
 use Rattle.table.proofs.Bits.{length-bytesN}
 use Rattle.table.proofs.Lists.{and-true}
-use Rattle.section_writer.specs.Frame.{headed, headerBytes, opening, sectionLength, head, numbersFit, fairHead}
+use Rattle.section_writer.specs.Frame.{headed, headerBytes, opening, head, numbersFit, writableHead}
+use Rattle.section.specs.Section.{sectionLength}
 
 -- ---- what refusal 32 asks of a header
 pub record Fitting (h : SpliceInfoHeader) : Type 0 where
@@ -53,9 +54,9 @@ flag-fits true = refl
 flag-fits false = refl
 
 -- the header with its command's length and type fits its fields
-pub fits-within : (h : SpliceInfoHeader) (size kind : ℕ) → Fitting h → size < 2 ^ 12 → kind < 2 ^ 8 → within (walk spliceHeader (headed h size kind) 0 .fields) ≡ true
+pub fits-within : (h : SpliceInfoHeader) (size command-type : ℕ) → Fitting h → size < 2 ^ 12 → command-type < 2 ^ 8 → within (walk spliceHeader (headed h size command-type) 0 .fields) ≡ true
 unfolding headed spliceHeader number bit
-fits-within h size kind f n k =
+fits-within h size command-type f n k =
     rw (
       lt-ltb _ _ (f .version),
       flag-fits (h .«encrypted_packet»),
@@ -64,7 +65,7 @@ fits-within h size kind f n k =
       lt-ltb _ _ (f .index),
       lt-ltb _ _ (f .tiers),
       lt-ltb _ _ n,
-      command-laws .there kind,
+      command-laws .there command-type,
       lt-ltb _ _ k,
     )
 
@@ -73,15 +74,15 @@ unfolding spliceHeader number bit
 no-views x = refl
 
 -- ---- the header's bytes
-module _ (h : SpliceInfoHeader) (size kind : ℕ) where
-  fair-headed : fairAlgorithm (h .«encryption_algorithm») ≡ true → fairHeader (headed h size kind) ≡ true
-  unfolding fairHeader headed
-  fair-headed a = rw (a, command-laws .is-fair kind)
+module _ (h : SpliceInfoHeader) (size command-type : ℕ) where
+  writable-headed : writableAlgorithm (h .«encryption_algorithm») ≡ true → writableHeader (headed h size command-type) ≡ true
+  unfolding writableHeader headed
+  writable-headed a = rw (a, command-laws .is-writable command-type)
 
-  pub header-is-made : Fitting h → fairAlgorithm (h .«encryption_algorithm») ≡ true → size < 2 ^ 12 → kind < 2 ^ 8
-      → make spliceHeader (fairHeader (headed h size kind)) [] (headed h size kind) ≡ made (headerBytes (headed h size kind))
+  pub header-is-made : Fitting h → writableAlgorithm (h .«encryption_algorithm») ≡ true → size < 2 ^ 12 → command-type < 2 ^ 8
+      → make spliceHeader (writableHeader (headed h size command-type)) [] (headed h size command-type) ≡ made (headerBytes (headed h size command-type))
   unfolding headerBytes
-  header-is-made f a n k = rw (no-views (headed h size kind), fits-within h size kind f n k, fair-headed a)
+  header-is-made f a n k = rw (no-views (headed h size command-type), fits-within h size command-type f n k, writable-headed a)
 
 pub length-header : (x : SpliceInfoHeader) → length (headerBytes x) ≡ 11
 unfolding headerBytes spliceHeader number bit
@@ -91,13 +92,13 @@ pub length-opening : (n : ℕ) → length (opening n) ≡ 3
 unfolding opening
 length-opening n = refl
 
-pub length-head : (h : SpliceInfoHeader) (kind size extent : ℕ) → length (head h kind size extent) ≡ 14
+pub length-head : (h : SpliceInfoHeader) (command-type size extent : ℕ) → length (head h command-type size extent) ≡ 14
 unfolding head
-length-head h kind size extent =
-    length-append (opening (sectionLength size extent)) (headerBytes (headed h size kind)) ∙ omega (arith, length-opening (sectionLength size extent), length-header (headed h size kind))
+length-head h command-type size extent =
+    length-append (opening (sectionLength size extent)) (headerBytes (headed h size command-type)) ∙ omega (arith, length-opening (sectionLength size extent), length-header (headed h size command-type))
 
-pub clear : (h : SpliceInfoHeader) → fairHead h ≡ true → (h .«encrypted_packet» ≡ false) × (fairAlgorithm (h .«encryption_algorithm») ≡ true)
-unfolding fairHead
+pub clear : (h : SpliceInfoHeader) → writableHead h ≡ true → (h .«encrypted_packet» ≡ false) × (writableAlgorithm (h .«encryption_algorithm») ≡ true)
+unfolding writableHead
 clear h e =
     let a = and-true (not (h .«encrypted_packet»)) _ e in
     (not-true _ (a .0), a .1)

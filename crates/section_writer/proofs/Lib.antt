@@ -4,7 +4,6 @@ pub mod Frames
 pub mod Backs
 pub mod Stored
 pub mod Refusals
-pub mod Parts
 pub mod Trips
 pub mod Forms
 pub mod Commands

@@ -11,6 +11,7 @@ use lib.ListN.{length, getD, take, drop, length-append, length-drop, take-append
 use lib.Seq.{drop-drop, take-at, drop-append-le, take-append-le, length-take-le}
 use Rattle.bit_stores.proofs.Penned.{bits-number}
 use Rattle.table.specs.Bits.{num, bitsOfNum, bitsOf, field, bytesN, bytesOf, bigEndian, AllBytes}
+use Rattle.table.proofs.Structure.{bytes-take, bytes-drop}
 use Rattle.table.proofs.Bits.{all-bits, length-num, length-bits, length-bigEndian, bits-append, bits-from, bytes-num, bytes-bits}
 use Rattle.table.proofs.Fields.{field-num, field-bits}
 
@@ -22,21 +23,6 @@ number-at pre r q n v e h =
     ap (λ (l : List ℕ). field l (q * 8) (n * 8)) b ∙ field-num (bitsOf pre) (bitsOf r) (q * 8) (n * 8) v (length-bits pre ∙ ap (λ (k : ℕ). k * 8) e) h
 
 -- ---- bytes of bytes
-pub bytes-take : (n : ℕ) (s : List ℕ) → AllBytes s → AllBytes (take n s)
-bytes-take zero s a = tt
-bytes-take (suc n) [] a = tt
-bytes-take (suc n) (b ∷ s) a = (a .0, bytes-take n s (a .1))
-
-pub bytes-drop : (n : ℕ) (s : List ℕ) → AllBytes s → AllBytes (drop n s)
-bytes-drop zero s a = a
-bytes-drop (suc n) [] a = a
-bytes-drop (suc n) (b ∷ s) a = bytes-drop n s (a .1)
-
-pub byte-in : (s : List ℕ) → AllBytes s → (k : ℕ) → getD s k 0 < 256
-byte-in [] a k = omega arith
-byte-in (b ∷ s) a zero = a .0
-byte-in (b ∷ s) a (suc k) = byte-in s (a .1) k
-
 -- the bits of the first n bytes
 take-bits : (n : ℕ) (s : List ℕ) → n ≤ length s → take (n * 8) (bitsOf s) ≡ bitsOf (take n s)
 take-bits n s h =

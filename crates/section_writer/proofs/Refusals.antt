@@ -5,8 +5,8 @@ use mathlib.Core.Path.{_≡_, refl, sym, _∙_}
 use native.Mathlib.Omega.{arith}
 use borrow.Author.Tests.{lt-ltb, le-ltb, ne-eqb}
 use Rattle.header.specs.declared.header.SpliceInfoHeader.{SpliceInfoHeader}
-use Rattle.section.specs.Section.{first}
-use Rattle.section_writer.specs.Frame.{sectionLength, numbersFit, fairHead}
+use Rattle.section.specs.Section.{first, sectionLength}
+use Rattle.section_writer.specs.Frame.{numbersFit, writableHead}
 use Rattle.section_writer.specs.Writing.{writerConditions}
 
 module _ (h : SpliceInfoHeader) (r size extent : ℕ) (canonical : Bool) where
@@ -21,20 +21,20 @@ module _ (h : SpliceInfoHeader) (r size extent : ℕ) (canonical : Bool) where
     header-wide e = rw (ne-eqb r 31 seen, ne-eqb r 32 within, ← e)
 
     module _ (fits : true ≡ numbersFit h) where
-      pub command-unfair : r ≡ 33 → 33 ≡ first 31 (writerConditions h r size extent canonical)
-      command-unfair e = rw (ne-eqb r 31 seen, ne-eqb r 32 within, ← fits, e)
+      pub command-unwritable : r ≡ 33 → 33 ≡ first 31 (writerConditions h r size extent canonical)
+      command-unwritable e = rw (ne-eqb r 31 seen, ne-eqb r 32 within, ← fits, e)
 
       module _ (kept : r ≡ 33 → ⊥) where
-        pub header-unfair : false ≡ fairHead h → 33 ≡ first 31 (writerConditions h r size extent canonical)
-        header-unfair e = rw (ne-eqb r 31 seen, ne-eqb r 32 within, ← fits, ne-eqb r 33 kept, ← e)
+        pub header-unwritable : false ≡ writableHead h → 33 ≡ first 31 (writerConditions h r size extent canonical)
+        header-unwritable e = rw (ne-eqb r 31 seen, ne-eqb r 32 within, ← fits, ne-eqb r 33 kept, ← e)
 
-        module _ (fair : true ≡ fairHead h) where
+        module _ (writable : true ≡ writableHead h) where
           pub too-long : 4096 < sectionLength size extent → 34 ≡ first 31 (writerConditions h r size extent canonical)
-          too-long l = rw (ne-eqb r 31 seen, ne-eqb r 32 within, ← fits, ne-eqb r 33 kept, ← fair, lt-ltb 4096 (sectionLength size extent) l)
+          too-long l = rw (ne-eqb r 31 seen, ne-eqb r 32 within, ← fits, ne-eqb r 33 kept, ← writable, lt-ltb 4096 (sectionLength size extent) l)
 
           module _ (short : sectionLength size extent ≤ 4096) where
             pub uncanonical : canonical ≡ false → 35 ≡ first 31 (writerConditions h r size extent canonical)
-            uncanonical e = rw (ne-eqb r 31 seen, ne-eqb r 32 within, ← fits, ne-eqb r 33 kept, ← fair, le-ltb 4096 (sectionLength size extent) short, e)
+            uncanonical e = rw (ne-eqb r 31 seen, ne-eqb r 32 within, ← fits, ne-eqb r 33 kept, ← writable, le-ltb 4096 (sectionLength size extent) short, e)
 
             pub no-refusal : canonical ≡ true → 0 ≡ first 31 (writerConditions h r size extent canonical)
-            no-refusal e = rw (ne-eqb r 31 seen, ne-eqb r 32 within, ← fits, ne-eqb r 33 kept, ← fair, le-ltb 4096 (sectionLength size extent) short, e)
+            no-refusal e = rw (ne-eqb r 31 seen, ne-eqb r 32 within, ← fits, ne-eqb r 33 kept, ← writable, le-ltb 4096 (sectionLength size extent) short, e)

@@ -5,14 +5,14 @@ use mathlib.Core.List.{List}
 use mathlib.Core.Path.{_≡_, ap, sym, _∙_}
 use lib.ListN.{getD}
 use borrow.Author.Tests.{not-true, not-false}
-use Rattle.command_canonical.specs.Canonical.{canonicalCommand}
-use Rattle.descriptor_measure.specs.Canonical.{canonicalLoop}
+use Rattle.canonical_form.specs.Command.{canonicalCommand}
+use Rattle.canonical_form.specs.Descriptor.{canonicalLoop}
 use Rattle.section.specs.Section.{commandType, commandBytes, frameOf}
 use Rattle.section.specs.declared.Frame.{Frame}
 use Rattle.section.specs.declared.FrameRead.{FrameRead}
 use Rattle.section.proofs.Framing.{command-viewed, loop-viewed}
 use Rattle.table.specs.Lent.{viewed}
-use Rattle.section_writer.specs.Canonical.{canonicalFrame, canonicalSection}
+use Rattle.canonical_form.specs.Section.{canonicalFrame, canonicalSection}
 
 -- ---- the canonical form
 pub unframed : (s : List ℕ) → false ≡ canonicalFrame s → false ≡ canonicalSection s

@@ -12,7 +12,7 @@ use lib.Seq.{take-at, length-take-le}
 use Rattle.crc.specs.Crc.{crcOf, crcBytesOf}
 use Rattle.header.specs.Header.{spliceHeader}
 use Rattle.header.specs.declared.header.SpliceInfoHeader.{SpliceInfoHeader}
-use Rattle.names.specs.Algorithm.{algorithmNumber, fairAlgorithm}
+use Rattle.names.specs.Algorithm.{algorithmNumber, writableAlgorithm}
 use Rattle.names.specs.Command.{commandNumber, commandTypeOf}
 use Rattle.names.proofs.Commands.{command-laws}
 use Rattle.table.specs.Bits.{bitsOfNum, bytesOf, bigEndian}
@@ -22,7 +22,8 @@ use Rattle.table.specs.Writing.{walk, contents, print}
 use Rattle.table.proofs.Bits.{bits-join, bytes-num, bytes-append, length-num, length-bigEndian}
 use Rattle.table.proofs.Lists.{append-nil, zero-one}
 use Rattle.table.proofs.Stores.{stored-fits, stored-append}
-use Rattle.section_writer.specs.Frame.{headed, headerBytes, opening, sectionLength, head, withLength, body, frame, numbersFit, fairHead}
+use Rattle.section_writer.specs.Frame.{headed, headerBytes, opening, head, withLength, body, frame, numbersFit, writableHead}
+use Rattle.section.specs.Section.{sectionLength}
 use Rattle.section_writer.specs.Private.{frontNumber, backNumber, tail}
 use Rattle.section_writer.proofs.Backs.{opening-is}
 use Rattle.section_writer.proofs.Frames.{length-with-length}
@@ -40,12 +41,12 @@ not-fitting h f = go (numbersFit h) refl
     go false e = refl
     go true e = absurd (f (fitting h e))
 
-pub is-encrypted : (h : SpliceInfoHeader) → h .«encrypted_packet» ≡ true → false ≡ fairHead h
-unfolding fairHead
+pub is-encrypted : (h : SpliceInfoHeader) → h .«encrypted_packet» ≡ true → false ≡ writableHead h
+unfolding writableHead
 is-encrypted h e = rw e
 
-pub is-clear : (h : SpliceInfoHeader) (r : Bool) → h .«encrypted_packet» ≡ false → r ≡ fairAlgorithm (h .«encryption_algorithm») → r ≡ fairHead h
-unfolding fairHead
+pub is-clear : (h : SpliceInfoHeader) (r : Bool) → h .«encrypted_packet» ≡ false → r ≡ writableAlgorithm (h .«encryption_algorithm») → r ≡ writableHead h
+unfolding writableHead
 is-clear h r e f = rw e f
 
 -- ---- the header's bytes as two numbers
@@ -63,22 +64,22 @@ back-bits i t n k ht hn hk =
     ∙ ap (λ (l : List ℕ). l ++ bitsOfNum 8 k) (bits-join 20 12 (i * 2 ^ 12 + t) n hn)
     ∙ bits-join 32 8 ((i * 2 ^ 12 + t) * 2 ^ 12 + n) k hk
 
-header-bits : (h : SpliceInfoHeader) (size kind : ℕ) → h .«encrypted_packet» ≡ false → print (contents [] (walk spliceHeader (headed h size kind) 0 .fields)) ≡
+header-bits : (h : SpliceInfoHeader) (size command-type : ℕ) → h .«encrypted_packet» ≡ false → print (contents [] (walk spliceHeader (headed h size command-type) 0 .fields)) ≡
     bitsOfNum 8 (h .«protocol_version») ++ bitsOfNum 1 0 ++ bitsOfNum 6 (algorithmNumber (h .«encryption_algorithm»)) ++ bitsOfNum 33 (h .«pts_adjustment»)
-    ++ (bitsOfNum 8 (h .«cw_index») ++ bitsOfNum 12 (h .tier) ++ bitsOfNum 12 size ++ bitsOfNum 8 kind)
+    ++ (bitsOfNum 8 (h .«cw_index») ++ bitsOfNum 12 (h .tier) ++ bitsOfNum 12 size ++ bitsOfNum 8 command-type)
 unfolding headed spliceHeader number bit
-header-bits h size kind e = rw (e, command-laws .there kind)
+header-bits h size command-type e = rw (e, command-laws .there command-type)
 
-module _ (h : SpliceInfoHeader) (kind size : ℕ) (fits : Fitting h) (plain : h .«encrypted_packet» ≡ false) (narrow : size < 2 ^ 12) (byte : kind < 2 ^ 8) where
-  header-numbers : headerBytes (headed h size kind) ≡ bigEndian 6 (frontNumber h) ++ bigEndian 5 (backNumber h kind size)
+module _ (h : SpliceInfoHeader) (command-type size : ℕ) (fits : Fitting h) (plain : h .«encrypted_packet» ≡ false) (narrow : size < 2 ^ 12) (byte : command-type < 2 ^ 8) where
+  header-numbers : headerBytes (headed h size command-type) ≡ bigEndian 6 (frontNumber h) ++ bigEndian 5 (backNumber h command-type size)
   unfolding headerBytes frontNumber backNumber
   header-numbers =
       let a = frontNumber h in
-      let b = backNumber h kind size in
-      let e : print (contents [] (walk spliceHeader (headed h size kind) 0 .fields)) ≡ bitsOfNum 48 a ++ bitsOfNum 40 b =
-      header-bits h size kind plain
+      let b = backNumber h command-type size in
+      let e : print (contents [] (walk spliceHeader (headed h size command-type) 0 .fields)) ≡ bitsOfNum 48 a ++ bitsOfNum 40 b =
+      header-bits h size command-type plain
       ∙ ap₂ (λ (l r : List ℕ). l ++ r) (front-bits (h .«protocol_version») (algorithmNumber (h .«encryption_algorithm»)) (h .«pts_adjustment») (fits .algorithm) (fits .adjustment))
-      (back-bits (h .«cw_index») (h .tier) size kind (fits .tiers) narrow byte) in
+      (back-bits (h .«cw_index») (h .tier) size command-type (fits .tiers) narrow byte) in
       ap bytesOf e ∙ bytes-append 6 (bitsOfNum 48 a) (bitsOfNum 40 b) (length-num 48 a) ∙ ap₂ (λ (l r : List ℕ). l ++ r) (bytes-num 6 a) (bytes-num 5 b)
 
 opening-number : (k : ℕ) → k < 2 ^ 12 → opening (k + 3) ≡ bigEndian 3 (0xfc3000 + k)
@@ -98,15 +99,15 @@ three-stores t a b c la lb lc n =
     ap (λ (u : List ℕ). stored u 9 c) e ∙ ap (λ (i : ℕ). stored (stored t 0 (a ++ b)) i c) (let z : 9 ≡ 0 + length (a ++ b) = omega arith in z)
     ∙ stored-append t 0 (a ++ b) c (omega arith) ∙ ap (stored t 0) (append-assoc a b c)
 
-pub head-stored : (t u v w : List ℕ) (h : SpliceInfoHeader) (kind size extent f g : ℕ) → u ≡ stored t 0 (bigEndian 3 (0xfc3000 + (17 + size + extent)))
-    → v ≡ stored u 3 (bigEndian 6 f) → w ≡ stored v 9 (bigEndian 5 g) → f ≡ frontNumber h → g ≡ backNumber h kind size
-    → numbersFit h ≡ true → fairHead h ≡ true → kind < 2 ^ 8 → sectionLength size extent ≤ 4096 → 14 ≤ length t → w ≡ stored t 0 (head h kind size extent)
+pub head-stored : (t u v w : List ℕ) (h : SpliceInfoHeader) (command-type size extent f g : ℕ) → u ≡ stored t 0 (bigEndian 3 (0xfc3000 + (17 + size + extent)))
+    → v ≡ stored u 3 (bigEndian 6 f) → w ≡ stored v 9 (bigEndian 5 g) → f ≡ frontNumber h → g ≡ backNumber h command-type size
+    → numbersFit h ≡ true → writableHead h ≡ true → command-type < 2 ^ 8 → sectionLength size extent ≤ 4096 → 14 ≤ length t → w ≡ stored t 0 (head h command-type size extent)
 unfolding head
-head-stored t u v w h kind size extent f g e₁ e₂ e₃ ef eg fit fair byte short room =
+head-stored t u v w h command-type size extent f g e₁ e₂ e₃ ef eg fit writable byte short room =
     let n : sectionLength size extent ≡ 17 + size + extent + 3 = omega arith in
-    let p : head h kind size extent ≡ bigEndian 3 (0xfc3000 + (17 + size + extent)) ++ (bigEndian 6 f ++ bigEndian 5 g) =
+    let p : head h command-type size extent ≡ bigEndian 3 (0xfc3000 + (17 + size + extent)) ++ (bigEndian 6 f ++ bigEndian 5 g) =
     ap₂ (λ (l r : List ℕ). l ++ r) (ap opening n ∙ opening-number (17 + size + extent) (omega arith))
-    (header-numbers h kind size (fitting h fit) (clear h fair .0) (omega arith) byte ∙ rw (ef, eg)) in
+    (header-numbers h command-type size (fitting h fit) (clear h writable .0) (omega arith) byte ∙ rw (ef, eg)) in
     e₃ ∙ rw (e₂, e₁) (three-stores t _ _ _ refl refl refl room) ∙ ap (stored t 0) (sym p)
 
 crc-number : (c : ℕ) (m : List ℕ) → c ≡ crcOf m → bigEndian 4 c ≡ crcBytesOf m
@@ -128,15 +129,15 @@ tail-stored t u v w loop at c eu ev ec ew room =
     ew ∙ rw (e, o, k) (stored-append t at m (crcBytesOf (take at t ++ m)) (omega arith))
 
 -- before the command, the command, and behind it
-pub section-stored : (t u v w : List ℕ) (h : SpliceInfoHeader) (kind : ℕ) (payload loop : List ℕ) → u ≡ stored t 0 (head h kind (length payload) (length loop))
+pub section-stored : (t u v w : List ℕ) (h : SpliceInfoHeader) (command-type : ℕ) (payload loop : List ℕ) → u ≡ stored t 0 (head h command-type (length payload) (length loop))
     → v ≡ stored u 14 payload → w ≡ stored v (14 + length payload) (tail (take (14 + length payload) v) loop)
-    → sectionLength (length payload) (length loop) ≤ length t → w ≡ stored t 0 (frame h kind payload loop)
+    → sectionLength (length payload) (length loop) ≤ length t → w ≡ stored t 0 (frame h command-type payload loop)
 unfolding tail frame body
-section-stored t u v w h kind payload loop eu ev ew room =
-    let a = head h kind (length payload) (length loop) in
+section-stored t u v w h command-type payload loop eu ev ew room =
+    let a = head h command-type (length payload) (length loop) in
     let b = a ++ payload in
     let m = withLength loop in
-    let la : length a ≡ 14 = length-head h kind (length payload) (length loop) in
+    let la : length a ≡ 14 = length-head h command-type (length payload) (length loop) in
     let lb : length b ≡ 14 + length payload = length-append a payload ∙ omega arith in
     let lm : length m ≡ 2 + length loop = length-with-length loop in
     let e : v ≡ stored t 0 b = ev ∙ ap (λ (x : List ℕ). stored x 14 payload) eu ∙ ap (λ (i : ℕ). stored (stored t 0 a) i payload) (let z : 14 ≡ 0 + length a = omega arith in z) ∙ stored-append t 0 a payload (omega arith) in

@@ -6,14 +6,15 @@ use lib.ListN.{length}
 use Rattle.crc.specs.Crc.{crcBytesOf}
 use Rattle.header.specs.Header.{spliceHeader}
 use Rattle.header.specs.declared.header.SpliceInfoHeader.{SpliceInfoHeader}
-use Rattle.names.specs.Algorithm.{fairAlgorithm}
+use Rattle.names.specs.Algorithm.{writableAlgorithm}
 use Rattle.names.specs.Command.{commandTypeOf}
+use Rattle.section.specs.Section.{sectionLength}
 use Rattle.table.specs.Bits.{bitsOfNum, bytesOf, bigEndian}
 use Rattle.table.specs.Writing.{walk, contents, print, within}
 
 -- "The section writer .. works out lengths and command type": the header with those of its command
 unfoldable pub headed : SpliceInfoHeader → ℕ → ℕ → SpliceInfoHeader
-headed h size kind = record {
+headed h size command-type = record {
   «protocol_version» = h .«protocol_version»;
   «encrypted_packet» = h .«encrypted_packet»;
   «encryption_algorithm» = h .«encryption_algorithm»;
@@ -21,7 +22,7 @@ headed h size kind = record {
   «cw_index» = h .«cw_index»;
   tier = h .tier;
   «splice_command_length» = size;
-  «splice_command_type» = commandTypeOf kind;
+  «splice_command_type» = commandTypeOf command-type;
 }
 
 -- the bytes of a splice header, by its table
@@ -32,13 +33,9 @@ headerBytes x = bytesOf (print (contents [] (walk spliceHeader x 0 .fields)))
 unfoldable pub opening : ℕ → List ℕ
 opening n = 0xfc ∷ bytesOf (0 ∷ 0 ∷ 1 ∷ 1 ∷ bitsOfNum 12 (n - 3))
 
--- how many bytes a section has whose command has `size` and whose loop has `extent`
-abbrev pub sectionLength : ℕ → ℕ → ℕ
-sectionLength size extent = 20 + size + extent
-
 -- all before the command
 unfoldable pub head : SpliceInfoHeader → ℕ → ℕ → ℕ → List ℕ
-head h kind size extent = opening (sectionLength size extent) ++ headerBytes (headed h size kind)
+head h command-type size extent = opening (sectionLength size extent) ++ headerBytes (headed h size command-type)
 
 -- a loop with its length before it
 unfoldable pub withLength : List ℕ → List ℕ
@@ -46,11 +43,11 @@ withLength loop = bigEndian 2 (length loop) ++ loop
 
 -- all before the CRC
 unfoldable pub body : SpliceInfoHeader → ℕ → List ℕ → List ℕ → List ℕ
-body h kind payload loop = head h kind (length payload) (length loop) ++ payload ++ withLength loop
+body h command-type payload loop = head h command-type (length payload) (length loop) ++ payload ++ withLength loop
 
 -- the section: a header, a command's type and payload, and a loop
 unfoldable pub frame : SpliceInfoHeader → ℕ → List ℕ → List ℕ → List ℕ
-frame h kind payload loop = body h kind payload loop ++ crcBytesOf (body h kind payload loop)
+frame h command-type payload loop = body h command-type payload loop ++ crcBytesOf (body h command-type payload loop)
 
 -- ---- what a writer asks of a header
 -- refusal 32: "a number .. handed in exceeds its field". The command's length and type are not looked at: they are worked out.
@@ -58,5 +55,5 @@ unfoldable pub numbersFit : SpliceInfoHeader → Bool
 numbersFit h = within (walk spliceHeader (headed h 0 0) 0 .fields)
 
 -- refusal 33: "encrypted header"; "a reserved number that has a name or lies in another range"
-unfoldable pub fairHead : SpliceInfoHeader → Bool
-fairHead h = not (h .«encrypted_packet») && fairAlgorithm (h .«encryption_algorithm»)
+unfoldable pub writableHead : SpliceInfoHeader → Bool
+writableHead h = not (h .«encrypted_packet») && writableAlgorithm (h .«encryption_algorithm»)

@@ -4,15 +4,15 @@ ghost use mathlib.Core.Bool.{true};
 ghost use mathlib.Core.List.{[]};
 ghost use Prim.Native.Nat.{_+_, _^_, _<_, _≤_};
 ghost use lib.ListN.{length, take};
-ghost use Rattle.section_writer.specs.Frame.{head, sectionLength, numbersFit, fairHead};
-ghost use Rattle.section_writer.specs.Canonical.{canonicalFrame, canonicalSection};
+ghost use Rattle.section_writer.specs.Frame.{head, numbersFit, writableHead};
+ghost use Rattle.section.specs.Section.{sectionLength, first, frameOf};
+ghost use Rattle.canonical_form.specs.Section.{canonicalFrame, canonicalSection};
 ghost use Rattle.command.specs.Command.{array};
 ghost use Rattle.command_measure.specs.Made.{commandMade};
 ghost use Rattle.bit_stores.specs.Written.{answerOf, laterOf};
-ghost use Rattle.section_writer.specs.Writing.{writerConditions, kindOf, sectionMade};
-ghost use Rattle.section.specs.Section.{first, frameOf};
+ghost use Rattle.section_writer.specs.Writing.{writerConditions, typeOf, sectionMade};
 ghost use Rattle.section.specs.declared.FrameRead.{FrameRead};
-ghost use Rattle.section_writer.specs.Private.{frontNumber, backNumber, tail, answerFor};
+ghost use Rattle.section_writer.specs.Private.{frontNumber, backNumber, tail, answerSection};
 ghost use Rattle.table.specs.Lent.{stored};
 use bit_stores::Written;
 use command::CommandRead;
@@ -21,13 +21,14 @@ use command::components::ComponentSplice;
 use command::read_command;
 use command_canonical::is_canonical_command;
 use command_measure::Measured;
-use command_measure::measure_bare;
 use command_measure::measure_command;
-use command_writer::put_bare;
+use command_measure::measure_without_components;
 use command_writer::put_command;
+use command_writer::put_without_components;
 use crc::crc32;
 use descriptor_canonical::is_canonical_loop;
 use header::header::SpliceInfoHeader;
+use section::COMMAND_AT;
 use section::Frame;
 use section::FrameRead;
 use section::read_frame;
@@ -36,6 +37,9 @@ use table::numbers::bits;
 use table::numbers::wide;
 use table::store::put_bytes;
 use table::store::put_number;
+
+// What a section has room for: 4,096 bytes less the 20 around command and loop.
+const MAX_INSIDE: usize = 4076;
 
 // ---- what is asked of a header
 
@@ -57,14 +61,14 @@ fn numbers_fit(header: SpliceInfoHeader) -> bool
 }
 
 // Is there nothing of refusal 33: is it not encrypted, and its algorithm one that its own number stands for?
-fn fair_head(header: SpliceInfoHeader) -> bool
-    ensures { λ r. ⌜ r ≡ fairHead header ⌝ }
+fn is_writable_head(header: SpliceInfoHeader) -> bool
+    ensures { λ r. ⌜ r ≡ writableHead header ⌝ }
 {
     if header.encrypted_packet {
         return false;
     }
     let algorithm = header.encryption_algorithm;
-    algorithm.fair()
+    algorithm.writable()
 }
 
 // Refusals 31 to 35, in order of number, and 0 where none applies: of a header; of a command that its own writer gives the refusal r, or `size` bytes; and of
@@ -84,14 +88,13 @@ fn refusal_of(header: SpliceInfoHeader, r: u8, size: usize, extent: usize, canon
     if r == 33 {
         return 33;
     }
-    if !fair_head(header) {
+    if !is_writable_head(header) {
         return 33;
     }
-    // 4,096 bytes less the 20 around command and loop
-    if 4076 < size {
+    if MAX_INSIDE < size {
         return 34;
     }
-    if 4076 - size < extent {
+    if MAX_INSIDE - size < extent {
         return 34;
     }
     if !canonical {
@@ -113,21 +116,22 @@ fn front_number(header: SpliceInfoHeader) -> u64
 }
 
 // Its last five: cw_index 8, tier 12, command length 12, command type 8.
-fn back_number(header: SpliceInfoHeader, kind: u8, size: usize) -> u64
+fn back_number(header: SpliceInfoHeader, command_type: u8, size: usize) -> u64
     requires { ⌜ (numbersFit header ≡ true) × (size < 2 ^ 12) ⌝ }
-    ensures { λ r. ⌜ r ≡ backNumber header kind size ⌝ }
+    ensures { λ r. ⌜ r ≡ backNumber header «command_type» size ⌝ }
 {
-    ((wide(header.cw_index) * 4096 + header.tier as u64) * 4096 + size as u64) * 256 + wide(kind)
+    ((wide(header.cw_index) * 4096 + header.tier as u64) * 4096 + size as u64) * 256
+        + wide(command_type)
 }
 
 // All before the command: 14 bytes. section_length counts the 20 bytes around command and loop less 3.
-fn put_head(out: &mut [u8], header: SpliceInfoHeader, kind: u8, size: usize, extent: usize)
-    requires { ⌜ (numbersFit header ≡ true) × (fairHead header ≡ true) × (sectionLength size extent ≤ 4096) × (14 ≤ length (now out)) ⌝ }
-    ensures { λ _. ⌜ now (out .exit) ≡ stored (now (out .entry)) 0 (head header kind size extent) ⌝ }
+fn put_head(out: &mut [u8], header: SpliceInfoHeader, command_type: u8, size: usize, extent: usize)
+    requires { ⌜ (numbersFit header ≡ true) × (writableHead header ≡ true) × (sectionLength size extent ≤ 4096) × (14 ≤ length (now out)) ⌝ }
+    ensures { λ _. ⌜ now (out .exit) ≡ stored (now (out .entry)) 0 (head header «command_type» size extent) ⌝ }
 {
     put_number(out, 0, 3, 0xFC_3000 + (17 + size + extent) as u64);
     put_number(out, 3, 6, front_number(header));
-    put_number(out, 9, 5, back_number(header, kind, size));
+    put_number(out, 9, 5, back_number(header, command_type, size));
 }
 
 // All behind the command, which ends at `at`: the loop's length, the loop, and the CRC of all that stands before it.
@@ -145,8 +149,8 @@ fn put_tail(out: &mut [u8], at: usize, descriptors: &[u8])
 // ---- the writer
 
 // The number of a command's type.
-fn kind_of(command: SpliceCommand) -> u8
-    ensures { λ r. ⌜ r ≡ kindOf command ⌝ }
+fn type_of(command: SpliceCommand) -> u8
+    ensures { λ r. ⌜ r ≡ typeOf command ⌝ }
 {
     match command {
         SpliceCommand::SpliceNull => 0x00,
@@ -158,13 +162,13 @@ fn kind_of(command: SpliceCommand) -> u8
 }
 
 // What is answered where the target has `room` bytes: one of the refusals 31 to 36, or how many bytes the section has.
-fn answer_for(
+fn answer_section(
     header: SpliceInfoHeader,
     measured: Measured,
     descriptors: &[u8],
     room: usize,
 ) -> Written
-    ensures { λ r. ⌜ r ≡ answerFor header measured (now (descriptors .entry)) room ⌝ }
+    ensures { λ r. ⌜ r ≡ answerSection header measured (now (descriptors .entry)) room ⌝ }
 {
     let canonical = is_canonical_loop(descriptors);
     let extent = descriptors.len();
@@ -189,17 +193,17 @@ pub fn write_section(
     descriptors: &[u8],
     target: &mut [u8],
 ) -> Written
-    ensures answer { λ r. ⌜ r ≡ answerOf (sectionMade header (commandMade command components (now (lent .entry))) (kindOf command) (now (descriptors .entry))) (now (target .entry)) ⌝ }
-    ensures bytes { λ _. ⌜ now (target .exit) ≡ laterOf (sectionMade header (commandMade command components (now (lent .entry))) (kindOf command) (now (descriptors .entry))) (now (target .entry)) ⌝ }
+    ensures answer { λ r. ⌜ r ≡ answerOf (sectionMade header (commandMade command components (now (lent .entry))) (typeOf command) (now (descriptors .entry))) (now (target .entry)) ⌝ }
+    ensures bytes { λ _. ⌜ now (target .exit) ≡ laterOf (sectionMade header (commandMade command components (now (lent .entry))) (typeOf command) (now (descriptors .entry))) (now (target .entry)) ⌝ }
 {
     let measured = measure_command(command, components, lent);
     let size = measured.size;
-    let answer = answer_for(header, measured, descriptors, target.len());
+    let answer = answer_section(header, measured, descriptors, target.len());
     match answer {
         Written::Wrote(_) => {
-            put_head(target, header, kind_of(command), size, descriptors.len());
-            put_command(target, 14, command, components, lent);
-            put_tail(target, 14 + size, descriptors);
+            put_head(target, header, type_of(command), size, descriptors.len());
+            put_command(target, COMMAND_AT, command, components, lent);
+            put_tail(target, COMMAND_AT + size, descriptors);
         }
         Written::Refused(_) => {}
     }
@@ -207,24 +211,24 @@ pub fn write_section(
 }
 
 // The same of a command whose components are all blank: one that has none needs no array.
-pub fn write_bare_section(
+pub fn write_section_without_components(
     header: SpliceInfoHeader,
     command: SpliceCommand,
     lent: &[u8],
     descriptors: &[u8],
     target: &mut [u8],
 ) -> Written
-    ensures answer { λ r. ⌜ r ≡ answerOf (sectionMade header (commandMade command (array []) (now (lent .entry))) (kindOf command) (now (descriptors .entry))) (now (target .entry)) ⌝ }
-    ensures bytes { λ _. ⌜ now (target .exit) ≡ laterOf (sectionMade header (commandMade command (array []) (now (lent .entry))) (kindOf command) (now (descriptors .entry))) (now (target .entry)) ⌝ }
+    ensures answer { λ r. ⌜ r ≡ answerOf (sectionMade header (commandMade command (array []) (now (lent .entry))) (typeOf command) (now (descriptors .entry))) (now (target .entry)) ⌝ }
+    ensures bytes { λ _. ⌜ now (target .exit) ≡ laterOf (sectionMade header (commandMade command (array []) (now (lent .entry))) (typeOf command) (now (descriptors .entry))) (now (target .entry)) ⌝ }
 {
-    let measured = measure_bare(command, lent);
+    let measured = measure_without_components(command, lent);
     let size = measured.size;
-    let outcome = answer_for(header, measured, descriptors, target.len());
+    let outcome = answer_section(header, measured, descriptors, target.len());
     match outcome {
         Written::Wrote(_) => {
-            put_head(target, header, kind_of(command), size, descriptors.len());
-            put_bare(target, 14, command, lent);
-            put_tail(target, 14 + size, descriptors);
+            put_head(target, header, type_of(command), size, descriptors.len());
+            put_without_components(target, COMMAND_AT, command, lent);
+            put_tail(target, COMMAND_AT + size, descriptors);
         }
         Written::Refused(_) => {}
     }
@@ -239,8 +243,8 @@ fn is_canonical_around(s: &[u8], frame: Frame) -> bool
     ensures { λ r. ⌜ r ≡ canonicalFrame (now (s .entry)) ⌝ }
 {
     let payload = frame.command;
-    let end = 14 + payload.len;
-    match read_command(s[13], &s[14..end]) {
+    let end = COMMAND_AT + payload.len;
+    match read_command(s[13], &s[COMMAND_AT..end]) {
         CommandRead::Is(_) => {}
         CommandRead::UnknownType => return false,
         CommandRead::Malformed => return false,

@@ -155,7 +155,7 @@ time-leads (At t) at m f = leads-flag _ _ _ _ at _ m (leads-ones 6 _ _ _ (at + 1
 
 abbrev structure : laws.Structure spliceTime
 structure = record {
-  fair = notImmediate;
+  writable = notImmediate;
   size = timeSize;
   moved = λ x. x;
   Shape = λ x. Unit {0};
@@ -178,7 +178,7 @@ time-read-write s x a e c = laws.read-write-all spliceTime structure s x a e c
 -- canonical bytes of equal readings are equal
 pub time-one : (s r : List ℕ) (x y : SpliceTime) → AllBytes s → AllBytes r → parse spliceTime (bitsOf s) 0 ≡ got x (length s * 8) → parse spliceTime (bitsOf r) 0 ≡ got y (length r * 8)
     → canonical spliceTime (bitsOf s) 0 ≡ true → canonical spliceTime (bitsOf r) 0 ≡ true → Same spliceTime s x r y → s ≡ r
-time-one s r x y a b p q c d h = laws.one-encoding spliceTime structure s r x y a b p q c d h
+time-one s r x y a b p q c d h = laws.write-one spliceTime structure s r x y a b p q c d h
 
 -- ---- the adjusted time, case by case
 module _ (adjustment : ℕ) where

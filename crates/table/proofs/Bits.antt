@@ -171,3 +171,8 @@ all-bytesN (suc n) l a =
     let h : num 0 (take 8 l) < 2 ^ length (take 8 l) = num-below (take 8 l) (all-take 8 l a) in
     let m : 2 ^ length (take 8 l) ≤ 2 ^ 8 = pow-mono {i = length (take 8 l)} {j = 8} (omega (arith, length-take 8 l)) in
     (omega arith, all-bytesN n (drop 8 l) (all-drop 8 l a))
+
+pub byte-in : (s : List ℕ) → AllBytes s → (k : ℕ) → getD s k 0 < 256
+byte-in [] a k = omega arith
+byte-in (b ∷ s) a zero = a .0
+byte-in (b ∷ s) a (suc k) = byte-in s (a .1) k

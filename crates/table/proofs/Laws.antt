@@ -37,7 +37,7 @@ module _ {X : Type 0} (n : ℕ) (p : X → ℕ) (k : ℕ → Table X) (bs : List
 -- ---- what is written, wherever it stands
 pub record Forth {X : Type 0} (t : Table X) (bs : List ℕ) (x : X) (at : ℕ) : Type 0 where
   pub reads : parse t bs at ≡ got (walk t x at .value) (past (walk t x at .fields) at)
-  pub form : walk t x at .fair ≡ true → canonical t bs at ≡ true
+  pub form : walk t x at .writable ≡ true → canonical t bs at ≡ true
 
 room : (bs pre a r : List ℕ) (at n : ℕ) → bs ≡ pre ++ a ++ r → length pre ≡ at → length a ≡ n → at + n ≤ length bs
 room bs pre a r at n e h l = omega (arith, ap length e, length-append (pre ++ a) r, length-append pre a)
@@ -92,7 +92,7 @@ pub record Back {X : Type 0} (t : Table X) (s : List ℕ) (x : X) (at m : ℕ) (
   pub prints : print (contents s (walk t x at .fields)) ++ drop m (bitsOf s) ≡ drop at (bitsOf s)
   pub views : seen s (walk t x at .fields) ≡ true
   pub widths : within (walk t x at .fields) ≡ true
-  pub fair : walk t x at .fair ≡ true
+  pub writable : walk t x at .writable ≡ true
   pub same : walk t x at .value ≡ x
   pub ends : past (walk t x at .fields) at ≡ m
 
@@ -102,7 +102,7 @@ module _ {X : Type 0} (s : List ℕ) (x : X) (m : ℕ) where
   back (done y) at P l e c f =
       let i : y ≡ x = cc in
       let j : at ≡ m = cc in
-      record { tells = rw (i, j) at f; prints = rw j; views = refl; widths = refl; fair = refl; same = i; ends = j }
+      record { tells = rw (i, j) at f; prints = rw j; views = refl; widths = refl; writable = refl; same = i; ends = j }
   back (uint w p k) at P l e c f =
       let bs = bitsOf s in
       let j = field-there w p k bs at x m e in
@@ -115,7 +115,7 @@ module _ {X : Type 0} (s : List ℕ) (x : X) (m : ℕ) where
         prints = rw (o, append-assoc) (ap (λ (l : List ℕ). bitsOfNum w v ++ l) (i .prints) ∙ field-bits bs at w (all-bits s) (j .0));
         views = rw o (i .views);
         widths = rw (o, lt-ltb v (2 ^ w) n) (i .widths);
-        fair = rw o (i .fair);
+        writable = rw o (i .writable);
         same = rw o (i .same);
         ends = rw o (i .ends);
       }
@@ -138,7 +138,7 @@ module _ {X : Type 0} (s : List ℕ) (x : X) (m : ℕ) where
             ∙ sym (bits-append (take n (drop b s)) (drop n (drop b s))) ∙ ap bitsOf (take-append-drop n (drop b s)) ∙ sym d);
         views = rw (o, le-leb (b + n) (length s) u) (i .views);
         widths = i .widths;
-        fair = i .fair;
+        writable = i .writable;
         same = i .same;
         ends = i .ends;
       }
@@ -151,7 +151,7 @@ module _ {X : Type 0} (s : List ℕ) (x : X) (m : ℕ) where
         prints = rw o (i .prints);
         views = rw o (i .views);
         widths = rw o (i .widths);
-        fair = rw o (i .fair);
+        writable = rw o (i .writable);
         same = rw o (i .same);
         ends = rw o (i .ends);
       }
@@ -163,7 +163,7 @@ module _ {X : Type 0} (s : List ℕ) (x : X) (m : ℕ) where
         prints = i .prints;
         views = i .views;
         widths = i .widths;
-        fair = rw (a .0) (i .fair);
+        writable = rw (a .0) (i .writable);
         same = i .same;
         ends = i .ends;
       }

@@ -18,7 +18,7 @@ use Rattle.table.proofs.Walks.{past, Tight, past-le, past-append, tight
 
 -- x, written from bit `at` on, leads to y by the canonical form and ends before bit a; m bits come after it
 abbrev Lead : {X : Type 0} → Walk X → X → ℕ → ℕ → ℕ → Type 0
-Lead w y at a m = (w .value ≡ y) × (w .fair ≡ true) × (past (w .fields) at ≡ a) × Tight (w .fields) at m
+Lead w y at a m = (w .value ≡ y) × (w .writable ≡ true) × (past (w .fields) at ≡ a) × Tight (w .fields) at m
 
 abbrev pub Leads : {X : Type 0} → Table X → X → X → ℕ → ℕ → ℕ → Type 0
 Leads t x y at a m = Lead (walk t x at) y at a m

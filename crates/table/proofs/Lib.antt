@@ -12,3 +12,4 @@ pub mod Stores
 pub mod Steppings
 pub mod Cursors
 pub mod Longer
+pub mod Swaps

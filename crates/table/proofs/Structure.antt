@@ -2,7 +2,7 @@
 --     write-same        and that reading is equal to what was handed in
 --     write-read        what is written of x reads as x, its views at their new places, and is canonical
 --     read-write        canonical bytes begin with what is written of their reading; without a spare byte they are it
---     one-encoding      canonical bytes of equal readings are equal
+--     write-one      canonical bytes of equal readings are equal
 use Prim.Native.Nat.{ℕ, zero, suc, _+_, _*_, _-_, _/_, _%_, _^_, _<_, _≤_}
 use mathlib.Core.Bool.{Bool, true, false}
 use mathlib.Core.List.{List, [], _∷_, _++_, append-assoc}
@@ -24,29 +24,29 @@ use Rattle.table.proofs.Lists.{zero-one, and-true, append-nil}
 use Rattle.table.proofs.Walks.{past, print-length, print-bits}
 
 -- a writer's answer, undone
-pub record Wrote (fair : Bool) (lent : List ℕ) (fs : List Field) (b : List ℕ) : Type 0 where
+pub record Wrote (writable : Bool) (lent : List ℕ) (fs : List Field) (b : List ℕ) : Type 0 where
   pub views : seen lent fs ≡ true
   pub widths : within fs ≡ true
-  pub fit : fair ≡ true
+  pub fit : writable ≡ true
   pub bytes : b ≡ bytesOf (print (contents lent fs))
 
-pub wrote : (fair : Bool) (lent : List ℕ) (fs : List Field) (b : List ℕ) → makeOf fair lent fs ≡ made b → Wrote fair lent fs b
-wrote fair lent fs b e = go (seen lent fs) (within fs) fair refl refl refl e
+pub wrote : (writable : Bool) (lent : List ℕ) (fs : List Field) (b : List ℕ) → makeOf writable lent fs ≡ made b → Wrote writable lent fs b
+wrote writable lent fs b e = go (seen lent fs) (within fs) writable refl refl refl e
   where
-    go : (u v w : Bool) → seen lent fs ≡ u → within fs ≡ v → fair ≡ w
-        → pick u (pick v (pick w (made (bytesOf (print (contents lent fs)))) (refused 33)) (refused 32)) (refused 31) ≡ made b → Wrote fair lent fs b
+    go : (u v w : Bool) → seen lent fs ≡ u → within fs ≡ v → writable ≡ w
+        → pick u (pick v (pick w (made (bytesOf (print (contents lent fs)))) (refused 33)) (refused 32)) (refused 31) ≡ made b → Wrote writable lent fs b
     go false v w p q r e = zero-one cc
     go true false w p q r e = zero-one cc
     go true true false p q r e = zero-one cc
     go true true true p q r e = record { views = p; widths = q; fit = r; bytes = cc }
 
 -- ---- bytes that were written, found again
-bytes-take : (n : ℕ) (s : List ℕ) → AllBytes s → AllBytes (take n s)
+pub bytes-take : (n : ℕ) (s : List ℕ) → AllBytes s → AllBytes (take n s)
 bytes-take zero s a = tt
 bytes-take (suc n) [] a = tt
 bytes-take (suc n) (b ∷ s) a = (a .0, bytes-take n s (a .1))
 
-bytes-drop : (n : ℕ) (s : List ℕ) → AllBytes s → AllBytes (drop n s)
+pub bytes-drop : (n : ℕ) (s : List ℕ) → AllBytes s → AllBytes (drop n s)
 bytes-drop zero s a = a
 bytes-drop (suc n) [] a = a
 bytes-drop (suc n) (b ∷ s) a = bytes-drop n s (a .1)
@@ -66,7 +66,7 @@ module _ {X : Type 0} (lent s : List ℕ) (x y : X) (al : AllBytes lent) (ab : A
   -- the value y to which x leads holds, in the bytes s that are written, what x held in the lent ones
   again : (t : Table X) (at : ℕ) (P : ℕ → X → Type 0) (pre r : List ℕ) → walk t x at .value ≡ y → Tells t at P
       → bitsOf s ≡ pre ++ print (contents lent (walk t x at .fields)) ++ r → length pre ≡ at
-      → seen lent (walk t x at .fields) ≡ true → within (walk t x at .fields) ≡ true → walk t x at .fair ≡ true
+      → seen lent (walk t x at .fields) ≡ true → within (walk t x at .fields) ≡ true → walk t x at .writable ≡ true
       → P (past (walk t x at .fields) at) y × (contents s (walk t y at .fields) ≡ contents lent (walk t x at .fields))
   again (done z) at P pre r v f e l q w c = (rw v at f, refl)
   again (uint n p k) at P pre r v f e l q w c =
@@ -97,36 +97,36 @@ module _ {X : Type 0} (lent s : List ℕ) (x y : X) (al : AllBytes lent) (ab : A
       let a = and-true b _ c in
       again t at P pre r v (f (a .0)) e l q w (a .1)
 
--- A structure: its table t; what a writer accepts (`fair`); its bytes (`size`); and what it becomes when it is written and read again (`moved`).
+-- A structure: its table t; what a writer accepts (`writable`); its bytes (`size`); and what it becomes when it is written and read again (`moved`).
 -- `Shape` is what the types say of a value (an array's length), and `After m` that m bits may follow it: none, if the table asks how many are left.
 -- It owes two facts. `tells`: at each end of the table the reading tells every field, is one that a writer accepts, and a byte ends.
 -- `ends`: the fields of an accepted value lead to that value, its views at their new places.
 pub record Structure {X : Type 0} (t : Table X) : Type 1 where
-  pub fair : X → Bool
+  pub writable : X → Bool
   pub size : X → ℕ
   pub moved : X → X
   pub Shape : X → Type 0
   pub After : ℕ → Type 0
   pub none : After 0
-  pub tells : Tells t 0 (λ a y. (a % 8 ≡ 0) × (fair y ≡ true))
-  pub ends : (x : X) (m : ℕ) → Shape x → fair x ≡ true → After m → Leads t x (moved x) 0 (size x * 8) m
+  pub tells : Tells t 0 (λ a y. (a % 8 ≡ 0) × (writable y ≡ true))
+  pub ends : (x : X) (m : ℕ) → Shape x → writable x ≡ true → After m → Leads t x (moved x) 0 (size x * 8) m
 
 module _ {X : Type 0} (t : Table X) (st : Structure t) where
-  written : (lent : List ℕ) (x : X) (b : List ℕ) → st .Shape x → Wrote (st .fair x) lent (walk t x 0 .fields) b → length (print (contents lent (walk t x 0 .fields))) ≡ st .size x * 8
+  written : (lent : List ℕ) (x : X) (b : List ℕ) → st .Shape x → Wrote (st .writable x) lent (walk t x 0 .fields) b → length (print (contents lent (walk t x 0 .fields))) ≡ st .size x * 8
   written lent x b h w = omega (arith, st .ends x 0 h (w .fit) (st .none) .2, print-length lent (walk t x 0 .fields) 0 (w .views))
 
   -- as many bytes are written as the structure has
-  pub write-size : (lent : List ℕ) (x : X) (b : List ℕ) → st .Shape x → make t (st .fair x) lent x ≡ made b → length b ≡ st .size x
+  pub write-size : (lent : List ℕ) (x : X) (b : List ℕ) → st .Shape x → make t (st .writable x) lent x ≡ made b → length b ≡ st .size x
   write-size lent x b h e =
-      let w = wrote (st .fair x) lent (walk t x 0 .fields) b e in
+      let w = wrote (st .writable x) lent (walk t x 0 .fields) b e in
       let p = print (contents lent (walk t x 0 .fields)) in
       rw (w .bytes) (length-bytesN (length p / 8) p ∙ omega (arith, written lent x b h w))
 
   -- what is written of x reads as x, its views at their new places, whatever follows if the table does not ask; and it is canonical
-  pub write-read : (lent : List ℕ) (x : X) (b r : List ℕ) → st .Shape x → make t (st .fair x) lent x ≡ made b → st .After (length r * 8)
+  pub write-read : (lent : List ℕ) (x : X) (b r : List ℕ) → st .Shape x → make t (st .writable x) lent x ≡ made b → st .After (length r * 8)
       → (parse t (bitsOf (b ++ r)) 0 ≡ got (st .moved x) (length b * 8)) × (canonical t (bitsOf (b ++ r)) 0 ≡ true)
   write-read lent x b r h e g =
-      let w = wrote (st .fair x) lent (walk t x 0 .fields) b e in
+      let w = wrote (st .writable x) lent (walk t x 0 .fields) b e in
       let p = print (contents lent (walk t x 0 .fields)) in
       let f = st .ends x (length r * 8) h (w .fit) g in
       let d : bitsOf (b ++ r) ≡ p ++ bitsOf r =
@@ -135,9 +135,9 @@ module _ {X : Type 0} (t : Table X) (st : Structure t) where
       (i .reads ∙ ap₂ got (f .0) (f .2 ∙ ap (λ (n : ℕ). n * 8) (sym (write-size lent x b h e))), i .form (f .1))
 
   -- and the reading is equal to what was handed in: the same numbers, and the same bytes in the views
-  pub write-same : (lent : List ℕ) (x : X) (b : List ℕ) → AllBytes lent → st .Shape x → make t (st .fair x) lent x ≡ made b → Same t b (st .moved x) lent x
+  pub write-same : (lent : List ℕ) (x : X) (b : List ℕ) → AllBytes lent → st .Shape x → make t (st .writable x) lent x ≡ made b → Same t b (st .moved x) lent x
   write-same lent x b al h e =
-      let w = wrote (st .fair x) lent (walk t x 0 .fields) b e in
+      let w = wrote (st .writable x) lent (walk t x 0 .fields) b e in
       let p = print (contents lent (walk t x 0 .fields)) in
       let f = st .ends x 0 h (w .fit) (st .none) in
       let d : bitsOf b ≡ p ++ [] = ap bitsOf (w .bytes) ∙ bits-bytes (st .size x) p (print-bits (contents lent (walk t x 0 .fields))) (written lent x b h w) ∙ sym (append-nil p) in
@@ -146,7 +146,7 @@ module _ {X : Type 0} (t : Table X) (st : Structure t) where
 
   -- canonical bytes that are read as x begin with what is written of x
   pub read-write : (s : List ℕ) (x : X) (m : ℕ) → AllBytes s → parse t (bitsOf s) 0 ≡ got x m → canonical t (bitsOf s) 0 ≡ true
-      → (make t (st .fair x) s x ≡ made (bytesOf (print (contents s (walk t x 0 .fields))))) × (bytesOf (print (contents s (walk t x 0 .fields))) ++ drop (m / 8) s ≡ s)
+      → (make t (st .writable x) s x ≡ made (bytesOf (print (contents s (walk t x 0 .fields))))) × (bytesOf (print (contents s (walk t x 0 .fields))) ++ drop (m / 8) s ≡ s)
   read-write s x m a e c =
       let i = back s x m t 0 _ (omega arith) e c (st .tells) in
       let fs = walk t x 0 .fields in
@@ -161,7 +161,7 @@ module _ {X : Type 0} (t : Table X) (st : Structure t) where
       )
 
   -- without a spare byte they are what is written of x
-  pub read-write-all : (s : List ℕ) (x : X) → AllBytes s → parse t (bitsOf s) 0 ≡ got x (length s * 8) → canonical t (bitsOf s) 0 ≡ true → make t (st .fair x) s x ≡ made s
+  pub read-write-all : (s : List ℕ) (x : X) → AllBytes s → parse t (bitsOf s) 0 ≡ got x (length s * 8) → canonical t (bitsOf s) 0 ≡ true → make t (st .writable x) s x ≡ made s
   read-write-all s x a e c =
       let i = read-write s x (length s * 8) a e c in
       let z : length s * 8 / 8 ≡ length s = omega arith in
@@ -169,9 +169,9 @@ module _ {X : Type 0} (t : Table X) (st : Structure t) where
       i .0 ∙ ap made (sym (append-nil (bytesOf (print (contents s (walk t x 0 .fields))))) ∙ rw n at (i .1))
 
   -- canonical bytes without a spare one, of equal readings, are equal
-  pub one-encoding : (s r : List ℕ) (x y : X) → AllBytes s → AllBytes r
+  pub write-one : (s r : List ℕ) (x y : X) → AllBytes s → AllBytes r
       → parse t (bitsOf s) 0 ≡ got x (length s * 8) → parse t (bitsOf r) 0 ≡ got y (length r * 8)
       → canonical t (bitsOf s) 0 ≡ true → canonical t (bitsOf r) 0 ≡ true → Same t s x r y → s ≡ r
-  one-encoding s r x y a b p q c d h =
-      wrote (st .fair x) s (walk t x 0 .fields) s (read-write-all s x a p c) .bytes ∙ ap (λ l. bytesOf (print l)) h
-      ∙ sym (wrote (st .fair y) r (walk t y 0 .fields) r (read-write-all r y b q d) .bytes)
+  write-one s r x y a b p q c d h =
+      wrote (st .writable x) s (walk t x 0 .fields) s (read-write-all s x a p c) .bytes ∙ ap (λ l. bytesOf (print l)) h
+      ∙ sym (wrote (st .writable y) r (walk t y 0 .fields) r (read-write-all r y b q d) .bytes)

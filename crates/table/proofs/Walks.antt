@@ -79,7 +79,7 @@ print-bits (count m ∷ cs) = print-bits cs
 abbrev pub joined : {X Y : Type 0} → Walk Y → (Y → Walk X) → Walk X
 joined w f = record {
   fields = w .fields ++ f (w .value) .fields;
-  fair = w .fair && f (w .value) .fair;
+  writable = w .writable && f (w .value) .writable;
   value = f (w .value) .value;
 }
 
@@ -90,7 +90,7 @@ walk-inside (uint w p f) q k x at = ap (before (bits w (p (q x)))) (walk-inside 
 walk-inside (view n p f) q k x at = ap (before (run n (p (q x)))) (walk-inside (f (at / 8)) q k x (at + n * 8))
 walk-inside (left p f) q k x at = ap (before (rest (p (q x)))) (walk-inside (f (p (q x))) q k x at)
 walk-inside {X} (must b t) q k x at =
-    ap (asking b) (walk-inside t q k x at) ∙ refair (and-assoc b (walk t (q x) at .fair) _)
+    ap (asking b) (walk-inside t q k x at) ∙ same-walk (and-assoc b (walk t (q x) at .writable) _)
   where
-    refair : {fs : List Field} {v : X} {c d : Bool} → c ≡ d → _≡_ {A = Walk X} (record { fields = fs; fair = c; value = v }) (record { fields = fs; fair = d; value = v })
-    refair {fs} {v} e = ap (λ (c : Bool). record { fields = fs; fair = c; value = v }) e
+    same-walk : {fs : List Field} {v : X} {c d : Bool} → c ≡ d → _≡_ {A = Walk X} (record { fields = fs; writable = c; value = v }) (record { fields = fs; writable = d; value = v })
+    same-walk {fs} {v} e = ap (λ (c : Bool). record { fields = fs; writable = c; value = v }) e

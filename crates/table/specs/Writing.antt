@@ -19,18 +19,18 @@ pub data Field : Type 0 where
 -- table's end, its views at the places where they are written
 pub record Walk (X : Type 0) : Type 0 where
   pub fields : List Field
-  pub fair : Bool
+  pub writable : Bool
   pub value : X
 
 abbrev pub before : {X : Type 0} → Field → Walk X → Walk X
-before f w = record { fields = f ∷ w .fields; fair = w .fair; value = w .value }
+before f w = record { fields = f ∷ w .fields; writable = w .writable; value = w .value }
 
 abbrev pub asking : {X : Type 0} → Bool → Walk X → Walk X
-asking b w = record { fields = w .fields; fair = b && w .fair; value = w .value }
+asking b w = record { fields = w .fields; writable = b && w .writable; value = w .value }
 
 -- the value x through its table, written from bit `at` on
 abbrev pub walk : {X : Type 0} → Table X → X → ℕ → Walk X
-walk (done y) x at = record { fields = []; fair = true; value = y }
+walk (done y) x at = record { fields = []; writable = true; value = y }
 walk (uint w p k) x at = before (bits w (p x)) (walk (k (p x)) x (at + w))
 walk (view n p k) x at = before (run n (p x)) (walk (k (at / 8)) x (at + n * 8))
 walk (left p k) x at = before (rest (p x)) (walk (k (p x)) x at)
@@ -93,15 +93,15 @@ unfoldable pub bytesIn : Made → List ℕ
 bytesIn (made b) = b
 bytesIn (refused n) = []
 
--- 31, 32, 33 in that order; `fair` is what the structure's own rules say of 33
+-- 31, 32, 33 in that order; `writable` is what the structure's own rules say of 33
 abbrev pub makeOf : Bool → List ℕ → List Field → Made
-makeOf fair lent fs =
+makeOf writable lent fs =
     pick (seen lent fs)
     (pick (within fs)
-    (pick fair (made (bytesOf (print (contents lent fs))))
+    (pick writable (made (bytesOf (print (contents lent fs))))
     (refused 33))
     (refused 32))
     (refused 31)
 
 abbrev pub make : {X : Type 0} → Table X → Bool → List ℕ → X → Made
-make t fair lent x = makeOf fair lent (walk t x 0 .fields)
+make t writable lent x = makeOf writable lent (walk t x 0 .fields)

@@ -12,6 +12,13 @@ pub fn wide(b: u8) -> u64
     b as u64
 }
 
+// A byte as a size, or as a place.
+pub fn size(b: u8) -> usize
+    ensures { λ r. ⌜ (r ≡ b) × (r < 256) ⌝ }
+{
+    b as usize
+}
+
 // A flag as a number of one bit.
 pub fn flag_number(set: bool) -> u64
     ensures { λ r. ⌜ (r ≡ flagNumber set) × (r ≤ 1) ⌝ }

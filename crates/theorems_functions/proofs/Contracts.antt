@@ -12,7 +12,8 @@ use Rattle.descriptor_loop.specs.Place.{viewOf}
 use Rattle.descriptor_loop.specs.declared.Item.{Item}
 use Rattle.descriptor_loop.specs.declared.Step.{Step}
 use Rattle.descriptor_loop.specs.declared.reading.Reading.{Reading}
-use Rattle.loop_round_trips.specs.Loops.{Given, givenMade}
+use Rattle.canonical_form.specs.Same.{Given}
+use Rattle.loop_round_trips.specs.Loops.{givenMade}
 use Rattle.bit_stores.specs.Written.{answerOf, laterOf}
 use Rattle.bit_stores.specs.declared.Written.{Written}
 use Rattle.section.specs.Section.{sectionOf, privateView}
@@ -20,11 +21,11 @@ use Rattle.section.specs.Whole.{wholeSectionOf}
 use Rattle.section.specs.declared.Section.{Section}
 use Rattle.section.specs.declared.SectionRead.{SectionRead}
 use Rattle.section.specs.declared.whole.WholeSection.{WholeSection}
-use Rattle.section_writer.specs.Canonical.{canonicalSection}
-use Rattle.section_writer.specs.Writing.{kindOf, sectionMade}
+use Rattle.canonical_form.specs.Section.{canonicalSection}
+use Rattle.section_writer.specs.Writing.{typeOf, sectionMade}
 use Rattle.table.specs.Lent.{viewed}
 use Rattle.table.specs.Writing.{Made}
-use Rattle.theorems.specs.Boards.{May}
+use Rattle.theorems_c.specs.Boards.{May}
 use Rattle.upid.specs.Upid.{upidOf, partView}
 use Rattle.upid.specs.declared.Part.{Part}
 use Rattle.upid.specs.declared.Upid.{Upid}
@@ -71,9 +72,9 @@ pub reads-item-so : {loop : List ℕ} {offset : ℕ} {r : Reading} → ReadsItem
 reads-item-so d = sym (d .left) ∙ d .learnt-so ∙ ap (λ (v : List ℕ × ℕ). readingOf (v .0) (v .1)) (d .taken)
 
 abbrev pub ReadsUpid : ℕ → List ℕ → Upid → Type 0
-ReadsUpid kind bytes r = May read-upid.Learnt {S = ℕ × List ℕ} {T = Upid} (λ κ a. (a .0, now (a .1 .0))) (λ κ r e. r) (kind, bytes) r
+ReadsUpid upid-type bytes r = May read-upid.Learnt {S = ℕ × List ℕ} {T = Upid} (λ κ a. (a .0, now (a .1 .0))) (λ κ r e. r) (upid-type, bytes) r
 
-pub reads-upid-so : {kind : ℕ} {bytes : List ℕ} {r : Upid} → ReadsUpid kind bytes r → r ≡ upidOf kind bytes
+pub reads-upid-so : {upid-type : ℕ} {bytes : List ℕ} {r : Upid} → ReadsUpid upid-type bytes r → r ≡ upidOf upid-type bytes
 reads-upid-so d = sym (d .left) ∙ d .learnt-so ∙ ap (λ (v : ℕ × List ℕ). upidOf (v .0) (v .1)) (d .taken)
 
 -- ---- the slices that are handed back
@@ -113,7 +114,7 @@ tells-canonical-so d = sym (d .left) ∙ d .learnt-so ∙ ap canonicalSection (d
 -- ---- the writers: what is handed in, the target, the answer and the target's later bytes
 
 abbrev pub sectionFrom : SectionGiven → Made
-sectionFrom g = sectionMade (g .header) (commandMade (g .command) (g .components) (g .lent)) (kindOf (g .command)) (g .loop)
+sectionFrom g = sectionMade (g .header) (commandMade (g .command) (g .components) (g .lent)) (typeOf (g .command)) (g .loop)
 
 abbrev pub WritesSection : SectionGiven → List ℕ → Written → List ℕ → Type 0
 WritesSection g target answer later =

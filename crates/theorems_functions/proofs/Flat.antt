@@ -10,11 +10,11 @@ use lib.ListN.{length, take, drop, getD}
 use lib.Seq.{take-at}
 use borrow.Author.Tests.{eqb-false}
 use Rattle.descriptor.specs.declared.Descriptor.{Descriptor}
-use Rattle.descriptor.specs.declared.segmentation.SegmentationDetail.{SegmentationDetail}
+use Rattle.descriptor.specs.declared.segmentation.DescriptorDetail.{DescriptorDetail}
 use Rattle.descriptor.specs.declared.segmentation.SegmentationDescriptor.{SegmentationDescriptor}
-use Rattle.descriptor.specs.declared.segmentation.SegmentationInsert.{SegmentationInsert}
+use Rattle.descriptor.specs.declared.segmentation.SegmentationDetail.{SegmentationDetail}
 use Rattle.c_section.specs.Flat.{flatView}
-use Rattle.c_items.specs.FlatItem.{bareSegmentation, wholeSegmentation, itemWith, noTimes, segmentationItem, flatDescriptor, bareItem, flatItem, refusalIn, valuesIn, flatStep}
+use Rattle.c_items.specs.FlatItem.{segmentationHead, wholeSegmentation, itemWith, noTimes, segmentationItem, flatDescriptor, blankItem, flatItem, refusalIn, valuesIn, flatStep}
 use Rattle.c_items.specs.FlatUpid.{three, flatPart, noParts, flatUpidRead, flatUpid}
 use Rattle.c_items.specs.declared.steps.FlatStep.{FlatStep}
 use Rattle.descriptor_loop.specs.Items as items
@@ -22,12 +22,12 @@ use Rattle.descriptor_loop.specs.declared.Item.{Item}
 use Rattle.descriptor_loop.specs.declared.ItemRefusal.{ItemRefusal}
 use Rattle.descriptor_loop.specs.declared.Step.{Step}
 use Rattle.descriptor_loop.specs.declared.reading.Reading.{Reading}
-use Rattle.loop_round_trips.specs.Loops.{Pairs}
-use Rattle.loop_round_trips.specs.Loops.Pairs.{over, pair}
+use Rattle.canonical_form.specs.Same.{Pairs}
+use Rattle.canonical_form.specs.Same.Pairs.{over, pair}
 use Rattle.table.specs.Bits.{bitsOf, field}
 use Rattle.table.specs.declared.View.{View}
-use Rattle.theorems.specs.Identifiers.{Identifier, inLent}
-use Rattle.theorems.specs.Whole.{Exactly, WholeUpid, WholeDetail, WholeRefusal, WholeItem}
+use Rattle.theorems_reader.specs.Identifiers.{Identifier, inLent}
+use Rattle.theorems_reader.specs.Whole.{Exactly, WholeUpid, WholeDetail, WholeRefusal, WholeItem}
 use Rattle.upid.specs.Upid as upid
 use Rattle.upid.specs.Upid.{upidOf, checkOf, eidrOf, listOf, listed, unlessRefused, partsIn}
 use Rattle.upid.specs.declared.Part.{Part}
@@ -43,8 +43,8 @@ numbered ItemRefusal.InvalidDescriptorLength = omega arith
 numbered (ItemRefusal.Other Refusal.InputTooLong) = omega arith
 numbered (ItemRefusal.Other (Refusal.NotEnoughData expected actual)) = omega arith
 numbered (ItemRefusal.Other Refusal.UpidLengthTypeMismatch) = omega arith
-numbered (ItemRefusal.Other (Refusal.InvalidUpidContent kind v)) = omega arith
-numbered (ItemRefusal.Other (Refusal.InvalidUpidLength kind expected actual)) = omega arith
+numbered (ItemRefusal.Other (Refusal.InvalidUpidContent «upid_type» v)) = omega arith
+numbered (ItemRefusal.Other (Refusal.InvalidUpidLength «upid_type» expected actual)) = omega arith
 
 module _ (s : List ℕ) (base : ℕ) (loop : List ℕ) where
   lies-of : (at n : ℕ) (v : View) → Exactly s at n (inLent base loop v) → Lies s base at n (flatView v)
@@ -67,16 +67,16 @@ module _ (s : List ℕ) (base : ℕ) (loop : List ℕ) where
     }
 
     -- a segmentation descriptor with its detail
-    abbrev withDetail : ℕ → SegmentationDetail → Item
+    abbrev withDetail : ℕ → DescriptorDetail → Item
     withDetail event d = Item.Is (Descriptor.Segmentation (record { «segmentation_event_id» = event; «descriptor_detail» = d }))
 
-    detail-lies : (event : ℕ) (d : SegmentationDetail) → WholeDetail s (base + offset + 6) base loop (r .beside .eidr) d → ItemLies s (base + offset) base (flatStep (stepWith (withDetail event d)))
-    unfolding flatStep flatItem refusalIn flatDescriptor segmentationItem bareItem wholeSegmentation
-    detail-lies event SegmentationDetail.Cancel w = none-lies (flatStep (stepWith (withDetail event SegmentationDetail.Cancel))) 3 refl (omega arith) (eqb-false 3 2 refl) (eqb-false 3 4 refl) refl
-    detail-lies event (SegmentationDetail.Insert i) w = record {
+    detail-lies : (event : ℕ) (d : DescriptorDetail) → WholeDetail s (base + offset + 6) base loop (r .beside .eidr) d → ItemLies s (base + offset) base (flatStep (stepWith (withDetail event d)))
+    unfolding flatStep flatItem refusalIn flatDescriptor segmentationItem blankItem wholeSegmentation
+    detail-lies event DescriptorDetail.Cancel w = none-lies (flatStep (stepWith (withDetail event DescriptorDetail.Cancel))) 3 refl (omega arith) (eqb-false 3 2 refl) (eqb-false 3 4 refl) refl
+    detail-lies event (DescriptorDetail.Active i) w = record {
       kinds = omega arith;
       dtmf = λ d. absurd (eqb-false 4 2 refl d);
-      segmentation = λ d. record { kind = w .kind; bytes = λ some plain. lies-of _ _ (i .«segmentation_upid» .bytes) (w .bytes some plain) };
+      segmentation = λ d. record { «upid_type» = w .«upid_type»; bytes = λ some plain. lies-of _ _ (i .«segmentation_upid» .bytes) (w .bytes some plain) };
       reserved = λ d. absurd (eqb-false 4 6 refl d);
       refused = λ d. absurd (eqb-false 4 7 refl d);
       text = λ d. absurd (eqb-false 0 24 refl d);
@@ -85,7 +85,7 @@ module _ (s : List ℕ) (base : ℕ) (loop : List ℕ) where
 
     -- a refused one, which has a text if it is refused with 24
     refused-lies : (q : ItemRefusal) → (items.numberOf q ≡ 24 → TextLies s (base + offset + 6) base (three (items.valuesOf q))) → ItemLies s (base + offset) base (flatStep (stepWith (Item.Refused q)))
-    unfolding flatStep flatItem refusalIn valuesIn bareItem
+    unfolding flatStep flatItem refusalIn valuesIn blankItem
     refused-lies q text = record {
       kinds = omega arith;
       dtmf = λ d. absurd (eqb-false 7 2 refl d);
@@ -102,20 +102,20 @@ module _ (s : List ℕ) (base : ℕ) (loop : List ℕ) where
     refusal-lies (ItemRefusal.Other Refusal.InputTooLong) w = refused-lies (ItemRefusal.Other Refusal.InputTooLong) (λ e. absurd (eqb-false 2 24 refl e))
     refusal-lies (ItemRefusal.Other (Refusal.NotEnoughData expected actual)) w = refused-lies (ItemRefusal.Other (Refusal.NotEnoughData expected actual)) (λ e. absurd (eqb-false 21 24 refl e))
     refusal-lies (ItemRefusal.Other Refusal.UpidLengthTypeMismatch) w = refused-lies (ItemRefusal.Other Refusal.UpidLengthTypeMismatch) (λ e. absurd (eqb-false 23 24 refl e))
-    refusal-lies (ItemRefusal.Other (Refusal.InvalidUpidContent kind v)) w = refused-lies (ItemRefusal.Other (Refusal.InvalidUpidContent kind v)) (λ e. record {
-      kind = kind;
+    refusal-lies (ItemRefusal.Other (Refusal.InvalidUpidContent «upid_type» v)) w = refused-lies (ItemRefusal.Other (Refusal.InvalidUpidContent «upid_type» v)) (λ e. record {
+      «upid_type» = «upid_type»;
       at = v .at;
       len = v .len;
       are = refl;
       behind = w .behind;
       there = omega (arith, w .whole .there, ap (λ (i : Identifier). i .len) (w .whole .is));
-      type = w .kind;
+      type = w .«upid_type»;
       long = ap (λ (i : Identifier). i .len) (w .whole .is);
     })
-    refusal-lies (ItemRefusal.Other (Refusal.InvalidUpidLength kind expected actual)) w = refused-lies (ItemRefusal.Other (Refusal.InvalidUpidLength kind expected actual)) (λ e. absurd (eqb-false 25 24 refl e))
+    refusal-lies (ItemRefusal.Other (Refusal.InvalidUpidLength «upid_type» expected actual)) w = refused-lies (ItemRefusal.Other (Refusal.InvalidUpidLength «upid_type» expected actual)) (λ e. absurd (eqb-false 25 24 refl e))
 
     item-lies : (it : Item) → WholeItem s base loop offset r it → ItemLies s (base + offset) base (flatStep (stepWith it))
-    unfolding flatStep flatItem refusalIn flatDescriptor segmentationItem bareItem wholeSegmentation
+    unfolding flatStep flatItem refusalIn flatDescriptor segmentationItem blankItem wholeSegmentation
     item-lies Item.End w = none-lies (flatStep (stepWith Item.End)) 0 refl (omega arith) (eqb-false 0 2 refl) (eqb-false 0 4 refl) refl
     item-lies (Item.Refused q) w = refusal-lies q w
     item-lies (Item.Is (Descriptor.Avail x)) w = none-lies (flatStep (stepWith (Item.Is (Descriptor.Avail x)))) 1 refl (omega arith) (eqb-false 1 2 refl) (eqb-false 1 4 refl) refl
@@ -147,22 +147,22 @@ module _ (s : List ℕ) (base : ℕ) (loop : List ℕ) where
 
 pub record UpidOf (k : ℕ) (st : Step) : Type 0 where
   pub descriptor : SegmentationDescriptor
-  pub insert : SegmentationInsert
+  pub insert : SegmentationDetail
   pub is : st .item ≡ Item.Is (Descriptor.Segmentation descriptor)
-  pub detail : descriptor .«descriptor_detail» ≡ SegmentationDetail.Insert insert
-  pub kind : insert .«segmentation_upid» .kind ≡ k
+  pub detail : descriptor .«descriptor_detail» ≡ DescriptorDetail.Active insert
+  pub «upid_type» : insert .«segmentation_upid» .«upid_type» ≡ k
   pub bytes : flatStep st .item .bytes ≡ flatView (insert .«segmentation_upid» .bytes)
 
 module _ (k : ℕ) (id : List ℕ) (next : ℕ) where
-  upid-detail : (event : ℕ) (d : SegmentationDetail) → segmentationItem event d .kind ≡ 4 → segmentationItem event d .segmentation .«segmentation_upid_type» ≡ k
+  upid-detail : (event : ℕ) (d : DescriptorDetail) → segmentationItem event d .kind ≡ 4 → segmentationItem event d .segmentation .«segmentation_upid_type» ≡ k
       → UpidOf k (record { item = Item.Is (Descriptor.Segmentation (record { «segmentation_event_id» = event; «descriptor_detail» = d })); identifier = id; next = next })
-  unfolding flatItem flatDescriptor segmentationItem bareItem wholeSegmentation flatStep
-  upid-detail event SegmentationDetail.Cancel e t = absurd (eqb-false 3 4 refl e)
-  upid-detail event (SegmentationDetail.Insert i) e t =
-      record { descriptor = record { «segmentation_event_id» = event; «descriptor_detail» = SegmentationDetail.Insert i }; insert = i; is = refl; detail = refl; kind = t; bytes = refl }
+  unfolding flatItem flatDescriptor segmentationItem blankItem wholeSegmentation flatStep
+  upid-detail event DescriptorDetail.Cancel e t = absurd (eqb-false 3 4 refl e)
+  upid-detail event (DescriptorDetail.Active i) e t =
+      record { descriptor = record { «segmentation_event_id» = event; «descriptor_detail» = DescriptorDetail.Active i }; insert = i; is = refl; detail = refl; «upid_type» = t; bytes = refl }
 
   upid-by : (it : Item) → flatItem it .kind ≡ 4 → flatItem it .segmentation .«segmentation_upid_type» ≡ k → UpidOf k (record { item = it; identifier = id; next = next })
-  unfolding flatItem flatDescriptor segmentationItem bareItem wholeSegmentation flatStep
+  unfolding flatItem flatDescriptor segmentationItem blankItem wholeSegmentation flatStep
   upid-by Item.End e t = absurd (eqb-false 0 4 refl e)
   upid-by (Item.Refused q) e t = absurd (eqb-false 7 4 refl e)
   upid-by (Item.Is (Descriptor.Avail x)) e t = absurd (eqb-false 1 4 refl e)
@@ -189,7 +189,7 @@ unfolding flatUpid flatUpidRead listed unlessRefused
 by-read (UpidRead.Fine k) eidr ps = (refl, sym (ap length (take-at ps _ (length ps) refl)), pairs-flat (length ps) _)
 by-read (UpidRead.Refused r) eidr ps = (refl, refl, over)
 
-pub parts-flat : (kind : ℕ) (bytes : List ℕ) → (flatUpid (upidOf kind bytes) .refusal ≡ upidRefusal (checkOf kind bytes)) × (flatUpid (upidOf kind bytes) .count ≡ length (partsIn (upidOf kind bytes)))
-    × Pairs SamePart (take (flatUpid (upidOf kind bytes) .count) (flatUpid (upidOf kind bytes) .parts)) (partsIn (upidOf kind bytes))
+pub parts-flat : («upid_type» : ℕ) (bytes : List ℕ) → (flatUpid (upidOf «upid_type» bytes) .refusal ≡ upidRefusal (checkOf «upid_type» bytes)) × (flatUpid (upidOf «upid_type» bytes) .count ≡ length (partsIn (upidOf «upid_type» bytes)))
+    × Pairs SamePart (take (flatUpid (upidOf «upid_type» bytes) .count) (flatUpid (upidOf «upid_type» bytes) .parts)) (partsIn (upidOf «upid_type» bytes))
 unfolding upidOf
-parts-flat kind bytes = by-read (checkOf kind bytes) (eidrOf kind bytes) (listOf kind 1 0 bytes)
+parts-flat «upid_type» bytes = by-read (checkOf «upid_type» bytes) (eidrOf «upid_type» bytes) (listOf «upid_type» 1 0 bytes)

@@ -33,26 +33,28 @@ use Rattle.descriptor_loop.specs.Cover.{runOf}
 use Rattle.descriptor_loop.specs.declared.Item.{Item}
 use Rattle.descriptor_loop.specs.declared.Step.{Step}
 use Rattle.descriptor_loop.specs.declared.reading.Reading.{Reading}
-use Rattle.loop_round_trips.specs.Loops.{Pairs}
-use Rattle.loop_round_trips.specs.Loops.Pairs.{over, pair}
+use Rattle.canonical_form.specs.Same.{Pairs}
+use Rattle.canonical_form.specs.Same.Pairs.{over, pair}
 use Rattle.bit_stores.specs.Written.{answerOf, laterOf}
 use Rattle.bit_stores.specs.declared.Written.{Written}
-use Rattle.section.specs.Section.{commandLength, commandBytes, conditions, first, loopPlace, loopLength, sectionOf, numberOf}
-use Rattle.section.specs.declared.Refusal.{Refusal}
+use Rattle.section.proofs.Acceptance.{is-read}
+use Rattle.section.specs.Section.{commandLength, commandBytes, conditions, first, loopPlace, loopLength, sectionOf, numberOf, loopIn}
 use Rattle.section.specs.declared.Section.{Section}
 use Rattle.section.specs.declared.SectionRead.{SectionRead}
-use Rattle.section_writer.specs.Canonical.{canonicalSection}
+use Rattle.canonical_form.specs.Section.{canonicalSection}
 use Rattle.table.specs.Bits.{AllBytes}
 use Rattle.table.specs.Lent.{viewed}
 use Rattle.table.specs.Writing.{Made, made}
 use Rattle.table.proofs.Lists.{zero-one}
-use Rattle.theorems.proofs.Runs.{viewed-is, viewed-inside}
-use Rattle.theorems.proofs.Sections.{loop-short}
-use Rattle.theorems.proofs.Theorems as demands
-use Rattle.theorems.specs.Boards.{May}
-use Rattle.theorems.specs.Identifiers.{Identifier, inLent, loopIn, partsRead, Announced, Unsplit}
-use Rattle.theorems.specs.OverC.{splicesWords, componentsAnswered, stepWords, besideWords, wordsMadeAt}
-use Rattle.theorems.specs.Whole.{upidAt, WholeAt}
+use Rattle.theorems_reader.proofs.Runs.{viewed-is, viewed-inside}
+use Rattle.theorems_reader.proofs.Sections.{loop-short}
+use Rattle.theorems_c.proofs.Theorems as over-c
+use Rattle.theorems_reader.proofs.Theorems as reading
+use Rattle.theorems_writer.proofs.Theorems as writing
+use Rattle.theorems_c.specs.Boards.{May}
+use Rattle.theorems_reader.specs.Identifiers.{Identifier, inLent, partsRead, Announced, Unsplit}
+use Rattle.theorems_c.specs.OverC.{splicesWords, componentsAnswered, stepWords, besideWords, wordsMadeAt}
+use Rattle.theorems_reader.specs.Whole.{upidAt, WholeAt}
 use Rattle.upid.specs.Cover.{All}
 use Rattle.upid.specs.Cover.All.{none, more}
 use Rattle.upid.specs.Upid.{checkOf, upidOf, partsIn, partView}
@@ -94,9 +96,9 @@ reads-beside-so : {loop : List ℕ} {offset : ℕ} {f : FlatBeside} → ReadsBes
 reads-beside-so d = sym (d .left) ∙ d .learnt-so ∙ ap (λ (v : List ℕ × ℕ). flatBeside (readingOf (v .0) (v .1))) (d .taken)
 
 abbrev pub ReadsUpidC : ℕ → List ℕ → FlatUpid → Type 0
-ReadsUpidC kind bytes f = May scte35-read-upid.Learnt {S = ℕ × List ℕ} {T = FlatUpid} (λ κ a. (a .0, drop (a .1 .1 .0) (now (a .1 .0)))) (λ κ r e. r) (kind, bytes) f
+ReadsUpidC upid-type bytes f = May scte35-read-upid.Learnt {S = ℕ × List ℕ} {T = FlatUpid} (λ κ a. (a .0, drop (a .1 .1 .0) (now (a .1 .0)))) (λ κ r e. r) (upid-type, bytes) f
 
-reads-upid-so : {kind : ℕ} {bytes : List ℕ} {f : FlatUpid} → ReadsUpidC kind bytes f → f ≡ flatUpid (upidOf kind bytes)
+reads-upid-so : {upid-type : ℕ} {bytes : List ℕ} {f : FlatUpid} → ReadsUpidC upid-type bytes f → f ≡ flatUpid (upidOf upid-type bytes)
 reads-upid-so d = sym (d .left) ∙ d .learnt-so ∙ ap (λ (v : ℕ × List ℕ). flatUpid (upidOf (v .0) (v .1))) (d .taken)
 
 -- of an insert's payload
@@ -152,24 +154,9 @@ flat-number (SectionRead.Refused r) = refl
 
 -- the number is that of the first condition of 1 to 11 that holds, and 0 exactly where none does
 pub scte35-read-section-refuses-in-order : (s : List ℕ) (f : FlatSection) → ReadsSectionC s f → f .refusal ≡ first 1 (conditions s)
-scte35-read-section-refuses-in-order s f d = ap (λ (v : FlatSection). v .refusal) (reads-section-so d) ∙ flat-number (sectionOf s) ∙ demands.refusals-1-to-11-in-order s
+scte35-read-section-refuses-in-order s f d = ap (λ (v : FlatSection). v .refusal) (reads-section-so d) ∙ flat-number (sectionOf s) ∙ reading.refusals-1-to-11-in-order s
 
 -- ---- an accepted section
-
-is-read : (r : SectionRead) → numberOf r ≡ 0 → (x : Section) × (r ≡ SectionRead.Is x)
-unfolding numberOf
-is-read (SectionRead.Is x) e = (x, refl)
-is-read (SectionRead.Refused Refusal.SectionTooShort) e = absurd (omega arith)
-is-read (SectionRead.Refused Refusal.InputTooLong) e = absurd (omega arith)
-is-read (SectionRead.Refused Refusal.OtherTable) e = absurd (omega arith)
-is-read (SectionRead.Refused Refusal.WrongCrc) e = absurd (omega arith)
-is-read (SectionRead.Refused Refusal.NoHeader) e = absurd (omega arith)
-is-read (SectionRead.Refused Refusal.Encrypted) e = absurd (omega arith)
-is-read (SectionRead.Refused Refusal.CommandTooLong) e = absurd (omega arith)
-is-read (SectionRead.Refused Refusal.NoLoopLength) e = absurd (omega arith)
-is-read (SectionRead.Refused Refusal.LoopTooLong) e = absurd (omega arith)
-is-read (SectionRead.Refused Refusal.UnknownCommand) e = absurd (omega arith)
-is-read (SectionRead.Refused Refusal.MalformedCommand) e = absurd (omega arith)
 
 -- what is read, where there is no refusal
 record Accepted (s : List ℕ) (f : FlatSection) : Type 0 where
@@ -188,14 +175,14 @@ accepted s f d z =
       section = r .0;
       is = r .1;
       base = ap (λ (y : FlatView). y .at) v;
-      loop = ap (taken s) v ∙ sym (viewed-is s (r .0 .descriptors) (demands.the-loop-is-one-run-of-the-section s (r .0) (r .1) .inside));
+      loop = ap (taken s) v ∙ sym (viewed-is s (r .0 .descriptors) (reading.the-loop-is-one-run-of-the-section s (r .0) (r .1) .inside));
     }
 
 items-lie : (s : List ℕ) (f : FlatSection) (offset : ℕ) (i : FlatStep) → AllBytes s → (x : Accepted s f) → ReadsItemC (taken s (f .descriptors)) offset i → ItemLies s (f .descriptors .at + offset) (f .descriptors .at) i
 unfolding readingOf
 items-lie s f offset i a x q =
     let e : i ≡ flatStep (stepOf (loopIn s (x .section)) offset) = reads-item-so q ∙ ap (λ (l : List ℕ). flatStep (stepOf l offset)) (x .loop) in
-    let w : WholeAt s (x .section) offset (readingOf (loopIn s (x .section)) offset) = demands.every-identifier-of-an-item-is-whole s (x .section) (x .is) a offset in
+    let w : WholeAt s (x .section) offset (readingOf (loopIn s (x .section)) offset) = reading.every-identifier-of-an-item-is-whole s (x .section) (x .is) a offset in
     let h : ItemLies s (x .section .descriptors .at + offset) (x .section .descriptors .at) i = rw e (flat.step-lies s (x .section .descriptors .at) (loopIn s (x .section)) offset (readingOf (loopIn s (x .section)) offset) w) in
     subst (λ (n : ℕ). ItemLies s (n + offset) n i) (sym (x .base)) h
 
@@ -206,7 +193,7 @@ unfolding flatBeside
 eidr-lies s f offset i b a x q r four ten =
     let e : i ≡ flatStep (stepOf (loopIn s (x .section)) offset) = reads-item-so q ∙ ap (λ (l : List ℕ). flatStep (stepOf l offset)) (x .loop) in
     let m = flat.upid-of-item 10 (stepOf (loopIn s (x .section)) offset) (ap (λ (v : FlatStep). v .item .kind) (sym e) ∙ four) (ap (λ (v : FlatStep). v .item .segmentation .«segmentation_upid_type») (sym e) ∙ ten) in
-    let w = demands.every-upid-of-the-section-is-whole s (x .section) (x .is) offset (m .descriptor) (m .insert) (m .is) (m .detail) a .eidr (m .kind) in
+    let w = reading.every-upid-of-the-section-is-whole s (x .section) (x .is) offset (m .descriptor) (m .insert) (m .is) (m .detail) a .eidr (m .«upid_type») in
     let g : b .eidr ≡ readingOf (loopIn s (x .section)) offset .beside .eidr = ap (λ (v : FlatBeside). v .eidr) (reads-beside-so r ∙ ap (λ (l : List ℕ). flatBeside (readingOf l offset)) (x .loop)) in
     subst (λ (n : ℕ). (getD s (upidAt s (n + offset + 6)) 0 ≡ 10) × (getD s (upidAt s (n + offset + 6) + 1) 0 ≡ 12) × Slice s (upidAt s (n + offset + 6) + 2) 12 (b .eidr)) (sym (x .base))
     (subst (λ (y : List ℕ). (getD s (upidAt s (x .section .descriptors .at + offset + 6)) 0 ≡ 10) × (getD s (upidAt s (x .section .descriptors .at + offset + 6) + 1) 0 ≡ 12)
@@ -225,9 +212,9 @@ pub the-eidr-over-c-is-whole : (s : List ℕ) (f : FlatSection) (offset : ℕ) (
 the-eidr-over-c-is-whole s f offset i b a d z q r four ten = eidr-lies s f offset i b a (accepted s f d z) q r four ten
 
 -- Of `scte35_read_upid` the first `count` parts are those of the UPID, field by field, and its refusal is that of what is read
-pub the-parts-over-c-are-those-of-the-upid : (kind : ℕ) (bytes : List ℕ) (u : FlatUpid) → ReadsUpidC kind bytes u
-    → (u .refusal ≡ upidRefusal (checkOf kind bytes)) × (u .count ≡ length (partsRead kind bytes)) × Pairs SamePart (take (u .count) (u .parts)) (partsRead kind bytes)
-the-parts-over-c-are-those-of-the-upid kind bytes u d = rw (reads-upid-so d) (flat.parts-flat kind bytes)
+pub the-parts-over-c-are-those-of-the-upid : (upid-type : ℕ) (bytes : List ℕ) (u : FlatUpid) → ReadsUpidC upid-type bytes u
+    → (u .refusal ≡ upidRefusal (checkOf upid-type bytes)) × (u .count ≡ length (partsRead upid-type bytes)) × Pairs SamePart (take (u .count) (u .parts)) (partsRead upid-type bytes)
+the-parts-over-c-are-those-of-the-upid upid-type bytes u d = rw (reads-upid-so d) (flat.parts-flat upid-type bytes)
 
 -- a MID that is accepted has bytes
 some-byte : (b : List ℕ) → checkOf 13 b ≡ UpidRead.Fine 13 → 1 ≤ length b
@@ -243,7 +230,7 @@ parts-lie s mid (pair {x = q} {y = p} h hs) (more a rest) =
     more {x = q} (record {
       behind = omega (arith, a .behind, h .starts);
       there = omega (arith, a .unbroken .inside, h .starts, h .lens);
-      kind = h .kinds ∙ a .kind ∙ reported-as _ ∙ ap (λ (n : ℕ). reportedAs (getD s (mid .start + n - 2) 0)) (sym (h .starts));
+      «upid_type» = h .kinds ∙ a .«upid_type» ∙ reported-as _ ∙ ap (λ (n : ℕ). reportedAs (getD s (mid .start + n - 2) 0)) (sym (h .starts));
       long = l;
     }) (parts-lie s mid hs rest)
 
@@ -255,7 +242,7 @@ mid-lies s f offset i u x q four mid r =
     let m = flat.upid-of-item 13 (stepOf (loopIn s (x .section)) offset) (ap (λ (v : FlatStep). v .item .kind) (sym e) ∙ four) (ap (λ (v : FlatStep). v .item .segmentation .«segmentation_upid_type») (sym e) ∙ mid) in
     let v : i .item .bytes ≡ flatView (m .insert .«segmentation_upid» .bytes) = ap (λ (v : FlatStep). v .item .bytes) e ∙ m .bytes in
     let w : Unsplit s (inLent (x .section .descriptors .at) (loopIn s (x .section)) (m .insert .«segmentation_upid» .bytes)) =
-    demands.no-mid-that-is-read-is-split s (x .section) (x .is) offset (m .descriptor) (m .insert) (m .is) (m .detail) (m .kind) in
+    reading.no-mid-that-is-read-is-split s (x .section) (x .is) offset (m .descriptor) (m .insert) (m .is) (m .detail) (m .«upid_type») in
     let b : taken (taken s (f .descriptors)) (i .item .bytes) ≡ viewed (loopIn s (x .section)) (m .insert .«segmentation_upid» .bytes) =
     ap (λ (l : List ℕ). taken l (i .item .bytes)) (x .loop) ∙ ap (taken (loopIn s (x .section))) v ∙ sym (viewed-is (loopIn s (x .section)) (m .insert .«segmentation_upid» .bytes) (viewed-inside (loopIn s (x .section)) (m .insert .«segmentation_upid» .bytes) (some-byte _ (w .accepted)))) in
     let k : ReadsUpidC 13 (viewed (loopIn s (x .section)) (m .insert .«segmentation_upid» .bytes)) u = rw b at r in
@@ -296,7 +283,7 @@ a-canonical-section-over-c-is-written-back s f places target answer later a t d 
     ap (λ (v : FlatSection). sectionWordsMade (headerWords (v .header)) (commandWords (v .command)) (splicesWords places) s (taken s (f .descriptors))) (reads-section-so d)
     ∙ ap (λ (v : FlatSplices). sectionWordsMade (headerWords (flatSectionRead (sectionOf s) .header)) (commandWords (flatSectionRead (sectionOf s) .command)) (splicesWords v) s (taken s (f .descriptors))) (reads-components-so c)
     ∙ ap (λ (l : List ℕ). sectionWordsMade (headerWords (flatSectionRead (sectionOf s) .header)) (commandWords (flatSectionRead (sectionOf s) .command)) (splicesWords (componentsAnswered s)) s l) (x .loop)
-    ∙ demands.a-canonical-section-is-what-is-written-of-its-words s (x .section) a (x .is) (sym (tells-canonical-so t)) in
+    ∙ over-c.a-canonical-section-is-what-is-written-of-its-words s (x .section) a (x .is) (sym (tells-canonical-so t)) in
     puts-flat _ s target answer later m (w .0) (w .1)
 
 -- and each of its items, of the words of its step and of what stands beside it, is its own bytes
@@ -307,7 +294,7 @@ pub the-items-of-a-canonical-section-over-c-are-written-back : (s : List ℕ) (f
 the-items-of-a-canonical-section-over-c-are-written-back s f a t d z =
     let x = accepted s f d z in
     let loop : List ℕ = taken s (f .descriptors) in
-    let h : All (λ (y : Listed). wordsMadeAt loop y ≡ made (runOf loop y)) (itemsOf loop) = rw (x .loop) (demands.the-items-of-a-canonical-section-are-written-of-their-words s (x .section) a (x .is) (sym (tells-canonical-so t))) in
+    let h : All (λ (y : Listed). wordsMadeAt loop y ≡ made (runOf loop y)) (itemsOf loop) = rw (x .loop) (over-c.the-items-of-a-canonical-section-are-written-of-their-words s (x .section) a (x .is) (sym (tells-canonical-so t))) in
     let fits : length loop ≤ 4076 = rw (x .loop) (loop-short s (x .section) (x .is)) in
     all-into (λ y k i beside target answer later q b p.
     let w = writes-descriptor-so p in
@@ -321,7 +308,7 @@ left m target n e some = go (answerOf m target) refl e
   where
     go : (w : Written) → answerOf m target ≡ w → flatWritten w .refusal ≡ n → laterOf m target ≡ target
     go (Written.Wrote k) h e = absurd (some (sym e))
-    go (Written.Refused k) h e = demands.a-refused-write-changes-no-byte m target k h
+    go (Written.Refused k) h e = writing.a-refused-write-changes-no-byte m target k h
 
 pub a-refused-section-over-c-changes-no-byte : (κ : _) (a : _) (r : FlatWritten) (e : _) → scte35-write-section-words.Learnt κ a r e → (r .refusal ≡ 0 → ⊥) → now (e .1 .1 .1 .1 .1 .0) ≡ now (a .1 .1 .1 .1 .1 .0)
 a-refused-section-over-c-changes-no-byte κ a r e l some = l .1 ∙ left _ _ (r .refusal) (ap (λ (v : FlatWritten). v .refusal) (sym (l .0))) some

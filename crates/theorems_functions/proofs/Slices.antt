@@ -1,6 +1,6 @@
 -- The slices that are handed back of an item are whole.
 use Prim.Native.Nat.{ℕ, _+_, _-_, _≤_}
-use mathlib.Core.Bool.{Bool, true, false, cond}
+use mathlib.Core.Bool.{Bool, true, false}
 use mathlib.Core.List.{List, [], _∷_}
 use mathlib.Core.Path.{_≡_, refl, ap, sym, _∙_}
 use native.Mathlib.Omega.{arith}
@@ -10,9 +10,9 @@ use borrow.Author.Tests.{le-leb}
 use Rattle.command.specs.declared.SpliceCommand.{SpliceCommand}
 use Rattle.descriptor.specs.declared.Descriptor.{Descriptor}
 use Rattle.descriptor.specs.Views.{upidViews, detailViews}
-use Rattle.descriptor.specs.declared.segmentation.SegmentationDetail.{SegmentationDetail}
+use Rattle.descriptor.specs.declared.segmentation.DescriptorDetail.{DescriptorDetail}
 use Rattle.descriptor.specs.declared.segmentation.SegmentationDescriptor.{SegmentationDescriptor}
-use Rattle.descriptor.specs.declared.segmentation.SegmentationInsert.{SegmentationInsert}
+use Rattle.descriptor.specs.declared.segmentation.SegmentationDetail.{SegmentationDetail}
 use Rattle.descriptor.specs.declared.segmentation.SegmentationUpid.{SegmentationUpid}
 use Rattle.descriptor_loop.proofs.Places.{upid-view, all-into}
 use Rattle.descriptor_loop.specs.Place.{viewOf, firstView}
@@ -23,8 +23,8 @@ use Rattle.section.specs.Section.{privateView, commandLength}
 use Rattle.table.specs.Bits.{pick}
 use Rattle.table.specs.Lent.{viewed, noView}
 use Rattle.table.specs.declared.View.{View}
-use Rattle.theorems.specs.Identifiers.{Identifier, inLent, inSection, partsRead, Announced, Unsplit}
-use Rattle.theorems.specs.Whole.{Exactly, WholeUpid, upidAt, WholeDetail, WholeItem, WholeCommand}
+use Rattle.theorems_reader.specs.Identifiers.{Identifier, inLent, inSection, partsRead, Announced, Unsplit}
+use Rattle.theorems_reader.specs.Whole.{Exactly, WholeUpid, upidAt, WholeDetail, WholeItem, WholeCommand}
 use Rattle.upid.specs.Cover.{All}
 use Rattle.upid.specs.Upid.{reportedOf, partView}
 use Rattle.upid.specs.declared.Part.{Part}
@@ -43,14 +43,14 @@ pub reported-as : (k : ℕ) → reportedOf k ≡ reportedAs k
 unfolding reportedOf
 reported-as k = go (eqb k 5)
   where
-    go : (t : Bool) → cond t 6 k ≡ pick t 6 k
+    go : (t : Bool) → pick t 6 k ≡ pick t 6 k
     go true = refl
     go false = refl
 
 module _ (s : List ℕ) (base : ℕ) (loop : List ℕ) where
-  upid-slice : (h : ℕ) (eidr : List ℕ) (u : SegmentationUpid) → WholeUpid s h base loop eidr u → UpidSlice s h eidr (viewed loop (firstView (upidViews u))) (u .kind)
+  upid-slice : (h : ℕ) (eidr : List ℕ) (u : SegmentationUpid) → WholeUpid s h base loop eidr u → UpidSlice s h eidr (viewed loop (firstView (upidViews u))) (u .«upid_type»)
   upid-slice h eidr u w = record {
-    kind = w .kind;
+    «upid_type» = w .«upid_type»;
     bytes = λ some plain.
         let v : firstView (upidViews u) ≡ u .bytes = ap firstView (upid-view u some plain) in
         let e : Slice s (h + 2) (getD s (h + 1) 0) (viewed loop (u .bytes)) = slice-of s (h + 2) (getD s (h + 1) 0) (inLent base loop (u .bytes)) (w .bytes some plain) in
@@ -65,17 +65,17 @@ module _ (s : List ℕ) (base : ℕ) (loop : List ℕ) where
     item-slice (Item.Refused (ItemRefusal.Other Refusal.InputTooLong)) w = nothing-viewed loop
     item-slice (Item.Refused (ItemRefusal.Other (Refusal.NotEnoughData expected actual))) w = nothing-viewed loop
     item-slice (Item.Refused (ItemRefusal.Other Refusal.UpidLengthTypeMismatch)) w = nothing-viewed loop
-    item-slice (Item.Refused (ItemRefusal.Other (Refusal.InvalidUpidContent kind v))) w =
-        record { start = base + v .at; behind = w .behind; kind = w .kind; whole = slice-of s (base + v .at) (getD s (base + v .at - 1) 0) (inLent base loop v) (w .whole) }
-    item-slice (Item.Refused (ItemRefusal.Other (Refusal.InvalidUpidLength kind expected actual))) w = nothing-viewed loop
+    item-slice (Item.Refused (ItemRefusal.Other (Refusal.InvalidUpidContent upid-type v))) w =
+        record { start = base + v .at; behind = w .behind; «upid_type» = w .«upid_type»; whole = slice-of s (base + v .at) (getD s (base + v .at - 1) 0) (inLent base loop v) (w .whole) }
+    item-slice (Item.Refused (ItemRefusal.Other (Refusal.InvalidUpidLength upid-type expected actual))) w = nothing-viewed loop
     item-slice (Item.Is (Descriptor.Avail x)) w = nothing-viewed loop
     item-slice (Item.Is (Descriptor.Dtmf x)) w = slice-of s _ _ (inLent base loop (x .«dtmf_chars»)) w
     item-slice (Item.Is (Descriptor.Segmentation x)) w = detail (x .«descriptor_detail») w
       where
-        detail : (d : SegmentationDetail) → WholeDetail s (base + offset + 6) base loop (r .beside .eidr) d
+        detail : (d : DescriptorDetail) → WholeDetail s (base + offset + 6) base loop (r .beside .eidr) d
             → DetailSlice s (base + offset + 6) (r .beside .eidr) (viewed loop (firstView (detailViews d))) d
-        detail SegmentationDetail.Cancel w = w
-        detail (SegmentationDetail.Insert i) w = upid-slice _ _ (i .«segmentation_upid») w
+        detail DescriptorDetail.Cancel w = w
+        detail (DescriptorDetail.Active i) w = upid-slice _ _ (i .«segmentation_upid») w
     item-slice (Item.Is (Descriptor.Time x)) w = nothing-viewed loop
     item-slice (Item.Is (Descriptor.Reserved tag v)) w = (slice-of s _ _ (inLent base loop v) (w .0), w .1)
 
@@ -89,7 +89,7 @@ read-slice s base loop offset r b w e = rw e (item-slice s base loop offset r (r
 pub part-slice : (s : List ℕ) (mid : Identifier) (p : Part) → Announced s p (inLent (mid .start) (mid .bytes) (partView p)) → PartSlice s (mid .start) p (viewed (mid .bytes) (partView p))
 part-slice s mid p a = record {
   behind = a .behind;
-  kind = a .kind ∙ reported-as _;
+  «upid_type» = a .«upid_type» ∙ reported-as _;
   whole = record {
     there = omega (arith, a .unbroken .inside, a .len);
     is = ap (λ (b : List ℕ). record { start = mid .start + p .start; len = getD s (mid .start + p .start - 1) 0; bytes = b }) (a .unbroken .run ∙ ap (λ (n : ℕ). take n (drop (mid .start + p .start) s)) (a .len));
@@ -100,9 +100,9 @@ pub mid-parted : (s : List ℕ) (mid : Identifier) → Unsplit s mid → Parted 
 mid-parted s mid u = record { covered = u .covered; owned = u .owned; ordered = u .ordered }
 
 -- a MID has a view
-pub mid-view : (d : SegmentationDescriptor) (i : SegmentationInsert) → d .«descriptor_detail» ≡ SegmentationDetail.Insert i → i .«segmentation_upid» .kind ≡ 13
+pub mid-view : (d : SegmentationDescriptor) (i : SegmentationDetail) → d .«descriptor_detail» ≡ DescriptorDetail.Active i → i .«segmentation_upid» .«upid_type» ≡ 13
     → viewOf (Item.Is (Descriptor.Segmentation d)) ≡ i .«segmentation_upid» .bytes
-mid-view d i e k = ap (λ (y : SegmentationDetail). firstView (detailViews y)) e ∙ ap firstView (upid-view (i .«segmentation_upid») (λ z. omega arith) (λ z. omega arith))
+mid-view d i e k = ap (λ (y : DescriptorDetail). firstView (detailViews y)) e ∙ ap firstView (upid-view (i .«segmentation_upid») (λ z. omega arith) (λ z. omega arith))
 
 -- what is handed back of its parts
 pub parts-whole : (s : List ℕ) (mid : Identifier) (b : List ℕ) (ps : List Part) (Gives : Part → List ℕ → Type 0) → ((p : Part) (c : List ℕ) → Gives p c → c ≡ viewed b (partView p)) → Unsplit s mid

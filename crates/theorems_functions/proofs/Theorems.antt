@@ -12,8 +12,8 @@ use Rattle.command.specs.declared.SpliceCommand.{SpliceCommand}
 use Rattle.command_measure.specs.Made.{commandMade}
 use Rattle.descriptor.specs.declared.Descriptor.{Descriptor}
 use Rattle.descriptor.specs.declared.segmentation.SegmentationDescriptor.{SegmentationDescriptor}
+use Rattle.descriptor.specs.declared.segmentation.DescriptorDetail.{DescriptorDetail}
 use Rattle.descriptor.specs.declared.segmentation.SegmentationDetail.{SegmentationDetail}
-use Rattle.descriptor.specs.declared.segmentation.SegmentationInsert.{SegmentationInsert}
 use Rattle.descriptor_writer.specs.Stores.{Writes}
 use Rattle.descriptor_loop.proofs.Places.{all-into}
 use Rattle.descriptor_loop.specs.Cover.{joined, runOf, Covered}
@@ -22,36 +22,37 @@ use Rattle.descriptor_loop.specs.Place.{viewOf}
 use Rattle.descriptor_loop.specs.declared.Item.{Item}
 use Rattle.descriptor_loop.specs.declared.Step.{Step}
 use Rattle.descriptor_loop.specs.declared.reading.Reading.{Reading}
-use Rattle.loop_round_trips.specs.Loops.{Given, WrittenAgain, Pairs}
-use Rattle.loop_round_trips.specs.Loops.Pairs.{over, pair}
+use Rattle.canonical_form.specs.Same.{Given, Pairs, SameHeader, SameSections}
+use Rattle.loop_round_trips.specs.Loops.{WrittenAgain}
+use Rattle.canonical_form.specs.Same.Pairs.{over, pair}
 use Rattle.bit_stores.specs.Written.{answerOf, laterOf}
 use Rattle.bit_stores.specs.declared.Written.{Written}
-use Rattle.section.specs.Section.{commandBytes, conditions, first, sectionOf, numberOf, None}
+use Rattle.section.specs.Section.{commandBytes, conditions, first, sectionOf, numberOf, None, loopIn}
 use Rattle.section.specs.Whole.{besideCommand, wholeSectionOf}
 use Rattle.section.specs.declared.Section.{Section}
 use Rattle.section.specs.declared.SectionRead.{SectionRead}
 use Rattle.section.specs.declared.whole.WholeSection.{WholeSection}
-use Rattle.section_writer.specs.Canonical.{canonicalSection}
-use Rattle.section_writer.specs.Writing.{kindOf, sectionMade}
+use Rattle.canonical_form.specs.Section.{canonicalSection}
+use Rattle.section_writer.specs.Writing.{typeOf, sectionMade}
 use Rattle.table.specs.Bits.{AllBytes}
 use Rattle.table.specs.Lent.{viewed}
 use Rattle.table.specs.Writing.{Made, made}
-use Rattle.theorems.proofs.Sections.{loop-short}
-use Rattle.theorems.proofs.Theorems as demands
-use Rattle.theorems.specs.Identifiers.{inLent, loopIn, partsRead, Unsplit}
-use Rattle.theorems.specs.Making.{HasHeader, SectionBytes}
-use Rattle.theorems.specs.Same.{SameHeader, SameSections}
-use Rattle.theorems.specs.Whole.{upidAt, WholeAt}
+use Rattle.theorems_reader.proofs.Sections.{loop-short}
+use Rattle.theorems_reader.proofs.Theorems as reading
+use Rattle.theorems_writer.proofs.Theorems as writing
+use Rattle.theorems_reader.specs.Identifiers.{inLent, partsRead, Unsplit}
+use Rattle.theorems_writer.specs.Making.{HasHeader, SectionBytes}
+use Rattle.theorems_reader.specs.Whole.{upidAt, WholeAt}
 use Rattle.upid.specs.Cover.{All}
 use Rattle.upid.specs.Cover.All.{none, more}
 use Rattle.upid.specs.Upid.{upidOf, partsIn, partView}
 use Rattle.upid.specs.declared.Part.{Part}
 use Rattle.upid.specs.declared.Upid.{Upid}
-use Rattle.command_writer.proofs.write_bare_command.Reads as write-bare-command
+use Rattle.command_writer.proofs.write_command_without_components.Reads as write-command-without-components
 use Rattle.command_writer.proofs.write_command.Reads as write-command
-use Rattle.descriptor_writer.proofs.write_bare_descriptor.Reads as write-bare-descriptor
+use Rattle.descriptor_writer.proofs.write_descriptor_without_components.Reads as write-descriptor-without-components
 use Rattle.descriptor_writer.proofs.write_descriptor.Reads as write-descriptor
-use Rattle.section_writer.proofs.write_bare_section.Reads as write-bare-section
+use Rattle.section_writer.proofs.write_section_without_components.Reads as write-section-without-components
 use Rattle.section_writer.proofs.write_section.Reads as write-section
 use Rattle.theorems_functions.specs.Calls.{Stepped, SectionGiven, Puts}
 use Rattle.theorems_functions.specs.Slices.{ItemSlice, PartSlice, Parted, PrivateSlice}
@@ -64,10 +65,10 @@ use Rattle.theorems_functions.proofs.Writes as writes
 
 -- "A section is accepted exactly when none of 1 to 11 applies", and else refused with the number of the first that does
 pub read-section-refuses-in-order : (s : List ℕ) (r : SectionRead) → ReadsSection s r → numberOf r ≡ first 1 (conditions s)
-read-section-refuses-in-order s r d = ap numberOf (reads-section-so d) ∙ demands.refusals-1-to-11-in-order s
+read-section-refuses-in-order s r d = ap numberOf (reads-section-so d) ∙ reading.refusals-1-to-11-in-order s
 
 pub read-section-accepts : (s : List ℕ) (r : SectionRead) → ReadsSection s r → None (conditions s) → (x : Section) × (r ≡ SectionRead.Is x)
-read-section-accepts s r d n = let x = demands.accepted-if-none-applies s n in (x .0, reads-section-so d ∙ x .1)
+read-section-accepts s r d n = let x = reading.accepted-if-none-applies s n in (x .0, reads-section-so d ∙ x .1)
 
 -- ---- covering
 
@@ -79,7 +80,7 @@ the-items-that-are-stepped-cover-the-loop s x loop xs d g w =
     let l : loop ≡ loopIn s x = gives-loop-so g in
     let fits : length loop ≤ 4076 = rw l (loop-short s x e) in
     let z : xs ≡ itemsOf (loopIn s x) = steps.stepped-items loop fits (Steps loop) (λ offset st. steps-so) w ∙ ap itemsOf l in
-    rw (z, l) (demands.the-items-cover-the-loop-of-the-section s x e)
+    rw (z, l) (reading.the-items-cover-the-loop-of-the-section s x e)
 
 -- ---- whole identifiers: the very slices that are handed back
 
@@ -91,7 +92,7 @@ the-bytes-of-an-item-are-whole s x loop offset r b a d g i h =
     let e : sectionOf s ≡ SectionRead.Is x = sym (reads-section-so d) in
     let l : loop ≡ loopIn s x = gives-loop-so g in
     let q : r ≡ readingOf (loopIn s x) offset = reads-item-so i ∙ ap (λ (y : List ℕ). readingOf y offset) l in
-    let w : WholeAt s x offset r = rw q (demands.every-identifier-of-an-item-is-whole s x e a offset) in
+    let w : WholeAt s x offset r = rw q (reading.every-identifier-of-an-item-is-whole s x e a offset) in
     slices.read-slice s (x .descriptors .at) (loopIn s x) offset r b w (gives-bytes-so h ∙ ap (λ (y : List ℕ). viewed y (viewOf (r .step .item))) l)
 
 -- the step says what the full reading says
@@ -101,15 +102,15 @@ steps-are-read loop offset st r d i = steps-so d ∙ ap (λ (y : Reading). y .st
 
 -- Where it is a MID: `read_upid` of these bytes answers parts that cover it once, and each MID in it, in no other way; and `part_bytes` hands back each of them, at every level, whole: as many bytes
 -- of the section as its own head announces, of the type that is written there
-pub the-bytes-of-a-part-are-whole : (s : List ℕ) (x : Section) (loop : List ℕ) (offset : ℕ) (st : Step) (d : SegmentationDescriptor) (i : SegmentationInsert) (b : List ℕ) (u : Upid)
-    → ReadsSection s (SectionRead.Is x) → GivesLoop s x loop → Steps loop offset st → st .item ≡ Item.Is (Descriptor.Segmentation d) → d .«descriptor_detail» ≡ SegmentationDetail.Insert i
-    → i .«segmentation_upid» .kind ≡ 13 → GivesBytes loop (st .item) b → ReadsUpid 13 b u
+pub the-bytes-of-a-part-are-whole : (s : List ℕ) (x : Section) (loop : List ℕ) (offset : ℕ) (st : Step) (d : SegmentationDescriptor) (i : SegmentationDetail) (b : List ℕ) (u : Upid)
+    → ReadsSection s (SectionRead.Is x) → GivesLoop s x loop → Steps loop offset st → st .item ≡ Item.Is (Descriptor.Segmentation d) → d .«descriptor_detail» ≡ DescriptorDetail.Active i
+    → i .«segmentation_upid» .«upid_type» ≡ 13 → GivesBytes loop (st .item) b → ReadsUpid 13 b u
     → Parted b (partsIn u) × All (λ (p : Part). (c : List ℕ) → GivesPart b p c → PartSlice s (x .descriptors .at + i .«segmentation_upid» .bytes .at) p c) (partsIn u)
 the-bytes-of-a-part-are-whole s x loop offset st d i b u rs g t is detail k h ru =
     let e : sectionOf s ≡ SectionRead.Is x = sym (reads-section-so rs) in
     let l : loop ≡ loopIn s x = gives-loop-so g in
     let there : stepOf (loopIn s x) offset .item ≡ Item.Is (Descriptor.Segmentation d) = ap (λ (y : List ℕ). stepOf y offset .item) (sym l) ∙ ap (λ (y : Step). y .item) (sym (steps-so t)) ∙ is in
-    let m : Unsplit s (inLent (x .descriptors .at) (loopIn s x) (i .«segmentation_upid» .bytes)) = demands.no-mid-that-is-read-is-split s x e offset d i there detail k in
+    let m : Unsplit s (inLent (x .descriptors .at) (loopIn s x) (i .«segmentation_upid» .bytes)) = reading.no-mid-that-is-read-is-split s x e offset d i there detail k in
     let v : viewOf (st .item) ≡ i .«segmentation_upid» .bytes = ap viewOf is ∙ slices.mid-view d i detail k in
     let c : b ≡ viewed (loopIn s x) (i .«segmentation_upid» .bytes) = gives-bytes-so h ∙ ap (λ (y : List ℕ). viewed y (viewOf (st .item))) l ∙ ap (viewed (loopIn s x)) v in
     let ps : partsIn u ≡ partsRead 13 (viewed (loopIn s x) (i .«segmentation_upid» .bytes)) = ap partsIn (reads-upid-so ru) ∙ ap (λ (y : List ℕ). partsIn (upidOf 13 y)) c in
@@ -117,7 +118,7 @@ the-bytes-of-a-part-are-whole s x loop offset st d i b u rs g t is detail k h ru
 
 -- the private bytes of a command
 pub the-private-bytes-are-whole : (s : List ℕ) (x : Section) (b : List ℕ) → ReadsSection s (SectionRead.Is x) → GivesPrivate s (x .command) b → PrivateSlice s b (x .command)
-the-private-bytes-are-whole s x b d g = rw (gives-private-so g) (slices.private-slice s (x .command) (demands.the-private-bytes-of-the-section-are-whole s x (sym (reads-section-so d))))
+the-private-bytes-are-whole s x b d g = rw (gives-private-so g) (slices.private-slice s (x .command) (reading.the-private-bytes-of-the-section-are-whole s x (sym (reads-section-so d))))
 
 -- ---- writing
 
@@ -128,8 +129,8 @@ pub a-canonical-section-is-written-back : (s : List ℕ) (w : WholeSection) (x :
 a-canonical-section-is-written-back s w x loop target answer later a t d r g p =
     let e : sectionOf s ≡ SectionRead.Is x = writes.whole-read s w x (reads-whole-section-so d) r in
     let c : w .components ≡ besideCommand (x .command) (commandBytes s) = writes.whole-beside s w x (reads-whole-section-so d) r in
-    let m : sectionMade (x .header) (commandMade (x .command) (w .components) s) (kindOf (x .command)) loop ≡ made s =
-    rw (c, writes.beside-serves (x .command) (commandBytes s) s, gives-loop-so g) (demands.a-canonical-section-is-what-is-written-of-its-reading s x a e (sym (tells-canonical-so t))) in
+    let m : sectionMade (x .header) (commandMade (x .command) (w .components) s) (typeOf (x .command)) loop ≡ made s =
+    rw (c, writes.beside-serves (x .command) (commandBytes s) s, gives-loop-so g) (writing.a-canonical-section-is-what-is-written-of-its-reading s x a e (sym (tells-canonical-so t))) in
     writes.puts-made _ s target answer later m (writes-section-so p)
 
 -- An item of a loop that is read by `read_item` and written by `write_descriptor`: the bytes that were written
@@ -159,7 +160,7 @@ the-items-of-a-canonical-section-are-written-back s x loop a t d g =
     let e : sectionOf s ≡ SectionRead.Is x = sym (reads-section-so d) in
     let l : loop ≡ loopIn s x = gives-loop-so g in
     let fits : length loop ≤ 4076 = rw l (loop-short s x e) in
-    let h : All (WrittenAgain loop) (itemsOf loop) = rw l (demands.a-canonical-section-is-what-is-written-of-its-items s x a e (sym (tells-canonical-so t)) .0) in
+    let h : All (WrittenAgain loop) (itemsOf loop) = rw l (writing.a-canonical-section-is-what-is-written-of-its-items s x a e (sym (tells-canonical-so t)) .0) in
     all-into (λ y h r d target answer later i is p. writes.item-back loop y h r d (reads-item-so i) is target answer later (writes-descriptor-so p)) (writes.all-again loop fits h)
 
 -- Demand 2 in one statement: the loop stepped through, each of its items read and written, what was written joined in order, and the section written around it: that is the section
@@ -171,23 +172,23 @@ a-canonical-section-is-written-back-by-its-items s w x loop xs bs target answer 
     let l : loop ≡ loopIn s x = gives-loop-so g in
     let fits : length loop ≤ 4076 = rw l (loop-short s x e) in
     let z : xs ≡ itemsOf loop = steps.stepped-items loop fits (Steps loop) (λ offset st. steps-so) st in
-    let o : All (WrittenAgain loop) (itemsOf loop) = rw l (demands.a-canonical-section-is-what-is-written-of-its-items s x a e (sym (tells-canonical-so t)) .0) in
+    let o : All (WrittenAgain loop) (itemsOf loop) = rw l (writing.a-canonical-section-is-what-is-written-of-its-items s x a e (sym (tells-canonical-so t)) .0) in
     let h : All (writes.Again loop) xs = rw z (writes.all-again loop fits o) in
-    let j : joined (map (runOf loop) xs) ≡ loop = rw (z, l) (demands.the-items-cover-the-loop-of-the-section s x e .cutting .joins) in
+    let j : joined (map (runOf loop) xs) ≡ loop = rw (z, l) (reading.the-items-cover-the-loop-of-the-section s x e .cutting .joins) in
     let k : joined bs ≡ loop = ap joined (rewritten loop h rw-all) ∙ j in
     let c : w .components ≡ besideCommand (x .command) (commandBytes s) = writes.whole-beside s w x (reads-whole-section-so d) r in
-    let m : sectionMade (x .header) (commandMade (x .command) (w .components) s) (kindOf (x .command)) (joined bs) ≡ made s =
-    rw (c, writes.beside-serves (x .command) (commandBytes s) s, k, l) (demands.a-canonical-section-is-what-is-written-of-its-reading s x a e (sym (tells-canonical-so t))) in
+    let m : sectionMade (x .header) (commandMade (x .command) (w .components) s) (typeOf (x .command)) (joined bs) ≡ made s =
+    rw (c, writes.beside-serves (x .command) (commandBytes s) s, k, l) (writing.a-canonical-section-is-what-is-written-of-its-reading s x a e (sym (tells-canonical-so t))) in
     writes.puts-made _ s target answer later m (writes-section-so p)
 
 -- "reading what the writer wrote gives what it was handed": whatever was written is a canonical section with this header, this command, its components and bytes, and this loop (`SectionBytes`,
--- theorems/specs/Making.antt), which the reader accepts and the test calls canonical
+-- theorems_writer/specs/Making.antt), which the reader accepts and the test calls canonical
 pub what-is-written-is-read-back : (g : SectionGiven) (target : List ℕ) (n : ℕ) (later : List ℕ) → length (g .components) ≡ 255 → countIn (g .command) ≤ 255 → AllBytes (g .lent) → AllBytes (g .loop)
     → WritesSection g target (Written.Wrote n) later → SectionBytes (g .header) (g .command) (g .components) (g .lent) (g .loop) (take n later)
 what-is-written-is-read-back g target n later places count lent loop p =
-    let c = demands.an-accepted-write-changes-only-its-result (sectionFrom g) target n (sym (writes-section-so p .answer)) in
+    let c = writing.an-accepted-write-changes-only-its-result (sectionFrom g) target n (sym (writes-section-so p .answer)) in
     let b : take n later ≡ c .result = ap (take n) (writes-section-so p .target-later) ∙ c .start in
-    rw b (demands.what-is-written-reads-back (g .header) (g .command) (g .components) (g .lent) (g .loop) places count lent loop (c .result) (c .is))
+    rw b (writing.what-is-written-reads-back (g .header) (g .command) (g .components) (g .lent) (g .loop) places count lent loop (c .result) (c .is))
 
 pub what-is-written-is-accepted : (g : SectionGiven) (target : List ℕ) (n : ℕ) (later : List ℕ) → length (g .components) ≡ 255 → countIn (g .command) ≤ 255 → AllBytes (g .lent) → AllBytes (g .loop)
     → WritesSection g target (Written.Wrote n) later → (r : SectionRead) (t : Bool) → ReadsSection (take n later) r → TellsCanonical (take n later) t
@@ -200,24 +201,24 @@ what-is-written-is-accepted g target n later places count lent loop p r t d q =
 pub canonical-sections-with-equal-readings-are-one : (s r : List ℕ) (x y : Section) → AllBytes s → AllBytes r → TellsCanonical s true → TellsCanonical r true
     → ReadsSection s (SectionRead.Is x) → ReadsSection r (SectionRead.Is y) → SameSections s x r y → s ≡ r
 canonical-sections-with-equal-readings-are-one s r x y a b t u d e same =
-    demands.canonical-sections-of-equal-answers-are-one s r x y a b (sym (reads-section-so d)) (sym (reads-section-so e)) (sym (tells-canonical-so t)) (sym (tells-canonical-so u)) same
+    writing.canonical-sections-of-equal-answers-are-one s r x y a b (sym (reads-section-so d)) (sym (reads-section-so e)) (sym (tells-canonical-so t)) (sym (tells-canonical-so u)) same
 
 -- ---- "A refused write leaves the target's bytes": of each writer, the target at exit is that at entry
 
 pub a-refused-section-changes-no-byte : (κ : _) (a : _) (r : Written) (e : _) (n : ℕ) → write-section.Learnt κ a r e → r ≡ Written.Refused n → now (e .1 .1 .1 .1 .1 .0) ≡ now (a .1 .1 .1 .1 .1 .0)
-a-refused-section-changes-no-byte κ a r e n l f = l .1 ∙ demands.a-refused-write-changes-no-byte _ _ n (sym (l .0) ∙ f)
+a-refused-section-changes-no-byte κ a r e n l f = l .1 ∙ writing.a-refused-write-changes-no-byte _ _ n (sym (l .0) ∙ f)
 
-pub a-refused-bare-section-changes-no-byte : (κ : _) (a : _) (r : Written) (e : _) (n : ℕ) → write-bare-section.Learnt κ a r e → r ≡ Written.Refused n → now (e .1 .1 .1 .1 .0) ≡ now (a .1 .1 .1 .1 .0)
-a-refused-bare-section-changes-no-byte κ a r e n l f = l .1 ∙ demands.a-refused-write-changes-no-byte _ _ n (sym (l .0) ∙ f)
+pub a-refused-bare-section-changes-no-byte : (κ : _) (a : _) (r : Written) (e : _) (n : ℕ) → write-section-without-components.Learnt κ a r e → r ≡ Written.Refused n → now (e .1 .1 .1 .1 .0) ≡ now (a .1 .1 .1 .1 .0)
+a-refused-bare-section-changes-no-byte κ a r e n l f = l .1 ∙ writing.a-refused-write-changes-no-byte _ _ n (sym (l .0) ∙ f)
 
 pub a-refused-command-changes-no-byte : (κ : _) (a : _) (r : Written) (e : _) (n : ℕ) → write-command.Learnt κ a r e → r ≡ Written.Refused n → now (e .1 .1 .1 .0) ≡ now (a .1 .1 .1 .0)
-a-refused-command-changes-no-byte κ a r e n l f = l .1 ∙ demands.a-refused-write-changes-no-byte _ _ n (sym (l .0) ∙ f)
+a-refused-command-changes-no-byte κ a r e n l f = l .1 ∙ writing.a-refused-write-changes-no-byte _ _ n (sym (l .0) ∙ f)
 
-pub a-refused-bare-command-changes-no-byte : (κ : _) (a : _) (r : Written) (e : _) (n : ℕ) → write-bare-command.Learnt κ a r e → r ≡ Written.Refused n → now (e .1 .1 .0) ≡ now (a .1 .1 .0)
-a-refused-bare-command-changes-no-byte κ a r e n l f = l .1 ∙ demands.a-refused-write-changes-no-byte _ _ n (sym (l .0) ∙ f)
+pub a-refused-bare-command-changes-no-byte : (κ : _) (a : _) (r : Written) (e : _) (n : ℕ) → write-command-without-components.Learnt κ a r e → r ≡ Written.Refused n → now (e .1 .1 .0) ≡ now (a .1 .1 .0)
+a-refused-bare-command-changes-no-byte κ a r e n l f = l .1 ∙ writing.a-refused-write-changes-no-byte _ _ n (sym (l .0) ∙ f)
 
 pub a-refused-descriptor-changes-no-byte : (κ : _) (a : _) (r : Written) (e : _) (n : ℕ) → write-descriptor.Learnt κ a r e → r ≡ Written.Refused n → now (e .1 .1 .1 .1 .0) ≡ now (a .1 .1 .1 .1 .0)
-a-refused-descriptor-changes-no-byte κ a r e n l f = l .target-later ∙ demands.a-refused-write-changes-no-byte _ _ n (sym (l .answer) ∙ f)
+a-refused-descriptor-changes-no-byte κ a r e n l f = l .target-later ∙ writing.a-refused-write-changes-no-byte _ _ n (sym (l .answer) ∙ f)
 
-pub a-refused-bare-descriptor-changes-no-byte : (κ : _) (a : _) (r : Written) (e : _) (n : ℕ) → write-bare-descriptor.Learnt κ a r e → r ≡ Written.Refused n → now (e .1 .1 .1 .1 .0) ≡ now (a .1 .1 .1 .1 .0)
-a-refused-bare-descriptor-changes-no-byte κ a r e n l f = l .target-later ∙ demands.a-refused-write-changes-no-byte _ _ n (sym (l .answer) ∙ f)
+pub a-refused-bare-descriptor-changes-no-byte : (κ : _) (a : _) (r : Written) (e : _) (n : ℕ) → write-descriptor-without-components.Learnt κ a r e → r ≡ Written.Refused n → now (e .1 .1 .1 .1 .0) ≡ now (a .1 .1 .1 .1 .0)
+a-refused-bare-descriptor-changes-no-byte κ a r e n l f = l .target-later ∙ writing.a-refused-write-changes-no-byte _ _ n (sym (l .answer) ∙ f)

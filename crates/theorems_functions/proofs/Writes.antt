@@ -14,9 +14,8 @@ use Rattle.command_measure.specs.Made.{commandMade}
 use Rattle.descriptor_writer.specs.Stores.{Writes}
 use Rattle.bit_stores.specs.Written.{answerOf, laterOf}
 use Rattle.bit_stores.specs.declared.Written.{Written}
-use Rattle.section.specs.Whole.{besideCommand}
+use Rattle.section.specs.Whole.{besideCommand, besideSection, wholeSectionOf}
 use Rattle.section.specs.Section.{commandBytes, sectionOf}
-use Rattle.section.specs.Whole.{besideSection, wholeSectionOf}
 use Rattle.section.specs.declared.SectionRead.{SectionRead}
 use Rattle.section.specs.declared.Section.{Section}
 use Rattle.section.specs.declared.whole.WholeSection.{WholeSection}
@@ -32,7 +31,7 @@ use Rattle.descriptor_loop.specs.Items.{stepOf, readingOf, Listed, itemsOf}
 use Rattle.descriptor_loop.specs.declared.Item.{Item}
 use Rattle.descriptor_loop.specs.declared.Step.{Step}
 use Rattle.descriptor_loop.specs.declared.reading.Reading.{Reading}
-use Rattle.theorems.proofs.Sections.{each-item}
+use Rattle.theorems_reader.proofs.Sections.{each-item}
 use Rattle.upid.specs.Cover.{All}
 use Rattle.upid.specs.Cover.All.{none, more}
 use Rattle.loop_round_trips.specs.Loops.{WrittenAgain}

@@ -10,7 +10,7 @@ use Rattle.c_items.specs.declared.steps.FlatStep.{FlatStep}
 use Rattle.c_items.specs.declared.upids.FlatPart.{FlatPart}
 use Rattle.c_command_writer.specs.declared.FlatWritten.{FlatWritten}
 use Rattle.table.specs.Bits.{pick, bitsOf, field}
-use Rattle.theorems.specs.Whole.{upidAt}
+use Rattle.theorems_reader.specs.Whole.{upidAt}
 use Rattle.upid.specs.Upid.{numberOf}
 use Rattle.upid.specs.declared.Part.{Part}
 use Rattle.upid.specs.declared.UpidRead.{UpidRead}
@@ -28,18 +28,18 @@ taken lent v = take (v .len) (drop (v .at) lent)
 
 -- a UPID whose head stands at byte h
 pub record UpidLies (s : List ℕ) (h base : ℕ) (i : FlatItem) : Type 0 where
-  pub kind : i .segmentation .«segmentation_upid_type» ≡ pick (eqb (getD s (h + 1) 0) 0) 0 (reportedAs (getD s h 0))
+  pub «upid_type» : i .segmentation .«segmentation_upid_type» ≡ pick (eqb (getD s (h + 1) 0) 0) 0 (reportedAs (getD s h 0))
   pub bytes : (i .segmentation .«segmentation_upid_type» ≡ 0 → ⊥) → (i .segmentation .«segmentation_upid_type» ≡ 10 → ⊥) → Lies s base (h + 2) (getD s (h + 1) 0) (i .bytes)
 
 -- the text of refusal 24 in a payload that starts at byte p, by the refusal's values: its type, and where it lies in the lent bytes; the two bytes before it are its type and its length
 pub record TextLies (s : List ℕ) (p base : ℕ) (values : List ℕ) : Type 0 where
-  pub kind : ℕ
+  pub «upid_type» : ℕ
   pub at : ℕ
   pub len : ℕ
-  pub are : values ≡ kind ∷ at ∷ len ∷ []
+  pub are : values ≡ «upid_type» ∷ at ∷ len ∷ []
   pub behind : p + 2 ≤ base + at
   pub there : base + at + len ≤ length s
-  pub type : kind ≡ getD s (base + at - 2) 0
+  pub type : «upid_type» ≡ getD s (base + at - 2) 0
   pub long : len ≡ getD s (base + at - 1) 0
 
 -- An item that starts at byte q of the section, by its number: 2 DTMF, 4 segmentation, 6 reserved, 7 refused. (0 is the end, 1 an avail, 3 a cancelled segmentation, 5 a time.)
@@ -61,7 +61,7 @@ upidRefusal (UpidRead.Refused r) = numberOf r
 
 -- ---- a part of a MID, field by field
 pub record SamePart (q : FlatPart) (p : Part) : Type 0 where
-  pub kinds : q .kind ≡ p .kind
+  pub kinds : q .«upid_type» ≡ p .«upid_type»
   pub levels : q .level ≡ p .level
   pub starts : q .start ≡ p .start
   pub lens : q .len ≡ p .len
@@ -70,7 +70,7 @@ pub record SamePart (q : FlatPart) (p : Part) : Type 0 where
 pub record PartLies (s : List ℕ) (start : ℕ) (q : FlatPart) : Type 0 where
   pub behind : 2 ≤ start + q .start
   pub there : start + q .start + q .len ≤ length s
-  pub kind : q .kind ≡ reportedAs (getD s (start + q .start - 2) 0)
+  pub «upid_type» : q .«upid_type» ≡ reportedAs (getD s (start + q .start - 2) 0)
   pub long : q .len ≡ getD s (start + q .start - 1) 0
 
 -- ---- a write of the bytes b, answered in words

@@ -1,3 +1,5 @@
+pub mod RowsHold
+pub mod Examples
 pub mod Worked
 pub mod Refusals
 pub mod Theorems

@@ -1,21 +1,25 @@
 -- Each refusal of an item and of a UPID by its own words.
 use Prim.Native.Nat.{ℕ, zero, suc, _+_, _-_, _≤_, _<_}
-use mathlib.Core.Bool.{Bool, true, false, cond, not, _&&_, _||_}
+use mathlib.Core.Bool.{Bool, true, false, not, _&&_, _||_}
 use mathlib.Core.List.{List, [], _∷_}
 use mathlib.Core.Path.{_≡_, refl, ap, sym, _∙_}
 use native.Mathlib.Omega.{arith}
 use lib.Dec.{eqb, ltb}
-use lib.ListN.{length, take, drop, getD}
+use lib.ListN.{length, take, drop, getD, length-drop}
+use lib.Seq.{getD-drop}
 use borrow.Author.Tests.{eq-eqb, ne-eqb, lt-ltb, le-ltb, eqb-true}
+use Rattle.command.specs.Command.{numberOf}
+use Rattle.command.specs.declared.CommandRead.{CommandRead}
 use Rattle.descriptor.specs.Descriptor.{availOf, dtmfOf, timeOf, reservedOf, segmentationOf, insertOf, inserted, isCuei, cuei, descriptorOf, _andThen_, ifFine}
 use Rattle.descriptor.specs.Plain.{avail, dtmf, time}
 use Rattle.descriptor.specs.Segmentation.{head, front, back}
 use Rattle.descriptor.specs.declared.Descriptor.{Descriptor}
-use Rattle.descriptor.specs.declared.segmentation.SegmentationDetail.{SegmentationDetail}
+use Rattle.descriptor.specs.declared.segmentation.DescriptorDetail.{DescriptorDetail}
 use Rattle.descriptor.specs.declared.DescriptorRead.{DescriptorRead}
 use Rattle.descriptor.specs.declared.segmentation.SegmentationUpid.{SegmentationUpid}
 use Rattle.descriptor_loop.proofs.Steps.{step-long, step-end, step-few, step-over, step-full, step-small, step-whole}
-use Rattle.descriptor_loop.specs.Items.{bare, short, stepOf, wholeAt}
+use Rattle.descriptor_loop.specs.Cover.{Ends}
+use Rattle.descriptor_loop.specs.Items.{withoutIdentifier, short, stepOf, wholeAt}
 use Rattle.descriptor_loop.specs.Items as items
 use Rattle.descriptor_loop.specs.declared.Item.{Item}
 use Rattle.descriptor_loop.specs.declared.ItemRefusal.{ItemRefusal}
@@ -32,17 +36,17 @@ use Rattle.upid.specs.Upid as upid
 use Rattle.upid.specs.Upid.{checkOf, readOf, plainOf, lengthOf, isText, reportedOf}
 use Rattle.upid.specs.declared.Refusal.{Refusal}
 use Rattle.upid.specs.declared.UpidRead.{UpidRead}
-use Rattle.theorems_rows.specs.Refusals.{StepRefused, UpidRefused, kindOf, fixedLengths, texts, plainLengths}
+use Rattle.theorems_rows.specs.Refusals.{StepRefused, endNumber, endValues, UpidRefused, kindOf, fixedLengths, texts, plainLengths}
 
 -- ---- a step
 
-bare-refused : (s : Step) (r : ItemRefusal) (n : ℕ) (values : List ℕ) (next : ℕ) → s ≡ bare (Item.Refused r) next → items.numberOf r ≡ n → items.valuesOf r ≡ values → StepRefused s n values next
-bare-refused s r n values next e a b = record { refusal = r; is = ap (λ (t : Step). t .item) e; number = a; told = b; goes = ap (λ (t : Step). t .next) e }
+refused-without-identifier : (s : Step) (r : ItemRefusal) (n : ℕ) (values : List ℕ) (next : ℕ) → s ≡ withoutIdentifier (Item.Refused r) next → items.numberOf r ≡ n → items.valuesOf r ≡ values → StepRefused s n values next
+refused-without-identifier s r n values next e a b = record { refusal = r; is = ap (λ (t : Step). t .item) e; number = a; told = b; goes = ap (λ (t : Step). t .next) e }
 
 module _ (loop : List ℕ) (offset : ℕ) where
   pub refusal-2 : 4076 < length loop → StepRefused (stepOf loop offset) 2 [] (length loop)
   unfolding items.numberOf items.valuesOf upid.numberOf upid.valuesOf
-  refusal-2 h = bare-refused _ (ItemRefusal.Other Refusal.InputTooLong) 2 [] (length loop) (step-long loop offset h) refl refl
+  refusal-2 h = refused-without-identifier _ (ItemRefusal.Other Refusal.InputTooLong) 2 [] (length loop) (step-long loop offset h) refl refl
 
   module _ (fits : length loop ≤ 4076) where
     pub at-the-end : length loop ≤ offset → (stepOf loop offset .item ≡ Item.End) × (stepOf loop offset .next ≡ length loop)
@@ -50,7 +54,7 @@ module _ (loop : List ℕ) (offset : ℕ) where
 
     pub few-left : offset < length loop → length loop - offset ≤ 5 → StepRefused (stepOf loop offset) 21 (2 ∷ 0 ∷ []) (length loop)
     unfolding items.numberOf items.valuesOf upid.numberOf upid.valuesOf
-    few-left inside h = bare-refused _ (ItemRefusal.Other (Refusal.NotEnoughData 2 0)) 21 _ (length loop) (step-few loop offset fits inside (omega arith)) refl refl
+    few-left inside h = refused-without-identifier _ (ItemRefusal.Other (Refusal.NotEnoughData 2 0)) 21 _ (length loop) (step-few loop offset fits inside (omega arith)) refl refl
 
     module _ (six : offset + 6 ≤ length loop) where
       abbrev L : ℕ
@@ -58,16 +62,16 @@ module _ (loop : List ℕ) (offset : ℕ) where
 
       pub too-long-for-the-rest : length loop - offset < L + 2 → StepRefused (stepOf loop offset) 21 ((L + 2) ∷ 0 ∷ []) (length loop)
       unfolding items.numberOf items.valuesOf upid.numberOf upid.valuesOf
-      too-long-for-the-rest h = bare-refused _ (ItemRefusal.Other (Refusal.NotEnoughData (L + 2) 0)) 21 _ (length loop) (step-over loop offset fits (omega arith) L refl (omega arith) h) refl refl
+      too-long-for-the-rest h = refused-without-identifier _ (ItemRefusal.Other (Refusal.NotEnoughData (L + 2) 0)) 21 _ (length loop) (step-over loop offset fits (omega arith) L refl (omega arith) h) refl refl
 
       module _ (there : L + 2 ≤ length loop - offset) where
         pub length-255 : 254 < L → StepRefused (stepOf loop offset) 22 [] (length loop)
         unfolding items.numberOf items.valuesOf
-        length-255 h = bare-refused _ ItemRefusal.InvalidDescriptorLength 22 [] (length loop) (step-full loop offset fits (omega arith) L refl (omega arith) there h) refl refl
+        length-255 h = refused-without-identifier _ ItemRefusal.InvalidDescriptorLength 22 [] (length loop) (step-full loop offset fits (omega arith) L refl (omega arith) there h) refl refl
 
         pub length-below-4 : L ≤ 3 → StepRefused (stepOf loop offset) 21 (6 ∷ (L + 2) ∷ []) (offset + (L + 2))
         unfolding items.numberOf items.valuesOf upid.numberOf upid.valuesOf
-        length-below-4 h = bare-refused _ (ItemRefusal.Other (Refusal.NotEnoughData 6 (L + 2))) 21 _ (offset + (L + 2)) (step-small loop offset fits (omega arith) L refl (omega arith) there (omega arith) (omega arith)) refl refl
+        length-below-4 h = refused-without-identifier _ (ItemRefusal.Other (Refusal.NotEnoughData 6 (L + 2))) 21 _ (offset + (L + 2)) (step-small loop offset fits (omega arith) L refl (omega arith) there (omega arith) (omega arith)) refl refl
 
         pub else-read : 4 ≤ L → L ≤ 254 → stepOf loop offset ≡ wholeAt loop offset L
         else-read low high = step-whole loop offset fits (omega arith) L refl (omega arith) there high low
@@ -111,9 +115,9 @@ module _ (s : List ℕ) where
   unfolding insertOf inserted
   insert-kind event at =
       kind-then 2 (parse front (bitsOf s) at)
-      (λ f at. ifFine (checkOf (f .front .«segmentation_upid» .kind) (viewed s (f .front .«segmentation_upid» .bytes))) (f .front .«segmentation_upid» .bytes)
+      (λ f at. ifFine (checkOf (f .front .«segmentation_upid» .«upid_type») (viewed s (f .front .«segmentation_upid» .bytes))) (f .front .«segmentation_upid» .bytes)
       (λ u. parse back (bitsOf s) at andThen λ b at. inserted event (f .front) u b))
-      (λ f at. kind-fine 2 (checkOf (f .front .«segmentation_upid» .kind) (viewed s (f .front .«segmentation_upid» .bytes))) (f .front .«segmentation_upid» .bytes)
+      (λ f at. kind-fine 2 (checkOf (f .front .«segmentation_upid» .«upid_type») (viewed s (f .front .«segmentation_upid» .bytes))) (f .front .«segmentation_upid» .bytes)
       (λ u. parse back (bitsOf s) at andThen λ b at. inserted event (f .front) u b)
       (λ u. kind-then 2 (parse back (bitsOf s) at) (λ b at. inserted event (f .front) u b) (λ b at. refl)))
 
@@ -121,8 +125,8 @@ module _ (s : List ℕ) where
   unfolding segmentationOf
   segmentation-kind =
       kind-then 2 (parse head (bitsOf s) 0)
-      (λ h at. pick (h .cancel) (DescriptorRead.Is (Descriptor.Segmentation (record { «segmentation_event_id» = h .event; «descriptor_detail» = SegmentationDetail.Cancel }))) (insertOf s (h .event) at))
-      (λ h at. kind-pick 2 (h .cancel) (DescriptorRead.Is (Descriptor.Segmentation (record { «segmentation_event_id» = h .event; «descriptor_detail» = SegmentationDetail.Cancel }))) (insertOf s (h .event) at)
+      (λ h at. pick (h .cancel) (DescriptorRead.Is (Descriptor.Segmentation (record { «segmentation_event_id» = h .event; «descriptor_detail» = DescriptorDetail.Cancel }))) (insertOf s (h .event) at))
+      (λ h at. kind-pick 2 (h .cancel) (DescriptorRead.Is (Descriptor.Segmentation (record { «segmentation_event_id» = h .event; «descriptor_detail» = DescriptorDetail.Cancel }))) (insertOf s (h .event) at)
       refl (insert-kind (h .event) at))
 
   -- "CUEI", and a tag of 0 to 3
@@ -248,3 +252,23 @@ module _ (b : List ℕ) where
     upid-above-14 k h = free k (λ z. omega arith) (λ z. omega arith)
         (rw (ne-eqb k 2 (λ z. omega arith), ne-eqb k 5 (λ z. omega arith), ne-eqb k 8 (λ z. omega arith), ne-eqb k 3 (λ z. omega arith), ne-eqb k 6 (λ z. omega arith), ne-eqb k 7 (λ z. omega arith), ne-eqb k 10 (λ z. omega arith), ne-eqb k 4 (λ z. omega arith)))
         (rw (ne-eqb k 5 (λ z. omega arith)))
+
+-- ---- 11 is of a malformed command alone
+pub malformed-only : (r : CommandRead) → eqb (numberOf r) 11 ≡ true → r ≡ CommandRead.Malformed
+malformed-only (CommandRead.Is c) e = zero-one cc
+malformed-only CommandRead.UnknownType e = zero-one cc
+malformed-only CommandRead.Malformed e = refl
+
+-- ---- where a loop ends
+pub ending : (loop : List ℕ) (offset : ℕ) → length loop ≤ 4076 → (e : Ends (drop offset loop)) → StepRefused (stepOf loop offset) (endNumber e) (endValues e) (length loop)
+ending loop offset fits (Ends.few a b) =
+    let n : length (drop offset loop) ≡ length loop - offset = length-drop offset loop in
+    few-left loop offset fits (omega (arith, n, a)) (omega (arith, n, b))
+ending loop offset fits (Ends.over a b) =
+    let n : length (drop offset loop) ≡ length loop - offset = length-drop offset loop in
+    let L : getD (drop offset loop) 1 0 ≡ getD loop (offset + 1) 0 = getD-drop offset loop 1 0 in
+    rw L (too-long-for-the-rest loop offset fits (omega (arith, n, a)) (omega (arith, n, b, L)))
+ending loop offset fits (Ends.full a b) =
+    let n : length (drop offset loop) ≡ length loop - offset = length-drop offset loop in
+    let L : getD (drop offset loop) 1 0 ≡ getD loop (offset + 1) 0 = getD-drop offset loop 1 0 in
+    length-255 loop offset fits (omega (arith, n, a, b)) (omega (arith, n, a, L)) (omega (arith, b, L))

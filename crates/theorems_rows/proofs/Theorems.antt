@@ -6,34 +6,49 @@ use mathlib.Core.List.{List, [], _∷_}
 use mathlib.Core.Path.{_≡_, refl, sym, _∙_}
 use native.Mathlib.Omega.{arith}
 use lib.ListN.{length, take, drop, getD}
+use lib.Dec.{eqb}
+use borrow.Author.Tests.{ne-eqb}
+use Rattle.command.specs.Command.{commandOf, private}
+use Rattle.command.specs.Insert.{WithComponents, insert}
+use Rattle.command.specs.declared.CommandRead.{CommandRead}
+use Rattle.command.specs.declared.Private.{Private}
+use Rattle.command.specs.declared.SpliceCommand.{SpliceCommand}
+use Rattle.command.specs.declared.insert.SpliceInsert.{SpliceInsert}
 use Rattle.descriptor.proofs.Plains.{avail-short, avail-is, time-short, time-is, reserved-is}
 use Rattle.descriptor.specs.Descriptor.{availOf, timeOf, reservedOf, cuei, descriptorOf, isCuei}
 use Rattle.descriptor.specs.declared.Descriptor.{Descriptor}
 use Rattle.descriptor.specs.declared.DescriptorRead.{DescriptorRead}
 use Rattle.header.proofs.Headers.{header-refused, header-there}
-use Rattle.header.specs.Header as header
 use Rattle.header.specs.Header.{headerOf}
 use Rattle.header.specs.declared.header.HeaderRead.{HeaderRead}
 use Rattle.header.specs.declared.header.SpliceInfoHeader.{SpliceInfoHeader}
+use Rattle.descriptor_loop.specs.Cover.{Ends}
 use Rattle.descriptor_loop.specs.Items.{stepOf, wholeAt}
 use Rattle.descriptor_loop.specs.declared.Item.{Item}
 use Rattle.names.specs.Flags.{Answer, networkOf, returnOf, restrictionsOf}
-use Rattle.section.specs.Section.{sectionOf}
+use Rattle.section.specs.Section.{commandType, commandBytes, malformedCommand, sectionOf, loopLength, numberOf}
 use Rattle.section.specs.declared.Section.{Section}
 use Rattle.section.specs.declared.SectionRead.{SectionRead}
-use Rattle.section_writer.specs.Canonical.{canonicalSection}
-use Rattle.table.specs.Bits.{bitsOf, field}
-use Rattle.theorems.specs.Same.{SameSections}
-use Rattle.theorems.specs.Sections.{EmptyCommand, Identified}
+use Rattle.canonical_form.specs.Section.{canonicalSection}
+use Rattle.splice_time.specs.Time.{spliceTime}
+use Rattle.splice_time.specs.declared.SpliceTime.{SpliceTime}
+use Rattle.table.specs.Bits.{bitsOf, field, AllBytes}
+use Rattle.table.specs.Table.{got, short, parse}
+use Rattle.canonical_form.specs.Same.{SameSections}
+use Rattle.theorems_rows.specs.Examples.{EmptyCommand, Identified, spliceNull, eight, twelve, both, eightAndTwelve}
 use Rattle.upid.specs.Cover.{All}
 use Rattle.upid.specs.Text.{textOf}
 use Rattle.upid.specs.Upid.{checkOf}
 use Rattle.upid.specs.declared.Refusal.{Refusal}
 use Rattle.upid.specs.declared.UpidRead.{UpidRead}
-use Rattle.theorems_rows.specs.Refusals.{StepRefused, UpidRefused, kindOf, fixedLengths, texts, plainLengths}
-use Rattle.theorems_rows.specs.Sections.{eighteen, nineteen, insertSection, otherInsertSection, everyIdentifier, everyDescriptor}
+use Rattle.theorems_rows.specs.Refusals.{StepRefused, endNumber, endValues, UpidRefused, kindOf, fixedLengths, texts, plainLengths}
+use Rattle.theorems_rows.specs.Sections.{eighteen, nineteen, insertSection, otherInsertSection, everyIdentifier, everyDescriptor, everyCommand}
+use Rattle.theorems_rows.specs.Rows.{Holds, rows}
+use Rattle.header.specs.Header as header
 use Rattle.theorems_rows.proofs.Refusals as refusals
 use Rattle.theorems_rows.proofs.Worked as worked
+use Rattle.theorems_rows.proofs.RowsHold as rows-hold
+use Rattle.theorems_rows.proofs.Examples as examples
 
 -- ---- worked sections
 
@@ -63,6 +78,10 @@ two-sections-with-equal-readings = (worked.insertReading, worked.insertReading, 
 pub a-canonical-section-with-every-descriptor : canonicalSection everyDescriptor ≡ true
 a-canonical-section-with-every-descriptor = worked.every-descriptor-canonical
 
+-- and one with each other command (a time_signal: `the-section-with-eight-and-twelve-is-canonical`)
+pub canonical-sections-with-every-command : All (λ (c : List ℕ × ℕ). (canonicalSection (c .0) ≡ true) × (commandType (c .0) ≡ c .1)) everyCommand
+canonical-sections-with-every-command = worked.every-command-canonical
+
 -- ---- 5: "a header alone under 11, its only refusal"
 
 pub a-header-under-11-bytes-is-refused-with-5 : (s : List ℕ) → length s < 11 → (headerOf s ≡ HeaderRead.NoHeader) × (header.numberOf (headerOf s) ≡ 5)
@@ -70,6 +89,30 @@ a-header-under-11-bytes-is-refused-with-5 s h = (header-refused s h, rw (header-
 
 pub any-other-header-is-read : (s : List ℕ) → 11 ≤ length s → (x : SpliceInfoHeader) × (headerOf s ≡ HeaderRead.Header x)
 any-other-header-is-read = header-there
+
+-- ---- 11: "command payload malformed": where the table of the command's type does not read the payload, and nowhere else; a null and a reservation have none
+
+pub a-command-is-malformed-where-its-table-lacks-bytes : (payload : List ℕ) (expected actual : ℕ)
+    → (parse insert (bitsOf payload) 0 ≡ short expected actual → commandOf 0x05 payload ≡ CommandRead.Malformed)
+    × (parse spliceTime (bitsOf payload) 0 ≡ short expected actual → commandOf 0x06 payload ≡ CommandRead.Malformed)
+    × (parse private (bitsOf payload) 0 ≡ short expected actual → commandOf 0xff payload ≡ CommandRead.Malformed)
+    × (0 < length payload → (commandOf 0x00 payload ≡ CommandRead.Malformed) × (commandOf 0x07 payload ≡ CommandRead.Malformed))
+unfolding commandOf
+a-command-is-malformed-where-its-table-lacks-bytes payload expected actual =
+    (λ e. rw e, λ e. rw e, λ e. rw e, λ h. let z : eqb (length payload) 0 ≡ false = ne-eqb (length payload) 0 (λ e. omega arith) in (rw z, rw z))
+
+pub a-command-that-its-table-reads-is-read : (payload : List ℕ) (end : ℕ)
+    → ((x : WithComponents SpliceInsert) → parse insert (bitsOf payload) 0 ≡ got x end → commandOf 0x05 payload ≡ CommandRead.Is (SpliceCommand.SpliceInsert (x .value)))
+    × ((t : SpliceTime) → parse spliceTime (bitsOf payload) 0 ≡ got t end → commandOf 0x06 payload ≡ CommandRead.Is (SpliceCommand.TimeSignal t))
+    × ((p : Private) → parse private (bitsOf payload) 0 ≡ got p end → commandOf 0xff payload ≡ CommandRead.Is (SpliceCommand.PrivateCommand p))
+    × (commandOf 0x00 [] ≡ CommandRead.Is SpliceCommand.SpliceNull) × (commandOf 0x07 [] ≡ CommandRead.Is SpliceCommand.BandwidthReservation)
+unfolding commandOf
+a-command-that-its-table-reads-is-read payload end = (λ x e. rw e, λ t e. rw e, λ p e. rw e, refl, refl)
+
+-- condition 11 of a section is that of its command's bytes
+pub condition-11-is-of-the-command : (s : List ℕ) → (commandOf (commandType s) (commandBytes s) ≡ CommandRead.Malformed → malformedCommand s ≡ true)
+    × (malformedCommand s ≡ true → commandOf (commandType s) (commandBytes s) ≡ CommandRead.Malformed)
+condition-11-is-of-the-command s = (λ e. rw e, λ e. refusals.malformed-only (commandOf (commandType s) (commandBytes s)) e)
 
 -- ---- 12: "a flag number over 1 or a restriction number over 3"
 
@@ -101,6 +144,11 @@ an-item-that-does-not-fit-is-refused-with-21 = refusals.too-long-for-the-rest
 pub an-item-of-255-bytes-is-refused-with-22 : (loop : List ℕ) (offset : ℕ) → length loop ≤ 4076 → offset + 6 ≤ length loop → getD loop (offset + 1) 0 + 2 ≤ length loop - offset
     → 254 < getD loop (offset + 1) 0 → StepRefused (stepOf loop offset) 22 [] (length loop)
 an-item-of-255-bytes-is-refused-with-22 = refusals.length-255
+
+-- and so the refusal that takes the rest of a loop, whichever rule ends it, is 21 or 22 with the rule's values (`TakesRest` of theorems/proofs/Theorems.antt)
+pub an-ending-refusal-is-21-or-22 : (loop : List ℕ) (offset : ℕ) → length loop ≤ 4076 → (e : Ends (drop offset loop))
+    → StepRefused (stepOf loop offset) (endNumber e) (endValues e) (length loop)
+an-ending-refusal-is-21-or-22 = refusals.ending
 
 -- "L from 0 to 3: 21 (6, L + 2); the next item follows after L + 2 bytes"
 pub an-item-under-4-bytes-is-refused-with-21 : (loop : List ℕ) (offset : ℕ) → length loop ≤ 4076 → offset + 6 ≤ length loop → getD loop (offset + 1) 0 + 2 ≤ length loop - offset
@@ -171,3 +219,33 @@ untested-types-take-any-bytes = refusals.upid-untested
 
 pub types-above-14-take-any-bytes : (b : List ℕ) → 1 ≤ length b → length b ≤ 255 → (k : ℕ) → 15 ≤ k → checkOf k b ≡ UpidRead.Fine k
 types-above-14-take-any-bytes = refusals.upid-above-14
+
+-- ---- the worked rows
+
+-- 01: "Rows a to n are proved together, one table under one theorem over the definitions."
+pub rows-a-to-n-hold : All Holds rows
+rows-a-to-n-hold = rows-hold.every-row
+
+-- "Sections with right CRC and command length 0: 18 and 19 bytes give 8;"
+pub sections-of-18-and-19-bytes-give-8 : (s : List ℕ) → EmptyCommand s → 18 ≤ length s → length s ≤ 19 → numberOf (sectionOf s) ≡ 8
+sections-of-18-and-19-bytes-give-8 = examples.no-loop-length
+
+-- "20 with loop length 0 and command type 0 is accepted."
+pub sections-of-20-bytes-are-accepted : (s : List ℕ) → EmptyCommand s → length s ≡ 20 → loopLength s ≡ 0 → commandType s ≡ 0 → (x : Section) × (sectionOf s ≡ SectionRead.Is x)
+sections-of-20-bytes-are-accepted = examples.empty-accepted
+
+-- there is one
+pub a-null-is-such-a-section : EmptyCommand spliceNull × (length spliceNull ≡ 20) × (loopLength spliceNull ≡ 0) × (commandType spliceNull ≡ 0)
+a-null-is-such-a-section = examples.null-is-one
+
+-- The incident, worked out (`no-mid-that-is-read-is-split`, `writing-back-splits-no-mid` say it of every section): a section whose MID has a part of 8 bytes and one of 12 is read as these two, whole
+pub eight-and-twelve-bytes-are-read-whole : Identified eightAndTwelve (
+    record { start = 35; len = 24; bytes = both }
+    ∷ record { start = 37; len = 8; bytes = eight }
+    ∷ record { start = 47; len = 12; bytes = twelve }
+    ∷ [])
+eight-and-twelve-bytes-are-read-whole = examples.both-whole
+
+-- and it is canonical, so it is what is written of its items, and its MID is kept whole
+pub the-section-with-eight-and-twelve-is-canonical : AllBytes eightAndTwelve × (canonicalSection eightAndTwelve ≡ true)
+the-section-with-eight-and-twelve-is-canonical = examples.both-canonical

@@ -8,14 +8,14 @@ use borrow.Author.Tests.{eqb-false}
 use Rattle.command.specs.Command.{commandOf, componentsOf, private, read, array}
 use Rattle.command.specs.Insert.{insert, active, moded, ending, breakDuration, timeUnless, component, blank}
 use Rattle.command.specs.declared.SpliceCommand.{SpliceCommand}
-use Rattle.command.specs.declared.insert.SpliceInsert.{SpliceInsert}
+use Rattle.command.specs.declared.insert.SpliceDetail.{SpliceDetail}
 use Rattle.command.specs.declared.insert.SpliceMode.{SpliceMode}
 use Rattle.command.specs.declared.insert.Break.{Break}
 use Rattle.names.specs.declared.flags.NetworkIndicator.{NetworkIndicator}
-use Rattle.command_canonical.specs.Canonical.{canonicalCommand}
+use Rattle.canonical_form.specs.Command.{canonicalCommand}
 use Rattle.descriptor.specs.Segmentation as segment
-use Rattle.descriptor_measure.specs.Canonical.{canonicalUpid, canonicalSegmentation, canonicalPayload, canonicalDescriptor, canonicalFrom, canonicalLoop}
-use Rattle.section_writer.specs.Canonical.{canonicalFrame, canonicalSection}
+use Rattle.canonical_form.specs.Descriptor.{canonicalUpid, canonicalSegmentation, canonicalPayload, canonicalDescriptor, canonicalFrom, canonicalLoop}
+use Rattle.canonical_form.specs.Section.{canonicalFrame, canonicalSection}
 use Rattle.crc.specs.Crc.{crcOf, crcBits, crcBit}
 use Rattle.descriptor.specs.Descriptor.{descriptorOf, isCuei, segmentationOf, insertOf, inserted, dtmfOf, reservedOf}
 use Rattle.descriptor.specs.Plain.{avail, dtmf, time, privateBytes}
@@ -24,7 +24,7 @@ use Rattle.descriptor.specs.Whole.{besideOf, besideIn, filled}
 use Rattle.header.specs.Header.{headerOf, headerRead, spliceHeader}
 use Rattle.splice_time.specs.Time.{spliceTime}
 use Rattle.descriptor_loop.specs.Items.{readAt, wholeAt, stepOf, itemsFrom, itemsOf}
-use Rattle.loop_round_trips.specs.Loops.Pairs.{over}
+use Rattle.canonical_form.specs.Same.Pairs.{over}
 use Rattle.names.specs.Algorithm.{algorithmOf}
 use Rattle.names.specs.Command as names
 use Rattle.section.specs.Section.{commandLength, commandType, commandBytes, roomAfter, loopLength, loopPlace, frameIn, moved, movedRead, accepted, frameOf, sectionOf, numberOf}
@@ -32,12 +32,13 @@ use Rattle.section.specs.declared.Section.{Section}
 use Rattle.section.specs.declared.SectionRead.{SectionRead}
 use Rattle.table.specs.Lent.{viewed}
 use Rattle.table.specs.Table.{number, bit, reserved, part, remaining, list, canonicalBy}
-use Rattle.theorems.specs.Identifiers.{identifiersOf}
-use Rattle.theorems.specs.Same.{SameSections}
-use Rattle.theorems.specs.Sections.{EmptyCommand, Identified}
+use Rattle.theorems_reader.specs.Identifiers.{identifiersOf}
+use Rattle.canonical_form.specs.Same.{SameSections}
+use Rattle.theorems_rows.specs.Examples.{EmptyCommand, Identified}
+use Rattle.upid.specs.Cover.{All, none, more}
 use Rattle.upid.specs.Text.{textOf, done, step, within}
 use Rattle.upid.specs.Upid.{upidOf, checkOf, readOf, walkOf, _then_, plainOf, lengthOf, isText, reportedOf, listOf, partsOf, listed, unlessRefused, eidrOf}
-use Rattle.theorems_rows.specs.Sections.{eighteen, nineteen, insertSection, otherInsertSection, everyIdentifier, everyDescriptor}
+use Rattle.theorems_rows.specs.Sections.{eighteen, nineteen, insertSection, otherInsertSection, everyIdentifier, everyDescriptor, everyCommand, nullSection, programInsertSection, cancelledInsertSection, bandwidthSection, privateSection}
 
 pub eighteen-is-one : EmptyCommand eighteen × (length eighteen ≡ 18)
 unfolding crcOf crcBits crcBit commandLength
@@ -96,7 +97,7 @@ insertReading = record {
   command = SpliceCommand.SpliceInsert (record {
     «splice_event_id» = 1;
     reserved = 127;
-    «splice_detail» = SpliceInsert.Insert (record {
+    «splice_detail» = SpliceDetail.Insert (record {
       «network_indicator» = NetworkIndicator.In;
       «splice_mode» = SpliceMode.Components 0;
       duration = Break.Absent;
@@ -134,3 +135,31 @@ other-bytes e = eqb-false 0x0F 0x1F refl (ap (λ (l : List ℕ). getD l 19 0) e)
 pub every-descriptor-canonical : canonicalSection everyDescriptor ≡ true
 unfolding everyDescriptor canonicalSection canonicalFrame canonicalCommand canonicalLoop canonicalFrom canonicalDescriptor canonicalPayload canonicalSegmentation canonicalBy canonicalUpid numberOf sectionOf frameOf frameIn accepted movedRead moved commandLength commandType commandBytes roomAfter loopLength loopPlace crcOf crcBits crcBit headerOf headerRead spliceHeader spliceTime commandOf insert active moded ending breakDuration timeUnless component isCuei avail dtmf time privateBytes segmentation head front parts deliveryRestrictions mode segment.component duration writtenUpid back subSegments number bit reserved part remaining list viewed checkOf readOf walkOf _then_ plainOf lengthOf isText reportedOf textOf done step within
 every-descriptor-canonical = refl
+
+-- ---- and with every other command
+
+abbrev CanonicalWith : List ℕ → ℕ → Type 0
+CanonicalWith s type = (canonicalSection s ≡ true) × (commandType s ≡ type)
+
+null-canonical : CanonicalWith nullSection 0x00
+unfolding canonicalSection canonicalFrame canonicalCommand canonicalLoop canonicalFrom canonicalBy numberOf sectionOf frameOf frameIn accepted movedRead moved commandLength commandType commandBytes roomAfter loopLength loopPlace crcOf crcBits crcBit headerOf headerRead spliceHeader spliceTime commandOf private insert active moded ending breakDuration timeUnless component number bit reserved part remaining list viewed
+null-canonical = (refl, refl)
+
+program-insert-canonical : CanonicalWith programInsertSection 0x05
+unfolding canonicalSection canonicalFrame canonicalCommand canonicalLoop canonicalFrom canonicalBy numberOf sectionOf frameOf frameIn accepted movedRead moved commandLength commandType commandBytes roomAfter loopLength loopPlace crcOf crcBits crcBit headerOf headerRead spliceHeader spliceTime commandOf private insert active moded ending breakDuration timeUnless component number bit reserved part remaining list viewed
+program-insert-canonical = (refl, refl)
+
+cancelled-insert-canonical : CanonicalWith cancelledInsertSection 0x05
+unfolding canonicalSection canonicalFrame canonicalCommand canonicalLoop canonicalFrom canonicalBy numberOf sectionOf frameOf frameIn accepted movedRead moved commandLength commandType commandBytes roomAfter loopLength loopPlace crcOf crcBits crcBit headerOf headerRead spliceHeader spliceTime commandOf private insert active moded ending breakDuration timeUnless component number bit reserved part remaining list viewed
+cancelled-insert-canonical = (refl, refl)
+
+bandwidth-canonical : CanonicalWith bandwidthSection 0x07
+unfolding canonicalSection canonicalFrame canonicalCommand canonicalLoop canonicalFrom canonicalBy numberOf sectionOf frameOf frameIn accepted movedRead moved commandLength commandType commandBytes roomAfter loopLength loopPlace crcOf crcBits crcBit headerOf headerRead spliceHeader spliceTime commandOf private insert active moded ending breakDuration timeUnless component number bit reserved part remaining list viewed
+bandwidth-canonical = (refl, refl)
+
+private-canonical : CanonicalWith privateSection 0xFF
+unfolding canonicalSection canonicalFrame canonicalCommand canonicalLoop canonicalFrom canonicalBy numberOf sectionOf frameOf frameIn accepted movedRead moved commandLength commandType commandBytes roomAfter loopLength loopPlace crcOf crcBits crcBit headerOf headerRead spliceHeader spliceTime commandOf private insert active moded ending breakDuration timeUnless component number bit reserved part remaining list viewed
+private-canonical = (refl, refl)
+
+pub every-command-canonical : All (λ (c : List ℕ × ℕ). (canonicalSection (c .0) ≡ true) × (commandType (c .0) ≡ c .1)) everyCommand
+every-command-canonical = more null-canonical (more program-insert-canonical (more cancelled-insert-canonical (more bandwidth-canonical (more private-canonical none))))

@@ -1,2 +1,4 @@
+pub mod Rows
+pub mod Examples
 pub mod Sections
 pub mod Refusals

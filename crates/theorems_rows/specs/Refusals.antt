@@ -1,8 +1,10 @@
 -- A refusal by 01's number and values.
-use Prim.Native.Nat.{ℕ}
+use Prim.Native.Nat.{ℕ, _+_}
 use mathlib.Core.List.{List, [], _∷_}
 use mathlib.Core.Path.{_≡_}
+use lib.ListN.{getD}
 use Rattle.descriptor.specs.declared.Descriptor.{Descriptor}
+use Rattle.descriptor_loop.specs.Cover.{Ends}
 use Rattle.descriptor_loop.specs.Items as items
 use Rattle.descriptor_loop.specs.declared.Item.{Item}
 use Rattle.descriptor_loop.specs.declared.ItemRefusal.{ItemRefusal}
@@ -18,6 +20,17 @@ pub record StepRefused (s : Step) (n : ℕ) (values : List ℕ) (next : ℕ) : T
   pub number : items.numberOf refusal ≡ n
   pub told : items.valuesOf refusal ≡ values
   pub goes : s .next ≡ next
+
+-- where a loop ends, each rule with its refusal: "R from 1 to 5: refusal 21 (2, 0)", "L + 2 > R: 21 (L + 2, 0)", "L = 255 that fits: 22"
+abbrev pub endNumber : {rest : List ℕ} → Ends rest → ℕ
+endNumber (Ends.few a b) = 21
+endNumber (Ends.over a b) = 21
+endNumber (Ends.full a b) = 22
+
+abbrev pub endValues : {rest : List ℕ} → Ends rest → List ℕ
+endValues (Ends.few a b) = 2 ∷ 0 ∷ []
+endValues {rest} (Ends.over a b) = (getD rest 1 0 + 2) ∷ 0 ∷ []
+endValues (Ends.full a b) = []
 
 -- a UPID is refused with this number and these values
 pub record UpidRefused (r : UpidRead) (n : ℕ) (values : List ℕ) : Type 0 where

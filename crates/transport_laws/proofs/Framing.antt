@@ -15,14 +15,15 @@ use Rattle.section.specs.Section.{commandLength, loopLength, first, conditions,
 use Rattle.section.specs.declared.Section.{Section}
 use Rattle.section.specs.declared.SectionRead.{SectionRead}
 use Rattle.section.proofs.Acceptance.{refusals-in-order}
-use Rattle.section_writer.specs.Canonical.{canonicalFrame, canonicalSection}
-use Rattle.section_writer.specs.Frame as frame
+use Rattle.canonical_form.specs.Section.{canonicalFrame, canonicalSection}
+use Rattle.section.specs.Section as of-section
 use Rattle.section_writer.proofs.Forms.{framed}
-use Rattle.section_writer.proofs.Numbers.{bytes-take, byte-in}
-use Rattle.section_writer.proofs.Parts.{parts-of}
+use Rattle.table.proofs.Bits.{byte-in}
+use Rattle.section.proofs.Parts.{parts-of}
 use Rattle.section_writer.proofs.Theorems.{canonical-parts}
 use Rattle.table.specs.Bits.{bitsOf, field, AllBytes}
 use Rattle.table.proofs.Fields.{field-in, field-byte}
+use Rattle.table.proofs.Structure.{bytes-take}
 use Rattle.transport_packet.specs.Sections.{sectionLength, Right}
 use Rattle.transport.specs.declared.Assembler.{Assembler}
 use Rattle.transport.specs.declared.Taken.the-variants.{Section as Gave}
@@ -42,7 +43,7 @@ module _ (s : List ℕ) (a : AllBytes s) (r : Right s) where
   length-bits-right = same-length-bits s a (omega (arith, r .size)) ∙ omega (arith, r .size)
 
   pub given-canonical : canonicalFrame s
-      ≡ eqb (numberOf (sectionOf s)) 0 && (eqb (field (bitsOf s) 8 4) 0b0011 && eqb (length s) (frame.sectionLength (commandLength s) (loopLength s)))
+      ≡ eqb (numberOf (sectionOf s)) 0 && (eqb (field (bitsOf s) 8 4) 0b0011 && eqb (length s) (of-section.sectionLength (commandLength s) (loopLength s)))
   unfolding canonicalFrame
   given-canonical = rw (eq-eqb _ _ length-bits-right)
 

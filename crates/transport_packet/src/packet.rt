@@ -3,6 +3,7 @@ ghost use mathlib.Core.Path.{_≡_};
 ghost use Prim.Native.Nat.{_<_, _≤_};
 ghost use lib.ListN.{length};
 ghost use Rattle.transport_packet.specs.Packet.{headOf, payloadAt};
+use table::numbers::size;
 
 // Refusals 71 to 75.
 pub enum Refusal {
@@ -24,20 +25,13 @@ pub enum Head {
     },
 }
 
-// A byte as a place.
-fn place(b: u8) -> usize
-    ensures { λ r. ⌜ (r ≡ b) × (r < 256) ⌝ }
-{
-    b as usize
-}
-
 // Where the payload's bytes would begin.
 fn payload_at(packet: &[u8]) -> usize
     requires { ⌜ 5 ≤ length (now packet) ⌝ }
     ensures { λ r. ⌜ (r ≡ payloadAt (now (packet .entry))) × (r < 261) ⌝ }
 {
     if packet[3] / 32 % 2 == 1 {
-        return 5 + place(packet[4]);
+        return 5 + size(packet[4]);
     }
     4
 }
@@ -52,10 +46,10 @@ pub fn read_head(pid: usize, packet: &[u8]) -> Head
     if packet[0] != 0x47 {
         return Head::Refused(Refusal::NotAPacket);
     }
-    if place(packet[1]) % 32 * 256 + place(packet[2]) != pid {
+    if size(packet[1]) % 32 * 256 + size(packet[2]) != pid {
         return Head::Refused(Refusal::OtherPid);
     }
-    let control = place(packet[3]);
+    let control = size(packet[3]);
     if control / 64 != 0 {
         return Head::Refused(Refusal::Scrambled);
     }
@@ -75,7 +69,7 @@ pub fn read_head(pid: usize, packet: &[u8]) -> Head
             first: 188,
         };
     }
-    let first = at + 1 + place(packet[at]);
+    let first = at + 1 + size(packet[at]);
     if 188 <= first {
         return Head::Refused(Refusal::PayloadOutside);
     }

@@ -1,7 +1,7 @@
 -- From trees of parts to the public answer, for the statements in Theorems.antt.
 use Prim.Native.Nat.{ℕ, zero, suc, _+_, _*_, _-_, _≤_}
 use mathlib.Core.Path.{_≡_, refl, sym, ap, _∙_}
-use mathlib.Core.Bool.{Bool, true, false, cond, not, _&&_}
+use mathlib.Core.Bool.{Bool, true, false, not, _&&_, cond as pick}
 use mathlib.Core.List.{List, [], _∷_, _++_, map, append-nil}
 use native.Mathlib.Omega.{arith}
 use lib.Dec.{ltb, eqb}
@@ -34,7 +34,7 @@ unfolding unlessRefused
 kept (Fine k) ps h = refl
 kept (Refused r) ps h = absurd h
 
-parts-of-mid : (top : List ℕ) → Accepted (checkOf 13 top) → partsIn (upidOf 13 top) ≡ listOf 13 1 0 top
+pub parts-of-mid : (top : List ℕ) → Accepted (checkOf 13 top) → partsIn (upidOf 13 top) ≡ listOf 13 1 0 top
 parts-of-mid top a = parts-in 13 top ∙ kept _ _ a
 
 -- ---- a MID's pieces cover it
@@ -56,23 +56,23 @@ once top ps m h i low high = rw (h .pieces) (placed-once (m .level + 1) (m .star
 
 -- what holds of each piece holds of every MID in what is accepted
 module _ (P : List ℕ → List Part → Part → Type 0) (of-piece : (top : List ℕ) (ps : List Part) (m : Part) → Piece top ps m → P top ps m) where
-  in-forest : (f : Forest) → Grown f → All (λ (m : Part). m .kind ≡ 13 → P (joined (cuts f)) (records 1 0 f) m) (whole (joined (cuts f)) ∷ records 1 0 f)
+  in-forest : (f : Forest) → Grown f → All (λ (m : Part). m .«upid_type» ≡ 13 → P (joined (cuts f)) (records 1 0 f) m) (whole (joined (cuts f)) ∷ records 1 0 f)
   in-forest f g =
       all-map (λ m h e. of-piece (joined (cuts f)) (records 1 0 f) m (h e))
       (more (λ e. whole-piece f g) (inner-pieces (joined (cuts f)) f 1 0 [] g (sym (append-nil _))))
 
-  in-tree : (top : List ℕ) (ps : List Part) (f : Forest) → Grown f → joined (cuts f) ≡ top → ps ≡ records 1 0 f → All (λ (m : Part). m .kind ≡ 13 → P top ps m) (whole top ∷ ps)
+  in-tree : (top : List ℕ) (ps : List Part) (f : Forest) → Grown f → joined (cuts f) ≡ top → ps ≡ records 1 0 f → All (λ (m : Part). m .«upid_type» ≡ 13 → P top ps m) (whole top ∷ ps)
   in-tree top ps f g j r = rw (r, ← j) (in-forest f g)
 
-  of-every-mid : (top : List ℕ) → Accepted (checkOf 13 top) → All (λ (m : Part). m .kind ≡ 13 → P top (partsIn (upidOf 13 top)) m) (whole top ∷ partsIn (upidOf 13 top))
+  of-every-mid : (top : List ℕ) → Accepted (checkOf 13 top) → All (λ (m : Part). m .«upid_type» ≡ 13 → P top (partsIn (upidOf 13 top)) m) (whole top ∷ partsIn (upidOf 13 top))
   of-every-mid top a =
       let (f, g, j, r) = grow (length top) 1 0 top (omega arith) (check-mid top a) in
       in-tree top _ f g j (parts-of-mid top a ∙ r)
 
-pub covered : (top : List ℕ) → Accepted (checkOf 13 top) → All (λ (m : Part). m .kind ≡ 13 → Covered top (partsIn (upidOf 13 top)) m) (whole top ∷ partsIn (upidOf 13 top))
+pub covered : (top : List ℕ) → Accepted (checkOf 13 top) → All (λ (m : Part). m .«upid_type» ≡ 13 → Covered top (partsIn (upidOf 13 top)) m) (whole top ∷ partsIn (upidOf 13 top))
 covered = of-every-mid Covered cover
 
-pub all-once : (top : List ℕ) → Accepted (checkOf 13 top) → All (λ (m : Part). m .kind ≡ 13 → Once (partsIn (upidOf 13 top)) m) (whole top ∷ partsIn (upidOf 13 top))
+pub all-once : (top : List ℕ) → Accepted (checkOf 13 top) → All (λ (m : Part). m .«upid_type» ≡ 13 → Once (partsIn (upidOf 13 top)) m) (whole top ∷ partsIn (upidOf 13 top))
 all-once = of-every-mid (λ top. Once) once
 
 pub announced-all : (top : List ℕ) → Accepted (checkOf 13 top) → All (Announced top) (partsIn (upidOf 13 top))
@@ -149,11 +149,11 @@ all-127 k bytes =
 -- ---- pieces that are accepted make up a MID that is accepted
 
 -- where a payload lies does not matter
-either : (t : Bool) (a b c d : UpidRead) → (Accepted a → Accepted c) → (Accepted b → Accepted d) → Accepted (cond t a b) → Accepted (cond t c d)
+either : (t : Bool) (a b c d : UpidRead) → (Accepted a → Accepted c) → (Accepted b → Accepted d) → Accepted (pick t a b) → Accepted (pick t c d)
 either true a b c d f g h = f h
 either false a b c d f g h = g h
 
-then-all : (a b : UpidRead) → Accepted a → Accepted b → Accepted (a then b)
+pub then-all : (a b : UpidRead) → Accepted a → Accepted b → Accepted (a then b)
 unfolding _then_
 then-all (Fine k) b ha hb = hb
 then-all (Refused r) b ha hb = absurd ha
@@ -180,49 +180,53 @@ walk-anywhere (suc n) s t (k ∷ (l ∷ rest)) h =
     (walk-anywhere n (s + (2 + l)) (t + (2 + l)) (drop l rest) (both .1)))
     h
 
-anywhere : (k s t : ℕ) (bytes : List ℕ) → Accepted (readOf k s bytes) → Accepted (readOf k t bytes)
+pub anywhere : (k s t : ℕ) (bytes : List ℕ) → Accepted (readOf k s bytes) → Accepted (readOf k t bytes)
 unfolding readOf
 anywhere k s t bytes = either (eqb k 13) _ _ _ _ (walk-anywhere (length bytes) s t bytes) (plain-anywhere k s t bytes)
 
-join-read : (start : ℕ) (cs : List Cut) → All (λ (c : Cut). Accepted (readOf (c .kind) 0 (c .payload))) cs → Accepted (readOf 13 start (joined cs))
+join-read : (start : ℕ) (cs : List Cut) → All (λ (c : Cut). Accepted (readOf (c .«upid_type») 0 (c .payload))) cs → Accepted (readOf 13 start (joined cs))
 unfolding joined
 join-read start [] none = rw read-nil tt
 join-read start (c ∷ cs) (more h hs) =
     let n : length (c .payload) ≤ length (c .payload ++ joined cs) = omega (arith, length-append (c .payload) (joined cs)) in
     rw (read-more, le-ltb _ _ n, take-append-seam, drop-append-seam)
-    (then-all _ _ (anywhere (c .kind) 0 (start + 2) (c .payload) h) (join-read (start + (2 + length (c .payload))) cs hs))
+    (then-all _ _ (anywhere (c .«upid_type») 0 (start + 2) (c .payload) h) (join-read (start + (2 + length (c .payload))) cs hs))
 
-join-checked : (cs : List Cut) → length (joined cs) ≤ 255 → All (λ (c : Cut). Accepted (readOf (c .kind) 0 (c .payload))) cs → Accepted (checkOf 13 (joined cs))
+-- what is accepted where it stands is accepted as a whole UPID
+pub check-of-read : (k : ℕ) (s : List ℕ) → length s ≤ 255 → Accepted (readOf k 0 s) → Accepted (checkOf k s)
 unfolding checkOf
-join-checked cs n h = rw (le-ltb _ _ n) (go (eqb (length (joined cs)) 0))
+check-of-read k s n a = rw (le-ltb _ _ n) (go (eqb (length s) 0))
   where
-    go : (t : Bool) → Accepted (cond t (Fine 0) (readOf 13 0 (joined cs)))
+    go : (t : Bool) → Accepted (pick t (Fine 0) (readOf k 0 s))
     go true = tt
-    go false = join-read 0 cs h
+    go false = a
 
-pub read-back : (cs : List Cut) → length (joined cs) ≤ 255 → All (λ (c : Cut). Accepted (readOf (c .kind) 0 (c .payload))) cs
+join-checked : (cs : List Cut) → length (joined cs) ≤ 255 → All (λ (c : Cut). Accepted (readOf (c .«upid_type») 0 (c .payload))) cs → Accepted (checkOf 13 (joined cs))
+join-checked cs n h = check-of-read 13 (joined cs) n (join-read 0 cs h)
+
+pub pieces-write-read : (cs : List Cut) → length (joined cs) ≤ 255 → All (λ (c : Cut). Accepted (readOf (c .«upid_type») 0 (c .payload))) cs
     → Accepted (checkOf 13 (joined cs)) × (directOf (whole (joined cs)) (partsIn (upidOf 13 (joined cs))) ≡ placed 1 0 cs)
-read-back cs n h = (join-checked cs n h, found (covered (joined cs) (join-checked cs n h)))
+pieces-write-read cs n h = (join-checked cs n h, found (covered (joined cs) (join-checked cs n h)))
   where
     top : List ℕ
     top = joined cs
 
-    found : All (λ (m : Part). m .kind ≡ 13 → Covered top (partsIn (upidOf 13 top)) m) (whole top ∷ partsIn (upidOf 13 top))
+    found : All (λ (m : Part). m .«upid_type» ≡ 13 → Covered top (partsIn (upidOf 13 top)) m) (whole top ∷ partsIn (upidOf 13 top))
         → directOf (whole top) (partsIn (upidOf 13 top)) ≡ placed 1 0 cs
     found (more c rest) =
         let own : cs ≡ c refl .cutting = c refl .only cs (sym (take-length top)) in
         c refl .pieces ∙ rw (← own)
 
 -- parts that are no MIDs have none inside them
-plain-parts : (level start : ℕ) (cs : List Cut) → All (λ (c : Cut). c .kind ≡ 13 → ⊥) cs → listOf 13 level start (joined cs) ≡ placed level start cs
+plain-parts : (level start : ℕ) (cs : List Cut) → All (λ (c : Cut). c .«upid_type» ≡ 13 → ⊥) cs → listOf 13 level start (joined cs) ≡ placed level start cs
 unfolding joined placed
 plain-parts level start [] none = list-nil level start
 plain-parts level start (c ∷ cs) (more h hs) =
-    rw (list-more, take-append-seam, drop-append-seam, list-plain (c .kind) (level + 1) (start + 2) (c .payload) h, plain-parts level (start + (2 + length (c .payload))) cs hs)
+    rw (list-more, take-append-seam, drop-append-seam, list-plain (c .«upid_type») (level + 1) (start + 2) (c .payload) h, plain-parts level (start + (2 + length (c .payload))) cs hs)
 
-pub read-back-plain : (cs : List Cut) → length (joined cs) ≤ 255 → All (λ (c : Cut). Accepted (readOf (c .kind) 0 (c .payload))) cs → All (λ (c : Cut). c .kind ≡ 13 → ⊥) cs
+pub pieces-write-read-plain : (cs : List Cut) → length (joined cs) ≤ 255 → All (λ (c : Cut). Accepted (readOf (c .«upid_type») 0 (c .payload))) cs → All (λ (c : Cut). c .«upid_type» ≡ 13 → ⊥) cs
     → (partsIn (upidOf 13 (joined cs)) ≡ placed 1 0 cs) × (map (bytesOf (joined cs)) (partsIn (upidOf 13 (joined cs))) ≡ map (λ (c : Cut). c .payload) cs)
-read-back-plain cs n h p =
+pieces-write-read-plain cs n h p =
     let e : partsIn (upidOf 13 (joined cs)) ≡ placed 1 0 cs = parts-of-mid (joined cs) (join-checked cs n h) ∙ plain-parts 1 0 cs p in
     (e, rw e (placed-runs (joined cs) 1 0 cs [] (sym (append-nil (joined cs)))))
 
@@ -239,9 +243,9 @@ inside-wider : (m n : ℕ) (a : UpidRead) → m ≤ n → Inside m a → Inside 
 unfolding Inside
 inside-wider m n a l h k v e = omega (arith, h k v e)
 
-inside-cond : (end : ℕ) (t : Bool) (a b : UpidRead) → Inside end a → (t ≡ false → Inside end b) → Inside end (cond t a b)
-inside-cond end true a b ha hb = ha
-inside-cond end false a b ha hb = hb refl
+inside-pick : (end : ℕ) (t : Bool) (a b : UpidRead) → Inside end a → (t ≡ false → Inside end b) → Inside end (pick t a b)
+inside-pick end true a b ha hb = ha
+inside-pick end false a b ha hb = hb refl
 
 inside-then : (end : ℕ) (a b : UpidRead) → Inside end a → Inside end b → Inside end (a then b)
 unfolding _then_
@@ -255,10 +259,10 @@ inside-short end expected actual q v e = let z : _≡_ {A = ℕ} 0 1 = cc in abs
 inside-plain : (k start : ℕ) (bytes : List ℕ) → Inside (start + length bytes) (plainOf k start bytes)
 unfolding Inside plainOf
 inside-plain k start bytes =
-    inside-cond _ (eqb k 0) _ _ (λ q v e. let z : _≡_ {A = ℕ} 0 1 = cc in absurd (omega arith)) (λ _.
-    inside-cond _ (eqb (lengthOf k) 0) _ _ (inside-fine _ _) (λ _.
-    inside-cond _ (not (eqb (length bytes) (lengthOf k))) _ _ (λ q v e. let z : _≡_ {A = ℕ} 0 1 = cc in absurd (omega arith)) (λ _.
-    inside-cond _ (isText k && not (textOf bytes)) _ _
+    inside-pick _ (eqb k 0) _ _ (λ q v e. let z : _≡_ {A = ℕ} 0 1 = cc in absurd (omega arith)) (λ _.
+    inside-pick _ (eqb (lengthOf k) 0) _ _ (inside-fine _ _) (λ _.
+    inside-pick _ (not (eqb (length bytes) (lengthOf k))) _ _ (λ q v e. let z : _≡_ {A = ℕ} 0 1 = cc in absurd (omega arith)) (λ _.
+    inside-pick _ (isText k && not (textOf bytes)) _ _
     (λ q v e. let f : v ≡ record { at = start; len = length bytes } = cc in rw f (omega arith))
     (λ _. inside-fine _ _))))
 
@@ -268,19 +272,19 @@ inside-walk zero start bytes = inside-fine _ _
 inside-walk (suc n) start [] = inside-fine _ _
 inside-walk (suc n) start (k ∷ []) = inside-short _ _ _
 inside-walk (suc n) start (k ∷ (l ∷ rest)) =
-    inside-cond _ (ltb (length rest) l) _ _ (inside-short _ _ _) (λ e.
+    inside-pick _ (ltb (length rest) l) _ _ (inside-short _ _ _) (λ e.
     let present : l ≤ length rest = ltb-false _ _ e in
     let m : start + 2 + length (take l rest) ≤ start + length (k ∷ (l ∷ rest)) = omega (arith, length-take l rest) in
     inside-then _ _ _
-    (inside-cond _ (eqb k 13) _ _ (inside-wider _ _ _ m (inside-walk n (start + 2) (take l rest))) (λ _. inside-wider _ _ _ m (inside-plain k (start + 2) (take l rest))))
+    (inside-pick _ (eqb k 13) _ _ (inside-wider _ _ _ m (inside-walk n (start + 2) (take l rest))) (λ _. inside-wider _ _ _ m (inside-plain k (start + 2) (take l rest))))
     (inside-wider (start + (2 + l) + length (drop l rest)) _ _ (omega (arith, length-drop l rest)) (inside-walk n (start + (2 + l)) (drop l rest))))
 
 pub view-inside : (k : ℕ) (bytes : List ℕ) (q : ℕ) (v : View) → checkOf k bytes ≡ Refused (InvalidUpidContent q v) → v .at + v .len ≤ length bytes
 unfolding Inside checkOf readOf
 view-inside k bytes q v =
-    inside-cond (length bytes) (ltb 255 (length bytes)) _ _ (λ q v e. let z : _≡_ {A = ℕ} 0 1 = cc in absurd (omega arith)) (λ _.
-    inside-cond _ (eqb (length bytes) 0) _ _ (inside-fine _ _) (λ _.
-    inside-cond _ (eqb k 13) _ _ (inside-wider _ _ _ (omega arith) (inside-walk (length bytes) 0 bytes)) (λ _. inside-wider _ _ _ (omega arith) (inside-plain k 0 bytes))))
+    inside-pick (length bytes) (ltb 255 (length bytes)) _ _ (λ q v e. let z : _≡_ {A = ℕ} 0 1 = cc in absurd (omega arith)) (λ _.
+    inside-pick _ (eqb (length bytes) 0) _ _ (inside-fine _ _) (λ _.
+    inside-pick _ (eqb k 13) _ _ (inside-wider _ _ _ (omega arith) (inside-walk (length bytes) 0 bytes)) (λ _. inside-wider _ _ _ (omega arith) (inside-plain k 0 bytes))))
     q v
 
 -- ---- a MID of 8 and 12 bytes
@@ -291,7 +295,7 @@ two-runs a b x y e = (cc, cc)
 module _ (j k : ℕ) (a b : List ℕ) (la : length a ≡ 8) (lb : length b ≡ 12)
     (ja : Accepted (readOf j 0 a)) (kb : Accepted (readOf k 0 b)) (nj : j ≡ 13 → ⊥) (nk : k ≡ 13 → ⊥) where
   two : List Cut
-  two = record { kind = j; payload = a } ∷ (record { kind = k; payload = b } ∷ [])
+  two = record { «upid_type» = j; payload = a } ∷ (record { «upid_type» = k; payload = b } ∷ [])
 
   top : List ℕ
   top = j ∷ (8 ∷ (a ++ (k ∷ (12 ∷ b))))
@@ -304,15 +308,15 @@ module _ (j k : ℕ) (a b : List ℕ) (la : length a ≡ 8) (lb : length b ≡ 1
   unfolding top
   two-short = rw two-joined (omega (arith, length-append a (k ∷ (12 ∷ b))))
 
-  two-placed : placed 1 0 two ≡ record { kind = reportedOf j; level = 1; start = 2; len = 8 } ∷ (record { kind = reportedOf k; level = 1; start = 12; len = 12 } ∷ [])
+  two-placed : placed 1 0 two ≡ record { «upid_type» = reportedOf j; level = 1; start = 2; len = 8 } ∷ (record { «upid_type» = reportedOf k; level = 1; start = 12; len = 12 } ∷ [])
   unfolding placed two
   two-placed = rw (la, lb)
 
   back : (partsIn (upidOf 13 top) ≡ placed 1 0 two) × (map (bytesOf top) (partsIn (upidOf 13 top)) ≡ a ∷ (b ∷ []))
   unfolding two
-  back = rw two-joined at (read-back-plain two two-short (more ja (more kb none)) (more nj (more nk none)))
+  back = rw two-joined at (pieces-write-read-plain two two-short (more ja (more kb none)) (more nj (more nk none)))
 
-  pub eight-and-twelve : (partsIn (upidOf 13 (j ∷ (8 ∷ (a ++ (k ∷ (12 ∷ b)))))) ≡ record { kind = reportedOf j; level = 1; start = 2; len = 8 } ∷ (record { kind = reportedOf k; level = 1; start = 12; len = 12 } ∷ []))
+  pub eight-and-twelve : (partsIn (upidOf 13 (j ∷ (8 ∷ (a ++ (k ∷ (12 ∷ b)))))) ≡ record { «upid_type» = reportedOf j; level = 1; start = 2; len = 8 } ∷ (record { «upid_type» = reportedOf k; level = 1; start = 12; len = 12 } ∷ []))
       × (take 8 (drop 2 (j ∷ (8 ∷ (a ++ (k ∷ (12 ∷ b)))))) ≡ a) × (take 12 (drop 12 (j ∷ (8 ∷ (a ++ (k ∷ (12 ∷ b)))))) ≡ b)
   unfolding top
   eight-and-twelve =

@@ -26,7 +26,7 @@ front p q s t l e = sym (take-append-seam p s) ∙ rw (e, l) (take-append-seam q
 back : (p q s t : List ℕ) → length p ≡ length q → p ++ s ≡ q ++ t → s ≡ t
 back p q s t l e = sym (drop-append-seam p s) ∙ rw (e, l) (drop-append-seam q t)
 
-same-cut : (a b : ℕ) (s t : List ℕ) → a ≡ b → s ≡ t → _≡_ {A = Cut} (record { kind = a; payload = s }) (record { kind = b; payload = t })
+same-cut : (a b : ℕ) (s t : List ℕ) → a ≡ b → s ≡ t → _≡_ {A = Cut} (record { «upid_type» = a; payload = s }) (record { «upid_type» = b; payload = t })
 same-cut a b s t e f = rw (e, f)
 
 pub one-cutting : (cs ds : List Cut) → joined cs ≡ joined ds → cs ≡ ds
@@ -38,7 +38,7 @@ one-cutting (c ∷ cs) (d ∷ ds) e =
     let l : length (c .payload) ≡ length (d .payload) = head-of (tail-of e) in
     let p : c .payload ≡ d .payload = front (c .payload) (d .payload) (joined cs) (joined ds) l (tail-of (tail-of e)) in
     let r : cs ≡ ds = one-cutting cs ds (back (c .payload) (d .payload) (joined cs) (joined ds) l (tail-of (tail-of e))) in
-    let h : c ≡ d = same-cut (c .kind) (d .kind) (c .payload) (d .payload) (head-of e) p in
+    let h : c ≡ d = same-cut (c .«upid_type») (d .«upid_type») (c .payload) (d .payload) (head-of e) p in
     rw (h, r)
 
 -- ---- each byte lies in exactly one piece
@@ -81,7 +81,7 @@ pub placed-runs : (top : List ℕ) (level start : ℕ) (cs : List Cut) (rest : L
 unfolding joined placed
 placed-runs top level start [] rest e = refl
 placed-runs top level start (c ∷ cs) rest e =
-    let f : drop start top ≡ c .kind ∷ (length (c .payload) ∷ (c .payload ++ (joined cs ++ rest))) = e ∙ rw append-assoc in
+    let f : drop start top ≡ c .«upid_type» ∷ (length (c .payload) ∷ (c .payload ++ (joined cs ++ rest))) = e ∙ rw append-assoc in
     rw (
       after-head top start _ _ _ f,
       take-append-seam,

@@ -5,7 +5,7 @@
 --     then-both, then-off, then-on     what is accepted, part by part
 use Prim.Native.Nat.{ℕ, zero, suc, _+_, _*_, _≤_, _<_}
 use mathlib.Core.Path.{_≡_, refl, sym, ap, _∙_}
-use mathlib.Core.Bool.{Bool, true, false, cond}
+use mathlib.Core.Bool.{Bool, true, false, cond as pick}
 use mathlib.Core.List.{List, [], _∷_, _++_}
 use native.Mathlib.Omega.{arith}
 use lib.Dec.{ltb, eqb}
@@ -77,7 +77,7 @@ read-one start k = refl
 
 -- a head of two bytes: its payload is short, or it is a part and what follows
 pub read-more : (start k l : ℕ) (rest : List ℕ) → readOf 13 start (k ∷ (l ∷ rest)) ≡
-    cond (ltb (length rest) l) (Refused (NotEnoughData l (length rest)))
+    pick (ltb (length rest) l) (Refused (NotEnoughData l (length rest)))
     (readOf k (start + 2) (take l rest) then readOf 13 (start + (2 + l)) (drop l rest))
 unfolding readOf walkOf
 read-more start k l rest =
@@ -93,7 +93,7 @@ unfolding listOf partsOf
 list-nil level start = refl
 
 pub list-more : (level start k l : ℕ) (rest : List ℕ) → listOf 13 level start (k ∷ (l ∷ rest)) ≡
-    record { kind = reportedOf k; level = level; start = start + 2; len = l }
+    record { «upid_type» = reportedOf k; level = level; start = start + 2; len = l }
     ∷ (listOf k (level + 1) (start + 2) (take l rest) ++ listOf 13 level (start + (2 + l)) (drop l rest))
 unfolding listOf partsOf
 list-more level start k l rest =
@@ -123,7 +123,7 @@ list-plain k level start bytes h = rw (ne-eqb k 13 h)
 
 -- ---- how many parts there can be
 
-few-or-none : (t : Bool) (n : ℕ) (ps : List Part) → 2 * length ps ≤ n → 2 * length (cond t ps []) ≤ n
+few-or-none : (t : Bool) (n : ℕ) (ps : List Part) → 2 * length ps ≤ n → 2 * length (pick t ps []) ≤ n
 few-or-none true n ps h = h
 few-or-none false n ps h = omega arith
 
@@ -135,7 +135,7 @@ few-parts (suc n) level start (k ∷ []) = omega arith
 few-parts (suc n) level start (k ∷ (l ∷ rest)) =
     omega (
       arith,
-      length-append (cond (eqb k 13) (partsOf n (level + 1) (start + 2) (take l rest)) []) (partsOf n level (start + (2 + l)) (drop l rest)),
+      length-append (pick (eqb k 13) (partsOf n (level + 1) (start + 2) (take l rest)) []) (partsOf n level (start + (2 + l)) (drop l rest)),
       few-or-none (eqb k 13) (length (take l rest)) (partsOf n (level + 1) (start + 2) (take l rest)) (few-parts n (level + 1) (start + 2) (take l rest)),
       few-parts n level (start + (2 + l)) (drop l rest),
       length-take l rest,

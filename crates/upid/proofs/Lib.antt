@@ -1,5 +1,6 @@
 pub mod Ranges
 pub mod Laws
+pub mod Reported
 pub mod Walks
 pub mod Lister
 pub mod Cutting

@@ -60,7 +60,7 @@ module _ (s : List ℕ) (end at : ℕ) (inside : at < end) (within : end ≤ len
     turn-read a = then-both _ _ (rw (front, read-more, ← en, le-ltb _ _ present, inner, after, there) at a)
 
     turn-list : (level : ℕ) → listOf 13 level at (drop at (take end s)) ≡
-        record { kind = reportedOf (getD s at 0); level = level; start = at + 2; len = getD s (at + 1) 0 }
+        record { «upid_type» = reportedOf (getD s at 0); level = level; start = at + 2; len = getD s (at + 1) 0 }
         ∷ (listOf (getD s at 0) (level + 1) (at + 2) (drop (at + 2) (take (at + 2 + n) s)) ++ listOf 13 level (at + 2 + n) (drop (at + 2 + n) (take end s)))
     turn-list level = rw (front, list-more, ← en, inner, after, there)
 
@@ -150,7 +150,7 @@ module _ (s ends : List ℕ) (level at end : ℕ) (some : 0 < level) (e : end �
     open-after = of-top s ends level (at + 2 + n) some (rw (← e) (fits, o1 .1, both .1, o1 .3))
 
     abbrev here : Part
-    here = record { kind = reportedOf (getD s at 0); level = level; start = at + 2; len = getD s (at + 1) 0 }
+    here = record { «upid_type» = reportedOf (getD s at 0); level = level; start = at + 2; len = getD s (at + 1) 0 }
 
     pending-part : pending s ends level at
         ≡ here ∷ (listOf (getD s at 0) (level + 1) (at + 2) (drop (at + 2) (take (at + 2 + n) s)) ++ pending s ends level (at + 2 + n))
@@ -185,8 +185,8 @@ module _ (s ends : List ℕ) (level at end : ℕ) (some : 0 < level) (e : end �
 -- ---- the list
 
 -- a part is stored, and what was to come after it is still to come
-pub store : (w list : PartList) (p : Part) (r : ℕ) (ps rest : List Part) → list ≡ grown w ps → ps ≡ p ∷ rest → r ≡ p .kind
-    → list ≡ grown (record { parts = set (w .parts) (w .count) (record { kind = r; level = p .level; start = p .start; len = p .len }); count = w .count + 1 }) rest
+pub store : (w list : PartList) (p : Part) (r : ℕ) (ps rest : List Part) → list ≡ grown w ps → ps ≡ p ∷ rest → r ≡ p .«upid_type»
+    → list ≡ grown (record { parts = set (w .parts) (w .count) (record { «upid_type» = r; level = p .level; start = p .start; len = p .len }); count = w .count + 1 }) rest
 store w list p r ps rest e f g = e ∙ rw (f, g) (grown-more w (p ∷ []) rest ∙ rw (stored w p))
 
 pub begun : (k : ℕ) (s ends : List ℕ) (w : PartList) → k ≡ 13 → length s ≤ 255 → getD ends 0 0 ≡ length s → w ≡ listed []

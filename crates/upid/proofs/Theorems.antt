@@ -23,12 +23,12 @@ use Rattle.upid.proofs.Utf8 as utf8
 -- The top MID, and every part of it that is a MID, at whatever level: its direct parts, heads included, are the pieces of one cutting of its
 -- bytes, and it can be cut in no other way.
 pub every-mid-is-covered : (top : List ℕ) → Accepted (upidOf 13 top .read)
-    → All (λ (m : Part). m .kind ≡ 13 → Covered top (partsIn (upidOf 13 top)) m) (whole top ∷ partsIn (upidOf 13 top))
+    → All (λ (m : Part). m .«upid_type» ≡ 13 → Covered top (partsIn (upidOf 13 top)) m) (whole top ∷ partsIn (upidOf 13 top))
 unfolding upidOf
 every-mid-is-covered = answers.covered
 
 -- Every byte of such a MID lies in exactly one of its direct parts.
-pub every-byte-lies-in-one-part : (top : List ℕ) → Accepted (upidOf 13 top .read) → All (λ (m : Part). m .kind ≡ 13 → Once (partsIn (upidOf 13 top)) m) (whole top ∷ partsIn (upidOf 13 top))
+pub every-byte-lies-in-one-part : (top : List ℕ) → Accepted (upidOf 13 top .read) → All (λ (m : Part). m .«upid_type» ≡ 13 → Once (partsIn (upidOf 13 top)) m) (whole top ∷ partsIn (upidOf 13 top))
 unfolding upidOf
 every-byte-lies-in-one-part = answers.all-once
 
@@ -52,17 +52,17 @@ pub no-other-cutting : (cs ds : List Cut) → joined cs ≡ joined ds → cs ≡
 no-other-cutting = cutting.one-cutting
 
 -- Pieces that are accepted, joined to at most 255 bytes, are accepted as a MID whose direct parts are those pieces.
-pub pieces-are-read-back : (cs : List Cut) → length (joined cs) ≤ 255 → All (λ (c : Cut). Accepted (readOf (c .kind) 0 (c .payload))) cs
+pub pieces-write-read : (cs : List Cut) → length (joined cs) ≤ 255 → All (λ (c : Cut). Accepted (readOf (c .«upid_type») 0 (c .payload))) cs
     → Accepted (upidOf 13 (joined cs) .read) × (directOf (whole (joined cs)) (partsIn (upidOf 13 (joined cs))) ≡ placed 1 0 cs)
 unfolding upidOf
-pieces-are-read-back = answers.read-back
+pieces-write-read = answers.pieces-write-read
 
 -- So a MID of an identifier of 8 bytes and one of 12 is read back as these two, whole.
 pub eight-and-twelve : (j k : ℕ) (a b : List ℕ) → length a ≡ 8 → length b ≡ 12
     → Accepted (readOf j 0 a) → Accepted (readOf k 0 b) → (j ≡ 13 → ⊥) → (k ≡ 13 → ⊥)
     → let top : List ℕ = j ∷ (8 ∷ (a ++ (k ∷ (12 ∷ b)))) in
-    let first : Part = record { kind = reportedOf j; level = 1; start = 2; len = 8 } in
-    let second : Part = record { kind = reportedOf k; level = 1; start = 12; len = 12 } in
+    let first : Part = record { «upid_type» = reportedOf j; level = 1; start = 2; len = 8 } in
+    let second : Part = record { «upid_type» = reportedOf k; level = 1; start = 12; len = 12 } in
     (partsIn (upidOf 13 top) ≡ first ∷ (second ∷ [])) × (bytesOf top first ≡ a) × (bytesOf top second ≡ b)
 eight-and-twelve = answers.eight-and-twelve
 

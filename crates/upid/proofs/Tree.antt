@@ -4,7 +4,7 @@
 --     announced, shallow           each record has a head before it, and is not too deep
 use Prim.Native.Nat.{ℕ, zero, suc, _+_, _*_, _-_, _≤_, _<_}
 use mathlib.Core.Path.{_≡_, refl, sym, ap, _∙_}
-use mathlib.Core.Bool.{Bool, true, false, cond, and-false}
+use mathlib.Core.Bool.{Bool, true, false, and-false, cond as pick}
 use mathlib.Core.List.{List, [], _∷_, _++_, append-assoc, append-nil, List·Memᴰ, List·Memᴰ·head, List·Memᴰ·tail, Memᴰ·append-left, Memᴰ·append-right}
 use native.Mathlib.Omega.{arith}
 use lib.Dec.{eqb}
@@ -21,20 +21,20 @@ use Rattle.upid.proofs.Cutting.{length-joined, after-head, after-part}
 -- ---- parts side by side, each with those inside it
 
 pub data Forest : Type 0 where
-  bare : Forest
+  no-tree : Forest
   part : (k : ℕ) (payload : List ℕ) (inner after : Forest) → Forest
 
 -- the direct parts
 abbrev pub cuts : Forest → List Cut
-cuts bare = []
-cuts (part k p i a) = record { kind = k; payload = p } ∷ cuts a
+cuts no-tree = []
+cuts (part k p i a) = record { «upid_type» = k; payload = p } ∷ cuts a
 
 -- the record of a part whose head is at `start`
 abbrev pub recorded : ℕ → ℕ → ℕ → List ℕ → Part
-recorded level start k p = record { kind = reportedOf k; level = level; start = start + 2; len = length p }
+recorded level start k p = record { «upid_type» = reportedOf k; level = level; start = start + 2; len = length p }
 
 abbrev pub records : ℕ → ℕ → Forest → List Part
-records level start bare = []
+records level start no-tree = []
 records level start (part k p i a) =
     recorded level start k p
     ∷ (records (level + 1) (start + 2) i ++ records level (start + (2 + length p)) a)
@@ -44,10 +44,10 @@ pub record Holds (k : ℕ) (p : List ℕ) (i : Forest) : Type 0 where
   pub spare : List ℕ
   pub inside : p ≡ joined (cuts i) ++ spare
   pub mid : k ≡ 13 → spare ≡ []
-  pub plain : (k ≡ 13 → ⊥) → i ≡ bare
+  pub plain : (k ≡ 13 → ⊥) → i ≡ no-tree
 
 abbrev pub Grown : Forest → Type 0
-Grown bare = Unit {0}
+Grown no-tree = Unit {0}
 Grown (part k p i a) = Holds k p i × Grown i × Grown a
 
 abbrev pub Tree : ℕ → ℕ → List ℕ → List Part → Type 0
@@ -81,13 +81,13 @@ grow-more level start k l rest h inner after = go (eqb k 13) refl
         build f (record { spare = []; inside = whole; mid = λ _. refl; plain = λ no. absurd (no h13) }) g (list-mid k _ _ _ h13 ∙ r)
     go false e =
         let no : k ≡ 13 → ⊥ = eqb-false k 13 e in
-        build bare (record { spare = take l rest; inside = refl; mid = λ h13. absurd (no h13); plain = λ _. refl }) tt (list-plain k _ _ _ no)
+        build no-tree (record { spare = take l rest; inside = refl; mid = λ h13. absurd (no h13); plain = λ _. refl }) tt (list-plain k _ _ _ no)
 
 pub grow : (n level start : ℕ) (bytes : List ℕ) → length bytes ≤ n → Accepted (readOf 13 start bytes) → Tree level start bytes (listOf 13 level start bytes)
 unfolding joined
-grow zero level start [] h a = (bare, tt, refl, list-nil level start)
+grow zero level start [] h a = (no-tree, tt, refl, list-nil level start)
 grow zero level start (k ∷ rest) h a = absurd (omega arith)
-grow (suc n) level start [] h a = (bare, tt, refl, list-nil level start)
+grow (suc n) level start [] h a = (no-tree, tt, refl, list-nil level start)
 grow (suc n) level start (k ∷ []) h a = absurd (rw read-one at a)
 grow (suc n) level start (k ∷ (l ∷ rest)) h a =
     by-cases (length rest) l
@@ -101,7 +101,7 @@ grow (suc n) level start (k ∷ (l ∷ rest)) h a =
 
 -- ---- every one of these
 
-all-append : {A : Type 0} {P : A → Type 0} {xs ys : List A} → All P xs → All P ys → All P (xs ++ ys)
+pub all-append : {A : Type 0} {P : A → Type 0} {xs ys : List A} → All P xs → All P ys → All P (xs ++ ys)
 all-append none hy = hy
 all-append (more h hx) hy = more h (all-append hx hy)
 
@@ -124,7 +124,7 @@ inside-size p s i e = rw e (omega (arith, length-append (joined (cuts i)) s))
 
 part-size : (k : ℕ) (p : List ℕ) (i a : Forest) → size (part k p i a) ≡ 2 + (length p + size a)
 unfolding size
-part-size k p i a = length-joined (record { kind = k; payload = p }) (cuts a)
+part-size k p i a = length-joined (record { «upid_type» = k; payload = p }) (cuts a)
 
 pub record Within (level low high : ℕ) (q : Part) : Type 0 where
   pub deep : level ≤ q .level
@@ -132,7 +132,7 @@ pub record Within (level low high : ℕ) (q : Part) : Type 0 where
   pub to : q .start + q .len ≤ high
 
 within : (f : Forest) (level start lv low high : ℕ) → Grown f → lv ≤ level → low ≤ start → start + size f ≤ high → All (Within lv low high) (records level start f)
-within bare level start lv low high g d l h = none
+within no-tree level start lv low high g d l h = none
 within (part k p i a) level start lv low high g d l h =
     let s = inside-size p (g .0 .spare) i (g .0 .inside) in
     let n = part-size k p i a in
@@ -149,7 +149,7 @@ direct-append m [] ys = refl
 direct-append m (x ∷ xs) ys = go (directly m x) (direct-append m xs ys)
   where
     go : (t : Bool) → directOf m (xs ++ ys) ≡ directOf m xs ++ directOf m ys
-        → cond t (x ∷ directOf m (xs ++ ys)) (directOf m (xs ++ ys)) ≡ cond t (x ∷ directOf m xs) (directOf m xs) ++ directOf m ys
+        → pick t (x ∷ directOf m (xs ++ ys)) (directOf m (xs ++ ys)) ≡ pick t (x ∷ directOf m xs) (directOf m xs) ++ directOf m ys
     go true e = rw e
     go false e = e
 
@@ -180,7 +180,7 @@ apart m (more h hs) = rw h (apart m hs)
 direct-placed : (f : Forest) (level start : ℕ) (m : Part) → Grown f → level ≡ m .level + 1 → m .start ≤ start → start + size f ≤ m .start + m .len
     → directOf m (records level start f) ≡ placed level start (cuts f)
 unfolding directOf placed
-direct-placed bare level start m g d l h = refl
+direct-placed no-tree level start m g d l h = refl
 direct-placed (part k p i a) level start m g d l h =
     let s = inside-size p (g .0 .spare) i (g .0 .inside) in
     let n = part-size k p i a in
@@ -201,11 +201,11 @@ pub record Piece (top : List ℕ) (ps : List Part) (m : Part) : Type 0 where
 among : {top : List ℕ} {ps qs : List Part} {m : Part} → directOf m qs ≡ directOf m ps → Piece top ps m → Piece top qs m
 among e h = record { cutting = h .cutting; joins = h .joins; size = h .size; pieces = e ∙ h .pieces }
 
-reported-mid : (k : ℕ) → reportedOf k ≡ 13 → k ≡ 13
+pub reported-mid : (k : ℕ) → reportedOf k ≡ 13 → k ≡ 13
 unfolding reportedOf
 reported-mid k = go (eqb k 5)
   where
-    go : (t : Bool) → cond t 6 k ≡ 13 → k ≡ 13
+    go : (t : Bool) → pick t 6 k ≡ 13 → k ≡ 13
     go true e = absurd (omega arith)
     go false e = e
 
@@ -236,7 +236,7 @@ module _ (top : List ℕ) (level start k : ℕ) (p : List ℕ) (i a : Forest) (g
   unfolding directOf one all
   split m h = rw (other-level m one h) (direct-append m inner after)
 
-  one-piece : one .kind ≡ 13 → Piece top all one
+  one-piece : one .«upid_type» ≡ 13 → Piece top all one
   unfolding one inner
   one-piece e =
       let e13 : k ≡ 13 = reported-mid k e in
@@ -251,17 +251,17 @@ module _ (top : List ℕ) (level start k : ℕ) (p : List ℕ) (i a : Forest) (g
         pieces = split one (omega arith) ∙ rw (own, others) (append-nil _);
       }
 
-  inner-among : (m : Part) → Within (level + 1) (start + 2) (start + 2 + length p) m → (m .kind ≡ 13 → Piece top inner m) → m .kind ≡ 13 → Piece top all m
+  inner-among : (m : Part) → Within (level + 1) (start + 2) (start + 2 + length p) m → (m .«upid_type» ≡ 13 → Piece top inner m) → m .«upid_type» ≡ 13 → Piece top all m
   inner-among m w h e =
       let others : directOf m after ≡ [] = apart m (all-map (λ q v. too-late m q (omega (arith, w .to, v .from))) after-within) in
       among (split m (omega (arith, w .deep)) ∙ rw others (append-nil _)) (h e)
 
-  after-among : (m : Part) → Within level (start + (2 + length p)) (start + (2 + length p) + size a) m → (m .kind ≡ 13 → Piece top after m) → m .kind ≡ 13 → Piece top all m
+  after-among : (m : Part) → Within level (start + (2 + length p)) (start + (2 + length p) + size a) m → (m .«upid_type» ≡ 13 → Piece top after m) → m .«upid_type» ≡ 13 → Piece top all m
   after-among m w h e =
       let others : directOf m inner ≡ [] = apart m (all-map (λ q v. too-early m q (omega (arith, w .from, v .to))) inner-within) in
       among (split m (omega (arith, w .deep)) ∙ rw others) (h e)
 
-  pieces-part : All (λ (m : Part). m .kind ≡ 13 → Piece top inner m) inner → All (λ (m : Part). m .kind ≡ 13 → Piece top after m) after → All (λ (m : Part). m .kind ≡ 13 → Piece top all m) all
+  pieces-part : All (λ (m : Part). m .«upid_type» ≡ 13 → Piece top inner m) inner → All (λ (m : Part). m .«upid_type» ≡ 13 → Piece top after m) after → All (λ (m : Part). m .«upid_type» ≡ 13 → Piece top all m) all
   unfolding all
   pieces-part hi ha = more one-piece (all-append (both-all inner-among inner-within hi) (both-all after-among after-within ha))
 
@@ -282,7 +282,7 @@ module _ (top : List ℕ) (level start k : ℕ) (p : List ℕ) (i a : Forest) (g
       let ek : start + 2 - 2 ≡ start + 0 = omega arith in
       let el : start + 2 - 1 ≡ start + 1 = omega arith in
       record {
-        kind = rw (ek, k0);
+        «upid_type» = rw (ek, k0);
         len = rw (el, l0);
         behind = omega arith;
         inside = omega arith;
@@ -292,9 +292,9 @@ start-here : (top : List ℕ) (start k : ℕ) (p s rest : List ℕ) → drop sta
 start-here top start k p s rest e = e ∙ rw append-assoc
 
 pub inner-pieces : (top : List ℕ) (f : Forest) (level start : ℕ) (rest : List ℕ) → Grown f → drop start top ≡ joined (cuts f) ++ rest
-    → All (λ (m : Part). m .kind ≡ 13 → Piece top (records level start f) m) (records level start f)
+    → All (λ (m : Part). m .«upid_type» ≡ 13 → Piece top (records level start f) m) (records level start f)
 unfolding joined inner after all one
-inner-pieces top bare level start rest g e = none
+inner-pieces top no-tree level start rest g e = none
 inner-pieces top (part k p i a) level start rest g e =
     let h = start-here top start k p (joined (cuts a)) rest e in
     pieces-part top level start k p i a g rest h
@@ -304,7 +304,7 @@ inner-pieces top (part k p i a) level start rest g e =
 pub announced : (top : List ℕ) (f : Forest) (level start : ℕ) (rest : List ℕ) → Grown f → drop start top ≡ joined (cuts f) ++ rest
     → All (Announced top) (records level start f)
 unfolding joined one
-announced top bare level start rest g e = none
+announced top no-tree level start rest g e = none
 announced top (part k p i a) level start rest g e =
     let h = start-here top start k p (joined (cuts a)) rest e in
     more (one-announced top level start k p i a g rest h)
@@ -315,7 +315,7 @@ announced top (part k p i a) level start rest g e =
 -- two bytes of head for each level
 pub shallow : (f : Forest) (level start low high : ℕ) → Grown f → low ≤ level → 2 * level + size f ≤ high
     → All (λ (q : Part). (low ≤ q .level) × (2 * q .level + 2 ≤ high)) (records level start f)
-shallow bare level start low high g l h = none
+shallow no-tree level start low high g l h = none
 shallow (part k p i a) level start low high g l h =
     let s = inside-size p (g .0 .spare) i (g .0 .inside) in
     let n = part-size k p i a in
@@ -342,7 +342,7 @@ ascending-append nothing hy h = hy
 ascending-append (before x xs) hy (more h hs) = before (all-append x h) (ascending-append xs hy hs)
 
 pub ascending : (f : Forest) (level start : ℕ) → Grown f → Ascending (records level start f)
-ascending bare level start g = nothing
+ascending no-tree level start g = nothing
 ascending (part k p i a) level start g =
     let s = inside-size p (g .0 .spare) i (g .0 .inside) in
     let inner = within i (level + 1) (start + 2) (level + 1) (start + 2) (start + 2 + length p) (g .1) (omega arith) (omega arith) (omega arith) in
@@ -353,7 +353,7 @@ ascending (part k p i a) level start g =
     (all-map (λ x w. all-map (λ y v. omega (arith, w .to, v .from)) after) inner))
 
 owned-among : {qs rs : List Part} {p : Part} → ((m : Part) → List·Memᴰ m qs → List·Memᴰ m rs) → Owned qs p → Owned rs p
-owned-among f o = record { mid = o .mid; found = f (o .mid) (o .found); kind = o .kind; direct = o .direct }
+owned-among f o = record { mid = o .mid; found = f (o .mid) (o .found); «upid_type» = o .«upid_type»; direct = o .direct }
 
 mid-reported : (k : ℕ) → k ≡ 13 → reportedOf k ≡ 13
 unfolding reportedOf
@@ -377,9 +377,9 @@ module _ (m one : Part) (inner after : List Part) where
   after-one q (List·Memᴰ·head e) = List·Memᴰ·head e
   after-one q (List·Memᴰ·tail x) = List·Memᴰ·tail (List·Memᴰ·tail (Memᴰ·append-right inner x))
 
-pub owned : (f : Forest) (level start : ℕ) (m : Part) → Grown f → m .kind ≡ 13 → level ≡ m .level + 1 → m .start ≤ start → start + size f ≤ m .start + m .len
+pub owned : (f : Forest) (level start : ℕ) (m : Part) → Grown f → m .«upid_type» ≡ 13 → level ≡ m .level + 1 → m .start ≤ start → start + size f ≤ m .start + m .len
     → All (Owned (m ∷ records level start f)) (records level start f)
-owned bare level start m g e d l h = none
+owned no-tree level start m g e d l h = none
 owned (part k p i a) level start m g e d l h =
     let s = inside-size p (g .0 .spare) i (g .0 .inside) in
     let n = part-size k p i a in
@@ -387,5 +387,5 @@ owned (part k p i a) level start m g e d l h =
     let inner = owned-inside k p i (level + 1) (start + 2) here (g .0) (λ e13. owned i (level + 1) (start + 2) here (g .1) (mid-reported k e13) refl (omega arith) (omega arith)) in
     let after = owned a level (start + (2 + length p)) m (g .2) e d (omega arith) (omega arith) in
     more {x = here}
-    (record { mid = m; found = List·Memᴰ·head refl; kind = e; direct = in-place m here d (omega arith) (omega arith) })
+    (record { mid = m; found = List·Memᴰ·head refl; «upid_type» = e; direct = in-place m here d (omega arith) (omega arith) })
     (all-append (all-map (λ q. owned-among (under-one m here _ _)) inner) (all-map (λ q. owned-among (after-one m here (records (level + 1) (start + 2) i) _)) after))

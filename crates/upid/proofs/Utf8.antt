@@ -3,7 +3,7 @@
 --     text-is-utf8, utf8-is-text    the test passes exactly on the grammar's strings
 use Prim.Native.Nat.{ℕ, zero, suc, _+_, _≤_, _<_}
 use mathlib.Core.Path.{_≡_, refl, ap, _∙_}
-use mathlib.Core.Bool.{Bool, true, false, cond, _&&_}
+use mathlib.Core.Bool.{Bool, true, false, _&&_, cond as pick}
 use mathlib.Core.List.{List, [], _∷_, _++_, foldl, List·Memᴰ, List·Memᴰ·head, List·Memᴰ·tail}
 use mathlib.Core.Logic.{⊎-elim}
 use native.Mathlib.Omega.{arith}
@@ -58,7 +58,7 @@ found b {rows = x ∷ rows} (List·Memᴰ·head e) h one = rw (← e, h)
 found b {rows = [] ∷ rows} (List·Memᴰ·tail m) h one = found b m h one
 found b {more = more} {rows = (q ∷ qs) ∷ rows} (List·Memᴰ·tail m) h one = go (within q b) one (found b m h)
   where
-    go : (t : Bool) → cond t 1 0 + begun b rows ≤ 1 → (begun b rows ≤ 1 → begin rows b ≡ wants more) → cond t (wants qs) (begin rows b) ≡ wants more
+    go : (t : Bool) → pick t 1 0 + begun b rows ≤ 1 → (begun b rows ≤ 1 → begin rows b ≡ wants more) → pick t (wants qs) (begin rows b) ≡ wants more
     go true n f = absurd (omega (arith, begun-some b m h))
     go false n f = f (omega arith)
 
@@ -111,7 +111,7 @@ begins [] b = tt
 begins ([] ∷ rows) b = begun-later [] rows b (begin rows b) (begins rows b)
 begins ((r ∷ more) ∷ rows) b = go (within r b) refl (begun-later (r ∷ more) rows b (begin rows b) (begins rows b))
   where
-    go : (t : Bool) → within r b ≡ t → Begun ((r ∷ more) ∷ rows) b (begin rows b) → Begun ((r ∷ more) ∷ rows) b (cond t (wants more) (begin rows b))
+    go : (t : Bool) → within r b ≡ t → Begun ((r ∷ more) ∷ rows) b (begin rows b) → Begun ((r ∷ more) ∷ rows) b (pick t (wants more) (begin rows b))
     go true e h = (r, List·Memᴰ·head refl, e)
     go false e h = h
 
@@ -121,7 +121,7 @@ unfolding Begun Left
 first-left b s (wants more) (r, m, h) (c, rest, e, cs, os) = rw e (char m (byte h cs) os)
 first-left b s broken h l = absurd l
 
-next-left : (b : ℕ) (s : List ℕ) (r : Range) (more : List Range) (t : Bool) → within r b ≡ t → Left (cond t (wants more) broken) s → Left (wants (r ∷ more)) (b ∷ s)
+next-left : (b : ℕ) (s : List ℕ) (r : Range) (more : List Range) (t : Bool) → within r b ≡ t → Left (pick t (wants more) broken) s → Left (wants (r ∷ more)) (b ∷ s)
 unfolding Left
 next-left b s r more true h (c, rest, e, cs, os) = (b ∷ c, rest, rw e, byte h cs, os)
 next-left b s r more false h l = absurd l
@@ -132,7 +132,7 @@ left [] (wants []) e = ([], [], refl, none, end)
 left [] (wants (r ∷ more)) e = let z : _≡_ {A = ℕ} 0 1 = cc in absurd (omega arith)
 left [] broken e = let z : _≡_ {A = ℕ} 0 1 = cc in absurd (omega arith)
 left (b ∷ s) (wants []) e = ([], b ∷ s, refl, none, first-left b s (begin characters b) (begins characters b) (left s (begin characters b) e))
-left (b ∷ s) (wants (r ∷ more)) e = next-left b s r more (within r b) refl (left s (cond (within r b) (wants more) broken) e)
+left (b ∷ s) (wants (r ∷ more)) e = next-left b s r more (within r b) refl (left s (pick (within r b) (wants more) broken) e)
 left (b ∷ s) broken e = left s broken e
 
 whole : (s : List ℕ) → Left (wants []) s → Octets s

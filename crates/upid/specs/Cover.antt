@@ -1,6 +1,6 @@
 -- What it means that the parts of a MID cover it, and that it can be cut in no other way.
 use Prim.Native.Nat.{ℕ, _+_, _≤_, _<_}
-use mathlib.Core.Bool.{Bool, true, cond, _&&_}
+use mathlib.Core.Bool.{Bool, true, _&&_, cond as pick}
 use mathlib.Core.List.{List, [], _∷_, _++_, map, List·Memᴰ}
 use mathlib.Core.Path.{_≡_}
 use lib.Dec.{leb, ltb, eqb}
@@ -17,19 +17,19 @@ pub data All {A : Type 0} (P : A → Type 0) : List A → Type 0 where
 
 -- one piece of a MID that is cut up: a type and a payload
 pub record Cut : Type 0 where
-  pub kind : ℕ
+  pub «upid_type» : ℕ
   pub payload : List ℕ
 
 -- A cutting of a MID is a list of pieces whose join is the MID: one after the other, each with its head, the type and the payload's length.
 unfoldable pub joined : List Cut → List ℕ
 joined [] = []
-joined (c ∷ cs) = c .kind ∷ (length (c .payload) ∷ (c .payload ++ joined cs))
+joined (c ∷ cs) = c .«upid_type» ∷ (length (c .payload) ∷ (c .payload ++ joined cs))
 
 -- ---- a MID and its direct parts
 
 -- the top MID as a record beside those of its parts
 abbrev pub whole : List ℕ → Part
-whole top = record { kind = 13; level = 0; start = 0; len = length top }
+whole top = record { «upid_type» = 13; level = 0; start = 0; len = length top }
 
 -- the bytes of a part are one run of the top UPID
 abbrev pub bytesOf : List ℕ → Part → List ℕ
@@ -41,13 +41,13 @@ directly m p = eqb (p .level) (m .level + 1) && leb (m .start + 2) (p .start) &&
 
 unfoldable pub directOf : Part → List Part → List Part
 directOf m [] = []
-directOf m (p ∷ ps) = cond (directly m p) (p ∷ directOf m ps) (directOf m ps)
+directOf m (p ∷ ps) = pick (directly m p) (p ∷ directOf m ps) (directOf m ps)
 
 -- the records of pieces that follow one another from `start` on
 unfoldable pub placed : ℕ → ℕ → List Cut → List Part
 placed level start [] = []
 placed level start (c ∷ cs) =
-    record { kind = reportedOf (c .kind); level = level; start = start + 2; len = length (c .payload) }
+    record { «upid_type» = reportedOf (c .«upid_type»); level = level; start = start + 2; len = length (c .payload) }
     ∷ placed level (start + (2 + length (c .payload))) cs
 
 -- ---- the claims
@@ -70,7 +70,7 @@ pub data Ascending : List Part → Type 0 where
 pub record Owned (ms : List Part) (p : Part) : Type 0 where
   pub mid : Part
   pub found : List·Memᴰ mid ms
-  pub kind : mid .kind ≡ 13
+  pub «upid_type» : mid .«upid_type» ≡ 13
   pub direct : directly mid p ≡ true
 
 -- ---- the same, byte by byte
@@ -82,7 +82,7 @@ lies i p = leb (p .start) (i + 2) && ltb i (p .start + p .len)
 -- in how many of the parts it lies
 unfoldable pub times : ℕ → List Part → ℕ
 times i [] = 0
-times i (p ∷ ps) = cond (lies i p) 1 0 + times i ps
+times i (p ∷ ps) = pick (lies i p) 1 0 + times i ps
 
 -- each byte of the MID m lies in exactly one of its direct parts
 abbrev pub Once : List Part → Part → Type 0

@@ -29,7 +29,7 @@ Accepted (Refused r) = ⊥
 
 -- The part p is the payload that its own head announces, two bytes before it in the top UPID, and lies in that UPID whole.
 pub record Announced (top : List ℕ) (p : Part) : Type 0 where
-  pub kind : p .kind ≡ reportedOf (getD top (p .start - 2) 0)
+  pub «upid_type» : p .«upid_type» ≡ reportedOf (getD top (p .start - 2) 0)
   pub len : p .len ≡ getD top (p .start - 1) 0
   pub behind : 2 ≤ p .start
   pub inside : p .start + p .len ≤ length top
@@ -50,6 +50,6 @@ pending s ends zero at = []
 pending s ends (suc m) at = listOf 13 (suc m) at (drop at (take (getD ends m 0) s)) ++ pending s ends m (getD ends m 0)
 
 -- a UPID was accepted if it is a MID, and is short enough for its parts to have their places
-pub record Listable (kind : ℕ) (bytes : List ℕ) : Type 0 where
-  pub accepted : kind ≡ 13 → Accepted (readOf kind 0 bytes)
+pub record Listable («upid_type» : ℕ) (bytes : List ℕ) : Type 0 where
+  pub accepted : «upid_type» ≡ 13 → Accepted (readOf «upid_type» 0 bytes)
   pub short : length bytes ≤ 255

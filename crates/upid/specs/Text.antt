@@ -1,6 +1,6 @@
 -- UTF-8 as RFC 3629, section 4, has it.
 use Prim.Native.Nat.{ℕ, _+_}
-use mathlib.Core.Bool.{Bool, true, false, cond, _&&_}
+use mathlib.Core.Bool.{Bool, true, false, _&&_, cond as pick}
 use mathlib.Core.List.{List, [], _∷_, _++_, foldl, List·Memᴰ}
 use mathlib.Core.Path.{_≡_}
 use lib.Dec.{leb}
@@ -45,7 +45,7 @@ pub data Octets : List ℕ → Type 0 where
 unfoldable pub begun : ℕ → List (List Range) → ℕ
 begun b [] = 0
 begun b ([] ∷ rows) = begun b rows
-begun b ((r ∷ more) ∷ rows) = cond (within r b) 1 0 + begun b rows
+begun b ((r ∷ more) ∷ rows) = pick (within r b) 1 0 + begun b rows
 
 -- ---- the same as a test, byte by byte (`text-is-utf8` and `utf8-is-text` in proofs/Theorems.antt)
 
@@ -58,11 +58,11 @@ pub data State : Type 0 where
 abbrev pub begin : List (List Range) → ℕ → State
 begin [] b = broken
 begin ([] ∷ rows) b = begin rows b
-begin ((r ∷ more) ∷ rows) b = cond (within r b) (wants more) (begin rows b)
+begin ((r ∷ more) ∷ rows) b = pick (within r b) (wants more) (begin rows b)
 
 unfoldable pub step : State → ℕ → State
 step (wants []) b = begin characters b
-step (wants (r ∷ more)) b = cond (within r b) (wants more) broken
+step (wants (r ∷ more)) b = pick (within r b) (wants more) broken
 step broken b = broken
 
 unfoldable pub done : State → Bool

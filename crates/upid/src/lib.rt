@@ -21,11 +21,11 @@ pub enum Refusal {
     },
     UpidLengthTypeMismatch,
     InvalidUpidContent {
-        kind: u8,
+        upid_type: u8,
         bytes: View,
     },
     InvalidUpidLength {
-        kind: u8,
+        upid_type: u8,
         expected: usize,
         actual: usize,
     },
@@ -39,7 +39,7 @@ pub enum UpidRead {
 
 // A part of a MID: its reported type, its level (1 for the direct parts of the top MID), and its payload, `len` bytes from `start` of the top UPID on.
 pub struct Part {
-    pub kind: u8,
+    pub upid_type: u8,
     pub level: u8,
     pub start: u8,
     pub len: u8,
@@ -58,9 +58,9 @@ pub struct Upid {
     pub list: PartList,
 }
 
-// What the bytes are read as under the type `kind`, without the list of parts.
-pub fn check_upid(kind: u8, bytes: &[u8]) -> UpidRead
-    ensures { λ r. ⌜ r ≡ checkOf kind (now (bytes .entry)) ⌝ }
+// What the bytes are read as under the type `upid_type`, without the list of parts.
+pub fn check_upid(upid_type: u8, bytes: &[u8]) -> UpidRead
+    ensures { λ r. ⌜ r ≡ checkOf «upid_type» (now (bytes .entry)) ⌝ }
 {
     if 255 < bytes.len() {
         return UpidRead::Refused(Refusal::InputTooLong);
@@ -68,15 +68,15 @@ pub fn check_upid(kind: u8, bytes: &[u8]) -> UpidRead
     if bytes.len() == 0 {
         return UpidRead::Fine(0);
     }
-    check_payload(kind, bytes, 0)
+    check_payload(upid_type, bytes, 0)
 }
 
 // The same, with the list of parts.
-pub fn read_upid(kind: u8, bytes: &[u8]) -> Upid
-    ensures { λ r. ⌜ r ≡ upidOf kind (now (bytes .entry)) ⌝ }
+pub fn read_upid(upid_type: u8, bytes: &[u8]) -> Upid
+    ensures { λ r. ⌜ r ≡ upidOf «upid_type» (now (bytes .entry)) ⌝ }
 {
-    let held = eidr(kind, bytes);
-    let read = check_upid(kind, bytes);
+    let held = eidr(upid_type, bytes);
+    let read = check_upid(upid_type, bytes);
     match read {
         UpidRead::Refused(_) => Upid {
             read,
@@ -86,17 +86,17 @@ pub fn read_upid(kind: u8, bytes: &[u8]) -> Upid
         UpidRead::Fine(_) => Upid {
             read,
             eidr: held,
-            list: list_parts(kind, bytes),
+            list: list_parts(upid_type, bytes),
         },
     }
 }
 
 // The EIDR identifier by value; all zero where the UPID is no EIDR.
-pub fn eidr(kind: u8, bytes: &[u8]) -> [u8; 12]
-    ensures { λ r. ⌜ r ≡ eidrOf kind (now (bytes .entry)) ⌝ }
+pub fn eidr(upid_type: u8, bytes: &[u8]) -> [u8; 12]
+    ensures { λ r. ⌜ r ≡ eidrOf «upid_type» (now (bytes .entry)) ⌝ }
 {
     let mut out = [0u8; 12];
-    if kind != 10 {
+    if upid_type != 10 {
         return out;
     }
     if bytes.len() != 12 {

@@ -11,20 +11,15 @@ use crate::Refusal;
 use crate::UpidRead;
 use crate::plain::check_plain;
 use crate::plain::reported;
-
-fn wide(b: u8) -> usize
-    ensures { λ r. ⌜ (r ≡ b) × (r < 256) ⌝ }
-{
-    b as usize
-}
+use table::numbers::size;
 
 // A payload, and where it is a MID each of its parts in byte order: the first refusal ends the walk. `start` is where it lies in the top UPID.
-pub(crate) fn check_payload(kind: u8, s: &[u8], start: usize) -> UpidRead
+pub(crate) fn check_payload(upid_type: u8, s: &[u8], start: usize) -> UpidRead
     requires { ⌜ start + length (now s) ≤ 255 ⌝ }
-    ensures { λ r. ⌜ r ≡ readOf kind start (now (s .entry)) ⌝ }
+    ensures { λ r. ⌜ r ≡ readOf «upid_type» start (now (s .entry)) ⌝ }
 {
-    if kind != 13 {
-        return check_plain(kind, s, start);
+    if upid_type != 13 {
+        return check_plain(upid_type, s, start);
     }
     let mut answer = UpidRead::Fine(13);
     let mut at: usize = 0;
@@ -38,7 +33,7 @@ pub(crate) fn check_payload(kind: u8, s: &[u8], start: usize) -> UpidRead
             break 'walk;
         }
         let k = s[at];
-        let n = wide(s[at + 1]);
+        let n = size(s[at + 1]);
         let body = at + 2;
         let present = s.len() - body;
         if present < n {
@@ -67,7 +62,7 @@ pub(crate) fn blank() -> PartList
     ensures { λ r. ⌜ r ≡ listed [] ⌝ }
 {
     let none = Part {
-        kind: 0,
+        upid_type: 0,
         level: 0,
         start: 0,
         len: 0,
@@ -80,12 +75,12 @@ pub(crate) fn blank() -> PartList
 
 // The parts of a UPID that was accepted; there are none where it is no MID. It goes by byte order and not by calling itself, so that its need of stack is the
 // same at every depth: `ends` has the place where each open MID ends, the top one's first, and the `level` of them that are open give the level of the next part.
-pub(crate) fn list_parts(kind: u8, s: &[u8]) -> PartList
-    requires { ⌜ Listable kind (now s) ⌝ }
-    ensures { λ r. ⌜ r ≡ listed (listOf kind 1 0 (now (s .entry))) ⌝ }
+pub(crate) fn list_parts(upid_type: u8, s: &[u8]) -> PartList
+    requires { ⌜ Listable «upid_type» (now s) ⌝ }
+    ensures { λ r. ⌜ r ≡ listed (listOf «upid_type» 1 0 (now (s .entry))) ⌝ }
 {
     let mut out = blank();
-    if kind != 13 {
+    if upid_type != 13 {
         return out;
     }
     let mut ends = [0u8; 128];
@@ -94,7 +89,7 @@ pub(crate) fn list_parts(kind: u8, s: &[u8]) -> PartList
     let mut at: usize = 0;
     'walk: while 0 < level {
         let open = level - 1;
-        let end = wide(ends[open]);
+        let end = size(ends[open]);
         if at == end {
             level = open;
             continue 'walk;
@@ -102,10 +97,10 @@ pub(crate) fn list_parts(kind: u8, s: &[u8]) -> PartList
         let k = s[at];
         let l = s[at + 1];
         let from = at + 2;
-        let to = from + wide(l);
+        let to = from + size(l);
         let count = out.count;
         out.parts[count] = Part {
-            kind: reported(k),
+            upid_type: reported(k),
             level: level as u8,
             start: from as u8,
             len: l,

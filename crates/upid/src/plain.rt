@@ -7,10 +7,10 @@ use crate::text::is_text;
 use table::View;
 
 // The bytes that a type must have, 0 where any number will do.
-fn fixed(kind: u8) -> usize
-    ensures { λ r. ⌜ r ≡ lengthOf kind ⌝ }
+fn fixed(upid_type: u8) -> usize
+    ensures { λ r. ⌜ r ≡ lengthOf «upid_type» ⌝ }
 {
-    match kind {
+    match upid_type {
         2 | 5 | 8 => 8,
         3 | 6 | 7 | 10 => 12,
         4 => 32,
@@ -18,51 +18,51 @@ fn fixed(kind: u8) -> usize
     }
 }
 
-fn has_text(kind: u8) -> bool
-    ensures { λ r. ⌜ r ≡ isText kind ⌝ }
+fn has_text(upid_type: u8) -> bool
+    ensures { λ r. ⌜ r ≡ isText «upid_type» ⌝ }
 {
-    match kind {
+    match upid_type {
         2 | 3 | 7 => true,
         _ => false,
     }
 }
 
-pub(crate) fn reported(kind: u8) -> u8
-    ensures { λ r. ⌜ r ≡ reportedOf kind ⌝ }
+pub(crate) fn reported(upid_type: u8) -> u8
+    ensures { λ r. ⌜ r ≡ reportedOf «upid_type» ⌝ }
 {
-    if kind == 5 { 6 } else { kind }
+    if upid_type == 5 { 6 } else { upid_type }
 }
 
 // A payload of a type other than MID. `start` is where it lies in the top UPID.
-pub(crate) fn check_plain(kind: u8, s: &[u8], start: usize) -> UpidRead
-    ensures { λ r. ⌜ r ≡ plainOf kind start (now (s .entry)) ⌝ }
+pub(crate) fn check_plain(upid_type: u8, s: &[u8], start: usize) -> UpidRead
+    ensures { λ r. ⌜ r ≡ plainOf «upid_type» start (now (s .entry)) ⌝ }
 {
-    if kind == 0 {
+    if upid_type == 0 {
         return UpidRead::Refused(Refusal::UpidLengthTypeMismatch);
     }
-    let expected = fixed(kind);
+    let expected = fixed(upid_type);
     if expected == 0 {
-        return UpidRead::Fine(reported(kind));
+        return UpidRead::Fine(reported(upid_type));
     }
     let actual = s.len();
     if actual != expected {
         return UpidRead::Refused(Refusal::InvalidUpidLength {
-            kind,
+            upid_type,
             expected,
             actual,
         });
     }
-    if has_text(kind) {
+    if has_text(upid_type) {
         if is_text(s) {
-            return UpidRead::Fine(reported(kind));
+            return UpidRead::Fine(reported(upid_type));
         }
         return UpidRead::Refused(Refusal::InvalidUpidContent {
-            kind,
+            upid_type,
             bytes: View {
                 at: start,
                 len: actual,
             },
         });
     }
-    UpidRead::Fine(reported(kind))
+    UpidRead::Fine(reported(upid_type))
 }

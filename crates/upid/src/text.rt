@@ -1,6 +1,9 @@
 // UTF-8 (RFC 3629).
 ghost use mathlib.Core.Path.{_≡_};
-ghost use Rattle.upid.specs.Text.{characters, begin, step, textOf};
+ghost use mathlib.Core.List.{[], foldl};
+ghost use Prim.Native.Nat.{_≤_};
+ghost use lib.ListN.{length, drop};
+ghost use Rattle.upid.specs.Text.{wants, characters, begin, step, textOf};
 ghost use Rattle.upid.specs.Private.{meaning};
 
 // Where a reading stands after some bytes.
@@ -54,12 +57,26 @@ fn next(t: Stand, b: u8) -> Stand
     }
 }
 
+// How many bytes of ASCII come first: each is a character, and most text is nothing else.
+fn ascii(s: &[u8]) -> usize
+    ensures { λ r. ⌜ (r ≤ length (now (s .entry))) × (foldl step (wants []) (now (s .entry)) ≡ foldl step (wants []) (drop r (now (s .entry)))) ⌝ }
+{
+    let mut i: usize = 0;
+    while i < s.len() {
+        if 0x7F < s[i] {
+            return i;
+        }
+        i += 1;
+    }
+    i
+}
+
 // Whether the bytes are UTF-8.
 pub fn is_text(s: &[u8]) -> bool
     ensures { λ r. ⌜ r ≡ textOf (now (s .entry)) ⌝ }
 {
     let mut t = Stand::Between;
-    let mut i: usize = 0;
+    let mut i = ascii(s);
     while i < s.len() {
         let b = s[i];
         t = next(t, b);

@@ -7,35 +7,35 @@ use mathlib.Core.Path.{_≡_, ap, _∙_}
 use native.Mathlib.Omega.{arith}
 use lib.ListN.{drop}
 use Rattle.descriptor.specs.declared.Descriptor.{Descriptor}
-use Rattle.descriptor_measure.specs.Writing.{descriptorMade}
+use Rattle.descriptor_measure.specs.Writing.{descriptorMade, countBeside}
 use Rattle.c_command_writer.specs.Words.{within, noLess}
-use Rattle.descriptor_measure.specs.Same.{countBeside}
-use Rattle.c_descriptor_writer.specs.ItemGiven.{descriptorGiven, identifierFrom, besideFrom, ownItem, descriptorRefusal, descriptorWordsMade}
-use Rattle.c_descriptor_writer.specs.ItemWords.{itemWidths, besideWithin}
+use Rattle.c_descriptor_writer.specs.ItemGiven.{descriptorGiven, identifierFrom, besideFrom, ownItem, wordsRefusal, descriptorRefusal, descriptorWordsMade}
+use Rattle.c_descriptor_writer.specs.ItemWords.{itemWidths, besideWithin, itemSeen, besideThere}
+use Rattle.c_command_writer.proofs.Refusals.{seen-small}
 use Rattle.c_command_writer.proofs.Words.{refusal-small, words-refused, words-taken, later-nil}
 use Rattle.c_descriptor_writer.proofs.write_from_words.Statement.{statement}
 use Rattle.c_descriptor_writer.proofs.write_from_words.Tie as tie
 
 parts : (words beside lent : List ℕ) (g : Descriptor) (identifier : List ℕ) (n : ℕ) (r : ℕ)
-    → g ≡ descriptorGiven words → identifier ≡ identifierFrom words → n ≡ countBeside g → r ≡ descriptorRefusal g words beside
+    → g ≡ descriptorGiven words → identifier ≡ identifierFrom words → n ≡ countBeside g → r ≡ descriptorRefusal g words beside lent
     → noLess r (descriptorMade g identifier (besideFrom n beside) lent) ≡ descriptorWordsMade words beside lent
 unfolding descriptorWordsMade
 parts words beside lent g identifier n r e f h j = rw (j, h, f, e)
 
 made : (k : tie.After-descriptor-refusal) →
     let a = k .before .before .before .before .before .before .before .before .args in
-    noLess (k .descriptor-refusal .result) (descriptorMade (k .before .before .before .descriptor-given .result) (k .before .before .identifier-from .result) (besideFrom (k .before .count-in .result) (a .beside .now)) (a .lent .now))
+    noLess (k .descriptor-refusal .result) (descriptorMade (k .before .before .before .descriptor-given .result) (k .before .before .identifier-from .result) (besideFrom (k .before .count-in-descriptor .result) (a .beside .now)) (a .lent .now))
     ≡ descriptorWordsMade (a .words .now) (a .beside .now) (a .lent .now)
 made k =
     let a = k .before .before .before .before .before .before .before .before .args in
-    parts (a .words .now) (a .beside .now) (a .lent .now) _ _ _ _ (k .before .before .before .descriptor-given .ensures) (k .before .before .identifier-from .ensures) (k .before .count-in .ensures) (k .descriptor-refusal .ensures)
+    parts (a .words .now) (a .beside .now) (a .lent .now) _ _ _ _ (k .before .before .before .descriptor-given .ensures) (k .before .before .identifier-from .ensures) (k .before .count-in-descriptor .ensures) (k .descriptor-refusal .ensures)
 
 small : (k : tie.After-descriptor-refusal) → k .descriptor-refusal .result ≤ 36
-unfolding descriptorRefusal
+unfolding descriptorRefusal wordsRefusal
 small k =
     let a = k .before .before .before .before .before .before .before .before .args in
     let g = k .before .before .before .descriptor-given .result in
-    omega (arith, k .descriptor-refusal .ensures, refusal-small (within itemWidths (drop 5 (a .words .now)) && besideWithin (countBeside g) (a .beside .now)) (ownItem g (a .words .now)))
+    omega (arith, k .descriptor-refusal .ensures, seen-small (itemSeen (a .words .now) (a .lent .now)) _ (refusal-small (within itemWidths (drop 5 (a .words .now)) && besideWithin (countBeside g) (a .beside .now)) (ownItem g (a .words .now) && besideThere (countBeside g) (a .words .now) (a .beside .now))))
 
 descriptor-given-requires : tie.Need-descriptor-given-requires
 descriptor-given-requires c κs = search needs
@@ -43,8 +43,8 @@ descriptor-given-requires c κs = search needs
 identifier-from-requires : tie.Need-identifier-from-requires
 identifier-from-requires c κs = search needs
 
-count-in-requires : tie.Need-count-in-requires
-count-in-requires c κs = search needs
+count-in-descriptor-requires : tie.Need-count-in-descriptor-requires
+count-in-descriptor-requires c κs = search needs
 
 cast-count : tie.Need-cast-count
 cast-count c = search needs
@@ -75,7 +75,7 @@ returns c =
     let k = c .before .before .before .before .before .before in
     let a = c .before .before .before .before .before .before .before .before .before .before .before .before .before .before .args in
     let w = words-refused _ _ (k .descriptor-refusal .result) (a .target .now) (c .before .before .before .write-given .result) (made k) (c .before .before .before .before .before .if1 .taken) (small k) (c .before .before .before .write-given .ensures .answer) in
-    (c .lower-refusal .ensures ∙ w .0, ap (λ (l : List ℕ). l ++ a .target .now) (c .before .before .before .write-given .ensures .target-later ∙ later-nil (descriptorMade (k .before .before .before .descriptor-given .result) (k .before .before .identifier-from .result) (besideFrom (k .before .count-in .result) (a .beside .now)) (a .lent .now))) ∙ w .1)
+    (c .lower-refusal .ensures ∙ w .0, ap (λ (l : List ℕ). l ++ a .target .now) (c .before .before .before .write-given .ensures .target-later ∙ later-nil (descriptorMade (k .before .before .before .descriptor-given .result) (k .before .before .identifier-from .result) (besideFrom (k .before .count-in-descriptor .result) (a .beside .now)) (a .lent .now))) ∙ w .1)
 
 write-given-requires-2 : tie.Need-write-given-requires-2
 write-given-requires-2 c κs = search needs
@@ -99,7 +99,7 @@ write-from-words-spec =
     (tie.spec
     descriptor-given-requires
     identifier-from-requires
-    count-in-requires
+    count-in-descriptor-requires
     cast-count
     descriptor-refusal-requires
     sub-write-given

@@ -29,14 +29,14 @@ module _ (d : Descriptor) (id words lent t v : List ℕ) (r : Written) (n : ℕ)
 eidr-from-requires : tie.Need-eidr-from-requires
 eidr-from-requires c κs = search needs
 
-write-bare-descriptor-requires : tie.Need-write-bare-descriptor-requires
-write-bare-descriptor-requires c κs = search needs
+write-descriptor-without-components-requires : tie.Need-write-descriptor-without-components-requires
+write-descriptor-without-components-requires c κs = search needs
 
 same-length : tie.Need-same-length
 same-length c = search needs
 
 returns : tie.Need-returns
-returns c = without _ _ _ _ _ _ _ _ (c .before .before .before .before .before .if1 .taken) _ (c .before .before .before .before .eidr-from .ensures) (c .before .before .write-bare-descriptor .ensures)
+returns c = without _ _ _ _ _ _ _ _ (c .before .before .before .before .before .if1 .taken) _ (c .before .before .before .before .eidr-from .ensures) (c .before .before .write-descriptor-without-components .ensures)
 
 beside-from-requires : tie.Need-beside-from-requires
 beside-from-requires c κs = search needs
@@ -55,7 +55,7 @@ write-given-spec =
     tie.close
     (tie.spec
     eidr-from-requires
-    write-bare-descriptor-requires
+    write-descriptor-without-components-requires
     same-length
     returns
     beside-from-requires

@@ -6,7 +6,7 @@ use mathlib.Core.Path.{_≡_, ap, _∙_}
 use native.Mathlib.Omega.{arith}
 use Rattle.command.specs.declared.components.ComponentSplice.{ComponentSplice}
 use Rattle.command_measure.specs.Made.{commandMade}
-use Rattle.section_writer.specs.Writing.{sectionMade, kindOf}
+use Rattle.section_writer.specs.Writing.{sectionMade, typeOf}
 use Rattle.c_command_writer.specs.Words.{noLess}
 use Rattle.command.specs.Command.{countIn}
 use Rattle.c_command_writer.specs.CommandGiven.{componentsFrom}
@@ -16,10 +16,10 @@ use Rattle.c_section_writer.proofs.write_listed_words.Tie as tie
 
 made : (k : tie.After-components-given) →
     let a = k .before .before .before .before .before .args in
-    noLess (a .refusal) (sectionMade (a .header) (commandMade (a .command) (k .components-given .result) (a .lent .now)) (kindOf (a .command)) (a .descriptors .now)) ≡ noLess (a .refusal) (sectionMade (a .header) (commandMade (a .command) (componentsFrom (countIn (a .command)) (a .components .now)) (a .lent .now)) (kindOf (a .command)) (a .descriptors .now))
+    noLess (a .refusal) (sectionMade (a .header) (commandMade (a .command) (k .components-given .result) (a .lent .now)) (typeOf (a .command)) (a .descriptors .now)) ≡ noLess (a .refusal) (sectionMade (a .header) (commandMade (a .command) (componentsFrom (countIn (a .command)) (a .components .now)) (a .lent .now)) (typeOf (a .command)) (a .descriptors .now))
 made k =
     let a = k .before .before .before .before .before .args in
-    ap (λ (p : List ComponentSplice). noLess (a .refusal) (sectionMade (a .header) (commandMade (a .command) p (a .lent .now)) (kindOf (a .command)) (a .descriptors .now))) (k .components-given .ensures)
+    ap (λ (p : List ComponentSplice). noLess (a .refusal) (sectionMade (a .header) (commandMade (a .command) p (a .lent .now)) (typeOf (a .command)) (a .descriptors .now))) (k .components-given .ensures)
 
 components-given-requires : tie.Need-components-given-requires
 components-given-requires c κs = search needs
@@ -49,7 +49,7 @@ returns c =
     let s = k .before .before .before .before .before in
     let a = s .args in
     let w = words-refused _ _ (a .refusal) (a .target .now) (x .write-section .result) (made k) (x .before .before .if1 .taken) (s .pre) (x .write-section .ensures .0) in
-    (c .lower-refusal .ensures ∙ w .0, ap (λ (l : List ℕ). l ++ a .target .now) (x .write-section .ensures .1 ∙ later-nil (sectionMade (a .header) (commandMade (a .command) (k .components-given .result) (a .lent .now)) (kindOf (a .command)) (a .descriptors .now))) ∙ w .1)
+    (c .lower-refusal .ensures ∙ w .0, ap (λ (l : List ℕ). l ++ a .target .now) (x .write-section .ensures .1 ∙ later-nil (sectionMade (a .header) (commandMade (a .command) (k .components-given .result) (a .lent .now)) (typeOf (a .command)) (a .descriptors .now))) ∙ w .1)
 
 write-section-requires-2 : tie.Need-write-section-requires-2
 write-section-requires-2 c κs = search needs

@@ -10,7 +10,7 @@ use Rattle.command.specs.declared.components.ComponentSplice.{ComponentSplice}
 use Rattle.command_measure.specs.Made.{commandMade}
 use Rattle.header.specs.declared.header.SpliceInfoHeader.{SpliceInfoHeader}
 use Rattle.bit_stores.specs.Written.{answerOf, laterOf}
-use Rattle.section_writer.specs.Writing.{sectionMade, kindOf}
+use Rattle.section_writer.specs.Writing.{sectionMade, typeOf}
 use Rattle.table.specs.Writing.{Made}
 use Rattle.c_command_writer.specs.Words.{noLess, flatWritten}
 use Rattle.c_command_writer.specs.CommandGiven.{commandGiven, componentsFrom, commandRefusal}
@@ -22,8 +22,8 @@ use Rattle.c_section_writer.proofs.write_section_words.Statement.{state
 use Rattle.c_section_writer.proofs.write_section_words.Tie as tie
 
 parts : (header command components lent loop : List ℕ) (h : SpliceInfoHeader) (g : SpliceCommand) (p : List ComponentSplice) (m n r : ℕ)
-    → h ≡ headerFrom header → g ≡ commandGiven command → p ≡ componentsFrom (countIn g) components → m ≡ headerRefusal header → n ≡ commandRefusal g command components → r ≡ either m n
-    → noLess r (sectionMade h (commandMade g p lent) (kindOf g) loop) ≡ sectionWordsMade header command components lent loop
+    → h ≡ headerFrom header → g ≡ commandGiven command → p ≡ componentsFrom (countIn g) components → m ≡ headerRefusal header → n ≡ commandRefusal g command components lent → r ≡ either m n
+    → noLess r (sectionMade h (commandMade g p lent) (typeOf g) loop) ≡ sectionWordsMade header command components lent loop
 unfolding sectionWordsMade
 parts header command components lent loop h g p m n r e f i j l o = rw (o, l, j, i, f, e)
 
@@ -32,7 +32,7 @@ made : (k : tie.After-either-refusal) (p : List ComponentSplice) →
     let h = k .before .before .before .before .header-from .result in
     let a = k .before .before .before .before .before .before .before .before .before .before .before .args in
     p ≡ componentsFrom (countIn g) (a .components .now)
-    → noLess (k .either-refusal .result) (sectionMade h (commandMade g p (a .lent .now)) (kindOf g) (a .descriptors .now))
+    → noLess (k .either-refusal .result) (sectionMade h (commandMade g p (a .lent .now)) (typeOf g) (a .descriptors .now))
     ≡ sectionWordsMade (a .header .now) (a .command .now) (a .components .now) (a .lent .now) (a .descriptors .now)
 made k p e =
     let a = k .before .before .before .before .before .before .before .before .before .before .before .args in
@@ -43,7 +43,7 @@ small : (k : tie.After-either-refusal) → k .either-refusal .result ≤ 36
 small k =
     let a = k .before .before .before .before .before .before .before .before .before .before .before .args in
     let m : k .before .before .header-refusal .result ≤ 33 = omega (arith, k .before .before .header-refusal .ensures, header-small (a .header .now)) in
-    let n : k .before .command-refusal .result ≤ 33 = omega (arith, k .before .command-refusal .ensures, command-small (k .before .before .before .command-given .result) (a .command .now) (a .components .now)) in
+    let n : k .before .command-refusal .result ≤ 33 = omega (arith, k .before .command-refusal .ensures, command-small (k .before .before .before .command-given .result) (a .command .now) (a .components .now) (a .lent .now)) in
     omega (arith, k .either-refusal .ensures, either-small (k .before .before .header-refusal .result) (k .before .command-refusal .result) m n)
 
 header-from-requires : tie.Need-header-from-requires
@@ -61,11 +61,11 @@ command-refusal-requires c κs = search needs
 either-refusal-requires : tie.Need-either-refusal-requires
 either-refusal-requires c κs = search needs
 
-count-in-requires : tie.Need-count-in-requires
-count-in-requires c κs = search needs
+count-in-command-requires : tie.Need-count-in-command-requires
+count-in-command-requires c κs = search needs
 
-write-bare-words-requires : tie.Need-write-bare-words-requires
-write-bare-words-requires c κs = small (c .before .before .before)
+write-words-without-components-requires : tie.Need-write-words-without-components-requires
+write-words-without-components-requires c κs = small (c .before .before .before)
 
 same-length : tie.Need-same-length
 same-length c = search needs
@@ -77,8 +77,8 @@ returns c =
     let n = t .before in
     let k = n .before in
     let a = k .before .before .before .before .before .before .before .before .before .before .before .args in
-    let e = made k (array []) (no-places (countIn (k .before .before .before .command-given .result)) (a .components .now) (sym (n .count-in .ensures) ∙ t .if1 .taken)) in
-    (q .write-bare-words .ensures .0 ∙ ap (λ (m : Made). flatWritten (answerOf m (a .target .now))) e, q .write-bare-words .ensures .1 ∙ ap (λ (m : Made). laterOf m (a .target .now)) e)
+    let e = made k (array []) (no-places (countIn (k .before .before .before .command-given .result)) (a .components .now) (sym (n .count-in-command .ensures) ∙ t .if1 .taken)) in
+    (q .write-words-without-components .ensures .0 ∙ ap (λ (m : Made). flatWritten (answerOf m (a .target .now))) e, q .write-words-without-components .ensures .1 ∙ ap (λ (m : Made). laterOf m (a .target .now)) e)
 
 write-listed-words-requires : tie.Need-write-listed-words-requires
 write-listed-words-requires c κs = small (c .before .before .before)
@@ -103,8 +103,8 @@ write-section-words-spec =
     header-refusal-requires
     command-refusal-requires
     either-refusal-requires
-    count-in-requires
-    write-bare-words-requires
+    count-in-command-requires
+    write-words-without-components-requires
     same-length
     returns
     write-listed-words-requires

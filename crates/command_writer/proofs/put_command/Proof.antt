@@ -5,7 +5,7 @@ use Rattle.command.specs.Command.{array}
 use Rattle.bit_stores.specs.Written.{bytesIn}
 use Rattle.table.specs.Lent.{stored}
 use Rattle.table.specs.Writing.{Made}
-use Rattle.command_measure.proofs.Making.{insert-is, bare-made}
+use Rattle.command_measure.proofs.Making.{insert-is, made-without-components}
 use borrow.Author.Needs.{needs}
 use Rattle.command_writer.proofs.put_command.Statement.{statement}
 use Rattle.command_writer.proofs.put_command.Tie as tie
@@ -16,8 +16,8 @@ enum-known-command c = search needs
 put-insert-requires : tie.Need-put-insert-requires
 put-insert-requires c κs = search needs
 
-put-bare-requires : tie.Need-put-bare-requires
-put-bare-requires c κs = search needs
+put-without-components-requires : tie.Need-put-without-components-requires
+put-without-components-requires c κs = search needs
 
 same-length : tie.Need-same-length
 same-length c = search needs
@@ -37,7 +37,7 @@ returns-2 c =
     let q = c .before .before in
     let k = q .before .before in
     let a = k .before .before .before .args in
-    q .put-bare .ensures ∙ ap (λ (x : Made). stored (a .out .now) (a .at) (bytesIn x)) (bare-made (a .command) (array []) (a .components) (a .lent .now) (k .match .keys2))
+    q .put-without-components .ensures ∙ ap (λ (x : Made). stored (a .out .now) (a .at) (bytesIn x)) (made-without-components (a .command) (array []) (a .components) (a .lent .now) (k .match .keys2))
 
 pub put-command-spec : {M : Type 1} → statement M
 put-command-spec =
@@ -45,7 +45,7 @@ put-command-spec =
     (tie.spec
     enum-known-command
     put-insert-requires
-    put-bare-requires
+    put-without-components-requires
     same-length
     returns
     same-length-2

@@ -1,7 +1,7 @@
 -- `command_writer::write_command`: an insert, or what has no components.
 use mathlib.Core.List.{[]}
 use Rattle.command.specs.Command.{array}
-use Rattle.command_measure.proofs.Making.{insert-is, bare-made}
+use Rattle.command_measure.proofs.Making.{insert-is, made-without-components}
 use Rattle.command_writer.proofs.Payloads.{other-made}
 use borrow.Author.Needs.{needs}
 use Rattle.command_writer.proofs.write_command.Statement.{statement}
@@ -13,8 +13,8 @@ enum-known-command c = search needs
 write-insert-requires : tie.Need-write-insert-requires
 write-insert-requires c κs = search needs
 
-write-bare-command-requires : tie.Need-write-bare-command-requires
-write-bare-command-requires c κs = search needs
+write-command-without-components-requires : tie.Need-write-command-without-components-requires
+write-command-without-components-requires c κs = search needs
 
 same-length : tie.Need-same-length
 same-length c = search needs
@@ -34,7 +34,7 @@ returns-2 c =
     let q = c .before .before in
     let k = q .before .before in
     let a = k .before .before .before .args in
-    other-made _ _ (a .target .now) _ _ (bare-made (a .command) (array []) (a .components) (a .lent .now) (k .match .keys2)) (q .write-bare-command .ensures)
+    other-made _ _ (a .target .now) _ _ (made-without-components (a .command) (array []) (a .components) (a .lent .now) (k .match .keys2)) (q .write-command-without-components .ensures)
 
 pub write-command-spec : {M : Type 1} → statement M
 write-command-spec =
@@ -42,7 +42,7 @@ write-command-spec =
     (tie.spec
     enum-known-command
     write-insert-requires
-    write-bare-command-requires
+    write-command-without-components-requires
     same-length
     returns
     same-length-2

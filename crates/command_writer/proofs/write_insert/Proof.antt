@@ -19,12 +19,12 @@ use Rattle.command_writer.proofs.write_insert.Tie as tie
 full : (c : tie.Start) → length (c .args .components) ≡ 255
 full c = search needs
 
-is : (w : tie.After-answer-to) → let a = w .before .before .before .args in w .answer-to .result ≡ answerOf (insertMade (counted (a .i) (a .components))) (a .target .now)
+is : (w : tie.After-answer-measured) → let a = w .before .before .before .args in w .answer-measured .result ≡ answerOf (insertMade (counted (a .i) (a .components))) (a .target .now)
 is w =
     let k = w .before in
     let s = k .before .before in
     let a = s .args in
-    w .answer-to .ensures
+    w .answer-measured .ensures
     ∙ answered (insertMade (counted (a .i) (a .components))) (a .target .now) (k .measure-insert .result) (k .measure-insert .ensures .0)
     (λ z. counted-payload (a .i) (a .components) (full s) (k .measure-insert .ensures .1) z .is)
 
@@ -53,8 +53,8 @@ room t = omega (arith, there t .1)
 measure-insert-requires : tie.Need-measure-insert-requires
 measure-insert-requires c κs = search needs
 
-answer-to-requires : tie.Need-answer-to-requires
-answer-to-requires c κs = search needs
+answer-measured-requires : tie.Need-answer-measured-requires
+answer-measured-requires c κs = search needs
 
 enum-told : tie.Need-enum-told
 enum-told c = search needs
@@ -92,7 +92,7 @@ write-insert-spec =
     tie.close
     (tie.spec
     measure-insert-requires
-    answer-to-requires
+    answer-measured-requires
     enum-told
     store-insert-requires
     enum-told-2

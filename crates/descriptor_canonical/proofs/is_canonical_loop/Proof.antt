@@ -3,7 +3,7 @@ use Prim.Native.Nat.{_+_, _-_, _≤_}
 use mathlib.Core.Path.{_≡_, refl, ap}
 use native.Mathlib.Omega.{arith}
 use lib.ListN.{length, drop}
-use Rattle.descriptor_measure.specs.Canonical.{canonicalLoop}
+use Rattle.canonical_form.specs.Descriptor.{canonicalLoop}
 use Rattle.descriptor_canonical.proofs.Loops.{loop-few, loop-over, loop-spoilt, loop-turn, loop-end}
 use borrow.Author.Needs.{needs}
 use Rattle.descriptor_canonical.proofs.is_canonical_loop.Statement.{statement}

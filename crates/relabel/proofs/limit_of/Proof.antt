@@ -14,11 +14,11 @@ add-old c = search needs
 sub-old : tie.Need-sub-old
 sub-old c = search needs
 
-shared-slice-read-size-of : tie.Need-shared-slice-read-size-of
-shared-slice-read-size-of c = search needs
+shared-slice-read-size : tie.Need-shared-slice-read-size
+shared-slice-read-size c = search needs
 
-size-of-requires : tie.Need-size-of-requires
-size-of-requires c κs = search needs
+size-requires : tie.Need-size-requires
+size-requires c κs = search needs
 
 sub-item : tie.Need-sub-item
 sub-item c = search needs
@@ -41,7 +41,7 @@ returns c =
     let st = z .before .before .before .before .before .before in
     let a = st .args in
     let l = c .lesser .ensures in
-    limit-is (a .section .now) (a .p) _ _ _ _ _ (st .pre) (z .size-of .ensures .0) refl refl refl (l .0) (l .1) (l .2) (l .3)
+    limit-is (a .section .now) (a .p) _ _ _ _ _ (st .pre) (z .size .ensures .0) refl refl refl (l .0) (l .1) (l .2) (l .3)
 
 pub limit-of-spec : {M : Type 1} → statement M
 limit-of-spec =
@@ -50,8 +50,8 @@ limit-of-spec =
     add-own
     add-old
     sub-old
-    shared-slice-read-size-of
-    size-of-requires
+    shared-slice-read-size
+    size-requires
     sub-item
     sub-others
     sub-lesser

@@ -20,11 +20,11 @@ add-start c = search needs
 add-stop : tie.Need-add-stop
 add-stop c = search needs
 
-shared-slice-read-size-of : tie.Need-shared-slice-read-size-of
-shared-slice-read-size-of c = search needs
+shared-slice-read-size : tie.Need-shared-slice-read-size
+shared-slice-read-size c = search needs
 
-size-of-requires : tie.Need-size-of-requires
-size-of-requires c κs = search needs
+size-requires : tie.Need-size-requires
+size-requires c κs = search needs
 
 add-stop-2 : tie.Need-add-stop-2
 add-stop-2 c = search needs
@@ -34,7 +34,7 @@ sub-upid-head c =
     let z = c in
     let st = z .before .before .before in
     let a = st .args in
-    let f = stop-fits (a .section .now) (a .offset) (st .pre .0) (a .list) _ (st .pre .1) (z .size-of .ensures .0) in
+    let f = stop-fits (a .section .now) (a .offset) (st .pre .0) (a .list) _ (st .pre .1) (z .size .ensures .0) in
     omega (arith, f .0)
 
 part-upid-head-start : tie.Need-part-upid-head-start
@@ -42,7 +42,7 @@ part-upid-head-start c =
     let z = c in
     let st = z .before .before .before in
     let a = st .args in
-    let f = stop-fits (a .section .now) (a .offset) (st .pre .0) (a .list) _ (st .pre .1) (z .size-of .ensures .0) in
+    let f = stop-fits (a .section .now) (a .offset) (st .pre .0) (a .list) _ (st .pre .1) (z .size .ensures .0) in
     omega (arith, f .0, f .1)
 
 part-upid-head-end : tie.Need-part-upid-head-end
@@ -50,7 +50,7 @@ part-upid-head-end c =
     let z = c in
     let st = z .before .before .before in
     let a = st .args in
-    let f = stop-fits (a .section .now) (a .offset) (st .pre .0) (a .list) _ (st .pre .1) (z .size-of .ensures .0) in
+    let f = stop-fits (a .section .now) (a .offset) (st .pre .0) (a .list) _ (st .pre .1) (z .size .ensures .0) in
     omega (arith, f .1)
 
 upid-head-requires : tie.Need-upid-head-requires
@@ -62,8 +62,8 @@ add-head c =
     let z = u .before .before in
     let st = z .before .before .before in
     let a = st .args in
-    let f = stop-fits (a .section .now) (a .offset) (st .pre .0) (a .list) _ (st .pre .1) (z .size-of .ensures .0) in
-    let h = head-fits (a .section .now) (a .offset) (st .pre .0) (a .list) _ _ (st .pre .1) (z .size-of .ensures .0) (u .upid-head .ensures) in
+    let f = stop-fits (a .section .now) (a .offset) (st .pre .0) (a .list) _ (st .pre .1) (z .size .ensures .0) in
+    let h = head-fits (a .section .now) (a .offset) (st .pre .0) (a .list) _ _ (st .pre .1) (z .size .ensures .0) (u .upid-head .ensures) in
     omega (arith, h .1, h .2)
 
 add-counts : tie.Need-add-counts
@@ -72,8 +72,8 @@ add-counts c =
     let z = u .before .before in
     let st = z .before .before .before in
     let a = st .args in
-    let f = stop-fits (a .section .now) (a .offset) (st .pre .0) (a .list) _ (st .pre .1) (z .size-of .ensures .0) in
-    let h = head-fits (a .section .now) (a .offset) (st .pre .0) (a .list) _ _ (st .pre .1) (z .size-of .ensures .0) (u .upid-head .ensures) in
+    let f = stop-fits (a .section .now) (a .offset) (st .pre .0) (a .list) _ (st .pre .1) (z .size .ensures .0) in
+    let h = head-fits (a .section .now) (a .offset) (st .pre .0) (a .list) _ _ (st .pre .1) (z .size .ensures .0) (u .upid-head .ensures) in
     omega (arith, h .1, h .2)
 
 add-end : tie.Need-add-end
@@ -82,22 +82,22 @@ add-end c =
     let z = u .before .before in
     let st = z .before .before .before in
     let a = st .args in
-    let f = stop-fits (a .section .now) (a .offset) (st .pre .0) (a .list) _ (st .pre .1) (z .size-of .ensures .0) in
-    let h = head-fits (a .section .now) (a .offset) (st .pre .0) (a .list) _ _ (st .pre .1) (z .size-of .ensures .0) (u .upid-head .ensures) in
+    let f = stop-fits (a .section .now) (a .offset) (st .pre .0) (a .list) _ (st .pre .1) (z .size .ensures .0) in
+    let h = head-fits (a .section .now) (a .offset) (st .pre .0) (a .list) _ _ (st .pre .1) (z .size .ensures .0) (u .upid-head .ensures) in
     omega (arith, h .1, h .2)
 
-shared-slice-read-size-of-2 : tie.Need-shared-slice-read-size-of-2
-shared-slice-read-size-of-2 c =
+shared-slice-read-size-2 : tie.Need-shared-slice-read-size-2
+shared-slice-read-size-2 c =
     let u = c .before in
     let z = u .before .before in
     let st = z .before .before .before in
     let a = st .args in
-    let f = stop-fits (a .section .now) (a .offset) (st .pre .0) (a .list) _ (st .pre .1) (z .size-of .ensures .0) in
-    let h = head-fits (a .section .now) (a .offset) (st .pre .0) (a .list) _ _ (st .pre .1) (z .size-of .ensures .0) (u .upid-head .ensures) in
+    let f = stop-fits (a .section .now) (a .offset) (st .pre .0) (a .list) _ (st .pre .1) (z .size .ensures .0) in
+    let h = head-fits (a .section .now) (a .offset) (st .pre .0) (a .list) _ _ (st .pre .1) (z .size .ensures .0) (u .upid-head .ensures) in
     omega (arith, h .1)
 
-size-of-requires-2 : tie.Need-size-of-requires-2
-size-of-requires-2 c κs = search needs
+size-requires-2 : tie.Need-size-requires-2
+size-requires-2 c κs = search needs
 
 add-end-2 : tie.Need-add-end-2
 add-end-2 c =
@@ -105,9 +105,9 @@ add-end-2 c =
     let z = u .before .before in
     let st = z .before .before .before in
     let a = st .args in
-    let f = stop-fits (a .section .now) (a .offset) (st .pre .0) (a .list) _ (st .pre .1) (z .size-of .ensures .0) in
-    let h = head-fits (a .section .now) (a .offset) (st .pre .0) (a .list) _ _ (st .pre .1) (z .size-of .ensures .0) (u .upid-head .ensures) in
-    omega (arith, h .1, h .2, c .size-of2 .ensures .1)
+    let f = stop-fits (a .section .now) (a .offset) (st .pre .0) (a .list) _ (st .pre .1) (z .size .ensures .0) in
+    let h = head-fits (a .section .now) (a .offset) (st .pre .0) (a .list) _ _ (st .pre .1) (z .size .ensures .0) (u .upid-head .ensures) in
+    omega (arith, h .1, h .2, c .size2 .ensures .1)
 
 returns : tie.Need-returns
 returns c =
@@ -115,9 +115,9 @@ returns c =
     let z = u .before .before in
     let st = z .before .before .before in
     let a = st .args in
-    let f = stop-fits (a .section .now) (a .offset) (st .pre .0) (a .list) _ (st .pre .1) (z .size-of .ensures .0) in
-    let h = head-fits (a .section .now) (a .offset) (st .pre .0) (a .list) _ _ (st .pre .1) (z .size-of .ensures .0) (u .upid-head .ensures) in
-    place-is (a .section .now) (a .offset) (st .pre .0) (a .list) (a .len) _ _ (st .pre .1) (st .pre .2) (h .0) (c .size-of2 .ensures .0)
+    let f = stop-fits (a .section .now) (a .offset) (st .pre .0) (a .list) _ (st .pre .1) (z .size .ensures .0) in
+    let h = head-fits (a .section .now) (a .offset) (st .pre .0) (a .list) _ _ (st .pre .1) (z .size .ensures .0) (u .upid-head .ensures) in
+    place-is (a .section .now) (a .offset) (st .pre .0) (a .list) (a .len) _ _ (st .pre .1) (st .pre .2) (h .0) (c .size2 .ensures .0)
 
 pub place-of-spec : {M : Type 1} → statement M
 place-of-spec =
@@ -127,8 +127,8 @@ place-of-spec =
     add-own
     add-start
     add-stop
-    shared-slice-read-size-of
-    size-of-requires
+    shared-slice-read-size
+    size-requires
     add-stop-2
     sub-upid-head
     part-upid-head-start
@@ -137,7 +137,7 @@ place-of-spec =
     add-head
     add-counts
     add-end
-    shared-slice-read-size-of-2
-    size-of-requires-2
+    shared-slice-read-size-2
+    size-requires-2
     add-end-2
     returns)

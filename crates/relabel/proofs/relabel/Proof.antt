@@ -12,23 +12,23 @@ use Rattle.relabel.proofs.relabel.Tie as tie
 read-section-requires : tie.Need-read-section-requires
 read-section-requires c κs = search needs
 
-enum-known-read : tie.Need-enum-known-read
-enum-known-read c = search needs
+enum-known-x : tie.Need-enum-known-x
+enum-known-x c = search needs
 
-enum-told : tie.Need-enum-told
-enum-told c = search needs
+enum-known-r : tie.Need-enum-known-r
+enum-known-r c = search needs
 
-refusal-number-requires : tie.Need-refusal-number-requires
-refusal-number-requires c κs = search needs
+number-requires : tie.Need-number-requires
+number-requires c κs = search needs
 
 returns : tie.Need-returns
 returns c =
-    let et = c .before in
-    let rs = et .before .before in
+    let r = c .before .before in
+    let rs = r .before .before in
     let st = rs .before .before .before .before in
     let a = st .args in
-    refused-answer _ (a .target .now) _ (section-refused (a .section .now) (a .offset) (a .part) (a .k) (a .new .now) _ _ (sym (rs .read-section .ensures) ∙ et .enum-told .given .1)
-    (c .refusal-number .ensures ∙ ap numberOf (rs .read-section .ensures)))
+    refused-answer _ (a .target .now) _ (section-refused (a .section .now) (a .offset) (a .part) (a .k) (a .new .now) _ _ (sym (rs .read-section .ensures) ∙ r .r .given .1)
+    (c .number .ensures ∙ ap numberOf (sym (r .r .given .1) ∙ rs .read-section .ensures)))
 
 relabel-in-requires : tie.Need-relabel-in-requires
 relabel-in-requires c κs =
@@ -37,7 +37,7 @@ relabel-in-requires c κs =
     let st = rs .before .before .before .before in
     let a = st .args in
     let s = a .section .now in
-    let e = sym (rs .read-section .ensures) ∙ rd .read .given .1 in
+    let e = sym (rs .read-section .ensures) ∙ rd .x .given .1 in
     let f = framing s _ e in
     (f .at, f .len, f .fits, f .short)
 
@@ -52,7 +52,7 @@ returns-2 c =
     let st = rs .before .before .before .before in
     let a = st .args in
     let s = a .section .now in
-    let e = sym (rs .read-section .ensures) ∙ rd .read .given .1 in
+    let e = sym (rs .read-section .ensures) ∙ rd .x .given .1 in
     let e₂ = section-accepted s (a .offset) (a .part) (a .k) (a .new .now) _ e in
     (ri .relabel-in .ensures .0 ∙ ap (λ (m : Made). answerOf m (a .target .now)) (sym e₂), ri .relabel-in .ensures .1 ∙ ap (λ (m : Made). laterOf m (a .target .now)) (sym e₂))
 
@@ -61,9 +61,9 @@ relabel-spec =
     tie.close
     (tie.spec
     read-section-requires
-    enum-known-read
-    enum-told
-    refusal-number-requires
+    enum-known-x
+    enum-known-r
+    number-requires
     returns
     relabel-in-requires
     same-length

@@ -28,8 +28,8 @@ lesser-requires c κs = search needs
 add-to : tie.Need-add-to
 add-to c = search needs
 
-shared-slice-read-kind : tie.Need-shared-slice-read-kind
-shared-slice-read-kind c = search needs
+shared-slice-read-upid-type : tie.Need-shared-slice-read-upid-type
+shared-slice-read-upid-type c = search needs
 
 sub-relabel-upid : tie.Need-sub-relabel-upid
 sub-relabel-upid c = search needs
@@ -71,8 +71,8 @@ returns c =
     let a = st .args in
     refused-at (a .section .now) (a .p) (a .limit) (a .part) (a .k) (a .new .now) (a .target .now) (st .pre .0) (st .pre .1) _ _ (y .beyond .ensures) (l .lesser .ensures .1) (l .lesser .ensures .2) _ _ (sym (m .made2 .given .1) ∙ up .relabel-upid .ensures .0) (up .relabel-upid .ensures .1)
 
-kind-then-requires : tie.Need-kind-then-requires
-kind-then-requires c κs = search needs
+type-then-requires : tie.Need-type-then-requires
+type-then-requires c κs = search needs
 
 store-around-requires : tie.Need-store-around-requires
 store-around-requires c κs =
@@ -110,7 +110,7 @@ returns-2 c =
     let st = y .before .before .before .before in
     let a = st .args in
     let w = wrote-at (a .section .now) (a .p) (a .limit) (a .part) (a .k) (a .new .now) (a .target .now) (st .pre .0) (st .pre .1) _ _ (y .beyond .ensures) (l .lesser .ensures .1) (l .lesser .ensures .2) _ _ (sym (m .made .given .1) ∙ up .relabel-upid .ensures .0) (up .relabel-upid .ensures .1) in
-    all-wrote (a .section .now) (a .p) (a .limit) (a .part) (a .k) (a .new .now) (a .target .now) (st .pre .0) (w .b) (w .is) _ _ _ _ (w .size) (kt .kind-then .ensures) (w .fits) (w .stores) (r .store-around .ensures)
+    all-wrote (a .section .now) (a .p) (a .limit) (a .part) (a .k) (a .new .now) (a .target .now) (st .pre .0) (w .b) (w .is) _ _ _ _ (w .size) (kt .type-then .ensures) (w .fits) (w .stores) (r .store-around .ensures)
 
 pub relabel-at-spec : {M : Type 1} → statement M
 relabel-at-spec =
@@ -123,7 +123,7 @@ relabel-at-spec =
     sub-lesser
     lesser-requires
     add-to
-    shared-slice-read-kind
+    shared-slice-read-upid-type
     sub-relabel-upid
     part-relabel-upid-start
     part-relabel-upid-end
@@ -135,7 +135,7 @@ relabel-at-spec =
     enum-known-made-2
     same-length
     returns
-    kind-then-requires
+    type-then-requires
     store-around-requires
     add-t20
     same-length-2

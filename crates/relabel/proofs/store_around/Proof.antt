@@ -27,7 +27,7 @@ returns c =
     let h = i .before .before .before .before in
     let st = h .before .before .before .before in
     let a = st .args in
-    b .store-back .ensures ∙ ap (sealed (a .section .now) (a .p) (a .n)) (i .store-item .ensures ∙ ap (λ (u : List ℕ). stored u (a .p .list) (itemOf (a .section .now) (a .p) (a .kind) (a .n))) (h .store-head .ensures))
+    b .store-back .ensures ∙ ap (sealed (a .section .now) (a .p) (a .n)) (i .store-item .ensures ∙ ap (λ (u : List ℕ). stored u (a .p .list) (itemOf (a .section .now) (a .p) (a .upid-type) (a .n))) (h .store-head .ensures))
 
 pub store-around-spec : {M : Type 1} → statement M
 store-around-spec =

@@ -12,11 +12,11 @@ add-own c = search needs
 add-named : tie.Need-add-named
 add-named c = search needs
 
-shared-slice-read-size-of : tie.Need-shared-slice-read-size-of
-shared-slice-read-size-of c = search needs
+shared-slice-read-size : tie.Need-shared-slice-read-size
+shared-slice-read-size c = search needs
 
-size-of-requires : tie.Need-size-of-requires
-size-of-requires c κs = search needs
+size-requires : tie.Need-size-requires
+size-requires c κs = search needs
 
 add-len : tie.Need-add-len
 add-len c = search needs
@@ -85,7 +85,7 @@ returns c =
     let z = b₁ .before .before .before .before in
     let st = z .before .before .before .before .before .before in
     let a = st .args in
-    item-stored (a .section .now) (a .p) (a .n) (st .pre .0) (a .target .now) _ _ _ _ (a .kind) _ _ _ _ _ (z .size-of .ensures .0) refl (ap (λ (v : ℕ). v * 256 + a .n) (w .wide .ensures .0)) refl refl
+    item-stored (a .section .now) (a .p) (a .n) (st .pre .0) (a .target .now) _ _ _ _ (a .upid-type) _ _ _ _ _ (z .size .ensures .0) refl (ap (λ (v : ℕ). v * 256 + a .n) (w .wide .ensures .0)) refl refl
     (b₁ .put-bytes .ensures) (byte .put-byte .ensures) (b₂ .put-bytes2 .ensures) (num .put-number .ensures) (st .pre .2)
 
 pub store-item-spec : {M : Type 1} → statement M
@@ -94,8 +94,8 @@ store-item-spec =
     (tie.spec
     add-own
     add-named
-    shared-slice-read-size-of
-    size-of-requires
+    shared-slice-read-size
+    size-requires
     add-len
     sub-len
     sub-len-2

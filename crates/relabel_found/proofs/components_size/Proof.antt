@@ -9,8 +9,8 @@ use Rattle.relabel_found.proofs.components_size.Tie as tie
 returns : tie.Need-returns
 returns c = (rw (eq-eqb _ _ (c .if1 .taken)), omega arith)
 
-wide-requires : tie.Need-wide-requires
-wide-requires c κs = search needs
+size-requires : tie.Need-size-requires
+size-requires c κs = search needs
 
 mul-result : tie.Need-mul-result
 mul-result c = search needs
@@ -20,8 +20,8 @@ add-result c = search needs
 
 returns-2 : tie.Need-returns-2
 returns-2 c =
-    let w = c .wide .ensures in
+    let w = c .size .ensures in
     (rw (ne-eqb _ _ (c .before .if1 .left)) (omega (arith, w .0)), omega (arith, w .1))
 
 pub components-size-spec : {M : Type 1} → statement M
-components-size-spec = tie.close (tie.spec returns wide-requires mul-result add-result returns-2)
+components-size-spec = tie.close (tie.spec returns size-requires mul-result add-result returns-2)

@@ -9,10 +9,10 @@ use borrow.Author.Needs.{needs}
 use Rattle.relabel_found.proofs.skip_item.Statement.{statement}
 use Rattle.relabel_found.proofs.skip_item.Tie as tie
 
-abbrev start : tie.After-wide → tie.Start
+abbrev start : tie.After-size → tie.Start
 start w = w .before .before .before .before
 
-six : (w : tie.After-wide) → let a = start w .args in 6 ≤ length (a .items .now) - a .at
+six : (w : tie.After-size) → let a = start w .args in 6 ≤ length (a .items .now) - a .at
 six w = w .before .before .if1 .left
 
 sub-left : tie.Need-sub-left
@@ -23,14 +23,14 @@ returns c =
     let st = c .before .before in
     sym (ap (λ (s : Step). s .next) (step-few _ _ (st .pre .1) (st .pre .0) (c .if1 .taken)))
 
-add-wide : tie.Need-add-wide
-add-wide c = search needs
+add-size : tie.Need-add-size
+add-size c = search needs
 
-shared-slice-read-wide : tie.Need-shared-slice-read-wide
-shared-slice-read-wide c = search needs
+shared-slice-read-size : tie.Need-shared-slice-read-size
+shared-slice-read-size c = search needs
 
-wide-requires : tie.Need-wide-requires
-wide-requires c κs = search needs
+size-requires : tie.Need-size-requires
+size-requires c κs = search needs
 
 add-if2 : tie.Need-add-if2
 add-if2 c = search needs
@@ -38,12 +38,12 @@ add-if2 c = search needs
 returns-2 : tie.Need-returns-2
 returns-2 c =
     let w = c .before in
-    sym (ap (λ (s : Step). s .next) (step-over _ _ (start w .pre .1) (start w .pre .0) _ (w .wide .ensures .0) (six w) (c .if2 .taken)))
+    sym (ap (λ (s : Step). s .next) (step-over _ _ (start w .pre .1) (start w .pre .0) _ (w .size .ensures .0) (six w) (c .if2 .taken)))
 
 returns-3 : tie.Need-returns-3
 returns-3 c =
     let w = c .before .before in
-    sym (ap (λ (s : Step). s .next) (step-full _ _ (start w .pre .1) (start w .pre .0) _ (w .wide .ensures .0) (six w) (c .before .if2 .left) (c .if3 .taken)))
+    sym (ap (λ (s : Step). s .next) (step-full _ _ (start w .pre .1) (start w .pre .0) _ (w .size .ensures .0) (six w) (c .before .if2 .left) (c .if3 .taken)))
 
 add-result : tie.Need-add-result
 add-result c = search needs
@@ -54,7 +54,7 @@ add-result-2 c = search needs
 returns-4 : tie.Need-returns-4
 returns-4 c =
     let w = c .before .before in
-    next-is _ _ (start w .pre .1) (start w .pre .0) _ (w .wide .ensures .0) (six w) (c .before .if2 .left) (c .if3 .left)
+    next-is _ _ (start w .pre .1) (start w .pre .0) _ (w .size .ensures .0) (six w) (c .before .if2 .left) (c .if3 .left)
 
 pub skip-item-spec : {M : Type 1} → statement M
 skip-item-spec =
@@ -62,9 +62,9 @@ skip-item-spec =
     (tie.spec
     sub-left
     returns
-    add-wide
-    shared-slice-read-wide
-    wide-requires
+    add-size
+    shared-slice-read-size
+    size-requires
     add-if2
     returns-2
     returns-3

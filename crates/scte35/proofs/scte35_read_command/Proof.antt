@@ -16,7 +16,7 @@ flat-command-read-requires : tie.Need-flat-command-read-requires
 flat-command-read-requires c κs = search needs
 
 returns : tie.Need-returns
-returns c = c .flat-command-read .ensures ∙ ap flatCommandRead (c .before .read-command .ensures ∙ ap (commandOf (c .before .before .before .before .args .kind)) (c .before .before .rest .ensures))
+returns c = c .flat-command-read .ensures ∙ ap flatCommandRead (c .before .read-command .ensures ∙ ap (commandOf (c .before .before .before .before .args .command-type)) (c .before .before .rest .ensures))
 
 pub scte35-read-command-spec : {M : Type 1} → statement M
 scte35-read-command-spec =

@@ -16,7 +16,7 @@ flat-upid-requires : tie.Need-flat-upid-requires
 flat-upid-requires c κs = search needs
 
 returns : tie.Need-returns
-returns c = c .flat-upid .ensures ∙ ap flatUpid (c .before .read-upid .ensures ∙ ap (upidOf (c .before .before .before .before .args .kind)) (c .before .before .rest .ensures))
+returns c = c .flat-upid .ensures ∙ ap flatUpid (c .before .read-upid .ensures ∙ ap (upidOf (c .before .before .before .before .args .upid-type)) (c .before .before .rest .ensures))
 
 pub scte35-read-upid-spec : {M : Type 1} → statement M
 scte35-read-upid-spec = tie.close (tie.spec rest-requires read-upid-requires flat-upid-requires returns)

@@ -11,7 +11,7 @@ use Rattle.section.specs.declared.FrameRead.{FrameRead}
 use Rattle.section.specs.declared.SectionRead.{SectionRead}
 use Rattle.section.proofs.Framing as frame
 use Rattle.section_writer.proofs.Forms.{readAs, is-read, is-unknown, is-malformed, loop-at, other-bits, other-length, spare-bytes, no-spare-byte}
-use Rattle.section_writer.proofs.Parts.{Parts, parts-of}
+use Rattle.section.proofs.Parts.{Parts, parts-of}
 use borrow.Author.Needs.{needs}
 use Rattle.section_writer.proofs.is_canonical_around.Statement.{statement}
 use Rattle.section_writer.proofs.is_canonical_around.Tie as tie

@@ -4,8 +4,8 @@ use mathlib.Core.List.{List}
 use mathlib.Core.Path.{_≡_, ap, sym, _∙_}
 use lib.ListN.{getD}
 use native.Mathlib.Omega.{arith}
-use Rattle.command_canonical.specs.Canonical.{canonicalCommand}
-use Rattle.descriptor_measure.specs.Canonical.{canonicalLoop}
+use Rattle.canonical_form.specs.Command.{canonicalCommand}
+use Rattle.canonical_form.specs.Descriptor.{canonicalLoop}
 use Rattle.section.specs.Section.{frameOf}
 use Rattle.section.specs.declared.FrameRead.{FrameRead}
 use Rattle.section.proofs.Framing.{Framed, framed, is-refused}

@@ -41,7 +41,7 @@ returns c =
     let p₁ = f .before .before .before .before in
     let st = p₁ .before .before .before in
     let a = st .args in
-    head-stored (a .out .now) _ _ _ (a .header) (a .kind) (a .size) (a .extent) _ _ (p₁ .put-number .ensures) (p₂ .put-number2 .ensures) (p₃ .put-number3 .ensures)
+    head-stored (a .out .now) _ _ _ (a .header) (a .command-type) (a .size) (a .extent) _ _ (p₁ .put-number .ensures) (p₂ .put-number2 .ensures) (p₃ .put-number3 .ensures)
     (f .front-number .ensures) (b .back-number .ensures) (st .pre .0) (st .pre .1) (omega arith) (st .pre .2) (st .pre .3)
 
 pub put-head-spec : {M : Type 1} → statement M

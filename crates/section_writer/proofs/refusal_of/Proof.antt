@@ -2,7 +2,7 @@
 use mathlib.Core.Path.{sym, _∙_}
 use native.Mathlib.Omega.{arith}
 use borrow.Author.Tests.{not-true, not-false}
-use Rattle.section_writer.proofs.Refusals.{outside, command-wide, header-wide, command-unfair, header-unfair, too-long, uncanonical, no-refusal}
+use Rattle.section_writer.proofs.Refusals.{outside, command-wide, header-wide, command-unwritable, header-unwritable, too-long, uncanonical, no-refusal}
 use borrow.Author.Needs.{needs}
 use Rattle.section_writer.proofs.refusal_of.Statement.{statement}
 use Rattle.section_writer.proofs.refusal_of.Tie as tie
@@ -40,10 +40,10 @@ returns-4 c =
     let i₂ = n .before in
     let i₁ = i₂ .before in
     let a = i₁ .before .args in
-    command-unfair (a .header) (a .r) (a .size) (a .extent) (a .canonical) (i₁ .if1 .left) (i₂ .if2 .left) (sym (not-false _ (i₃ .if3 .left)) ∙ n .numbers-fit .ensures) (i₄ .if4 .taken)
+    command-unwritable (a .header) (a .r) (a .size) (a .extent) (a .canonical) (i₁ .if1 .left) (i₂ .if2 .left) (sym (not-false _ (i₃ .if3 .left)) ∙ n .numbers-fit .ensures) (i₄ .if4 .taken)
 
-fair-head-requires : tie.Need-fair-head-requires
-fair-head-requires c κs = search needs
+is-writable-head-requires : tie.Need-is-writable-head-requires
+is-writable-head-requires c κs = search needs
 
 returns-5 : tie.Need-returns-5
 returns-5 c =
@@ -55,7 +55,7 @@ returns-5 c =
     let i₂ = n .before in
     let i₁ = i₂ .before in
     let a = i₁ .before .args in
-    header-unfair (a .header) (a .r) (a .size) (a .extent) (a .canonical) (i₁ .if1 .left) (i₂ .if2 .left) (sym (not-false _ (i₃ .if3 .left)) ∙ n .numbers-fit .ensures) (i₄ .if4 .left) (sym (not-true _ (i₅ .if5 .taken)) ∙ f .fair-head .ensures)
+    header-unwritable (a .header) (a .r) (a .size) (a .extent) (a .canonical) (i₁ .if1 .left) (i₂ .if2 .left) (sym (not-false _ (i₃ .if3 .left)) ∙ n .numbers-fit .ensures) (i₄ .if4 .left) (sym (not-true _ (i₅ .if5 .taken)) ∙ f .is-writable-head .ensures)
 
 returns-6 : tie.Need-returns-6
 returns-6 c =
@@ -68,7 +68,7 @@ returns-6 c =
     let i₂ = n .before in
     let i₁ = i₂ .before in
     let a = i₁ .before .args in
-    too-long (a .header) (a .r) (a .size) (a .extent) (a .canonical) (i₁ .if1 .left) (i₂ .if2 .left) (sym (not-false _ (i₃ .if3 .left)) ∙ n .numbers-fit .ensures) (i₄ .if4 .left) (sym (not-false _ (i₅ .if5 .left)) ∙ f .fair-head .ensures) (omega arith)
+    too-long (a .header) (a .r) (a .size) (a .extent) (a .canonical) (i₁ .if1 .left) (i₂ .if2 .left) (sym (not-false _ (i₃ .if3 .left)) ∙ n .numbers-fit .ensures) (i₄ .if4 .left) (sym (not-false _ (i₅ .if5 .left)) ∙ f .is-writable-head .ensures) (omega arith)
 
 returns-7 : tie.Need-returns-7
 returns-7 c =
@@ -82,7 +82,7 @@ returns-7 c =
     let i₂ = n .before in
     let i₁ = i₂ .before in
     let a = i₁ .before .args in
-    too-long (a .header) (a .r) (a .size) (a .extent) (a .canonical) (i₁ .if1 .left) (i₂ .if2 .left) (sym (not-false _ (i₃ .if3 .left)) ∙ n .numbers-fit .ensures) (i₄ .if4 .left) (sym (not-false _ (i₅ .if5 .left)) ∙ f .fair-head .ensures) (omega arith)
+    too-long (a .header) (a .r) (a .size) (a .extent) (a .canonical) (i₁ .if1 .left) (i₂ .if2 .left) (sym (not-false _ (i₃ .if3 .left)) ∙ n .numbers-fit .ensures) (i₄ .if4 .left) (sym (not-false _ (i₅ .if5 .left)) ∙ f .is-writable-head .ensures) (omega arith)
 
 returns-8 : tie.Need-returns-8
 returns-8 c =
@@ -97,7 +97,7 @@ returns-8 c =
     let i₂ = n .before in
     let i₁ = i₂ .before in
     let a = i₁ .before .args in
-    uncanonical (a .header) (a .r) (a .size) (a .extent) (a .canonical) (i₁ .if1 .left) (i₂ .if2 .left) (sym (not-false _ (i₃ .if3 .left)) ∙ n .numbers-fit .ensures) (i₄ .if4 .left) (sym (not-false _ (i₅ .if5 .left)) ∙ f .fair-head .ensures) (omega arith) (not-true _ (i₈ .if8 .taken))
+    uncanonical (a .header) (a .r) (a .size) (a .extent) (a .canonical) (i₁ .if1 .left) (i₂ .if2 .left) (sym (not-false _ (i₃ .if3 .left)) ∙ n .numbers-fit .ensures) (i₄ .if4 .left) (sym (not-false _ (i₅ .if5 .left)) ∙ f .is-writable-head .ensures) (omega arith) (not-true _ (i₈ .if8 .taken))
 
 returns-9 : tie.Need-returns-9
 returns-9 c =
@@ -112,7 +112,7 @@ returns-9 c =
     let i₂ = n .before in
     let i₁ = i₂ .before in
     let a = i₁ .before .args in
-    no-refusal (a .header) (a .r) (a .size) (a .extent) (a .canonical) (i₁ .if1 .left) (i₂ .if2 .left) (sym (not-false _ (i₃ .if3 .left)) ∙ n .numbers-fit .ensures) (i₄ .if4 .left) (sym (not-false _ (i₅ .if5 .left)) ∙ f .fair-head .ensures) (omega arith) (not-false _ (i₈ .if8 .left))
+    no-refusal (a .header) (a .r) (a .size) (a .extent) (a .canonical) (i₁ .if1 .left) (i₂ .if2 .left) (sym (not-false _ (i₃ .if3 .left)) ∙ n .numbers-fit .ensures) (i₄ .if4 .left) (sym (not-false _ (i₅ .if5 .left)) ∙ f .is-writable-head .ensures) (omega arith) (not-false _ (i₈ .if8 .left))
 
 pub refusal-of-spec : {M : Type 1} → statement M
 refusal-of-spec =
@@ -123,7 +123,7 @@ refusal-of-spec =
     numbers-fit-requires
     returns-3
     returns-4
-    fair-head-requires
+    is-writable-head-requires
     returns-5
     returns-6
     returns-7

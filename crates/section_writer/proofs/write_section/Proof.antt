@@ -4,29 +4,29 @@ use native.Mathlib.Omega.{arith}
 use Rattle.command_measure.specs.Made.{commandMade}
 use Rattle.command_writer.proofs.Payloads.{refused-later}
 use Rattle.bit_stores.specs.Written.{answerOf}
-use Rattle.section_writer.specs.Writing.{kindOf, sectionMade}
+use Rattle.section_writer.specs.Writing.{typeOf, sectionMade}
 use Rattle.section_writer.proofs.Answers.{section-answer, allowed, wrote-section, kept-length}
 use borrow.Author.Needs.{needs}
 use Rattle.section_writer.proofs.write_section.Statement.{statement}
 use Rattle.section_writer.proofs.write_section.Tie as tie
 
-is : (w : tie.After-answer-for) → let a = w .before .before .before .before .before .args in w .answer-for .result ≡ answerOf (sectionMade (a .header) (commandMade (a .command) (a .components) (a .lent .now)) (kindOf (a .command)) (a .descriptors .now)) (a .target .now)
+is : (w : tie.After-answer-section) → let a = w .before .before .before .before .before .args in w .answer-section .result ≡ answerOf (sectionMade (a .header) (commandMade (a .command) (a .components) (a .lent .now)) (typeOf (a .command)) (a .descriptors .now)) (a .target .now)
 is w =
     let m = w .before in
     let a = m .before .before .before .before .args in
-    w .answer-for .ensures ∙ section-answer (a .header) (a .command) (a .components) (a .lent .now) (a .descriptors .now) (m .measure-command .result) (m .measure-command .ensures .0) (a .target .now)
+    w .answer-section .ensures ∙ section-answer (a .header) (a .command) (a .components) (a .lent .now) (a .descriptors .now) (m .measure-command .result) (m .measure-command .ensures .0) (a .target .now)
 
 measure-command-requires : tie.Need-measure-command-requires
 measure-command-requires c κs = search needs
 
-answer-for-requires : tie.Need-answer-for-requires
-answer-for-requires c κs = search needs
+answer-section-requires : tie.Need-answer-section-requires
+answer-section-requires c κs = search needs
 
 enum-told : tie.Need-enum-told
 enum-told c = search needs
 
-kind-of-requires : tie.Need-kind-of-requires
-kind-of-requires c κs = search needs
+type-of-requires : tie.Need-type-of-requires
+type-of-requires c κs = search needs
 
 put-head-requires : tie.Need-put-head-requires
 put-head-requires c κs =
@@ -34,7 +34,7 @@ put-head-requires c κs =
     let w = t .before .before in
     let m = w .before in
     let a = m .before .before .before .before .args in
-    let g = allowed (a .header) (a .command) (a .components) (a .lent .now) (a .descriptors .now) (m .measure-command .result) (m .measure-command .ensures .0) (a .target .now) _ _ (w .answer-for .ensures) (t .enum-told .given .1) in
+    let g = allowed (a .header) (a .command) (a .components) (a .lent .now) (a .descriptors .now) (m .measure-command .result) (m .measure-command .ensures .0) (a .target .now) _ _ (w .answer-section .ensures) (t .enum-told .given .1) in
     (g .0, g .1, g .2, omega (arith, g .3))
 
 put-command-requires : tie.Need-put-command-requires
@@ -46,7 +46,7 @@ add-put-tail c =
     let w = t .before .before in
     let m = w .before in
     let a = m .before .before .before .before .args in
-    let g = allowed (a .header) (a .command) (a .components) (a .lent .now) (a .descriptors .now) (m .measure-command .result) (m .measure-command .ensures .0) (a .target .now) _ _ (w .answer-for .ensures) (t .enum-told .given .1) in
+    let g = allowed (a .header) (a .command) (a .components) (a .lent .now) (a .descriptors .now) (m .measure-command .result) (m .measure-command .ensures .0) (a .target .now) _ _ (w .answer-section .ensures) (t .enum-told .given .1) in
     omega (arith, g .2)
 
 put-tail-requires : tie.Need-put-tail-requires
@@ -57,7 +57,7 @@ put-tail-requires c κs =
     let w = t .before .before in
     let m = w .before in
     let a = m .before .before .before .before .args in
-    let g = allowed (a .header) (a .command) (a .components) (a .lent .now) (a .descriptors .now) (m .measure-command .result) (m .measure-command .ensures .0) (a .target .now) _ _ (w .answer-for .ensures) (t .enum-told .given .1) in
+    let g = allowed (a .header) (a .command) (a .components) (a .lent .now) (a .descriptors .now) (m .measure-command .result) (m .measure-command .ensures .0) (a .target .now) _ _ (w .answer-section .ensures) (t .enum-told .given .1) in
     let n = kept-length (a .target .now) _ _ _ _ _ _ (h .put-head .ensures) (p .put-command .ensures) in
     (omega (arith, g .2), omega (arith, g .3, n))
 
@@ -77,22 +77,22 @@ returns c =
     let w = t .before .before in
     let m = w .before in
     let a = m .before .before .before .before .args in
-    (is w, wrote-section (a .header) (a .command) (a .components) (a .lent .now) (a .descriptors .now) (m .measure-command .result) (m .measure-command .ensures .0) (a .target .now) _ _ (w .answer-for .ensures) (t .enum-told .given .1) _ _ _ _ (k .kind-of .ensures) (h .put-head .ensures) (p .put-command .ensures) (e .put-tail .ensures))
+    (is w, wrote-section (a .header) (a .command) (a .components) (a .lent .now) (a .descriptors .now) (m .measure-command .result) (m .measure-command .ensures .0) (a .target .now) _ _ (w .answer-section .ensures) (t .enum-told .given .1) _ _ _ _ (k .type-of .ensures) (h .put-head .ensures) (p .put-command .ensures) (e .put-tail .ensures))
 
 returns-2 : tie.Need-returns-2
 returns-2 c =
     let w = c .before .before in
     let a = w .before .before .before .before .before .args in
-    (is w, refused-later (sectionMade (a .header) (commandMade (a .command) (a .components) (a .lent .now)) (kindOf (a .command)) (a .descriptors .now)) (a .target .now) _ (sym (is w) ∙ c .enum-told2 .given .1))
+    (is w, refused-later (sectionMade (a .header) (commandMade (a .command) (a .components) (a .lent .now)) (typeOf (a .command)) (a .descriptors .now)) (a .target .now) _ (sym (is w) ∙ c .enum-told2 .given .1))
 
 pub write-section-spec : {M : Type 1} → statement M
 write-section-spec =
     tie.close
     (tie.spec
     measure-command-requires
-    answer-for-requires
+    answer-section-requires
     enum-told
-    kind-of-requires
+    type-of-requires
     put-head-requires
     put-command-requires
     add-put-tail

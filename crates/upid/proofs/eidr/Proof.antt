@@ -28,10 +28,10 @@ all-copied out s i h h2 l e =
     e ∙ rw z (append-nil (take 12 s) ∙ take-all 12 s g)
 
 abbrev Inv-loop : tie.InvT-loop
-Inv-loop kind s out₀ i₀ out i = (i ≤ 12) × (length s ≡ 12) × (kind ≡ 10) × (out ≡ paste (replicate 12 0) 0 s i)
+Inv-loop upid-type s out₀ i₀ out i = (i ≤ 12) × (length s ≡ 12) × (upid-type ≡ 10) × (out ≡ paste (replicate 12 0) 0 s i)
 
 abbrev μ-loop : tie.MeasureT-loop
-μ-loop kind s out₀ i₀ out i = 12 - i
+μ-loop upid-type s out₀ i₀ out i = 12 - i
 
 returns : tie.Need-returns Inv-loop μ-loop
 unfolding eidrOf

@@ -4,7 +4,7 @@ use mathlib.Core.Path.{_≡_, ap, _∙_}
 use mathlib.Core.Logic.{⊎-elim}
 use lib.Dec.{eqb}
 use borrow.Author.Tests.{eq-eqb, ne-eqb}
-use Rattle.command.specs.declared.insert.SpliceInsert.{SpliceInsert}
+use Rattle.command.specs.declared.insert.SpliceDetail.{SpliceDetail}
 use Rattle.table.specs.Bits.{pick}
 use Rattle.c_command_writer.specs.CommandGiven.{insertFrom, insertionFrom}
 use Rattle.c_command_writer.proofs.commands.insertion_from.Statement.{statement}
@@ -12,11 +12,11 @@ use Rattle.c_command_writer.proofs.commands.insertion_from.Tie as tie
 
 detailed : (c : tie.Joined1) →
     let i = c .before .before .args .i in
-    c .if1 .splice-detail ≡ pick (eqb (i .«splice_event_cancel_indicator») 1) SpliceInsert.Cancel (SpliceInsert.Insert (insertFrom i))
+    c .if1 .splice-detail ≡ pick (eqb (i .«splice_event_cancel_indicator») 1) SpliceDetail.Cancel (SpliceDetail.Insert (insertFrom i))
 detailed c =
     ⊎-elim
     (λ w. w .1 ∙ rw (eq-eqb _ _ (w .0 .taken)))
-    (λ w. w .2 ∙ rw (ne-eqb _ _ (w .0 .left)) (ap SpliceInsert.Insert (w .1 .ensures)))
+    (λ w. w .2 ∙ rw (ne-eqb _ _ (w .0 .left)) (ap SpliceDetail.Insert (w .1 .ensures)))
     (c .if1 .came)
 
 insert-from-requires : tie.Need-insert-from-requires

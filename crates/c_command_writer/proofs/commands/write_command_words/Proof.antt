@@ -18,7 +18,7 @@ use Rattle.c_command_writer.proofs.commands.write_command_words.Stateme
 use Rattle.c_command_writer.proofs.commands.write_command_words.Tie as tie
 
 parts : (words components lent : List ℕ) (g : SpliceCommand) (p : List ComponentSplice) (r : ℕ)
-    → g ≡ commandGiven words → p ≡ componentsFrom (countIn g) components → r ≡ commandRefusal g words components
+    → g ≡ commandGiven words → p ≡ componentsFrom (countIn g) components → r ≡ commandRefusal g words components lent
     → noLess r (commandMade g p lent) ≡ commandWordsMade words components lent
 unfolding commandWordsMade
 parts words components lent g p r e h i = rw (i, h, e)
@@ -35,7 +35,7 @@ made k p e =
 small : (k : tie.After-command-refusal) → k .command-refusal .result ≤ 36
 small k =
     let a = k .before .before .before .before .before .before .args in
-    omega (arith, k .command-refusal .ensures, command-small (k .before .command-given .result) (a .words .now) (a .components .now))
+    omega (arith, k .command-refusal .ensures, command-small (k .before .command-given .result) (a .words .now) (a .components .now) (a .lent .now))
 
 command-given-requires : tie.Need-command-given-requires
 command-given-requires c κs = search needs
@@ -43,11 +43,11 @@ command-given-requires c κs = search needs
 command-refusal-requires : tie.Need-command-refusal-requires
 command-refusal-requires c κs = search needs
 
-count-in-requires : tie.Need-count-in-requires
-count-in-requires c κs = search needs
+count-in-command-requires : tie.Need-count-in-command-requires
+count-in-command-requires c κs = search needs
 
-write-bare-words-requires : tie.Need-write-bare-words-requires
-write-bare-words-requires c κs = small (c .before .before .before)
+write-words-without-components-requires : tie.Need-write-words-without-components-requires
+write-words-without-components-requires c κs = small (c .before .before .before)
 
 same-length : tie.Need-same-length
 same-length c = search needs
@@ -59,8 +59,8 @@ returns c =
     let n = t .before in
     let k = n .before in
     let a = k .before .before .before .before .before .before .args in
-    let e = made k (array []) (no-places (countIn (k .before .command-given .result)) (a .components .now) (sym (n .count-in .ensures) ∙ t .if1 .taken)) in
-    (q .write-bare-words .ensures .0 ∙ ap (λ (m : Made). flatWritten (answerOf m (a .target .now))) e, q .write-bare-words .ensures .1 ∙ ap (λ (m : Made). laterOf m (a .target .now)) e)
+    let e = made k (array []) (no-places (countIn (k .before .command-given .result)) (a .components .now) (sym (n .count-in-command .ensures) ∙ t .if1 .taken)) in
+    (q .write-words-without-components .ensures .0 ∙ ap (λ (m : Made). flatWritten (answerOf m (a .target .now))) e, q .write-words-without-components .ensures .1 ∙ ap (λ (m : Made). laterOf m (a .target .now)) e)
 
 write-listed-words-requires : tie.Need-write-listed-words-requires
 write-listed-words-requires c κs = small (c .before .before .before)
@@ -82,8 +82,8 @@ write-command-words-spec =
     (tie.spec
     command-given-requires
     command-refusal-requires
-    count-in-requires
-    write-bare-words-requires
+    count-in-command-requires
+    write-words-without-components-requires
     same-length
     returns
     write-listed-words-requires

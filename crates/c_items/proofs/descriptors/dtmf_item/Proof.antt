@@ -1,11 +1,11 @@
 -- `c_items::descriptors::dtmf_item` meets its contract.
-use Rattle.c_items.specs.FlatItem.{bareItem, flatDescriptor}
+use Rattle.c_items.specs.FlatItem.{blankItem, flatDescriptor}
 use borrow.Author.Needs.{needs}
 use Rattle.c_items.proofs.descriptors.dtmf_item.Statement.{statement}
 use Rattle.c_items.proofs.descriptors.dtmf_item.Tie as tie
 
-bare-item-requires : tie.Need-bare-item-requires
-bare-item-requires c κs = search needs
+blank-item-requires : tie.Need-blank-item-requires
+blank-item-requires c κs = search needs
 
 cast-out : tie.Need-cast-out
 cast-out c = search needs
@@ -14,8 +14,8 @@ flat-view-requires : tie.Need-flat-view-requires
 flat-view-requires c κs = search needs
 
 returns : tie.Need-returns
-unfolding bareItem flatDescriptor
-returns c = rw (c .before .before .bare-item .ensures, c .flat-view .ensures)
+unfolding blankItem flatDescriptor
+returns c = rw (c .before .before .blank-item .ensures, c .flat-view .ensures)
 
 pub dtmf-item-spec : {M : Type 1} → statement M
-dtmf-item-spec = tie.close (tie.spec bare-item-requires cast-out flat-view-requires returns)
+dtmf-item-spec = tie.close (tie.spec blank-item-requires cast-out flat-view-requires returns)

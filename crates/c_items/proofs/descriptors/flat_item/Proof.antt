@@ -9,22 +9,22 @@ use Rattle.c_items.proofs.descriptors.flat_item.Tie as tie
 enum-told : tie.Need-enum-told
 enum-told c = search needs
 
-bare-item-requires : tie.Need-bare-item-requires
-bare-item-requires c κs = search needs
+blank-item-requires : tie.Need-blank-item-requires
+blank-item-requires c κs = search needs
 
 returns : tie.Need-returns
 unfolding flatItem
-returns c = rw (c .before .enum-told .given .1) (c .bare-item .ensures)
+returns c = rw (c .before .enum-told .given .1) (c .blank-item .ensures)
 
 enum-told-2 : tie.Need-enum-told-2
 enum-told-2 c = search needs
 
-bare-item-requires-2 : tie.Need-bare-item-requires-2
-bare-item-requires-2 c κs = search needs
+blank-item-requires-2 : tie.Need-blank-item-requires-2
+blank-item-requires-2 c κs = search needs
 
 returns-2 : tie.Need-returns-2
 unfolding flatItem
-returns-2 c = rw (c .before .enum-told2 .given .1) (c .bare-item2 .ensures)
+returns-2 c = rw (c .before .enum-told2 .given .1) (c .blank-item2 .ensures)
 
 enum-known-item : tie.Need-enum-known-item
 enum-known-item c = search needs
@@ -119,10 +119,10 @@ flat-item-spec =
     tie.close
     (tie.spec
     enum-told
-    bare-item-requires
+    blank-item-requires
     returns
     enum-told-2
-    bare-item-requires-2
+    blank-item-requires-2
     returns-2
     enum-known-item
     enum-known-d

@@ -1,11 +1,11 @@
 -- `c_items::descriptors::insert_item` meets its contract.
-use Rattle.c_items.specs.FlatItem.{bareItem, segmentationItem}
+use Rattle.c_items.specs.FlatItem.{blankItem, segmentationItem}
 use borrow.Author.Needs.{needs}
 use Rattle.c_items.proofs.descriptors.insert_item.Statement.{statement}
 use Rattle.c_items.proofs.descriptors.insert_item.Tie as tie
 
-bare-item-requires : tie.Need-bare-item-requires
-bare-item-requires c κs = search needs
+blank-item-requires : tie.Need-blank-item-requires
+blank-item-requires c κs = search needs
 
 whole-segmentation-requires : tie.Need-whole-segmentation-requires
 whole-segmentation-requires c κs = search needs
@@ -14,9 +14,9 @@ flat-view-requires : tie.Need-flat-view-requires
 flat-view-requires c κs = search needs
 
 returns : tie.Need-returns
-unfolding bareItem segmentationItem
-returns c = rw (c .before .before .bare-item .ensures, c .before .whole-segmentation .ensures, c .flat-view .ensures)
+unfolding blankItem segmentationItem
+returns c = rw (c .before .before .blank-item .ensures, c .before .whole-segmentation .ensures, c .flat-view .ensures)
 
 pub insert-item-spec : {M : Type 1} → statement M
 insert-item-spec =
-    tie.close (tie.spec bare-item-requires whole-segmentation-requires flat-view-requires returns)
+    tie.close (tie.spec blank-item-requires whole-segmentation-requires flat-view-requires returns)

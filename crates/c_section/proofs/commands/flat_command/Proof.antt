@@ -20,8 +20,8 @@ flat-insert-requires c κs = search needs
 enum-known-c-2 : tie.Need-enum-known-c-2
 enum-known-c-2 c = search needs
 
-bare-insert-requires : tie.Need-bare-insert-requires
-bare-insert-requires c κs = search needs
+insert-head-requires : tie.Need-insert-head-requires
+insert-head-requires c κs = search needs
 
 flat-time-requires : tie.Need-flat-time-requires
 flat-time-requires c κs = search needs
@@ -35,8 +35,8 @@ no-command-requires-2 c κs = search needs
 enum-known-c-3 : tie.Need-enum-known-c-3
 enum-known-c-3 c = search needs
 
-bare-insert-requires-2 : tie.Need-bare-insert-requires-2
-bare-insert-requires-2 c κs = search needs
+insert-head-requires-2 : tie.Need-insert-head-requires-2
+insert-head-requires-2 c κs = search needs
 
 cast-t15 : tie.Need-cast-t15
 cast-t15 c = search needs
@@ -54,7 +54,7 @@ returns-2 c = rw (c .before .before .c .given .1, c .flat-insert .ensures)
 
 returns-3 : tie.Need-returns-3
 unfolding flatCommand
-returns-3 c = rw (c .before .before .before .c2 .given .1, c .before .bare-insert .ensures, c .flat-time .ensures)
+returns-3 c = rw (c .before .before .before .c2 .given .1, c .before .insert-head .ensures, c .flat-time .ensures)
 
 returns-4 : tie.Need-returns-4
 unfolding flatCommand
@@ -62,7 +62,7 @@ returns-4 c = c .no-command2 .ensures ∙ ap flatCommand (sym (c .before .enum-t
 
 returns-5 : tie.Need-returns-5
 unfolding flatCommand
-returns-5 c = rw (c .before .before .before .before .before .c3 .given .1, c .before .before .bare-insert2 .ensures, c .flat-view .ensures)
+returns-5 c = rw (c .before .before .before .before .before .c3 .given .1, c .before .before .insert-head2 .ensures, c .flat-view .ensures)
 
 pub flat-command-spec : {M : Type 1} → statement M
 flat-command-spec =
@@ -73,12 +73,12 @@ flat-command-spec =
     enum-known-c
     flat-insert-requires
     enum-known-c-2
-    bare-insert-requires
+    insert-head-requires
     flat-time-requires
     enum-told-2
     no-command-requires-2
     enum-known-c-3
-    bare-insert-requires-2
+    insert-head-requires-2
     cast-t15
     flat-view-requires
     returns

@@ -7,14 +7,14 @@ use Rattle.c_section.proofs.commands.flat_insert.Tie as tie
 enum-told : tie.Need-enum-told
 enum-told c = search needs
 
-cast-bare-insert : tie.Need-cast-bare-insert
-cast-bare-insert c = search needs
+cast-insert-head : tie.Need-cast-insert-head
+cast-insert-head c = search needs
 
-cast-bare-insert-2 : tie.Need-cast-bare-insert-2
-cast-bare-insert-2 c = search needs
+cast-insert-head-2 : tie.Need-cast-insert-head-2
+cast-insert-head-2 c = search needs
 
-bare-insert-requires : tie.Need-bare-insert-requires
-bare-insert-requires c κs = search needs
+insert-head-requires : tie.Need-insert-head-requires
+insert-head-requires c κs = search needs
 
 enum-known-detail : tie.Need-enum-known-detail
 enum-known-detail c = search needs
@@ -30,7 +30,7 @@ whole-insert-requires c κs = search needs
 
 returns : tie.Need-returns
 unfolding flatInsertion
-returns c = rw (c .before .before .before .enum-told .given .1) (c .bare-insert .ensures)
+returns c = rw (c .before .before .before .enum-told .given .1) (c .insert-head .ensures)
 
 returns-2 : tie.Need-returns-2
 unfolding flatInsertion
@@ -41,9 +41,9 @@ flat-insert-spec =
     tie.close
     (tie.spec
     enum-told
-    cast-bare-insert
-    cast-bare-insert-2
-    bare-insert-requires
+    cast-insert-head
+    cast-insert-head-2
+    insert-head-requires
     enum-known-detail
     cast-whole-insert
     cast-whole-insert-2

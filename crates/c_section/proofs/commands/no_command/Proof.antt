@@ -4,12 +4,12 @@ use Rattle.c_section.specs.FlatCommand.{noCommand}
 use Rattle.c_section.proofs.commands.no_command.Statement.{statement}
 use Rattle.c_section.proofs.commands.no_command.Tie as tie
 
-bare-insert-requires : tie.Need-bare-insert-requires
-bare-insert-requires c κs = search needs
+insert-head-requires : tie.Need-insert-head-requires
+insert-head-requires c κs = search needs
 
 returns : tie.Need-returns
 unfolding noCommand
-returns c = rw (c .bare-insert .ensures)
+returns c = rw (c .insert-head .ensures)
 
 pub no-command-spec : {M : Type 1} → statement M
-no-command-spec = tie.close (tie.spec bare-insert-requires returns)
+no-command-spec = tie.close (tie.spec insert-head-requires returns)

@@ -5,9 +5,9 @@ use borrow.Author.Needs.{needs}
 use Rattle.command.specs.Command.{countIn}
 use Rattle.command.specs.Insert.{count, insertOf}
 use Rattle.command.specs.declared.SpliceCommand.{SpliceCommand}
-use Rattle.command.specs.declared.insert.SpliceInsert.{SpliceInsert}
+use Rattle.command.specs.declared.insert.SpliceDetail.{SpliceDetail}
 use Rattle.command.specs.declared.insert.SpliceMode.{SpliceMode}
-use Rattle.c_section.specs.FlatCommand.{flatMode, wholeInsert, bareInsert, flatDetail, flatInsertion, noCommand, flatCommand, flatSplices}
+use Rattle.c_section.specs.FlatCommand.{flatMode, wholeInsert, insertHead, flatDetail, flatInsertion, noCommand, flatCommand, flatSplices}
 use Rattle.c_section.proofs.components.flat_splices.Statement.{statement}
 use Rattle.c_section.proofs.components.flat_splices.Tie as tie
 
@@ -17,13 +17,13 @@ unfolding flatMode
 mode-counts (SpliceMode.Program t) = refl
 mode-counts (SpliceMode.Components n) = refl
 
-insert-counts : (event reserved : ℕ) (d : SpliceInsert) → flatDetail event reserved d .mode .«component_count» ≡ count (insertOf d .«splice_mode»)
-unfolding bareInsert wholeInsert
-insert-counts event reserved SpliceInsert.Cancel = mode-counts (SpliceMode.Components 0)
-insert-counts event reserved (SpliceInsert.Insert i) = mode-counts (i .«splice_mode»)
+insert-counts : (event reserved : ℕ) (d : SpliceDetail) → flatDetail event reserved d .mode .«component_count» ≡ count (insertOf d .«splice_mode»)
+unfolding insertHead wholeInsert
+insert-counts event reserved SpliceDetail.Cancel = mode-counts (SpliceMode.Components 0)
+insert-counts event reserved (SpliceDetail.Insert i) = mode-counts (i .«splice_mode»)
 
 counts : (c : SpliceCommand) → flatCommand c .insert .mode .«component_count» ≡ countIn c
-unfolding flatCommand noCommand flatInsertion bareInsert wholeInsert
+unfolding flatCommand noCommand flatInsertion insertHead wholeInsert
 counts SpliceCommand.SpliceNull = mode-counts (SpliceMode.Components 0)
 counts (SpliceCommand.SpliceInsert x) = insert-counts (x .«splice_event_id») (x .reserved) (x .«splice_detail»)
 counts (SpliceCommand.TimeSignal t) = mode-counts (SpliceMode.Components 0)

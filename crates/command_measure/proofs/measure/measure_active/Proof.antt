@@ -58,8 +58,8 @@ returns : tie.Need-returns
 unfolding activeMeasured
 returns c =
     let size = c .before .before in
-    let fair = size .before in
-    let fits = fair .before in
+    let writable = size .before in
+    let fits = writable .before in
     let numbers = fits .before in
     let times = numbers .before in
     let long = times .before in
@@ -69,7 +69,7 @@ returns c =
     let n = numbers .both2 .ensures ∙ ap (λ (u : Bool). ltb (a .reserved) 128 && u) t in
     let f = fits .both3 .ensures ∙ ap (λ (u : Bool). a .s .fits && u) n in
     let z = ap₂ (λ (u v : ℕ). 10 + u + v) (size .mode-size .ensures .0) (c .before .break-size .ensures .0) in
-    (c .verdict .ensures ∙ measured-same f (fair .both4 .ensures) z, id (late .before) .fits, avail (late .before) .fits, expected (late .before) .fits)
+    (c .verdict .ensures ∙ measured-same f (writable .both4 .ensures) z, id (late .before) .fits, avail (late .before) .fits, expected (late .before) .fits)
 
 pub measure-active-spec : {M : Type 1} → statement M
 measure-active-spec =

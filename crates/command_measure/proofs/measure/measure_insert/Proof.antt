@@ -8,7 +8,7 @@ use lib.ListN.{length, take}
 use lib.Seq.{length-take-le}
 use Rattle.command.specs.Command.{array}
 use Rattle.command.specs.Insert.{WithComponents, count}
-use Rattle.command.specs.declared.insert.Insertion.{Insertion}
+use Rattle.command.specs.declared.insert.SpliceInsert.{SpliceInsert}
 use Rattle.command_measure.specs.Fields.{immediateIn}
 use Rattle.command_measure.specs.Made.{insertMade, measuredOf}
 use Rattle.command_measure.specs.Survey.{surveyed, activeMeasured}
@@ -28,15 +28,15 @@ enum-known-detail c = search needs
 enum-told : tie.Need-enum-told
 enum-told c = search needs
 
-measure-bare-insert-requires : tie.Need-measure-bare-insert-requires
-measure-bare-insert-requires c κs = search needs
+measure-insert-without-components-requires : tie.Need-measure-insert-without-components-requires
+measure-insert-without-components-requires c κs = search needs
 
 returns : tie.Need-returns
 returns c =
     let t = c .before in
     let a = t .before .before .args in
     let e = none-counted (a .i) (array []) (a .components) (cancel-none (a .i .«splice_detail») (t .enum-told .given .1)) in
-    (c .measure-bare-insert .ensures .0 ∙ ap (λ (x : WithComponents Insertion). measuredOf (insertMade x)) e, c .measure-bare-insert .ensures .1)
+    (c .measure-insert-without-components .ensures .0 ∙ ap (λ (x : WithComponents SpliceInsert). measuredOf (insertMade x)) e, c .measure-insert-without-components .ensures .1)
 
 enum-known-mode : tie.Need-enum-known-mode
 enum-known-mode c = search needs
@@ -44,8 +44,8 @@ enum-known-mode c = search needs
 enum-told-2 : tie.Need-enum-told-2
 enum-told-2 c = search needs
 
-measure-bare-insert-requires-2 : tie.Need-measure-bare-insert-requires-2
-measure-bare-insert-requires-2 c κs = search needs
+measure-insert-without-components-requires-2 : tie.Need-measure-insert-without-components-requires-2
+measure-insert-without-components-requires-2 c κs = search needs
 
 returns-2 : tie.Need-returns-2
 returns-2 c =
@@ -53,7 +53,7 @@ returns-2 c =
     let x = t .before .before .before in
     let a = x .before .before .args in
     let e = none-counted (a .i) (array []) (a .components) (program-none (a .i .«splice_detail») _ _ (x .detail .given .1) (t .enum-told2 .given .1)) in
-    (c .measure-bare-insert2 .ensures .0 ∙ ap (λ (x : WithComponents Insertion). measuredOf (insertMade x)) e, c .measure-bare-insert2 .ensures .1)
+    (c .measure-insert-without-components2 .ensures .0 ∙ ap (λ (x : WithComponents SpliceInsert). measuredOf (insertMade x)) e, c .measure-insert-without-components2 .ensures .1)
 
 are-immediate-requires : tie.Need-are-immediate-requires
 are-immediate-requires c κs = search needs
@@ -103,11 +103,11 @@ measure-insert-spec =
     (tie.spec
     enum-known-detail
     enum-told
-    measure-bare-insert-requires
+    measure-insert-without-components-requires
     returns
     enum-known-mode
     enum-told-2
-    measure-bare-insert-requires-2
+    measure-insert-without-components-requires-2
     returns-2
     are-immediate-requires
     cast-look

@@ -3,7 +3,7 @@ use mathlib.Core.Path.{_≡_, refl, ap, sym, _∙_}
 use mathlib.Core.List.{List, [], _∷_}
 use Rattle.command.specs.Command.{array}
 use Rattle.command.specs.Insert.{WithComponents}
-use Rattle.command.specs.declared.insert.Insertion.{Insertion}
+use Rattle.command.specs.declared.insert.SpliceInsert.{SpliceInsert}
 use Rattle.bit_stores.proofs.Tables.{Goes, pens-same}
 use Rattle.table.specs.Writing.{Field, bits}
 use Rattle.command_measure.specs.Fields.{ink, placesOf, activeFields, insertFields}
@@ -46,8 +46,8 @@ enum-known-detail c = search needs
 enum-told : tie.Need-enum-told
 enum-told c = search needs
 
-store-bare-insert-requires : tie.Need-store-bare-insert-requires
-store-bare-insert-requires c κs =
+store-insert-without-components-requires : tie.Need-store-insert-without-components-requires
+store-insert-without-components-requires c κs =
     let t = c .before in
     let s = t .before .before .before in
     fits-same (s .args .out .now) (s .args .c) _ _ (ap insertFields (sym (cancelled t))) (s .pre)
@@ -60,7 +60,7 @@ returns c =
     let q = c .before .before in
     let t = q .before .before in
     let a = t .before .before .before .args in
-    pens-same (a .out .now) (a .c) _ _ _ _ (ap (λ (x : WithComponents Insertion). ink (insertFields x)) (cancelled t)) (q .store-bare-insert .ensures)
+    pens-same (a .out .now) (a .c) _ _ _ _ (ap (λ (x : WithComponents SpliceInsert). ink (insertFields x)) (cancelled t)) (q .store-insert-without-components .ensures)
 
 enum-known-mode : tie.Need-enum-known-mode
 enum-known-mode c = search needs
@@ -68,8 +68,8 @@ enum-known-mode c = search needs
 enum-told-2 : tie.Need-enum-told-2
 enum-told-2 c = search needs
 
-store-bare-insert-requires-2 : tie.Need-store-bare-insert-requires-2
-store-bare-insert-requires-2 c κs =
+store-insert-without-components-requires-2 : tie.Need-store-insert-without-components-requires-2
+store-insert-without-components-requires-2 c κs =
     let t = c .before in
     let s = t .before .before .before .before .before .before in
     fits-same (s .args .out .now) (s .args .c) _ _ (ap insertFields (sym (by-program t))) (s .pre)
@@ -82,7 +82,7 @@ returns-2 c =
     let q = c .before .before in
     let t = q .before .before in
     let a = t .before .before .before .before .before .before .args in
-    pens-same (a .out .now) (a .c) _ _ _ _ (ap (λ (x : WithComponents Insertion). ink (insertFields x)) (by-program t)) (q .store-bare-insert2 .ensures)
+    pens-same (a .out .now) (a .c) _ _ _ _ (ap (λ (x : WithComponents SpliceInsert). ink (insertFields x)) (by-program t)) (q .store-insert-without-components2 .ensures)
 
 event-number-requires : tie.Need-event-number-requires
 event-number-requires c κs = search needs
@@ -110,12 +110,12 @@ store-insert-spec =
     (tie.spec
     enum-known-detail
     enum-told
-    store-bare-insert-requires
+    store-insert-without-components-requires
     same-length
     returns
     enum-known-mode
     enum-told-2
-    store-bare-insert-requires-2
+    store-insert-without-components-requires-2
     same-length-2
     returns-2
     event-number-requires

@@ -25,7 +25,7 @@ returns c =
     let size = if1 .before in
     let start = size .before .before in
     let a = start .args in
-    lacked-as _ _ (c .lacked .ensures) _ (components-lack (a .s .now) (a .n) (a .at) (start .pre) (omega (arith, if1 .if1 .taken, size .size .ensures)))
+    lacked-as _ _ (c .lacked .ensures) _ (components-lack (a .s .now) (a .n) (a .at) (start .pre) (omega (arith, if1 .if1 .taken, size .size .ensures .0)))
 
 add-t6 : tie.Need-add-t6
 add-t6 c = search needs
@@ -35,8 +35,8 @@ returns-2 c =
     let size = c .before in
     let start = size .before .before in
     let a = start .args in
-    let g = components-there (a .s .now) (a .n) (a .at) (omega (arith, c .if1 .left, size .size .ensures, start .pre)) in
-    (g .0, as-counted (a .at) (a .n) _ (size .size .ensures) _ _ (g .1))
+    let g = components-there (a .s .now) (a .n) (a .at) (omega (arith, c .if1 .left, size .size .ensures .0, start .pre)) in
+    (g .0, as-counted (a .at) (a .n) _ (size .size .ensures .0) _ _ (g .1))
 
 pub pass-components-spec : {M : Type 1} → statement M
 pass-components-spec =

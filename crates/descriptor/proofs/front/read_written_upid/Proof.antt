@@ -35,7 +35,7 @@ returns-2 c =
     let k = size .before in
     let a = k .before .before .before .args in
     let there : a .at + 2 ≤ length (a .s .now) = omega (arith, k .before .if1 .left) in
-    no-bytes (a .s .now) (a .at) (λ j. k .shared-slice-known2 .given j .fits) there _ (size .size .ensures) (c .if2 .taken)
+    no-bytes (a .s .now) (a .at) (λ j. k .shared-slice-known2 .given j .fits) there _ (size .size .ensures .0) (c .if2 .taken)
 
 shared-slice-read-t10 : tie.Need-shared-slice-read-t10
 shared-slice-read-t10 c = search needs
@@ -50,7 +50,7 @@ returns-3 c =
     let k = size .before in
     let a = k .before .before .before .args in
     let there : a .at + 2 ≤ length (a .s .now) = omega (arith, k .before .if1 .left) in
-    upid-at (a .s .now) (a .at) (λ j. k .shared-slice-known2 .given j .fits) there _ (size .size .ensures) (if2 .if2 .left)
+    upid-at (a .s .now) (a .at) (λ j. k .shared-slice-known2 .given j .fits) there _ (size .size .ensures .0) (if2 .if2 .left)
 
 pub read-written-upid-spec : {M : Type 1} → statement M
 read-written-upid-spec =

@@ -95,7 +95,7 @@ returns-4 c =
     let n = take-octet2 .before .before .before in
     let take-octet = n .before .before in
     let a = take-octet .before .before .args in
-    c .lacks4 .ensures ∙ no-chars (a .payload .now) _ (sym (n .n .given .1) ∙ take-octet .take-octet .ensures) _ (sym (n2 .n2 .given .1) ∙ take-octet2 .take-octet2 .ensures) _ (sym (cursor .c .given .1) ∙ skip .skip .ensures) _ (size .size .ensures) _ (sym (e4 .e4 .given .1) ∙ pass .pass .ensures)
+    c .lacks4 .ensures ∙ no-chars (a .payload .now) _ (sym (n .n .given .1) ∙ take-octet .take-octet .ensures) _ (sym (n2 .n2 .given .1) ∙ take-octet2 .take-octet2 .ensures) _ (sym (cursor .c .given .1) ∙ skip .skip .ensures) _ (size .size .ensures .0) _ (sym (e4 .e4 .given .1) ∙ pass .pass .ensures)
 
 returns-5 : tie.Need-returns-5
 returns-5 c =
@@ -109,7 +109,7 @@ returns-5 c =
     let n = take-octet2 .before .before .before in
     let take-octet = n .before .before in
     let a = take-octet .before .before .args in
-    dtmf-is (a .payload .now) _ (sym (n .n .given .1) ∙ take-octet .take-octet .ensures) _ (sym (n2 .n2 .given .1) ∙ take-octet2 .take-octet2 .ensures) _ (sym (cursor .c .given .1) ∙ skip .skip .ensures) _ (size .size .ensures) _ (sym (r .r .given .1) ∙ pass .pass .ensures)
+    dtmf-is (a .payload .now) _ (sym (n .n .given .1) ∙ take-octet .take-octet .ensures) _ (sym (n2 .n2 .given .1) ∙ take-octet2 .take-octet2 .ensures) _ (sym (cursor .c .given .1) ∙ skip .skip .ensures) _ (size .size .ensures .0) _ (sym (r .r .given .1) ∙ pass .pass .ensures)
 
 pub read-dtmf-spec : {M : Type 1} → statement M
 read-dtmf-spec =

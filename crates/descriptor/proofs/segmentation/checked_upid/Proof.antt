@@ -13,8 +13,8 @@ view-requires c κs = search needs
 check-upid-requires : tie.Need-check-upid-requires
 check-upid-requires c κs = search needs
 
-enum-known-kind : tie.Need-enum-known-kind
-enum-known-kind c = search needs
+enum-known-upid-type : tie.Need-enum-known-upid-type
+enum-known-upid-type c = search needs
 
 reported-requires : tie.Need-reported-requires
 reported-requires c κs = search needs
@@ -48,11 +48,11 @@ enum-told-4 c = search needs
 
 returns : tie.Need-returns
 returns c =
-    let kind = c .before .before in
-    let check-upid = kind .before .before in
+    let upid-type = c .before .before in
+    let check-upid = upid-type .before .before in
     let view = check-upid .before in
     let a = view .before .before .before .args in
-    upid-fine (a .payload .now) (a .written) _ _ (view .view .ensures) (check-upid .check-upid .ensures) _ _ (kind .kind .given .1) (c .reported .ensures)
+    upid-fine (a .payload .now) (a .written) _ _ (view .view .ensures) (check-upid .check-upid .ensures) _ _ (upid-type .upid-type .given .1) (c .reported .ensures)
 
 returns-2 : tie.Need-returns-2
 returns-2 c =
@@ -101,7 +101,7 @@ checked-upid-spec =
     (tie.spec
     view-requires
     check-upid-requires
-    enum-known-kind
+    enum-known-upid-type
     reported-requires
     enum-known-refusal
     enum-told

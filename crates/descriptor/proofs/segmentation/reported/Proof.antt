@@ -10,7 +10,7 @@ returns c = ⊎-elim (λ e. rw e) (λ e. rw e) (c .match .keys1)
 returns-2 : tie.Need-returns-2
 returns-2 c =
     let a = c .before .args in
-    rw (ne-eqb (a .kind) 0 (λ e. c .match .rest .1 (inl e)), ne-eqb (a .kind) 10 (λ e. c .match .rest .1 (inr e)))
+    rw (ne-eqb (a .upid-type) 0 (λ e. c .match .rest .1 (inl e)), ne-eqb (a .upid-type) 10 (λ e. c .match .rest .1 (inr e)))
 
 pub reported-spec : {M : Type 1} → statement M
 reported-spec = tie.close (tie.spec returns returns-2)

@@ -73,7 +73,7 @@ loop-again c =
       simp length-set (loop .loop .inv .0),
       ends-inside component (a .s .now) (loop .loop .next) _ _ (loop .loop .inv .1) g,
       omega arith,
-      fill-turn (a .s .now) (a .n) (a .from) (loop .loop .out) (loop .loop .i) (loop .loop .next) (loop .loop .inv .3) (read .before .loop-test .taken) _ (c .size .ensures) _
+      fill-turn (a .s .now) (a .n) (a .from) (loop .loop .out) (loop .loop .i) (loop .loop .next) (loop .loop .inv .3) (read .before .loop-test .taken) _ (c .size .ensures .0) _
           g,
     )
 

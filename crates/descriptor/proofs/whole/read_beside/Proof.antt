@@ -2,7 +2,7 @@
 use mathlib.Core.Path.{ap, _∙_}
 use native.Mathlib.Omega.{arith}
 use Rattle.upid.specs.Upid.{eidrOf}
-use Rattle.descriptor.specs.Private.{mainRead, backRead, headRead}
+use Rattle.descriptor.specs.Private.{modeAndUpidRead, backRead, headRead}
 use Rattle.descriptor.proofs.Besides.{components-from, eidr-as, beside-no-head, beside-cancelled, beside-no-front, beside-no-back, beside-program, beside-components}
 use Rattle.descriptor.proofs.Parts.{told}
 use Rattle.descriptor.proofs.Segmentations.{front-inside}
@@ -40,8 +40,8 @@ returns-2 c =
     let a = read-head .before .before .args in
     c .blank-beside2 .ensures ∙ beside-cancelled (a .payload .now) _ (told headRead _ _ _ (h .h .given .1) (read-head .read-head .ensures)) (if1 .if1 .taken)
 
-read-main-requires : tie.Need-read-main-requires
-read-main-requires c κs = search needs
+read-mode-and-upid-requires : tie.Need-read-mode-and-upid-requires
+read-mode-and-upid-requires c κs = search needs
 
 enum-known-f : tie.Need-enum-known-f
 enum-known-f c = search needs
@@ -55,19 +55,19 @@ blank-beside-requires-3 c κs = search needs
 returns-3 : tie.Need-returns-3
 returns-3 c =
     let enum-told2 = c .before in
-    let read-main = enum-told2 .before .before in
-    let if1 = read-main .before in
+    let read-mode-and-upid = enum-told2 .before .before in
+    let if1 = read-mode-and-upid .before in
     let h = if1 .before .before in
     let read-head = h .before .before in
     let a = read-head .before .before .args in
-    c .blank-beside3 .ensures ∙ beside-no-front (a .payload .now) _ (told headRead _ _ _ (h .h .given .1) (read-head .read-head .ensures)) (if1 .if1 .left) _ _ (told mainRead _ _ _ (enum-told2 .enum-told2 .given .1) (read-main .read-main .ensures) .2)
+    c .blank-beside3 .ensures ∙ beside-no-front (a .payload .now) _ (told headRead _ _ _ (h .h .given .1) (read-head .read-head .ensures)) (if1 .if1 .left) _ _ (told modeAndUpidRead _ _ _ (enum-told2 .enum-told2 .given .1) (read-mode-and-upid .read-mode-and-upid .ensures) .2)
 
 read-back-requires : tie.Need-read-back-requires
 read-back-requires c κs =
     let f = c .before in
-    let read-main = f .before .before in
-    let a = read-main .before .before .before .before .before .before .before .args in
-    let g = told mainRead _ _ _ (f .f .given .1) (read-main .read-main .ensures) in
+    let read-mode-and-upid = f .before .before in
+    let a = read-mode-and-upid .before .before .before .before .before .before .before .args in
+    let g = told modeAndUpidRead _ _ _ (f .f .given .1) (read-mode-and-upid .read-mode-and-upid .ensures) in
     front-inside (a .payload .now) 5 _ _ (g .2)
 
 enum-told-3 : tie.Need-enum-told-3
@@ -84,12 +84,12 @@ returns-4 c =
     let enum-told4 = c .before in
     let read-back = enum-told4 .before .before in
     let f = read-back .before .before in
-    let read-main = f .before .before in
-    let if1 = read-main .before in
+    let read-mode-and-upid = f .before .before in
+    let if1 = read-mode-and-upid .before in
     let h = if1 .before .before in
     let read-head = h .before .before in
     let a = read-head .before .before .args in
-    let g = told mainRead _ _ _ (f .f .given .1) (read-main .read-main .ensures) in
+    let g = told modeAndUpidRead _ _ _ (f .f .given .1) (read-mode-and-upid .read-mode-and-upid .ensures) in
     c .blank-beside4 .ensures ∙ beside-no-back (a .payload .now) _ (told headRead _ _ _ (h .h .given .1) (read-head .read-head .ensures)) (if1 .if1 .left) _ _ _ (g .2) _ (told backRead _ _ _ (enum-told4 .enum-told4 .given .1) (read-back .read-back .ensures))
 
 view-requires : tie.Need-view-requires
@@ -112,9 +112,9 @@ list-components-requires c κs =
     let mode = c .before in
     let view = mode .before .before .before in
     let f = view .before .before .before .before .before .before .before in
-    let read-main = f .before .before in
-    let a = read-main .before .before .before .before .before .before .before .args in
-    let g = told mainRead _ _ _ (f .f .given .1) (read-main .read-main .ensures) in
+    let read-mode-and-upid = f .before .before in
+    let a = read-mode-and-upid .before .before .before .before .before .before .before .args in
+    let g = told modeAndUpidRead _ _ _ (f .f .given .1) (read-mode-and-upid .read-mode-and-upid .ensures) in
     omega (arith, components-from (a .payload .now) _ _ _ (g .2) _ (g .3 ∙ mode .mode .given .1))
 
 returns-5 : tie.Need-returns-5
@@ -125,12 +125,12 @@ returns-5 c =
     let enum-told3 = view .before .before .before in
     let read-back = enum-told3 .before .before in
     let f = read-back .before .before in
-    let read-main = f .before .before in
-    let if1 = read-main .before in
+    let read-mode-and-upid = f .before .before in
+    let if1 = read-mode-and-upid .before in
     let h = if1 .before .before in
     let read-head = h .before .before in
     let a = read-head .before .before .args in
-    let g = told mainRead _ _ _ (f .f .given .1) (read-main .read-main .ensures) in
+    let g = told modeAndUpidRead _ _ _ (f .f .given .1) (read-mode-and-upid .read-mode-and-upid .ensures) in
     beside-program (a .payload .now) _ (told headRead _ _ _ (h .h .given .1) (read-head .read-head .ensures)) (if1 .if1 .left) _ _ _ (g .2) _ _ (told backRead _ _ _ (enum-told3 .enum-told3 .given .1) (read-back .read-back .ensures) .1) _ (eidr .eidr .ensures ∙ ap (eidrOf _) (view .view .ensures) ∙ eidr-as (a .payload .now) (g .4)) (g .3 ∙ enum-told5 .enum-told5 .given .1) _ (c .no-components .ensures)
 
 returns-6 : tie.Need-returns-6
@@ -141,12 +141,12 @@ returns-6 c =
     let enum-told3 = view .before .before .before in
     let read-back = enum-told3 .before .before in
     let f = read-back .before .before in
-    let read-main = f .before .before in
-    let if1 = read-main .before in
+    let read-mode-and-upid = f .before .before in
+    let if1 = read-mode-and-upid .before in
     let h = if1 .before .before in
     let read-head = h .before .before in
     let a = read-head .before .before .args in
-    let g = told mainRead _ _ _ (f .f .given .1) (read-main .read-main .ensures) in
+    let g = told modeAndUpidRead _ _ _ (f .f .given .1) (read-mode-and-upid .read-mode-and-upid .ensures) in
     beside-components (a .payload .now) _ (told headRead _ _ _ (h .h .given .1) (read-head .read-head .ensures)) (if1 .if1 .left) _ _ _ (g .2) _ _ (told backRead _ _ _ (enum-told3 .enum-told3 .given .1) (read-back .read-back .ensures) .1) _ (eidr .eidr .ensures ∙ ap (eidrOf _) (view .view .ensures) ∙ eidr-as (a .payload .now) (g .4)) _ (g .3 ∙ mode .mode .given .1) _ (c .list-components .ensures)
 
 pub read-beside-spec : {M : Type 1} → statement M
@@ -160,7 +160,7 @@ read-beside-spec =
     returns
     blank-beside-requires-2
     returns-2
-    read-main-requires
+    read-mode-and-upid-requires
     enum-known-f
     enum-told-2
     blank-beside-requires-3

@@ -16,8 +16,8 @@ add-if1 c = search needs
 returns : tie.Need-returns
 returns c = let a = c .before .before .args in upid-short (a .s .now) (a .at) (c .if1 .taken)
 
-shared-slice-read-kind : tie.Need-shared-slice-read-kind
-shared-slice-read-kind c = search needs
+shared-slice-read-upid-type : tie.Need-shared-slice-read-upid-type
+shared-slice-read-upid-type c = search needs
 
 add-size : tie.Need-add-size
 add-size c = search needs
@@ -82,7 +82,7 @@ is-canonical-upid-spec =
     (tie.spec
     add-if1
     returns
-    shared-slice-read-kind
+    shared-slice-read-upid-type
     add-size
     shared-slice-read-size
     size-requires

@@ -8,27 +8,27 @@ use borrow.Author.Needs.{needs}
 use Rattle.descriptor_loop.proofs.iteration.by_length.Statement.{statement}
 use Rattle.descriptor_loop.proofs.iteration.by_length.Tie as tie
 
-abbrev start : tie.After-wide → tie.Start
+abbrev start : tie.After-size → tie.Start
 start w = w .before .before .before
 
 -- what is asked for
-inside : (w : tie.After-wide) → let a = start w .args in a .offset < length (a .bytes .now)
+inside : (w : tie.After-size) → let a = start w .args in a .offset < length (a .bytes .now)
 inside w = omega (arith, start w .pre .0)
 
-six : (w : tie.After-wide) → let a = start w .args in 6 ≤ length (a .bytes .now) - a .offset
+six : (w : tie.After-size) → let a = start w .args in 6 ≤ length (a .bytes .now) - a .offset
 six w = omega (arith, start w .pre .0)
 
 sub-left : tie.Need-sub-left
 sub-left c = search needs
 
-add-wide : tie.Need-add-wide
-add-wide c = search needs
+add-size : tie.Need-add-size
+add-size c = search needs
 
-shared-slice-read-wide : tie.Need-shared-slice-read-wide
-shared-slice-read-wide c = search needs
+shared-slice-read-size : tie.Need-shared-slice-read-size
+shared-slice-read-size c = search needs
 
-wide-requires : tie.Need-wide-requires
-wide-requires c κs = search needs
+size-requires : tie.Need-size-requires
+size-requires c κs = search needs
 
 add-if1 : tie.Need-add-if1
 add-if1 c = search needs
@@ -45,7 +45,7 @@ plain-requires c κs = search needs
 returns : tie.Need-returns
 returns c =
     let w = c .before .before .before in
-    c .plain .ensures ∙ rw (c .before .lacks .ensures) (sym (step-over _ _ (start w .pre .1) (inside w) _ (w .wide .ensures .0) (six w) (c .before .before .if1 .taken)))
+    c .plain .ensures ∙ rw (c .before .lacks .ensures) (sym (step-over _ _ (start w .pre .1) (inside w) _ (w .size .ensures .0) (six w) (c .before .before .if1 .taken)))
 
 plain-requires-2 : tie.Need-plain-requires-2
 plain-requires-2 c κs = search needs
@@ -53,7 +53,7 @@ plain-requires-2 c κs = search needs
 returns-2 : tie.Need-returns-2
 returns-2 c =
     let w = c .before .before .before in
-    c .plain2 .ensures ∙ sym (step-full _ _ (start w .pre .1) (inside w) _ (w .wide .ensures .0) (six w) (c .before .before .if1 .left) (c .before .if2 .taken))
+    c .plain2 .ensures ∙ sym (step-full _ _ (start w .pre .1) (inside w) _ (w .size .ensures .0) (six w) (c .before .before .if1 .left) (c .before .if2 .taken))
 
 add-lacks-2 : tie.Need-add-lacks-2
 add-lacks-2 c = search needs
@@ -73,7 +73,7 @@ plain-requires-3 c κs = search needs
 returns-3 : tie.Need-returns-3
 returns-3 c =
     let w = c .before .before .before .before .before in
-    c .plain3 .ensures ∙ rw (c .before .lacks2 .ensures) (sym (step-small _ _ (start w .pre .1) (inside w) _ (w .wide .ensures .0) (six w) (c .before .before .before .before .if1 .left) (c .before .before .before .if2 .left) (c .before .before .if3 .taken)))
+    c .plain3 .ensures ∙ rw (c .before .lacks2 .ensures) (sym (step-small _ _ (start w .pre .1) (inside w) _ (w .size .ensures .0) (six w) (c .before .before .before .before .if1 .left) (c .before .before .before .if2 .left) (c .before .before .if3 .taken)))
 
 whole-requires : tie.Need-whole-requires
 whole-requires c κs = search needs
@@ -81,16 +81,16 @@ whole-requires c κs = search needs
 returns-4 : tie.Need-returns-4
 returns-4 c =
     let w = c .before .before .before .before in
-    c .whole .ensures ∙ sym (step-whole _ _ (start w .pre .1) (inside w) _ (w .wide .ensures .0) (six w) (c .before .before .before .if1 .left) (c .before .before .if2 .left) (c .before .if3 .left))
+    c .whole .ensures ∙ sym (step-whole _ _ (start w .pre .1) (inside w) _ (w .size .ensures .0) (six w) (c .before .before .before .if1 .left) (c .before .before .if2 .left) (c .before .if3 .left))
 
 pub by-length-spec : {M : Type 1} → statement M
 by-length-spec =
     tie.close
     (tie.spec
     sub-left
-    add-wide
-    shared-slice-read-wide
-    wide-requires
+    add-size
+    shared-slice-read-size
+    size-requires
     add-if1
     add-lacks
     lacks-requires

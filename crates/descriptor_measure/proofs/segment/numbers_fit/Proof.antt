@@ -1,6 +1,6 @@
 -- `descriptor_measure::segment::numbers_fit`, part by part.
 use native.Mathlib.Omega.{arith}
-use Rattle.descriptor_measure.proofs.Tests.{no-mode-fit, no-duration-fit, no-kind-fit, sub-fits}
+use Rattle.descriptor_measure.proofs.Tests.{no-mode-fit, no-duration-fit, no-type-fit, sub-fits}
 use borrow.Author.Needs.{needs}
 use Rattle.descriptor_measure.proofs.segment.numbers_fit.Statement.{statement}
 use Rattle.descriptor_measure.proofs.segment.numbers_fit.Tie as tie
@@ -24,7 +24,7 @@ wide-requires : tie.Need-wide-requires
 wide-requires c κs = search needs
 
 returns-3 : tie.Need-returns-3
-returns-3 c = (no-kind-fit (c .before .before .before .before .before .before .before .args .i) _ _ (c .before .before .before .before .before .before .count-fits .ensures .0) (c .before .before .before .before .before .if1 .left) _ (c .before .before .before .before .duration-fits .ensures) (c .before .before .before .if2 .left) _ _ (c .before .before .id .ensures) (c .before .wide .ensures .0) (c .if3 .taken), c .before .before .before .before .before .before .count-fits .ensures .1)
+returns-3 c = (no-type-fit (c .before .before .before .before .before .before .before .args .i) _ _ (c .before .before .before .before .before .before .count-fits .ensures .0) (c .before .before .before .before .before .if1 .left) _ (c .before .before .before .before .duration-fits .ensures) (c .before .before .before .if2 .left) _ _ (c .before .before .id .ensures) (c .before .wide .ensures .0) (c .if3 .taken), c .before .before .before .before .before .before .count-fits .ensures .1)
 
 sub-segments-fit-requires : tie.Need-sub-segments-fit-requires
 sub-segments-fit-requires c κs = search needs

@@ -5,7 +5,7 @@ use native.Mathlib.Omega.{arith}
 use lib.ListN.{length, take}
 use borrow.Author.Needs.{needs}
 use Rattle.descriptor.specs.Segmentation.{countOf}
-use Rattle.descriptor_measure.proofs.Refusals.{view-out, upid-long, numbers-over, with-identifier, unfair-insert, unfair-upid, no-refusal, refused-all, refused-fit}
+use Rattle.descriptor_measure.proofs.Refusals.{view-out, upid-long, numbers-over, with-identifier, unwritable-insert, unwritable-upid, no-refusal, refused-all, refused-fit}
 use Rattle.descriptor_measure.proofs.Tests.{numbers-with}
 use Rattle.descriptor_measure.proofs.segment.refusal_of_insert.Statement.{statement}
 use Rattle.descriptor_measure.proofs.segment.refusal_of_insert.Tie as tie
@@ -45,26 +45,26 @@ returns-4 c =
     let a = c .before .before .before .before .before .before .before .before .before .before .before .before .args in
     refused-fit _ _ _ _ _ (c .before .before .before .before .numbers-fit .ensures .1) (λ cs many fits. with-identifier (a .event) (a .i) (a .t3) cs (a .eidr) (a .lent .now) _ (c .before .before .before .before .before .before .before .before .lies-in .ensures) (c .before .before .before .before .before .before .before .if1 .left) (c .before .before .before .before .before .if2 .left) many (twelve (c .before .before .before .before .before .before .before .before .before .before .before .before)) (omega (arith, c .before .before .before .before .before .before .before .before .before .before .before .before)) (omega (arith, c .before .before .before .before .before .before .before .before .before .before .before .before)) _ (numbers-with (a .i) (take (countOf (a .i .«segmentation_mode»)) cs) _ fits (c .before .before .before .before .numbers-fit .ensures)) (c .before .before .before .if3 .left) _ (c .before .is-zero .ensures) (c .if4 .taken))
 
-is-fair-insert-requires : tie.Need-is-fair-insert-requires
-is-fair-insert-requires c κs = search needs
+is-writable-insert-requires : tie.Need-is-writable-insert-requires
+is-writable-insert-requires c κs = search needs
 
 returns-5 : tie.Need-returns-5
 returns-5 c =
     let a = c .before .before .before .before .before .before .before .before .before .before .before .before .before .before .args in
-    refused-fit _ _ _ _ _ (c .before .before .before .before .before .before .numbers-fit .ensures .1) (λ cs many fits. unfair-insert (a .event) (a .i) (a .t3) cs (a .eidr) (a .lent .now) _ (c .before .before .before .before .before .before .before .before .before .before .lies-in .ensures) (c .before .before .before .before .before .before .before .before .before .if1 .left) (c .before .before .before .before .before .before .before .if2 .left) many (twelve (c .before .before .before .before .before .before .before .before .before .before .before .before .before .before)) (omega (arith, c .before .before .before .before .before .before .before .before .before .before .before .before .before .before)) (omega (arith, c .before .before .before .before .before .before .before .before .before .before .before .before .before .before)) _ (numbers-with (a .i) (take (countOf (a .i .«segmentation_mode»)) cs) _ fits (c .before .before .before .before .before .before .numbers-fit .ensures)) (c .before .before .before .before .before .if3 .left) _ (c .before .before .before .is-zero .ensures) (c .before .before .if4 .left) _ (c .before .is-fair-insert .ensures) (c .if5 .taken))
+    refused-fit _ _ _ _ _ (c .before .before .before .before .before .before .numbers-fit .ensures .1) (λ cs many fits. unwritable-insert (a .event) (a .i) (a .t3) cs (a .eidr) (a .lent .now) _ (c .before .before .before .before .before .before .before .before .before .before .lies-in .ensures) (c .before .before .before .before .before .before .before .before .before .if1 .left) (c .before .before .before .before .before .before .before .if2 .left) many (twelve (c .before .before .before .before .before .before .before .before .before .before .before .before .before .before)) (omega (arith, c .before .before .before .before .before .before .before .before .before .before .before .before .before .before)) (omega (arith, c .before .before .before .before .before .before .before .before .before .before .before .before .before .before)) _ (numbers-with (a .i) (take (countOf (a .i .«segmentation_mode»)) cs) _ fits (c .before .before .before .before .before .before .numbers-fit .ensures)) (c .before .before .before .before .before .if3 .left) _ (c .before .before .before .is-zero .ensures) (c .before .before .if4 .left) _ (c .before .is-writable-insert .ensures) (c .if5 .taken))
 
-is-fair-upid-requires : tie.Need-is-fair-upid-requires
-is-fair-upid-requires c κs = search needs
+is-writable-upid-requires : tie.Need-is-writable-upid-requires
+is-writable-upid-requires c κs = search needs
 
 returns-6 : tie.Need-returns-6
 returns-6 c =
     let a = c .before .before .before .before .before .before .before .before .before .before .before .before .before .before .before .before .args in
-    refused-fit _ _ _ _ _ (c .before .before .before .before .before .before .before .before .numbers-fit .ensures .1) (λ cs many fits. unfair-upid (a .event) (a .i) (a .t3) cs (a .eidr) (a .lent .now) _ (c .before .before .before .before .before .before .before .before .before .before .before .before .lies-in .ensures) (c .before .before .before .before .before .before .before .before .before .before .before .if1 .left) (c .before .before .before .before .before .before .before .before .before .if2 .left) many (twelve (c .before .before .before .before .before .before .before .before .before .before .before .before .before .before .before .before)) (omega (arith, c .before .before .before .before .before .before .before .before .before .before .before .before .before .before .before .before)) (omega (arith, c .before .before .before .before .before .before .before .before .before .before .before .before .before .before .before .before)) _ (numbers-with (a .i) (take (countOf (a .i .«segmentation_mode»)) cs) _ fits (c .before .before .before .before .before .before .before .before .numbers-fit .ensures)) (c .before .before .before .before .before .before .before .if3 .left) _ (c .before .before .before .before .before .is-zero .ensures) (c .before .before .before .before .if4 .left) _ (c .before .before .before .is-fair-insert .ensures) (c .before .before .if5 .left) _ (c .before .is-fair-upid .ensures) (c .if6 .taken))
+    refused-fit _ _ _ _ _ (c .before .before .before .before .before .before .before .before .numbers-fit .ensures .1) (λ cs many fits. unwritable-upid (a .event) (a .i) (a .t3) cs (a .eidr) (a .lent .now) _ (c .before .before .before .before .before .before .before .before .before .before .before .before .lies-in .ensures) (c .before .before .before .before .before .before .before .before .before .before .before .if1 .left) (c .before .before .before .before .before .before .before .before .before .if2 .left) many (twelve (c .before .before .before .before .before .before .before .before .before .before .before .before .before .before .before .before)) (omega (arith, c .before .before .before .before .before .before .before .before .before .before .before .before .before .before .before .before)) (omega (arith, c .before .before .before .before .before .before .before .before .before .before .before .before .before .before .before .before)) _ (numbers-with (a .i) (take (countOf (a .i .«segmentation_mode»)) cs) _ fits (c .before .before .before .before .before .before .before .before .numbers-fit .ensures)) (c .before .before .before .before .before .before .before .if3 .left) _ (c .before .before .before .before .before .is-zero .ensures) (c .before .before .before .before .if4 .left) _ (c .before .before .before .is-writable-insert .ensures) (c .before .before .if5 .left) _ (c .before .is-writable-upid .ensures) (c .if6 .taken))
 
 returns-7 : tie.Need-returns-7
 returns-7 c =
     let a = c .before .before .before .before .before .before .before .before .before .before .before .before .before .before .before .before .args in
-    refused-fit _ _ _ _ _ (c .before .before .before .before .before .before .before .before .numbers-fit .ensures .1) (λ cs many fits. no-refusal (a .event) (a .i) (a .t3) cs (a .eidr) (a .lent .now) _ (c .before .before .before .before .before .before .before .before .before .before .before .before .lies-in .ensures) (c .before .before .before .before .before .before .before .before .before .before .before .if1 .left) (c .before .before .before .before .before .before .before .before .before .if2 .left) many (twelve (c .before .before .before .before .before .before .before .before .before .before .before .before .before .before .before .before)) (omega (arith, c .before .before .before .before .before .before .before .before .before .before .before .before .before .before .before .before)) (omega (arith, c .before .before .before .before .before .before .before .before .before .before .before .before .before .before .before .before)) _ (numbers-with (a .i) (take (countOf (a .i .«segmentation_mode»)) cs) _ fits (c .before .before .before .before .before .before .before .before .numbers-fit .ensures)) (c .before .before .before .before .before .before .before .if3 .left) _ (c .before .before .before .before .before .is-zero .ensures) (c .before .before .before .before .if4 .left) _ (c .before .before .before .is-fair-insert .ensures) (c .before .before .if5 .left) _ (c .before .is-fair-upid .ensures) (c .if6 .left))
+    refused-fit _ _ _ _ _ (c .before .before .before .before .before .before .before .before .numbers-fit .ensures .1) (λ cs many fits. no-refusal (a .event) (a .i) (a .t3) cs (a .eidr) (a .lent .now) _ (c .before .before .before .before .before .before .before .before .before .before .before .before .lies-in .ensures) (c .before .before .before .before .before .before .before .before .before .before .before .if1 .left) (c .before .before .before .before .before .before .before .before .before .if2 .left) many (twelve (c .before .before .before .before .before .before .before .before .before .before .before .before .before .before .before .before)) (omega (arith, c .before .before .before .before .before .before .before .before .before .before .before .before .before .before .before .before)) (omega (arith, c .before .before .before .before .before .before .before .before .before .before .before .before .before .before .before .before)) _ (numbers-with (a .i) (take (countOf (a .i .«segmentation_mode»)) cs) _ fits (c .before .before .before .before .before .before .before .before .numbers-fit .ensures)) (c .before .before .before .before .before .before .before .if3 .left) _ (c .before .before .before .before .before .is-zero .ensures) (c .before .before .before .before .if4 .left) _ (c .before .before .before .is-writable-insert .ensures) (c .before .before .if5 .left) _ (c .before .is-writable-upid .ensures) (c .if6 .left))
 
 pub refusal-of-insert-spec : {M : Type 1} → statement M
 refusal-of-insert-spec =
@@ -78,8 +78,8 @@ refusal-of-insert-spec =
     slice-aggregate-is-zero
     is-zero-requires
     returns-4
-    is-fair-insert-requires
+    is-writable-insert-requires
     returns-5
-    is-fair-upid-requires
+    is-writable-upid-requires
     returns-6
     returns-7)

@@ -2,7 +2,7 @@
 use mathlib.Core.Path.{_≡_, ap, sym, _∙_}
 use native.Mathlib.Omega.{arith}
 use borrow.Author.Needs.{needs}
-use Rattle.descriptor_measure.proofs.Refusals.{cancel-identifier, cancel-eidr, cancel-fair, refused-all, refused-insert}
+use Rattle.descriptor_measure.proofs.Refusals.{cancel-identifier, cancel-eidr, cancel-writable, refused-all, refused-insert}
 use Rattle.descriptor_measure.proofs.segment.refusal_without_components.Statement.{statement}
 use Rattle.descriptor_measure.proofs.segment.refusal_without_components.Tie as tie
 
@@ -40,7 +40,7 @@ refusal-of-insert-requires c κs = search needs
 returns-3 : tie.Need-returns-3
 returns-3 c =
     let a = c .before .before .before .before .before .before .before .before .before .args in
-    refused-all _ _ _ _ _ (λ cs. cancel-fair (a .x) (a .t2) cs (a .t3) (a .lent .now) (c .before .before .before .before .before .before .enum-told .given .1) (omega (arith, c .before .before .before .before .before .before .before .before .before)) _ (c .before .before .before .before .is-zero .ensures) (c .before .before .before .if1 .left) _ (c .before .is-zero2 .ensures) (c .if2 .left))
+    refused-all _ _ _ _ _ (λ cs. cancel-writable (a .x) (a .t2) cs (a .t3) (a .lent .now) (c .before .before .before .before .before .before .enum-told .given .1) (omega (arith, c .before .before .before .before .before .before .before .before .before)) _ (c .before .before .before .before .is-zero .ensures) (c .before .before .before .if1 .left) _ (c .before .is-zero2 .ensures) (c .if2 .left))
 
 returns-4 : tie.Need-returns-4
 returns-4 c = refused-insert _ _ _ _ _ _ (c .before .before .detail .given .1) (c .refusal-of-insert .ensures)

@@ -13,18 +13,18 @@ returns c =
     let a = c .before .before .before .before .args in
     reserved-31 (a .tag) (a .private-bytes) _ _ (a .lent .now) (a .target .now) _ (c .before .lies-in .ensures) (omega (arith, c .before .before .before .before)) (c .if1 .taken)
 
-is-fair-reserved-requires : tie.Need-is-fair-reserved-requires
-is-fair-reserved-requires c κs = search needs
+is-writable-reserved-requires : tie.Need-is-writable-reserved-requires
+is-writable-reserved-requires c κs = search needs
 
 returns-2 : tie.Need-returns-2
 returns-2 c =
     let a = c .before .before .before .before .before .before .args in
-    reserved-33 (a .tag) (a .private-bytes) _ _ (a .lent .now) (a .target .now) _ (c .before .before .before .lies-in .ensures) (omega (arith, c .before .before .before .before .before .before)) (c .before .before .if1 .left) _ (c .before .is-fair-reserved .ensures) (c .if2 .taken)
+    reserved-33 (a .tag) (a .private-bytes) _ _ (a .lent .now) (a .target .now) _ (c .before .before .before .lies-in .ensures) (omega (arith, c .before .before .before .before .before .before)) (c .before .before .if1 .left) _ (c .before .is-writable-reserved .ensures) (c .if2 .taken)
 
 returns-3 : tie.Need-returns-3
 returns-3 c =
     let a = c .before .before .before .before .before .before .before .before .args in
-    reserved-34 (a .tag) (a .private-bytes) _ _ (a .lent .now) (a .target .now) _ (c .before .before .before .before .before .lies-in .ensures) (omega (arith, c .before .before .before .before .before .before .before .before)) (c .before .before .before .before .if1 .left) _ (c .before .before .before .is-fair-reserved .ensures) (c .before .before .if2 .left) (c .if3 .taken)
+    reserved-34 (a .tag) (a .private-bytes) _ _ (a .lent .now) (a .target .now) _ (c .before .before .before .before .before .lies-in .ensures) (omega (arith, c .before .before .before .before .before .before .before .before)) (c .before .before .before .before .if1 .left) _ (c .before .before .before .is-writable-reserved .ensures) (c .before .before .if2 .left) (c .if3 .taken)
 
 add-if4 : tie.Need-add-if4
 add-if4 c = search needs
@@ -32,7 +32,7 @@ add-if4 c = search needs
 returns-4 : tie.Need-returns-4
 returns-4 c =
     let a = c .before .before .before .before .before .before .before .before .before .before .args in
-    reserved-36 (a .tag) (a .private-bytes) _ _ (a .lent .now) (a .target .now) _ (c .before .before .before .before .before .before .before .lies-in .ensures) (omega (arith, c .before .before .before .before .before .before .before .before .before .before)) (c .before .before .before .before .before .before .if1 .left) _ (c .before .before .before .before .before .is-fair-reserved .ensures) (c .before .before .before .before .if2 .left) (c .before .before .if3 .left) (c .if4 .taken)
+    reserved-36 (a .tag) (a .private-bytes) _ _ (a .lent .now) (a .target .now) _ (c .before .before .before .before .before .before .before .lies-in .ensures) (omega (arith, c .before .before .before .before .before .before .before .before .before .before)) (c .before .before .before .before .before .before .if1 .left) _ (c .before .before .before .before .before .is-writable-reserved .ensures) (c .before .before .before .before .if2 .left) (c .before .before .if3 .left) (c .if4 .taken)
 
 add-store-frame : tie.Need-add-store-frame
 add-store-frame c = search needs
@@ -58,7 +58,7 @@ same-length c = search needs
 returns-5 : tie.Need-returns-5
 returns-5 c =
     let a = c .before .before .before .before .before .before .before .before .before .before .before .before .before .before .before .before .before .before .before .before .before .before .args in
-    reserved-writes (a .tag) (a .private-bytes) _ _ (a .lent .now) (a .target .now) _ (c .before .before .before .before .before .before .before .before .before .before .before .before .before .before .before .before .before .before .before .lies-in .ensures) (omega (arith, c .before .before .before .before .before .before .before .before .before .before .before .before .before .before .before .before .before .before .before .before .before .before)) (c .before .before .before .before .before .before .before .before .before .before .before .before .before .before .before .before .before .before .if1 .left) _ (c .before .before .before .before .before .before .before .before .before .before .before .before .before .before .before .before .before .is-fair-reserved .ensures) (c .before .before .before .before .before .before .before .before .before .before .before .before .before .before .before .before .if2 .left) (c .before .before .before .before .before .before .before .before .before .before .before .before .before .before .if3 .left) _ _ _ _ _ (c .before .before .before .before .before .before .before .before .before .before .before .before .if4 .left) (c .before .before .before .before .before .before .before .before .store-frame .ensures) (c .before .before .before .before .before .view .ensures) (c .before .before .before .put-run .ensures)
+    reserved-writes (a .tag) (a .private-bytes) _ _ (a .lent .now) (a .target .now) _ (c .before .before .before .before .before .before .before .before .before .before .before .before .before .before .before .before .before .before .before .lies-in .ensures) (omega (arith, c .before .before .before .before .before .before .before .before .before .before .before .before .before .before .before .before .before .before .before .before .before .before)) (c .before .before .before .before .before .before .before .before .before .before .before .before .before .before .before .before .before .before .if1 .left) _ (c .before .before .before .before .before .before .before .before .before .before .before .before .before .before .before .before .before .is-writable-reserved .ensures) (c .before .before .before .before .before .before .before .before .before .before .before .before .before .before .before .before .if2 .left) (c .before .before .before .before .before .before .before .before .before .before .before .before .before .before .if3 .left) _ _ _ _ _ (c .before .before .before .before .before .before .before .before .before .before .before .before .if4 .left) (c .before .before .before .before .before .before .before .before .store-frame .ensures) (c .before .before .before .before .before .view .ensures) (c .before .before .before .put-run .ensures)
 
 pub write-reserved-spec : {M : Type 1} → statement M
 write-reserved-spec =
@@ -66,7 +66,7 @@ write-reserved-spec =
     (tie.spec
     lies-in-requires
     returns
-    is-fair-reserved-requires
+    is-writable-reserved-requires
     returns-2
     returns-3
     add-if4

@@ -6,8 +6,8 @@ use borrow.Author.Needs.{needs}
 use Rattle.descriptor_writer.proofs.segmentation.store_written_upid.Statement.{statement}
 use Rattle.descriptor_writer.proofs.segmentation.store_written_upid.Tie as tie
 
-written-kind-requires : tie.Need-written-kind-requires
-written-kind-requires c κs = search needs
+written-type-requires : tie.Need-written-type-requires
+written-type-requires c κs = search needs
 
 wide-requires : tie.Need-wide-requires
 wide-requires c κs = search needs
@@ -43,7 +43,7 @@ returns c =
     let k = w .before in
     let o = k .before .before .before in
     let a = o .args in
-    upid-of-eidr _ _ _ _ _ _ (a .u) _ (a .lent .now) _ _ _ (w .wide .ensures .0 ∙ k .written-kind .ensures) (s .upid-size .ensures) refl (i .if1 .taken) (omega (arith, o)) (p .put-bits .ensures) (r .put-run .ensures)
+    upid-of-eidr _ _ _ _ _ _ (a .u) _ (a .lent .now) _ _ _ (w .wide .ensures .0 ∙ k .written-type .ensures) (s .upid-size .ensures) refl (i .if1 .taken) (omega (arith, o)) (p .put-bits .ensures) (r .put-run .ensures)
 
 view-requires : tie.Need-view-requires
 view-requires c κs = search needs
@@ -65,13 +65,13 @@ returns-2 c =
     let k = w .before in
     let o = k .before .before .before in
     let a = o .args in
-    upid-of-view _ _ _ _ _ _ (a .u) _ (a .lent .now) _ _ _ (w .wide .ensures .0 ∙ k .written-kind .ensures) (s .upid-size .ensures) refl (i .if1 .left) (o .pre) _ (v .view .ensures) (p .put-bits .ensures) (r .put-run2 .ensures)
+    upid-of-view _ _ _ _ _ _ (a .u) _ (a .lent .now) _ _ _ (w .wide .ensures .0 ∙ k .written-type .ensures) (s .upid-size .ensures) refl (i .if1 .left) (o .pre) _ (v .view .ensures) (p .put-bits .ensures) (r .put-run2 .ensures)
 
 pub store-written-upid-spec : {M : Type 1} → statement M
 store-written-upid-spec =
     tie.close
     (tie.spec
-    written-kind-requires
+    written-type-requires
     wide-requires
     mul-put-bits
     upid-size-requires

@@ -18,8 +18,8 @@ returns c =
     let a = c .before .before .before .before .args in
     segment-refused (a .x) _ (record { components = a .components; eidr = a .eidr }) (a .lent .now) (a .target .now) _ (c .before .refusal-of-segmentation .ensures) (c .if1 .taken)
 
-count-of-requires : tie.Need-count-of-requires
-count-of-requires c κs = search needs
+count-in-segmentation-requires : tie.Need-count-in-segmentation-requires
+count-in-segmentation-requires c κs = search needs
 
 cast-n : tie.Need-cast-n
 cast-n c = search needs
@@ -33,17 +33,17 @@ store-components-requires c κs = search needs
 mul-end : tie.Need-mul-end
 mul-end c = search needs
 
-sub-write-fair-segmentation : tie.Need-sub-write-fair-segmentation
-sub-write-fair-segmentation c = search needs
+sub-write-tested-segmentation : tie.Need-sub-write-tested-segmentation
+sub-write-tested-segmentation c = search needs
 
-part-write-fair-segmentation-start : tie.Need-part-write-fair-segmentation-start
-part-write-fair-segmentation-start c = search needs
+part-write-tested-segmentation-start : tie.Need-part-write-tested-segmentation-start
+part-write-tested-segmentation-start c = search needs
 
-part-write-fair-segmentation-end : tie.Need-part-write-fair-segmentation-end
-part-write-fair-segmentation-end c = search needs
+part-write-tested-segmentation-end : tie.Need-part-write-tested-segmentation-end
+part-write-tested-segmentation-end c = search needs
 
-write-fair-segmentation-requires : tie.Need-write-fair-segmentation-requires
-write-fair-segmentation-requires c κs =
+write-tested-segmentation-requires : tie.Need-write-tested-segmentation-requires
+write-tested-segmentation-requires c κs =
     let a = c .before .before .before .before .before .before .before .before .before .before .before .args in
     segment-view (a .x) _ (record { components = a .components; eidr = a .eidr }) (a .lent .now) (a .target .now) _ (c .before .before .before .before .before .before .before .before .refusal-of-segmentation .ensures) (c .before .before .before .before .before .before .before .if1 .left)
 
@@ -54,9 +54,9 @@ returns-2 : tie.Need-returns-2
 returns-2 c =
     let z = c .before .before .before .before .before .before .before .before .before .before .before .before .before .before in
     let a = z .args in
-    let n = c .before .before .before .before .before .before .before .before .before .count-of in
+    let n = c .before .before .before .before .before .before .before .before .before .count-in-segmentation in
     let many : length (a .components) ≡ 255 = omega (arith, z) in
-    c .before .before .write-fair-segmentation .ensures .fair (a .identifier) (a .components) many (sym (c .before .before .before .before .before .before .before .before .before .before .before .refusal-of-segmentation .ensures) ∙ c .before .before .before .before .before .before .before .before .before .before .if1 .left)
+    c .before .before .write-tested-segmentation .ensures .writable (a .identifier) (a .components) many (sym (c .before .before .before .before .before .before .before .before .before .before .before .refusal-of-segmentation .ensures) ∙ c .before .before .before .before .before .before .before .before .before .before .if1 .left)
     (listed-so (a .x) (a .components) _ (n .ensures) many (omega (arith, n)) _ (all-zeros 1530) (length-replicate {A = ℕ} 1530 0) _ _ (c .before .before .before .before .before .before .before .store-components .ensures []))
 
 pub write-segmentation-spec : {M : Type 1} → statement M
@@ -65,14 +65,14 @@ write-segmentation-spec =
     (tie.spec
     refusal-of-segmentation-requires
     returns
-    count-of-requires
+    count-in-segmentation-requires
     cast-n
     slice-aggregate-store-components
     store-components-requires
     mul-end
-    sub-write-fair-segmentation
-    part-write-fair-segmentation-start
-    part-write-fair-segmentation-end
-    write-fair-segmentation-requires
+    sub-write-tested-segmentation
+    part-write-tested-segmentation-start
+    part-write-tested-segmentation-end
+    write-tested-segmentation-requires
     same-length
     returns-2)

@@ -19,8 +19,8 @@ write-all-requires c κs = search needs
 value-requires : tie.Need-value-requires Inv-loop μ-loop
 value-requires c κs = search needs
 
-read-beside-requires : tie.Need-read-beside-requires Inv-loop μ-loop
-read-beside-requires c κs = search needs
+beside-segmentation-requires : tie.Need-beside-segmentation-requires Inv-loop μ-loop
+beside-segmentation-requires c κs = search needs
 
 loop-holds : tie.Need-loop-holds Inv-loop μ-loop
 loop-holds c = search needs
@@ -55,7 +55,7 @@ components-spec =
     slice-aggregate-write-all
     write-all-requires
     value-requires
-    read-beside-requires
+    beside-segmentation-requires
     loop-holds
     mul-component
     array-copy-out-component

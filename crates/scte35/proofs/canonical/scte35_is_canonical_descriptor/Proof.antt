@@ -1,7 +1,7 @@
 -- `scte35::canonical::scte35_is_canonical_descriptor` meets its contract.
 use mathlib.Core.Path.{_≡_, ap, sym, _∙_}
 use borrow.Author.Needs.{needs}
-use Rattle.descriptor_measure.specs.Canonical.{canonicalDescriptor}
+use Rattle.canonical_form.specs.Descriptor.{canonicalDescriptor}
 use Rattle.scte35.proofs.canonical.scte35_is_canonical_descriptor.Statement.{statement}
 use Rattle.scte35.proofs.canonical.scte35_is_canonical_descriptor.Tie as tie
 

@@ -1,7 +1,7 @@
 -- `scte35::canonical::scte35_is_canonical_loop` meets its contract.
 use mathlib.Core.Path.{_≡_, ap, sym, _∙_}
 use borrow.Author.Needs.{needs}
-use Rattle.descriptor_measure.specs.Canonical.{canonicalLoop}
+use Rattle.canonical_form.specs.Descriptor.{canonicalLoop}
 use Rattle.scte35.proofs.canonical.scte35_is_canonical_loop.Statement.{statement}
 use Rattle.scte35.proofs.canonical.scte35_is_canonical_loop.Tie as tie
 

@@ -1,7 +1,7 @@
 -- `scte35::canonical::scte35_is_canonical_section` meets its contract.
 use mathlib.Core.Path.{_≡_, ap, sym, _∙_}
 use borrow.Author.Needs.{needs}
-use Rattle.section_writer.specs.Canonical.{canonicalSection}
+use Rattle.canonical_form.specs.Section.{canonicalSection}
 use Rattle.scte35.proofs.canonical.scte35_is_canonical_section.Statement.{statement}
 use Rattle.scte35.proofs.canonical.scte35_is_canonical_section.Tie as tie
 

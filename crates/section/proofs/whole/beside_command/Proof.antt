@@ -1,5 +1,8 @@
 -- `section::whole::beside_command`, by the kind of the command.
+use mathlib.Core.Path.{ap}
 use borrow.Author.Needs.{needs}
+use Rattle.command.specs.Command.{listedOf}
+use Rattle.command.specs.declared.components.ListedCommand.{ListedCommand}
 use Rattle.section.proofs.whole.beside_command.Statement.{statement}
 use Rattle.section.proofs.whole.beside_command.Tie as tie
 
@@ -37,7 +40,8 @@ returns : tie.Need-returns
 returns c = search needs
 
 returns-2 : tie.Need-returns-2
-returns-2 c = rw (c .before .enum-told2 .given .1) (c .read-components .ensures)
+unfolding listedOf
+returns-2 c = rw (c .before .before .enum-told2 .given .1) (ap (λ (l : ListedCommand). l .components) (c .before .read-components .ensures))
 
 returns-3 : tie.Need-returns-3
 returns-3 c = search needs

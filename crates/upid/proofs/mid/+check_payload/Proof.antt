@@ -17,7 +17,7 @@ use Rattle.upid.proofs.mid.check_payload.Reads.{Pre, Post}
 use Rattle.upid.proofs.mid.check_payload.Kinds.{ps}
 use Rattle.upid.proofs.mid.+check_payload.Lts-check_payload as lts
 use Rattle.upid.proofs.plain.check_plain.Reads as check-plain-reads
-use Rattle.upid.proofs.mid.wide.Reads as wide-reads
+use Rattle.table.proofs.numbers.size.Reads as size-reads
 use Rattle.upid.proofs.mid.+check_payload.{statement}
 use Rattle.upid.proofs.mid.+check_payload.Tie.{close}
 
@@ -32,14 +32,14 @@ below t = and 1 ps (falls 1 ps _<_ μ t) Pre
 
 -- what the callees ask and say
 abbrev claims : ℕ → lts.Claims
-claims t = (check-plain-reads.Asked, check-plain-reads.Learnt, wide-reads.Asked, wide-reads.Learnt, below t, Post)
+claims t = (check-plain-reads.Asked, check-plain-reads.Learnt, size-reads.Asked, size-reads.Learnt, below t, Post)
 
 abbrev Inv : lts.InvT-walk
-Inv kind s start answer₀ at₀ answer at =
-    (at ≤ length s) × (answer ≡ Fine 13) × (readOf kind start s ≡ readOf 13 (start + at) (drop at s))
+Inv upid-type s start answer₀ at₀ answer at =
+    (at ≤ length s) × (answer ≡ Fine 13) × (readOf upid-type start s ≡ readOf 13 (start + at) (drop at s))
 
 abbrev fuel : lts.MeasureT-walk
-fuel kind s start answer₀ at₀ answer at = length s - at
+fuel upid-type s start answer₀ at₀ answer at = length s - at
 
 check-plain-requires : (t : ℕ) → lts.Need-check-plain-requires (claims t) (at t) Post Inv fuel
 check-plain-requires t c κs = search needs
@@ -56,14 +56,14 @@ sub-left t c = omega arith
 shared-slice-read-k : (t : ℕ) → lts.Need-shared-slice-read-k (claims t) (at t) Post Inv fuel
 shared-slice-read-k t c = omega arith
 
-add-wide : (t : ℕ) → lts.Need-add-wide (claims t) (at t) Post Inv fuel
-add-wide t c = omega arith
+add-size : (t : ℕ) → lts.Need-add-size (claims t) (at t) Post Inv fuel
+add-size t c = omega arith
 
-shared-slice-read-wide : (t : ℕ) → lts.Need-shared-slice-read-wide (claims t) (at t) Post Inv fuel
-shared-slice-read-wide t c = omega arith
+shared-slice-read-size : (t : ℕ) → lts.Need-shared-slice-read-size (claims t) (at t) Post Inv fuel
+shared-slice-read-size t c = omega arith
 
-wide-requires : (t : ℕ) → lts.Need-wide-requires (claims t) (at t) Post Inv fuel
-wide-requires t c κs = search needs
+size-requires : (t : ℕ) → lts.Need-size-requires (claims t) (at t) Post Inv fuel
+size-requires t c κs = search needs
 
 add-body : (t : ℕ) → lts.Need-add-body (claims t) (at t) Post Inv fuel
 add-body t c = omega arith
@@ -91,7 +91,7 @@ check-payload-requires t c κs =
     let part = c .before in
     let head = part .before .before .before .before in
     let start = head .before .before .before .before .before in
-    let l = inner-length (start .args .start) _ _ (start .args .s .now) (head .before .walk-test .taken) (head .if2 .left) (part .before .wide .ensures .0) (part .if3 .left) in
+    let l = inner-length (start .args .start) _ _ (start .args .s .now) (head .before .walk-test .taken) (head .if2 .left) (part .before .size .ensures .0) (part .if3 .left) in
     (omega arith, omega arith)
 
 enum-known-inner : (t : ℕ) → lts.Need-enum-known-inner (claims t) (at t) Post Inv fuel
@@ -110,7 +110,7 @@ walk-again t c =
     let walk = head .before .before in (
       omega arith,
       walk .walk .inv .1,
-      walk .walk .inv .2 ∙ read-on _ _ _ _ (head .before .walk-test .taken) (head .if2 .left) (part .before .wide .ensures .0) (part .if3 .left) _ _ (c .before .before .check-payload .ensures) (c .enum-told .given .1),
+      walk .walk .inv .2 ∙ read-on _ _ _ _ (head .before .walk-test .taken) (head .if2 .left) (part .before .size .ensures .0) (part .if3 .left) _ _ (c .before .before .check-payload .ensures) (c .enum-told .given .1),
     )
 
 returns-2 : (t : ℕ) → lts.Need-returns-2 (claims t) (at t) Post Inv fuel
@@ -122,14 +122,14 @@ returns-3 t c = sym (read-head _ _ _ (c .before .walk-test .taken) (c .if2 .take
 returns-4 : (t : ℕ) → lts.Need-returns-4 (claims t) (at t) Post Inv fuel
 returns-4 t c =
     let head = c .before .before .before .before in
-    sym (read-short _ _ _ _ (head .before .walk-test .taken) (head .if2 .left) (c .before .wide .ensures .0) (c .if3 .taken)) ∙ sym (head .before .before .walk .inv .2)
+    sym (read-short _ _ _ _ (head .before .walk-test .taken) (head .if2 .left) (c .before .size .ensures .0) (c .if3 .taken)) ∙ sym (head .before .before .walk .inv .2)
 
 returns-5 : (t : ℕ) → lts.Need-returns-5 (claims t) (at t) Post Inv fuel
 returns-5 t c =
     let part = c .before .before .before .before .before in
     let head = part .before .before .before .before in
     let walk = head .before .before in
-    sym (read-stop _ _ _ _ (head .before .walk-test .taken) (head .if2 .left) (part .before .wide .ensures .0) (part .if3 .left) _ _ (c .before .before .before .check-payload .ensures) (c .before .inner .given .1)) ∙ sym (walk .walk .inv .2)
+    sym (read-stop _ _ _ _ (head .before .walk-test .taken) (head .if2 .left) (part .before .size .ensures .0) (part .if3 .left) _ _ (c .before .before .before .check-payload .ensures) (c .before .inner .given .1)) ∙ sym (walk .walk .inv .2)
 
 pub +check-payload-spec : {M : Type 1} → statement M
 +check-payload-spec =
@@ -139,9 +139,9 @@ pub +check-payload-spec : {M : Type 1} → statement M
     (walk-holds t)
     (sub-left t)
     (shared-slice-read-k t)
-    (add-wide t)
-    (shared-slice-read-wide t)
-    (wide-requires t)
+    (add-size t)
+    (shared-slice-read-size t)
+    (size-requires t)
     (add-body t)
     (sub-present t)
     (add-end t)

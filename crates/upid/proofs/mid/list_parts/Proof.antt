@@ -15,38 +15,38 @@ use Rattle.upid.proofs.mid.list_parts.Statement.{statement}
 use Rattle.upid.proofs.mid.list_parts.Reads.{Pre, Post}
 use Rattle.upid.proofs.mid.list_parts.Lts as lts
 use Rattle.upid.proofs.mid.blank.Reads as blank-reads
-use Rattle.upid.proofs.mid.wide.Reads as wide-reads
+use Rattle.table.proofs.numbers.size.Reads as size-reads
 use Rattle.upid.proofs.plain.reported.Reads as reported-reads
 use Rattle.upid.proofs.mid.list_parts.Tie as tie
 
 abbrev Inv-walk : tie.InvT-walk
-Inv-walk kind s out₀ ends₀ level₀ at₀ out ends level at =
+Inv-walk upid-type s out₀ ends₀ level₀ at₀ out ends level at =
     (at ≤ length s)
     × (2 * level ≤ at + 2)
     × (2 * out .count ≤ at)
     × Open s ends level at
-    × (listed (listOf kind 1 0 s) ≡ grown out (pending s ends level at))
+    × (listed (listOf upid-type 1 0 s) ≡ grown out (pending s ends level at))
     × (length ends ≡ 128)
 
 abbrev μ-walk : tie.MeasureT-walk
-μ-walk kind s out₀ ends₀ level₀ at₀ out ends level at = 2 * (length s - at) + level
+μ-walk upid-type s out₀ ends₀ level₀ at₀ out ends level at = 2 * (length s - at) + level
 
 -- where a part is met
 abbrev Met : Type 0
-Met = lts.Else2 (blank-reads.Asked, blank-reads.Learnt, wide-reads.Asked, wide-reads.Learnt, reported-reads.Asked, reported-reads.Learnt) Pre Post Inv-walk μ-walk
+Met = lts.Else2 (blank-reads.Asked, blank-reads.Learnt, size-reads.Asked, size-reads.Learnt, reported-reads.Asked, reported-reads.Learnt) Pre Post Inv-walk μ-walk
 
 -- the part is whole, in the innermost MID
 met : (part : Met) →
-    let wide = part .before in
-    let loop = wide .before .before in
+    let size = part .before in
+    let loop = size .before .before in
     let s = loop .before .before .before .before .args .s .now in
-    (loop .walk .at + 2 ≤ wide .wide .result) × (getD s (loop .walk .at + 1) 0 ≤ wide .wide .result - (loop .walk .at + 2)) × (wide .wide .result ≤ length s) × (length s ≤ 255)
+    (loop .walk .at + 2 ≤ size .size .result) × (getD s (loop .walk .at + 1) 0 ≤ size .size .result - (loop .walk .at + 2)) × (size .size .result ≤ length s) × (length s ≤ 255)
 met part =
-    let wide = part .before in
-    let turn = wide .before in
+    let size = part .before in
+    let turn = size .before in
     let loop = turn .before in
     let start = loop .before .before .before .before in
-    let h = part-whole (start .args .s .now) (loop .walk .ends) (loop .walk .level) (loop .walk .at) (wide .wide .result) (turn .walk-test .taken) (wide .wide .ensures .0) (loop .walk .inv .3) (part .if2 .left) in
+    let h = part-whole (start .args .s .now) (loop .walk .ends) (loop .walk .level) (loop .walk .at) (size .size .result) (turn .walk-test .taken) (size .size .ensures .0) (loop .walk .inv .3) (part .if2 .left) in
     (h .0, h .1, h .2, start .pre .short)
 
 blank-requires : tie.Need-blank-requires Inv-walk μ-walk
@@ -76,22 +76,22 @@ walk-holds c =
 sub-open : tie.Need-sub-open Inv-walk μ-walk
 sub-open c = omega arith
 
-array-read-wide : tie.Need-array-read-wide Inv-walk μ-walk
-array-read-wide c = let r = c .before .before .before .before .before .pre in omega arith
+array-read-size : tie.Need-array-read-size Inv-walk μ-walk
+array-read-size c = let r = c .before .before .before .before .before .pre in omega arith
 
-wide-requires : tie.Need-wide-requires Inv-walk μ-walk
-wide-requires c κs = search needs
+size-requires : tie.Need-size-requires Inv-walk μ-walk
+size-requires c κs = search needs
 
 walk-less : tie.Need-walk-less Inv-walk μ-walk
 walk-less c = omega arith
 
 walk-again : tie.Need-walk-again Inv-walk μ-walk
 walk-again c =
-    let wide = c .before in
-    let turn = wide .before in
+    let size = c .before in
+    let turn = size .before in
     let loop = turn .before in
     let start = loop .before .before .before .before in
-    let o = closed (start .args .s .now) (loop .walk .ends) (loop .walk .level) (loop .walk .at) (wide .wide .result) (turn .walk-test .taken) (wide .wide .ensures .0) (loop .walk .inv .3) (c .if2 .taken) in (
+    let o = closed (start .args .s .now) (loop .walk .ends) (loop .walk .level) (loop .walk .at) (size .size .result) (turn .walk-test .taken) (size .size .ensures .0) (loop .walk .inv .3) (c .if2 .taken) in (
       omega arith,
       omega arith,
       omega arith,
@@ -112,8 +112,8 @@ shared-slice-read-l c = let h = met (c .before .before) in omega arith
 add-from : tie.Need-add-from Inv-walk μ-walk
 add-from c = let h = met (c .before .before) in omega arith
 
-wide-requires-2 : tie.Need-wide-requires-2 Inv-walk μ-walk
-wide-requires-2 c κs = search needs
+size-requires-2 : tie.Need-size-requires-2 Inv-walk μ-walk
+size-requires-2 c κs = search needs
 
 add-to : tie.Need-add-to Inv-walk μ-walk
 add-to c = let h = met (c .before .before .before) in omega arith
@@ -142,12 +142,12 @@ walk-less-2 c = let h = met (c .before .before .before .before .before) in omega
 walk-again-2 : tie.Need-walk-again-2 Inv-walk μ-walk
 walk-again-2 c =
     let part = c .before .before .before .before .before in
-    let wide = part .before in
-    let turn = wide .before in
+    let size = part .before in
+    let turn = size .before in
     let loop = turn .before in
     let start = loop .before .before .before .before in
     let h = met part in
-    let o = passed (start .args .s .now) (loop .walk .ends) (loop .walk .level) (loop .walk .at) (wide .wide .result) (turn .walk-test .taken) (wide .wide .ensures .0) (loop .walk .inv .3) (part .if2 .left) (c .before .before .wide2 .result) (c .before .before .wide2 .ensures .0) (c .if3 .taken) in (
+    let o = passed (start .args .s .now) (loop .walk .ends) (loop .walk .level) (loop .walk .at) (size .size .result) (turn .walk-test .taken) (size .size .ensures .0) (loop .walk .inv .3) (part .if2 .left) (c .before .before .size2 .result) (c .before .before .size2 .ensures .0) (c .if3 .taken) in (
       omega arith,
       omega arith,
       omega arith,
@@ -171,19 +171,19 @@ walk-less-3 c = let h = met (c .before .before .before .before .before) in omega
 walk-again-3 : tie.Need-walk-again-3 Inv-walk μ-walk
 walk-again-3 c =
     let part = c .before .before .before .before .before in
-    let wide = part .before in
-    let turn = wide .before in
+    let size = part .before in
+    let turn = size .before in
     let loop = turn .before in
     let start = loop .before .before .before .before in
     let h = met part in
     let room : loop .walk .level < length (loop .walk .ends) = omega (arith, loop .walk .inv .5) in
-    let o = entered (start .args .s .now) (loop .walk .ends) (loop .walk .level) (loop .walk .at) (wide .wide .result) (turn .walk-test .taken) (wide .wide .ensures .0) (loop .walk .inv .3) (part .if2 .left) (c .before .before .wide2 .result) (c .before .before .wide2 .ensures .0) (c .if3 .left) room in (
+    let o = entered (start .args .s .now) (loop .walk .ends) (loop .walk .level) (loop .walk .at) (size .size .result) (turn .walk-test .taken) (size .size .ensures .0) (loop .walk .inv .3) (part .if2 .left) (c .before .before .size2 .result) (c .before .before .size2 .ensures .0) (c .if3 .left) room in (
       omega arith,
       omega arith,
       omega arith,
       o .0,
       store (loop .walk .out) _ _ _ _ _ (loop .walk .inv .4) (o .1) (c .before .reported .ensures),
-      length-set (loop .walk .ends) (loop .walk .level) (loop .walk .at + 2 + c .before .before .wide2 .result) ∙ loop .walk .inv .5,
+      length-set (loop .walk .ends) (loop .walk .level) (loop .walk .at + 2 + c .before .before .size2 .result) ∙ loop .walk .inv .5,
     )
 
 returns-2 : tie.Need-returns-2 Inv-walk μ-walk
@@ -201,15 +201,15 @@ list-parts-spec =
     array-write-ends
     walk-holds
     sub-open
-    array-read-wide
-    wide-requires
+    array-read-size
+    size-requires
     walk-less
     walk-again
     shared-slice-read-k
     add-l
     shared-slice-read-l
     add-from
-    wide-requires-2
+    size-requires-2
     add-to
     reported-requires
     cast-t27

@@ -1,6 +1,6 @@
 -- `upid::text::is_text` meets its contract: what is left of the bytes, read on from `t`, gives what the done gives.
 use Prim.Native.Nat.{ℕ, _+_, _-_, _≤_, _<_}
-use mathlib.Core.Path.{_≡_, refl, sym, ap, _∙_}
+use mathlib.Core.Path.{_≡_, sym, ap, _∙_}
 use mathlib.Core.List.{List, [], foldl}
 use native.Mathlib.Omega.{arith}
 use native.Mathlib.Numerals.{add-one}
@@ -23,13 +23,16 @@ unfolding textOf
 at-end s i t h e = rw (e, drop-of-length-le s h)
 
 abbrev Inv-loop : tie.InvT-loop
-Inv-loop s t₀ i₀ t i = (i ≤ length s) × (foldl step (meaning t₀) s ≡ foldl step (meaning t) (drop i s))
+Inv-loop s t₀ i₀ t i = (i ≤ length s) × (foldl step (wants []) s ≡ foldl step (meaning t) (drop i s))
 
 abbrev μ-loop : tie.MeasureT-loop
 μ-loop s t₀ i₀ t i = length s - i
 
+ascii-requires : tie.Need-ascii-requires Inv-loop μ-loop
+ascii-requires c κs = search needs
+
 loop-holds : tie.Need-loop-holds Inv-loop μ-loop
-loop-holds c = (omega arith, refl)
+loop-holds c = c .ascii .ensures
 
 shared-slice-read-b : tie.Need-shared-slice-read-b Inv-loop μ-loop
 shared-slice-read-b c = omega arith
@@ -73,6 +76,7 @@ is-text-spec =
     (tie.spec
     Inv-loop
     μ-loop
+    ascii-requires
     loop-holds
     shared-slice-read-b
     next-requires

@@ -1,0 +1,4 @@
+pub mod Command
+pub mod Descriptor
+pub mod Section
+pub mod Same

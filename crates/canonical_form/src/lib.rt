@@ -1,0 +1,1 @@
+// The canonical form and equal readings: definitions.

@@ -1,0 +1,1 @@
+// The theorems of crate relabel: back and forth, and byte by byte.

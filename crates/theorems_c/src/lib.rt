@@ -1,0 +1,1 @@
+// The demands over the C boundary, as theorems.

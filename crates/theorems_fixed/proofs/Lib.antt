@@ -1,0 +1,9 @@
+pub mod FixedAdjust
+pub mod FixedAnswers
+pub mod FixedAtBoundary
+pub mod FixedAtWriter
+pub mod FixedBoard
+pub mod FixedDaterange
+pub mod FixedInterface
+pub mod FixedRelabel
+pub mod FixedTransport

@@ -1,0 +1,1 @@
+// Of every public function which definition it answers.

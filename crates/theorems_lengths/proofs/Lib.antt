@@ -1,0 +1,4 @@
+pub mod Items
+pub mod Commands
+pub mod Sections
+pub mod Theorems

@@ -1,0 +1,13 @@
+pub mod Numbers
+pub mod Framed
+pub mod Runs
+pub mod Upids
+pub mod Items
+pub mod Sections
+pub mod WholeTexts
+pub mod WholePayloads
+pub mod Whole
+pub mod Listing
+pub mod Tolerated
+pub mod CommandTypes
+pub mod Theorems

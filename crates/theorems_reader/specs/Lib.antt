@@ -1,0 +1,4 @@
+pub mod Identifiers
+pub mod Numbers
+pub mod Whole
+pub mod Listing

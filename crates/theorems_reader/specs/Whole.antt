@@ -1,0 +1,93 @@
+-- What it means that an identifier of a section is whole: it is the very run that the section's own bytes announce, at the place where 01's layout puts it.
+-- `OneRun` says less: that it is some run.
+use Prim.Native.Nat.{ℕ, _+_, _-_, _/_, _%_, _≤_}
+use mathlib.Core.List.{List}
+use mathlib.Core.Path.{_≡_}
+use lib.Dec.{eqb}
+use lib.ListN.{length, take, drop, getD}
+use Rattle.command.specs.declared.SpliceCommand.{SpliceCommand}
+use Rattle.descriptor.specs.Segmentation.{fieldsBefore}
+use Rattle.descriptor.specs.declared.Descriptor.{Descriptor}
+use Rattle.descriptor.specs.declared.segmentation.DescriptorDetail.{DescriptorDetail}
+use Rattle.descriptor.specs.declared.segmentation.SegmentationUpid.{SegmentationUpid}
+use Rattle.descriptor_loop.specs.declared.Item.{Item}
+use Rattle.descriptor_loop.specs.declared.ItemRefusal.{ItemRefusal}
+use Rattle.descriptor_loop.specs.declared.reading.Reading.{Reading}
+use Rattle.section.specs.Section.{commandLength, loopIn}
+use Rattle.section.specs.declared.Section.{Section}
+use Rattle.table.specs.Bits.{pick}
+use Rattle.upid.specs.declared.Refusal.{Refusal}
+use Rattle.theorems_reader.specs.Identifiers.{Identifier, inSection, inLent, Unsplit}
+
+-- the identifier is exactly the n bytes of the section from `at` on, which are there
+pub record Exactly (s : List ℕ) (at n : ℕ) (i : Identifier) : Type 0 where
+  pub there : at + n ≤ length s
+  pub is : i ≡ record { start = at; len = n; bytes = take n (drop at s) }
+
+-- ---- a UPID: "UPID type 8, length 8, bytes", from byte h of the section on. `base` is where the lent loop starts, `beside` the EIDR that stands beside it.
+pub record WholeUpid (s : List ℕ) (h base : ℕ) (loop beside : List ℕ) (u : SegmentationUpid) : Type 0 where
+  -- "Length 0 at top level is None and reports type 0, whichever type was written"; else it reports the type that is written, but 5 as 6
+  pub «upid_type» : u .«upid_type» ≡ pick (eqb (getD s (h + 1) 0) 0) 0 (pick (eqb (getD s h 0) 5) 6 (getD s h 0))
+  -- unless it is None or an EIDR it has a view, of as many bytes as are announced, no fewer and no more. (The types are named here: a reader's own list of
+  -- those without a view could be longer.)
+  pub bytes : (u .«upid_type» ≡ 0 → ⊥) → (u .«upid_type» ≡ 10 → ⊥) → Exactly s (h + 2) (getD s (h + 1) 0) (inLent base loop (u .bytes))
+  -- "The EIDR identifier of 12 bytes is held by value": written as type 10 with length 12
+  pub eidr : u .«upid_type» ≡ 10 → (getD s h 0 ≡ 10) × (getD s (h + 1) 0 ≡ 12) × Exactly s (h + 2) 12 (record { start = h + 2; len = 12; bytes = beside })
+  -- a MID is read as its parts
+  pub mid : u .«upid_type» ≡ 13 → Unsplit s (inLent base loop (u .bytes))
+
+-- where it stands in a payload that starts at byte p of the section, by the section's own bytes: behind "event id 32, cancel 1, reserved 7" and the byte of flags;
+-- "if not program: count 8, each tag 8, reserved 7, offset 33"; "duration 40 if flagged"
+abbrev pub upidAt : List ℕ → ℕ → ℕ
+upidAt s p = p + (6 + fieldsBefore (getD s (p + 5) 0) (getD s (p + 6) 0))
+
+-- (a cancelled one has no UPID, and its cancel bit is set: none is left out)
+abbrev pub WholeDetail : List ℕ → ℕ → ℕ → List ℕ → List ℕ → DescriptorDetail → Type 0
+WholeDetail s p base loop eidr DescriptorDetail.Cancel = getD s (p + 4) 0 / 128 % 2 ≡ 1
+WholeDetail s p base loop eidr (DescriptorDetail.Active i) = WholeUpid s (upidAt s p) base loop eidr (i .«segmentation_upid»)
+
+-- ---- the text of refusal 24, of a UPID or of a part of a MID: the two bytes before it are its type and its length
+pub record WholeText (s : List ℕ) (p k : ℕ) (i : Identifier) : Type 0 where
+  pub behind : p + 2 ≤ i .start
+  pub «upid_type» : k ≡ getD s (i .start - 2) 0
+  pub whole : Exactly s (i .start) (getD s (i .start - 1) 0) i
+
+abbrev pub WholeRefusal : List ℕ → ℕ → ℕ → List ℕ → ItemRefusal → Type 0
+WholeRefusal s p base loop ItemRefusal.InvalidDescriptorLength = Unit {0}
+WholeRefusal s p base loop (ItemRefusal.Other Refusal.InputTooLong) = Unit {0}
+WholeRefusal s p base loop (ItemRefusal.Other (Refusal.NotEnoughData expected actual)) = Unit {0}
+WholeRefusal s p base loop (ItemRefusal.Other Refusal.UpidLengthTypeMismatch) = Unit {0}
+WholeRefusal s p base loop (ItemRefusal.Other (Refusal.InvalidUpidContent «upid_type» v)) = WholeText s p «upid_type» (inLent base loop v)
+WholeRefusal s p base loop (ItemRefusal.Other (Refusal.InvalidUpidLength «upid_type» expected actual)) = Unit {0}
+
+-- ---- an item that is read at `offset` of a loop which starts at `base` of the section, with what stands beside it; its payload starts 6 bytes behind its head.
+-- "1 DTMF: preroll 8, count 3, reserved 5, count bytes"; "reserved, with tag, identifier and bytes": the length that is written counts
+-- the identifier's four bytes and these
+abbrev pub WholeItem : List ℕ → ℕ → List ℕ → ℕ → Reading → Item → Type 0
+WholeItem s base loop offset r Item.End = Unit {0}
+WholeItem s base loop offset r (Item.Refused q) = WholeRefusal s (base + offset + 6) base loop q
+WholeItem s base loop offset r (Item.Is (Descriptor.Avail x)) = Unit {0}
+WholeItem s base loop offset r (Item.Is (Descriptor.Dtmf x)) =
+    let p : ℕ = base + offset + 6 in
+    Exactly s (p + 2) (getD s (p + 1) 0 / 32) (inLent base loop (x .«dtmf_chars»))
+WholeItem s base loop offset r (Item.Is (Descriptor.Segmentation x)) = WholeDetail s (base + offset + 6) base loop (r .beside .eidr) (x .«descriptor_detail»)
+WholeItem s base loop offset r (Item.Is (Descriptor.Time x)) = Unit {0}
+WholeItem s base loop offset r (Item.Is (Descriptor.Reserved tag v)) =
+    Exactly s (base + offset + 6) (getD s (base + offset + 1) 0 - 4) (inLent base loop v)
+    × Exactly s (base + offset + 2) 4 (record { start = base + offset + 2; len = 4; bytes = r .step .identifier })
+
+-- the item that is read at an offset of a section's loop
+abbrev pub WholeAt : List ℕ → Section → ℕ → Reading → Type 0
+WholeAt s x offset r = WholeItem s (x .descriptors .at) (loopIn s x) offset r (r .step .item)
+
+-- ---- the private bytes of a command: from 18 to its end
+pub record WholePrivate (s : List ℕ) (i : Identifier) : Type 0 where
+  pub end : 18 + i .len ≡ 14 + commandLength s
+  pub whole : Exactly s 18 (commandLength s - 4) i
+
+abbrev pub WholeCommand : List ℕ → SpliceCommand → Type 0
+WholeCommand s SpliceCommand.SpliceNull = Unit {0}
+WholeCommand s (SpliceCommand.SpliceInsert i) = Unit {0}
+WholeCommand s (SpliceCommand.TimeSignal t) = Unit {0}
+WholeCommand s SpliceCommand.BandwidthReservation = Unit {0}
+WholeCommand s (SpliceCommand.PrivateCommand p) = WholePrivate s (inSection s (p .«private_bytes»))

@@ -1,0 +1,1 @@
+// The demands on reading, as theorems.

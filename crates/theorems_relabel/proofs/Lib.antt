@@ -1,0 +1,6 @@
+pub mod Numbers
+pub mod Replaced
+pub mod Answered
+pub mod Readings
+pub mod Contracts
+pub mod Theorems

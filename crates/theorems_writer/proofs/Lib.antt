@@ -1,0 +1,17 @@
+pub mod Adjusting
+pub mod InsertsRead
+pub mod WrittenBack
+pub mod ItemsWritten
+pub mod WritableFields
+pub mod WritableUpids
+pub mod WritablePayloads
+pub mod Writable
+pub mod WritableCommands
+pub mod WritableInserts
+pub mod Answers
+pub mod NumbersFit
+pub mod CommandsMade
+pub mod SectionsMade
+pub mod Targets
+pub mod WritableSections
+pub mod Theorems

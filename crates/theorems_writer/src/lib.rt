@@ -1,0 +1,1 @@
+// The demands on writing, as theorems.
