@@ -1,5 +1,5 @@
-//! bench SIDE HEX TURNS ROUNDS: one section, read that many times with all its items. SIDE: `here` (the C functions), `api` (the Rust interface
-//! over them), `section` (the C function of a section alone), `crate`; or `write`: read once, and written back that many times by the C functions.
+//! bench SIDE HEX TURNS ROUNDS: one section, read that many times with all its items. SIDE: `here` (the C functions), `parts` (these, and the parts of each
+//! MID), `api` (the Rust interface over them), `section` (the C function of a section alone), `crate`; or `write`: read once, and written back that many times by the C functions.
 //! bench SIDE HEX OFFSET PART TYPE NEW TURNS ROUNDS: `relabel`, one identifier of the section replaced, or `crc`, the CRC of the result.
 //! Prints nanoseconds a turn, of the best round. `host/bench` counts the instructions of the function `bench_SIDE` and of what it calls.
 //! bench close HEX: the section of these bytes, its length and CRC put right. bench size HEX OFFSET PART TYPE NEW: the bytes of the result.
@@ -19,6 +19,27 @@ fn bench_here(section: &[u8]) {
     while offset < descriptors.len() {
         let step = scte35::raw::read_item(descriptors, offset);
         black_box(&step);
+        offset = step.next as usize;
+    }
+}
+
+/// The same, and of each MID its parts: all that a caller reads who names one of them.
+#[no_mangle]
+#[inline(never)]
+fn bench_parts(section: &[u8]) {
+    let read = scte35::raw::read_section(section, 0);
+    black_box(&read);
+    let place = read.descriptors;
+    let descriptors = &section[place.at as usize..][..place.len as usize];
+    let mut offset = 0;
+    while offset < descriptors.len() {
+        let step = scte35::raw::read_item(descriptors, offset);
+        black_box(&step);
+        if step.item.segmentation.segmentation_upid_type == 13 {
+            let view = step.item.bytes;
+            let upid = &descriptors[view.at as usize..][..view.len as usize];
+            black_box(&scte35::raw::read_upid(13, upid, 0));
+        }
         offset = step.next as usize;
     }
 }
@@ -185,6 +206,7 @@ fn main() {
     let took = match words[1].as_str() {
         "here" => reading(bench_here),
         "api" => reading(bench_api),
+        "parts" => reading(bench_parts),
         "section" => reading(bench_section),
         "crate" => reading(bench_crate),
         "write" => {
@@ -205,7 +227,7 @@ fn main() {
             let result = Relabelling::of(&before[2..]).result();
             best(turns, rounds, || bench_crc(black_box(&result)))
         }
-        _ => panic!("here, api, section, crate, write, relabel or crc"),
+        _ => panic!("here, parts, api, section, crate, write, relabel or crc"),
     };
     println!("{took:.1}");
 }
