@@ -39,7 +39,12 @@ fn flat(answer: Result<usize, Refusal>) -> raw::Written {
 
 /// As many words as are needed: those that are 0 may be left out at the end.
 fn trimmed<'a>(rng: &mut Rng, words: &'a [u64]) -> &'a [u64] {
-    let least = words.len() - words.iter().rev().take_while(|w| **w == 0).count();
+    trimmed_to(rng, words, 0)
+}
+
+/// The same, with at least so many.
+fn trimmed_to<'a>(rng: &mut Rng, words: &'a [u64], needed: usize) -> &'a [u64] {
+    let least = needed.max(words.len() - words.iter().rev().take_while(|w| **w == 0).count());
     let between = rng.between(least, words.len());
     &words[..rng.pick(&[least, words.len(), between])]
 }
@@ -105,7 +110,11 @@ impl Trips {
 
     pub fn by_item(&mut self, x: &ItemWords, expected: Result<&[u8], u64>, room: usize) -> Option<Vec<u8>> {
         let step = trimmed(&mut self.rng, x.step.words());
-        let beside = trimmed(&mut self.rng, x.beside.words());
+        // 33: "a descriptor put without its components or EIDR"
+        let needed = model::beside_words(x);
+        let missing = expected.is_ok() && needed > 0 && self.rng.below(8) == 0;
+        let expected = if missing { Err(33) } else { expected };
+        let beside = if missing { &x.beside.words()[..self.rng.below(needed)] } else { trimmed_to(&mut self.rng, x.beside.words(), needed) };
         let told = || format!("step {:?}, beside {:?}, lent {}", x.step.words(), beside, hex(&x.lent));
         self.written(told, expected, room, |target| raw::write_descriptor_words(step, beside, &x.lent, target))
     }

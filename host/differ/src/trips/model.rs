@@ -125,7 +125,8 @@ fn command_value(x: &CommandWords) -> Option<Command> {
 /// 31 to 33.
 pub fn command(x: &CommandWords) -> Judged<Command> {
     let c = &x.command;
-    unless(31, c.splice_command_type != 255 || inside(&c.private_bytes, &x.lent))?;
+    // of every view, whatever the type is: "31 before 33"
+    unless(31, inside(&c.private_bytes, &x.lent))?;
     unless(32, fit(c.words(), &COMMAND) && splices(c, &x.components).iter().all(|s| fit(s.words(), &COMPONENT_SPLICE)))?;
     command_value(x).ok_or(33)
 }
@@ -240,10 +241,23 @@ fn item_value(x: &ItemWords) -> Option<Item> {
     }
 }
 
+/// How many words beside an item are not to be left out: all where it has an EIDR, else those of the components that it counts.
+pub fn beside_words(x: &ItemWords) -> usize {
+    let i = &x.step.item;
+    let count = places(i, &x.beside).len();
+    if i.kind == 4 && i.segmentation.segmentation_upid_type == 10 {
+        x.beside.words().len()
+    } else if count > 0 {
+        5 + 2 * count
+    } else {
+        0
+    }
+}
+
 /// 31 to 34, and the descriptor.
 pub fn descriptor(x: &ItemWords) -> Judged<(Item, Bits)> {
     let i = &x.step.item;
-    unless(31, ![2, 4, 6].contains(&i.kind) || inside(&i.bytes, &x.lent))?;
+    unless(31, inside(&i.bytes, &x.lent))?;
     let most = match i.kind {
         2 => 7,
         4 => 255,

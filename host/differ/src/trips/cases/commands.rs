@@ -106,6 +106,11 @@ impl List {
                 let mut x = command_of(rng, &others);
                 let k = rng.between(places.start, places.end - 1);
                 x.command.words_mut()[k] = nonzero(rng, COMMAND[k].1.min(33));
+                // a view that lies in the lent bytes: one outside is 31
+                if k > 18 {
+                    x.lent = rng.bytes(9);
+                    x.command.words_mut()[k] = 1 + rng.below(9) as u64;
+                }
                 x
             });
         }
