@@ -24,7 +24,7 @@ use Rattle.table.specs.Lent.{stored}
 use Rattle.table.specs.Writing.{Made, made, refused}
 use Rattle.upid.specs.Upid.{readOf, upidOf, partsIn}
 use Rattle.upid.specs.declared.Part.{Part}
-use Rattle.relabel.specs.Private.{run, oldSize, Lies, Takes, Limit, headOf, itemOf, cutOf, sealed, wrapped, placedMade}
+use Rattle.relabel.specs.Private.{run, oldSize, Lies, Takes, Limit, frontOf, cutOf, sealed, wrapped, placedMade}
 use Rattle.relabel.specs.declared.Place.{Place}
 use Rattle.relabel.proofs.Stores.{size-cut, all-stored}
 
@@ -201,11 +201,11 @@ module _ (s : List ℕ) (p : Place) (limit part k : ℕ) (new t : List ℕ) (lie
   result = cutOf s p (typeThen part (getD s (p .head) 0) k) b
 
   pub all-wrote : (t₁ later : List ℕ) (n upid-type : ℕ) → n ≡ length b → upid-type ≡ typeThen part (getD s (p .head) 0) k → length s - oldSize p + length b ≤ length t → t₁ ≡ stored t (p .head + 2) b
-      → later ≡ sealed s p n (stored (stored t₁ 0 (headOf s p n)) (p .list) (itemOf s p upid-type n))
+      → later ≡ sealed s p n (stored t₁ 0 (frontOf s p upid-type n))
       → (Written.Wrote (length s - oldSize p + n) ≡ answerOf (placedMade s p limit part k new) t) × (later ≡ laterOf (placedMade s p limit part k new) t)
   all-wrote t₁ later n upid-type en ek fits e₁ e =
       let z = size-cut s p (typeThen part (getD s (p .head) 0) k) b lies in
       let w = wrote-answer _ t result is (subst (λ (m : ℕ). m ≤ length t) (sym z) fits) in
       let f : later ≡ stored t 0 result =
-      all-stored s p (typeThen part (getD s (p .head) 0) k) b lies t t₁ _ _ later fits e₁ refl refl (rw (← en, ← ek) e) in
+      all-stored s p (typeThen part (getD s (p .head) 0) k) b lies t t₁ _ later fits e₁ refl (rw (← en, ← ek) e) in
       (ap Written.Wrote (ap (λ (m : ℕ). length s - oldSize p + m) en ∙ sym z) ∙ w .0, f ∙ w .1)

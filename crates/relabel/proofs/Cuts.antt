@@ -1,5 +1,5 @@
 -- The section then, by places: the definition's section is the one that is stored.
---     spotted       an item that is found, by places of the section
+--     spotted-at    an item that is spotted, by places of the section; so is one that is found (`spotted`)
 --     lies          the places lie in their order
 --     cut-is        the section then is `cutOf` of its place
 use Prim.Native.Nat.{ℕ, zero, suc, _+_, _*_, _-_, _/_, _%_, _<_, _≤_}
@@ -15,8 +15,9 @@ use Rattle.crc.specs.Crc.{crcBytesOf}
 use Rattle.descriptor.specs.Descriptor.{cuei}
 use Rattle.descriptor_loop.proofs.Steps.{Stands}
 use Rattle.descriptor_loop.specs.Items.{stepOf, listed}
-use Rattle.relabel_found.proofs.Inserts.{Inserted, inserted, hole-at, size-all, byte-in}
-use Rattle.relabel_found.specs.Found.{found, payloadAt, foreIn, typeIn, sizeIn, upidIn, postIn}
+use Rattle.relabel_found.proofs.Inserts.{byte-in}
+use Rattle.relabel_found.proofs.Spots.{whole-is, spot-is, spots-found}
+use Rattle.relabel_found.specs.Found.{found, payloadAt, foreIn, typeIn, sizeIn, upidIn, postIn, spots}
 use Rattle.relabel_joined.specs.Relabel.{typeThen, itemThen, relabelled}
 use Rattle.relabel_loop.specs.Item.{segmentationItem}
 use Rattle.relabel_loop.specs.Loop.{behindItem, withItem}
@@ -53,16 +54,15 @@ run-join s a m n = sym (take-add m n (drop a s) ∙ ap (λ (l : List ℕ). take 
 pub run-byte : (s : List ℕ) (a n i : ℕ) → i < n → getD (run s a n) i 0 ≡ getD s (a + i) 0
 run-byte s a n i h = getD-take n (drop a s) i 0 h ∙ getD-drop a s i 0
 
--- ---- three bytes as one number
+-- ---- section_length behind four bits, and a UPID's head
 
-three : (a b n : ℕ) → a < 256 → b < 256 → n < 4096 → bigEndian 3 (a * 65536 + (b / 16 * 4096 + n)) ≡ a ∷ ((b / 16 * 16 + n / 256) ∷ (n % 256 ∷ []))
-three a b n ha hb hn =
+length-in : (b n : ℕ) → b < 256 → n < 4096 → bigEndian 2 (b / 16 * 4096 + n) ≡ (b / 16 * 16 + n / 256) ∷ (n % 256 ∷ [])
+length-in b n hb hn =
     let q : ℕ = b / 16 in
     let hq : q < 16 = omega arith in
-    let x : (a * 65536 + (q * 4096 + n)) / 65536 % 256 ≡ a = omega arith in
-    let y : (a * 65536 + (q * 4096 + n)) / 256 % 256 ≡ q * 16 + n / 256 = omega arith in
-    let z : (a * 65536 + (q * 4096 + n)) / 1 % 256 ≡ n % 256 = omega arith in
-    ap₂ (λ (u : ℕ) (l : List ℕ). u ∷ l) x (ap₂ (λ (u : ℕ) (l : List ℕ). u ∷ l) y (ap (λ (u : ℕ). u ∷ []) z))
+    let y : (q * 4096 + n) / 256 % 256 ≡ q * 16 + n / 256 = omega arith in
+    let z : (q * 4096 + n) / 1 % 256 ≡ n % 256 = omega arith in
+    ap₂ (λ (u : ℕ) (l : List ℕ). u ∷ l) y (ap (λ (u : ℕ). u ∷ []) z)
 
 two : (k n : ℕ) → k < 256 → n < 256 → bigEndian 2 (k * 256 + n) ≡ k ∷ (n ∷ [])
 two k n hk hn =
@@ -128,21 +128,22 @@ module _ (s : List ℕ) (offset : ℕ) (bytes : (k : ℕ) → getD s k 0 < 256) 
   pub loop-size : length (loopBytes s) ≡ loopLength s
   loop-size = ap length loop-run ∙ length-take-le (loopLength s) (drop (16 + commandLength s) s) (omega (arith, length-drop (16 + commandLength s) s))
 
-  loop-byte : (k : ℕ) → getD (loopBytes s) k 0 < 256
+  pub loop-byte : (k : ℕ) → getD (loopBytes s) k 0 < 256
   loop-byte k = subst (λ (l : List ℕ). getD l k 0 < 256) (sym loop-run) (byte-in s (16 + commandLength s) (loopLength s) bytes k)
 
-  pub spotted : found (loopBytes s) offset ≡ true → Spotted s offset
-  unfolding upidHead
-  spotted e =
-      let x = inserted (loopBytes s) offset e in
-      let h = hole-at (loopBytes s) offset loop-byte x in
+  pub spotted-at : spots (loopBytes s) offset ≡ true → Spotted s offset
+  spotted-at e =
+      let x = spot-is (loopBytes s) offset e in
       let L : ℕ = getD (loopBytes s) (offset + 1) 0 in
       let pay : List ℕ = payloadIn s offset in
-      let there : offset + (L + 2) ≤ loopLength s = subst (λ (n : ℕ). offset + (L + 2) ≤ n) loop-size (x .stands .there) in
+      let t = x .titled in
+      let there : offset + (L + 2) ≤ loopLength s = subst (λ (n : ℕ). offset + (L + 2) ≤ n) loop-size (t .there) in
       let n : length pay ≡ L - 4 =
-      length-take-le (L - 4) (drop (offset + 6) (loopBytes s)) (omega (arith, length-drop (offset + 6) (loopBytes s), loop-size, x .named)) in
-      let z = size-all pay _ _ h in
-      record { room = room; short = short; there = there; right = x .stands .right; upid = omega (arith, n, z, x .named) }
+      length-take-le (L - 4) (drop (offset + 6) (loopBytes s)) (omega (arith, length-drop (offset + 6) (loopBytes s), loop-size, t .long)) in
+      record { room = room; short = short; there = there; right = t .right; upid = omega (arith, n, whole-is pay (x .complete) .behind, t .long) }
+
+  pub spotted : found (loopBytes s) offset ≡ true → Spotted s offset
+  spotted e = spotted-at (spots-found (loopBytes s) offset loop-byte e)
 
 -- ---- what stands at the places
 
@@ -332,13 +333,13 @@ module _ (s : List ℕ) (offset : ℕ) (at : Spotted s offset) where
       small : length b < 256
       small = omega (arith, takes .item, own-is, old-is, at .upid)
 
-      first-is : bigEndian 3 (getD s 0 0 * 65536 + (getD s 1 0 / 16 * 4096 + (length s - oldSize p + length b - 3)))
-          ≡ getD s 0 0 ∷ ((getD s 1 0 / 16 * 16 + (length (restWith s loopThen) + 4) / 256) ∷ ((length (restWith s loopThen) + 4) % 256 ∷ []))
+      first-is : bigEndian 2 (getD s 1 0 / 16 * 4096 + (length s - oldSize p + length b - 3))
+          ≡ (getD s 1 0 / 16 * 16 + (length (restWith s loopThen) + 4) / 256) ∷ ((length (restWith s loopThen) + 4) % 256 ∷ [])
       first-is =
           let f : length s - oldSize p + length b - 3 ≡ length (restWith s loopThen) + 4 =
           ap (λ (m : ℕ). length s - m + length b - 3) old-is ∙ omega (arith, rest-size, at .room, at .there, at .upid) in
           let h : length (restWith s loopThen) + 4 < 4096 = omega (arith, sym f, takes .section) in
-          ap (λ (m : ℕ). bigEndian 3 (getD s 0 0 * 65536 + (getD s 1 0 / 16 * 4096 + m))) f ∙ three (getD s 0 0) (getD s 1 0) (length (restWith s loopThen) + 4) (bytes 0) (bytes 1) h
+          ap (λ (m : ℕ). bigEndian 2 (getD s 1 0 / 16 * 4096 + m)) f ∙ length-in (getD s 1 0) (length (restWith s loopThen) + 4) (bytes 1) h
 
       head-is : headOf s p (length b)
           ≡ (getD s 0 0 ∷ ((getD s 1 0 / 16 * 16 + (length (restWith s loopThen) + 4) / 256) ∷ ((length (restWith s loopThen) + 4) % 256 ∷ []))) ++ (foreOf s ++ bigEndian 2 (length loopThen))
@@ -346,7 +347,7 @@ module _ (s : List ℕ) (offset : ℕ) (at : Spotted s offset) where
       head-is =
           let z : c - 2 - 3 ≡ 11 + commandLength s = omega arith in
           let w : loopLength s - oldSize p + length b ≡ length loopThen = ap (λ (m : ℕ). loopLength s - m + length b) old-is ∙ sym loop-then in
-          ap₂ (λ (x y : List ℕ). x ++ y) first-is (ap₂ (λ (m v : ℕ). run s 3 m ++ bigEndian 2 v) z w)
+          ap₂ (λ (x y : List ℕ). getD s 0 0 ∷ (x ++ y)) first-is (ap₂ (λ (m v : ℕ). run s 3 m ++ bigEndian 2 v) z w)
 
       item-is : itemOf s p K (length b) ≡ (take offset (loopBytes s) ++ (2 ∷ [])) ++ (length (cuei ++ payThen) ∷ ((cuei ++ foreIn pay) ++ (K ∷ (length b ∷ []))))
       unfolding itemOf

@@ -1,7 +1,7 @@
 -- What is made, case by case.
 --     limit-is                     how long the UPID may get
---     none-found, made-same        in a section that is accepted
---     section-refused, section-is  what the section's reading says
+--     none-spotted, made-spotted   in a section that is accepted
+--     section-refused, ..          what the section's reading says, or its frame and its command
 use Prim.Native.Nat.{ℕ, zero, suc, _+_, _-_, _<_, _≤_}
 use mathlib.Core.Bool.{Bool, true, false, _&&_}
 use mathlib.Core.List.{List}
@@ -9,19 +9,24 @@ use mathlib.Core.Path.{_≡_, refl, ap, ap₂, sym, subst, _∙_}
 use native.Mathlib.Omega.{arith}
 use borrow.Author.Tests.{le-leb, lt-leb, leb-true, leb-false, eq-eqb, ne-eqb}
 use lib.Dec.{leb, eqb}
-use lib.ListN.{length, getD, take, drop}
+use lib.ListN.{length, getD, take, drop, length-drop}
 use Rattle.command.specs.Command.{commandOf}
 use Rattle.command.specs.declared.CommandRead.{CommandRead}
+use Rattle.command.specs.declared.SpliceCommand.{SpliceCommand}
+use Rattle.header.proofs.Headers.{header-there}
 use Rattle.header.specs.Header.{headerOf}
 use Rattle.header.specs.declared.header.HeaderRead.{HeaderRead}
+use Rattle.header.specs.declared.header.SpliceInfoHeader.{SpliceInfoHeader}
 use Rattle.relabel_found.proofs.Inserts.{Inserted, inserted}
-use Rattle.relabel_found.specs.Found.{found, typeIn, sizeIn, upidIn}
+use Rattle.relabel_found.proofs.Spots.{found-spots, spots-found}
+use Rattle.relabel_found.specs.Found.{found, typeIn, sizeIn, upidIn, spots}
 use Rattle.relabel_joined.specs.Relabel.{typeThen}
 use Rattle.relabel_payload.specs.Payload.{upidHead}
-use Rattle.relabel_upid.specs.Relabel.{upidMade, upTo}
+use Rattle.relabel_upid.proofs.Stores.{refused-upid}
+use Rattle.relabel_upid.specs.Relabel.{taken, upidMade, upTo}
 use Rattle.section.proofs.Acceptance.{number-some}
-use Rattle.section.proofs.Framing.{Framed, framed}
-use Rattle.section.specs.Section.{commandLength, commandType, commandBytes, loopLength, loopBytes, loopPlace, frameIn, frameOf, movedRead, accepted, through, sectionOf, numberOf}
+use Rattle.section.proofs.Framing.{Framed, framed, commandRead, is-refused, is-accepted, is-unknown, is-malformed, is-section}
+use Rattle.section.specs.Section.{commandLength, commandType, commandBytes, loopLength, loopBytes, loopPlace, frameIn, frameOf, moved, movedRead, accepted, through, sectionOf, numberOf}
 use Rattle.section.specs.declared.Frame.{Frame}
 use Rattle.section.specs.declared.FrameRead.{FrameRead}
 use Rattle.section.specs.declared.Refusal.{Refusal}
@@ -31,10 +36,12 @@ use Rattle.table.proofs.Lists.{zero-one}
 use Rattle.table.specs.Bits.{pick}
 use Rattle.table.specs.Writing.{Made, made, refused}
 use Rattle.upid.proofs.Laws.{by-cases}
+use Rattle.upid.specs.Upid.{checkOf}
+use Rattle.upid.specs.declared.UpidRead.{UpidRead}
 use Rattle.relabel.specs.Relabel.{payloadIn, payloadThen, sectionThen, fitting, loopMade, relabelMade}
 use Rattle.relabel.specs.Private.{run, oldSize, Lies, Takes, Limit, Spotted, placeIn, cutOf, wrapped, placedMade}
 use Rattle.relabel.specs.declared.Place.{Place}
-use Rattle.relabel.proofs.Cuts.{own-is, size-is, pay-is, old-is, type-is, upid-is, pay-size, section-size, cut-is, loop-there}
+use Rattle.relabel.proofs.Cuts.{own-is, size-is, pay-is, old-is, type-is, upid-is, pay-size, section-size, cut-is, loop-there, loop-byte}
 
 -- ---- how long the UPID may get
 
@@ -99,18 +106,34 @@ place-is s offset at list len h y el en eh ey =
     let z : y ≡ sizeIn (payloadIn s offset) = ey ∙ ap₂ (λ (c q : ℕ). getD s (c + offset + 6 + q + 1) 0) el eh ∙ size-is s offset at in
     rw (z, el, en, eh)
 
-pub found-there : (s : List ℕ) (list len offset : ℕ) (r : Bool) → list ≡ 16 + commandLength s → len ≡ loopLength s → 20 + commandLength s + loopLength s ≤ length s
-    → r ≡ found (take (list + len - list) (drop list s)) offset → r ≡ found (loopBytes s) offset
-found-there s list len offset r el en room e =
+pub spots-there : (s : List ℕ) (list len offset : ℕ) (r : Bool) → list ≡ 16 + commandLength s → len ≡ loopLength s → 20 + commandLength s + loopLength s ≤ length s
+    → r ≡ spots (take (list + len - list) (drop list s)) offset → r ≡ spots (loopBytes s) offset
+spots-there s list len offset r el en room e =
     let z : list + len - list ≡ len = omega arith in
-    e ∙ ap (λ (m : ℕ). found (take m (drop list s)) offset) z ∙ ap₂ (λ (c n : ℕ). found (take n (drop c s)) offset) el en ∙ ap (λ (l : List ℕ). found l offset) (sym (loop-there s room))
+    e ∙ ap (λ (m : ℕ). spots (take m (drop list s)) offset) z ∙ ap₂ (λ (c n : ℕ). spots (take n (drop c s)) offset) el en ∙ ap (λ (l : List ℕ). spots l offset) (sym (loop-there s room))
 
 -- ---- in a section that is accepted
 
 module _ (s : List ℕ) (offset part k : ℕ) (new : List ℕ) where
-  pub none-found : found (loopBytes s) offset ≡ false → loopMade s offset part k new ≡ refused 41
+  none-found : found (loopBytes s) offset ≡ false → loopMade s offset part k new ≡ refused 41
   unfolding loopMade
   none-found e = rw e
+
+  pub none-spotted : ((k : ℕ) → getD (loopBytes s) k 0 < 256) → spots (loopBytes s) offset ≡ false → loopMade s offset part k new ≡ refused 41
+  none-spotted bytes e = go (found (loopBytes s) offset) refl
+    where
+      go : (t : Bool) → found (loopBytes s) offset ≡ t → loopMade s offset part k new ≡ refused 41
+      go true f = let z : false ≡ true = sym e ∙ spots-found (loopBytes s) offset bytes f in zero-one cc
+      go false f = none-found f
+
+  -- 41 is that of the UPID too
+  no-upid : upidMade (typeIn (payloadIn s offset)) (upidIn (payloadIn s offset)) part k new ≡ refused 41 → loopMade s offset part k new ≡ refused 41
+  unfolding loopMade fitting
+  no-upid e = rw e (go (found (loopBytes s) offset))
+    where
+      go : (t : Bool) → pick t (refused 41) (refused 41) ≡ refused 41
+      go true = refl
+      go false = refl
 
   module _ (e : found (loopBytes s) offset ≡ true) (at : Spotted s offset) (bytes : (j : ℕ) → getD s j 0 < 256) (byte : k < 256) (limit : ℕ) (lim : Limit s (placeIn s offset) limit) where
     abbrev K : ℕ
@@ -174,11 +197,29 @@ module _ (s : List ℕ) (offset part k : ℕ) (new : List ℕ) where
     made-by (refused q) = refl
     made-by (made b) = fits-same b (leb (length b) limit) refl
 
-    pub made-same : loopMade s offset part k new ≡ placedMade s (placeIn s offset) limit part k new
+    made-same : loopMade s offset part k new ≡ placedMade s (placeIn s offset) limit part k new
     unfolding loopMade placedMade
     made-same =
         rw e (made-by (upidMade (typeIn (payloadIn s offset)) (upidIn (payloadIn s offset)) part k new)
         ∙ ap₂ (λ (j : ℕ) (u : List ℕ). wrapped s (placeIn s offset) (typeThen part j k) (upTo limit (upidMade j u part k new))) (sym (type-is s offset at)) (sym (upid-is s offset at)))
+
+  -- an item that is spotted: its UPID is tested where it is replaced
+  module _ (e : spots (loopBytes s) offset ≡ true) (at : Spotted s offset) (bytes : (j : ℕ) → getD s j 0 < 256) (byte : k < 256) (limit : ℕ) (lim : Limit s (placeIn s offset) limit) where
+    placed-none : upidMade (typeIn (payloadIn s offset)) (upidIn (payloadIn s offset)) part k new ≡ refused 41 → placedMade s (placeIn s offset) limit part k new ≡ refused 41
+    unfolding placedMade
+    placed-none f =
+        ap₂ (λ (j : ℕ) (u : List ℕ). wrapped s (placeIn s offset) (typeThen part j k) (upTo limit (upidMade j u part k new))) (type-is s offset at) (upid-is s offset at)
+        ∙ ap (λ (m : Made). wrapped s (placeIn s offset) (typeThen part (typeIn (payloadIn s offset)) k) (upTo limit m)) f
+
+    pub made-spotted : loopMade s offset part k new ≡ placedMade s (placeIn s offset) limit part k new
+    unfolding taken
+    made-spotted = go (checkOf (typeIn (payloadIn s offset)) (upidIn (payloadIn s offset))) refl
+      where
+        go : (r : UpidRead) → checkOf (typeIn (payloadIn s offset)) (upidIn (payloadIn s offset)) ≡ r → loopMade s offset part k new ≡ placedMade s (placeIn s offset) limit part k new
+        go (UpidRead.Fine q) f = made-same (found-spots (loopBytes s) offset (loop-byte s offset bytes (at .room) (at .short)) e q f) at bytes byte limit lim
+        go (UpidRead.Refused r) f =
+            let z = refused-upid (typeIn (payloadIn s offset)) (upidIn (payloadIn s offset)) part k new (ap taken f) in
+            no-upid z ∙ sym (placed-none z)
 
 -- ---- by the section's reading
 
@@ -190,6 +231,36 @@ module _ (s : List ℕ) (offset part k : ℕ) (new : List ℕ) where
   pub section-accepted : (x : Section) → sectionOf s ≡ SectionRead.Is x → relabelMade s offset part k new ≡ loopMade s offset part k new
   unfolding relabelMade numberOf
   section-accepted x e = rw e
+
+-- what the frame and the command say
+module _ (s : List ℕ) (offset part k : ℕ) (new : List ℕ) where
+  pub frame-refused : (r : Refusal) (q : ℕ) → FrameRead.Refused r ≡ frameOf s → q ≡ numberOf (SectionRead.Refused r) → relabelMade s offset part k new ≡ refused q
+  frame-refused r q e f = let z = is-refused s r e in section-refused s offset part k new r q (sym z) (f ∙ ap numberOf z)
+
+  module _ (v : Frame) (e : FrameRead.Whole v ≡ frameOf s) where
+    headed : (x : SpliceInfoHeader) × (headerOf (drop 3 s) ≡ HeaderRead.Header x)
+    headed = header-there (drop 3 s) (omega (arith, length-drop 3 s, framed s v e .long))
+
+    pub command-unknown : commandRead s ≡ CommandRead.UnknownType → relabelMade s offset part k new ≡ refused 10
+    unfolding numberOf
+    command-unknown f =
+        let z = is-accepted s v _ e (is-unknown _ (headed .0) (headed .1) (commandRead s) v f) in
+        section-refused s offset part k new Refusal.UnknownCommand 10 (sym z) (ap numberOf z)
+
+    pub command-malformed : commandRead s ≡ CommandRead.Malformed → relabelMade s offset part k new ≡ refused 11
+    unfolding numberOf
+    command-malformed f =
+        let z = is-accepted s v _ e (is-malformed _ (headed .0) (headed .1) (commandRead s) v f) in
+        section-refused s offset part k new Refusal.MalformedCommand 11 (sym z) (ap numberOf z)
+
+    pub command-is : (c : SpliceCommand) → commandRead s ≡ CommandRead.Is c → relabelMade s offset part k new ≡ loopMade s offset part k new
+    command-is c f =
+        let z = is-accepted s v _ e (is-section _ (headed .0) (headed .1) (commandRead s) v c (moved 14 c) v f refl refl) in
+        section-accepted s offset part k new _ (sym z)
+
+pub frame-len : (s : List ℕ) (v : Frame) → FrameRead.Whole v ≡ frameOf s → v .descriptors .len ≡ loopLength s
+unfolding frameIn loopPlace
+frame-len s v e = ap (λ (u : Frame). u .descriptors .len) (framed s v e .place)
 
 pub record Framing (s : List ℕ) (x : Section) : Type 0 where
   pub at : x .descriptors .at ≡ 16 + commandLength s

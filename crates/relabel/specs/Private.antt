@@ -65,9 +65,10 @@ pub record Takes (s : List ℕ) (p : Place) (n : ℕ) : Type 0 where
 -- all up to the loop, with section_length and the loop's length mended for n bytes
 unfoldable pub headOf : List ℕ → Place → ℕ → List ℕ
 headOf s p n =
-    bigEndian 3 (getD s 0 0 * 65536 + (getD s 1 0 / 16 * 4096 + (length s - oldSize p + n - 3)))
+    getD s 0 0
+    ∷ (bigEndian 2 (getD s 1 0 / 16 * 4096 + (length s - oldSize p + n - 3))
     ++ (run s 3 (p .list - 2 - 3)
-    ++ bigEndian 2 (p .len - oldSize p + n))
+    ++ bigEndian 2 (p .len - oldSize p + n)))
 
 -- from the loop on all up to the UPID's bytes, with the item's length mended, and the UPID's head
 unfoldable pub itemOf : List ℕ → Place → ℕ → ℕ → List ℕ

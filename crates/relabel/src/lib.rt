@@ -1,25 +1,28 @@
 // One identifier of a section replaced, and every length around it and the CRC mended. All tests come first, in the order of the refusals, and then the stores,
 // so that a refused write changes no byte.
 ghost use mathlib.Core.Path.{_≡_};
+ghost use mathlib.Core.List.{[], _∷_};
 ghost use Prim.Native.Nat.{_+_, _-_, _<_, _≤_};
 ghost use lib.ListN.{length, getD};
 ghost use Rattle.bit_stores.specs.Written.{answerOf, laterOf};
 ghost use Rattle.relabel_joined.specs.Relabel.{typeThen};
+ghost use Rattle.table.specs.Bits.{bigEndian};
 ghost use Rattle.table.specs.Lent.{stored};
 ghost use Rattle.relabel.specs.Relabel.{loopMade, relabelMade};
 ghost use Rattle.section.specs.Section.{commandLength, loopLength};
-ghost use Rattle.relabel.specs.Private.{Spotted, placeIn, Lies, Takes, Limit, oldSize, headOf, itemOf, sealed, placedMade};
+ghost use Rattle.relabel.specs.Private.{Spotted, placeIn, Lies, Takes, Limit, oldSize, frontOf, sealed, placedMade};
 use bit_stores::Written;
+use command::CommandRead;
+use command::read_command;
 use crc::crc32;
-use relabel_found::finds_insert;
+use relabel_found::spots_insert;
 use relabel_found::upid_head;
 use relabel_upid::relabel_upid;
+use section::COMMAND_AT;
+use section::FrameRead;
 use section::MAX_SECTION;
-use section::SectionRead;
-use section::read_section;
+use section::read_frame;
 use table::numbers::size;
-use table::numbers::wide;
-use table::store::put_byte;
 use table::store::put_bytes;
 use table::store::put_number;
 
@@ -61,34 +64,38 @@ fn type_then(part: usize, upid_type: u8, k: u8) -> u8
     upid_type
 }
 
-// All up to the loop, with n bytes of UPID in it: section_length and the loop's length are mended.
-fn store_head(section: &[u8], p: Place, n: usize, target: &mut [u8])
-    requires { ⌜ Lies (now section) p × Takes (now section) p n × (p .head + 2 ≤ length (now target)) ⌝ }
-    ensures { λ _. ⌜ now (target .exit) ≡ stored (now (target .entry)) 0 (headOf (now (section .entry)) p n) ⌝ }
+// A byte at a place that the target has; `put_byte` would look whether it has it.
+fn store_one(target: &mut [u8], at: usize, b: u8)
+    requires { ⌜ at < length (now target) ⌝ }
+    ensures { λ _. ⌜ now (target .exit) ≡ stored (now (target .entry)) at (b ∷ []) ⌝ }
 {
-    let old = p.end - (p.head + 2);
-    let follows = section.len() - old + n - 3;
-    let first = wide(section[0]) * 65536 + (wide(section[1]) / 16 * 4096 + follows as u64);
-    let counts = p.list - 2;
-    put_number(target, 0, 3, first);
-    put_bytes(target, 3, &section[3..counts]);
-    put_number(target, counts, 2, (p.len - old + n) as u64);
+    target[at] = b;
 }
 
-// From the loop on all up to the UPID's bytes, of which there are n: the item's length is mended, and the UPID's head is new.
-fn store_item(section: &[u8], p: Place, upid_type: u8, n: usize, target: &mut [u8])
-    requires { ⌜ Lies (now section) p × Takes (now section) p n × (p .head + 2 ≤ length (now target)) ⌝ }
-    ensures { λ _. ⌜ now (target .exit) ≡ stored (now (target .entry)) (p .list) (itemOf (now (section .entry)) p «upid_type» n) ⌝ }
+// The number in the two bytes at such a place, the high one first.
+fn store_two(target: &mut [u8], at: usize, v: usize)
+    requires { ⌜ (at + 2 ≤ length (now target)) × (v < 65536) ⌝ }
+    ensures { λ _. ⌜ now (target .exit) ≡ stored (now (target .entry)) at (bigEndian 2 v) ⌝ }
 {
-    let list = p.list;
-    let own = p.item + 1;
-    let named = p.item + 2;
+    store_one(target, at, (v / 256) as u8);
+    store_one(target, at + 1, (v % 256) as u8);
+}
+
+// All up to the UPID's bytes, of which there are n: copied as it stands, and then section_length, the loop's length, the item's and the UPID's head are mended.
+fn store_front(section: &[u8], p: Place, upid_type: u8, n: usize, target: &mut [u8])
+    requires { ⌜ Lies (now section) p × Takes (now section) p n × (p .head + 2 ≤ length (now target)) ⌝ }
+    ensures { λ _. ⌜ now (target .exit) ≡ stored (now (target .entry)) 0 (frontOf (now (section .entry)) p «upid_type» n) ⌝ }
+{
     let head = p.head;
-    let len = size(section[own]) - (p.end - (head + 2)) + n;
-    put_bytes(target, list, &section[list..own]);
-    put_byte(target, own, len as u8);
-    put_bytes(target, named, &section[named..head]);
-    put_number(target, head, 2, wide(upid_type) * 256 + n as u64);
+    let start = head + 2;
+    let own = p.item + 1;
+    let old = p.end - start;
+    let follows = section.len() - old + n - 3;
+    put_bytes(target, 0, &section[0..start]);
+    store_two(target, 1, size(section[1]) / 16 * 4096 + follows);
+    store_two(target, p.list - 2, p.len - old + n);
+    store_one(target, own, (size(section[own]) - old + n) as u8);
+    store_two(target, head, size(upid_type) * 256 + n);
 }
 
 // All behind the UPID's n bytes, and the CRC.
@@ -108,10 +115,9 @@ fn store_back(section: &[u8], p: Place, n: usize, target: &mut [u8])
 // All around the UPID's n bytes, in the order in which it stands.
 fn store_around(section: &[u8], p: Place, upid_type: u8, n: usize, target: &mut [u8])
     requires { ⌜ Lies (now section) p × Takes (now section) p n × (length (now section) - oldSize p + n ≤ length (now target)) ⌝ }
-    ensures { λ _. ⌜ now (target .exit) ≡ sealed (now (section .entry)) p n (stored (stored (now (target .entry)) 0 (headOf (now (section .entry)) p n)) (p .list) (itemOf (now (section .entry)) p «upid_type» n)) ⌝ }
+    ensures { λ _. ⌜ now (target .exit) ≡ sealed (now (section .entry)) p n (stored (now (target .entry)) 0 (frontOf (now (section .entry)) p «upid_type» n)) ⌝ }
 {
-    store_head(section, p, n, target);
-    store_item(section, p, upid_type, n, target);
+    store_front(section, p, upid_type, n, target);
     store_back(section, p, n, target);
 }
 
@@ -203,7 +209,7 @@ fn relabel_in(
     ensures bytes { λ _. ⌜ now (target .exit) ≡ laterOf (loopMade (now (section .entry)) offset part k (now (new .entry))) (now (target .entry)) ⌝ }
 {
     let end = list + len;
-    if !finds_insert(&section[list..end], offset) {
+    if !spots_insert(&section[list..end], offset) {
         return Written::Refused(41);
     }
     let p = place_of(section, list, len, offset);
@@ -224,10 +230,17 @@ pub fn relabel(
     ensures answer { λ r. ⌜ r ≡ answerOf (relabelMade (now (section .entry)) offset part k (now (new .entry))) (now (target .entry)) ⌝ }
     ensures bytes { λ _. ⌜ now (target .exit) ≡ laterOf (relabelMade (now (section .entry)) offset part k (now (new .entry))) (now (target .entry)) ⌝ }
 {
-    let x = match read_section(section) {
-        SectionRead::Is(x) => x,
-        SectionRead::Refused(r) => return Written::Refused(r.number()),
+    let frame = match read_frame(section) {
+        FrameRead::Whole(f) => f,
+        FrameRead::Refused(r) => return Written::Refused(r.number()),
     };
-    let place = x.descriptors;
+    let payload = frame.command;
+    let end = COMMAND_AT + payload.len;
+    match read_command(section[13], &section[COMMAND_AT..end]) {
+        CommandRead::Is(_) => {}
+        CommandRead::UnknownType => return Written::Refused(10),
+        CommandRead::Malformed => return Written::Refused(11),
+    }
+    let place = frame.descriptors;
     relabel_in(section, place.at, place.len, offset, part, k, new, target)
 }

@@ -1,2 +1,4 @@
 pub mod Walks
 pub mod Inserts
+pub mod Spots
+pub mod Titles

@@ -110,14 +110,6 @@ module _ (loop : List ℕ) (offset : ℕ) (fits : length loop ≤ 4076) where
       rw (items-rest loop fits) (among-rest (length loop) 0 (omega arith) (rw (items-rest loop fits) at e))
 
 module _ (loop : List ℕ) (offset : ℕ) where
-  pub found-long : 4076 < length loop → false ≡ found loop offset
-  unfolding found begins
-  found-long h = rw (items-none loop h)
-
-  pub found-none : begins (itemsOf loop) offset ≡ false → false ≡ found loop offset
-  unfolding found
-  found-none h = rw h
-
   pub found-some : begins (itemsOf loop) offset ≡ true → inserts (stepOf loop offset .item) ≡ found loop offset
   unfolding found
   found-some h = rw h

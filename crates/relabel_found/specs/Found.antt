@@ -2,8 +2,9 @@
 use Prim.Native.Nat.{ℕ, _+_, _-_}
 use mathlib.Core.Bool.{Bool, true, false, not, _&&_, _||_}
 use mathlib.Core.List.{List, [], _∷_}
-use lib.Dec.{eqb}
-use lib.ListN.{take, drop, getD}
+use lib.Dec.{ltb, leb, eqb}
+use lib.ListN.{length, take, drop, getD}
+use Rattle.descriptor.specs.Descriptor.{isCuei}
 use Rattle.descriptor.specs.Segmentation.{cancelled}
 use Rattle.descriptor.specs.Whole.{ofSegmentation}
 use Rattle.descriptor_loop.specs.Items.{stepOf, Listed, itemsOf}
@@ -48,3 +49,22 @@ upidIn pay = take (sizeIn pay) (drop (upidHead pay + 2) pay)
 
 abbrev pub postIn : List ℕ → List ℕ
 postIn pay = drop (upidHead pay + 2 + sizeIn pay) pay
+
+-- ---- the item but for the rules of its UPID: `found` is this and an accepted UPID (`found-spots`, `spots-found` in proofs/Spots.antt)
+
+-- where what stands after the UPID begins
+abbrev pub postAt : List ℕ → ℕ
+postAt pay = upidHead pay + 2 + sizeIn pay
+
+-- a segmentation descriptor by "tag, L, identifier of 4", which fits into the loop; its shortest payload has 11 bytes
+unfoldable pub titled : List ℕ → ℕ → Bool
+titled loop offset =
+    let L : ℕ = getD loop (offset + 1) 0 in
+    leb 15 L && (leb (offset + (L + 2)) (length loop) && (leb L 254 && (eqb (getD loop offset 0) 2 && isCuei (take 4 (drop (offset + 2) loop)))))
+
+-- its payload: after the UPID "type id 8, number 8, expected 8. Then 0 bytes left: no sub-segments; 1 left: 21"; the cancel bit is not set
+unfoldable pub complete : List ℕ → Bool
+complete pay = leb (postAt pay + 3) (length pay) && (not (eqb (length pay) (postAt pay + 4)) && ltb (getD pay 4 0) 128)
+
+unfoldable pub spots : List ℕ → ℕ → Bool
+spots loop offset = begins (itemsOf loop) offset && (titled loop offset && complete (payloadAt loop offset))

@@ -5,13 +5,10 @@ ghost use lib.Dec.{eqb};
 ghost use Rattle.table.specs.Bits.{pick};
 ghost use lib.ListN.{length};
 ghost use Rattle.descriptor_loop.specs.Items.{stepOf, itemsOf};
-ghost use Rattle.relabel_found.specs.Found.{begins, inserts, found};
+ghost use Rattle.relabel_found.specs.Found.{begins, titled, complete, spots};
 ghost use Rattle.relabel_payload.specs.Payload.{upidHead};
-use descriptor::Descriptor;
-use descriptor::segmentation::DescriptorDetail;
-use descriptor_loop::Item;
+use descriptor::is_cuei;
 use descriptor_loop::MAX_LOOP;
-use descriptor_loop::iteration::step;
 use table::numbers::byte;
 use table::numbers::size;
 
@@ -50,45 +47,37 @@ fn begins_item(items: &[u8], offset: usize) -> bool
     false
 }
 
-// Whether an item is a segmentation descriptor that is not cancelled.
-fn is_insert(item: Item) -> bool
-    ensures { λ r. ⌜ r ≡ inserts item ⌝ }
+// Whether a segmentation descriptor stands at an offset, by its length, its tag and its identifier.
+fn is_titled(items: &[u8], offset: usize) -> bool
+    ensures { λ r. ⌜ r ≡ titled (now (items .entry)) offset ⌝ }
 {
-    match item {
-        Item::End => false,
-        Item::Refused(_) => false,
-        Item::Is(d) => match d {
-            Descriptor::Avail(_) => false,
-            Descriptor::Dtmf(_) => false,
-            Descriptor::Segmentation(x) => {
-                let detail = x.descriptor_detail;
-                match detail {
-                    DescriptorDetail::Cancel => false,
-                    DescriptorDetail::Active(_) => true,
-                }
-            }
-            Descriptor::Time(_) => false,
-            Descriptor::Reserved {
-                tag: _,
-                private_bytes: _,
-            } => false,
-        },
-    }
-}
-
-// Whether the item at an offset of a loop is one whose UPID can be replaced.
-pub fn finds_insert(items: &[u8], offset: usize) -> bool
-    ensures { λ r. ⌜ r ≡ found (now (items .entry)) offset ⌝ }
-{
-    if MAX_LOOP < items.len() {
+    if items.len() <= offset {
         return false;
     }
-    if !begins_item(items, offset) {
+    let left = items.len() - offset;
+    if left < 17 {
         return false;
     }
-    let read = step(items, offset);
-    let item = read.item;
-    is_insert(item)
+    let len = size(items[offset + 1]);
+    if len < 15 {
+        return false;
+    }
+    if left < len + 2 {
+        return false;
+    }
+    if 254 < len {
+        return false;
+    }
+    if items[offset] != 2 {
+        return false;
+    }
+    let identifier = [
+        items[offset + 2],
+        items[offset + 3],
+        items[offset + 4],
+        items[offset + 5],
+    ];
+    is_cuei(identifier)
 }
 
 // How many bytes the components take, by the byte of flags and their count: none where the program flag is set.
@@ -117,4 +106,44 @@ pub fn upid_head(payload: &[u8]) -> usize
 {
     let flags = byte(payload, 5);
     6 + (components_size(flags, byte(payload, 6)) + duration_size(flags))
+}
+
+// Whether all of a segmentation payload is there, and it is not cancelled: its reader asks no more of it but of the UPID's own bytes.
+fn is_complete(payload: &[u8]) -> bool
+    ensures { λ r. ⌜ r ≡ complete (now (payload .entry)) ⌝ }
+{
+    if payload.len() < 11 {
+        return false;
+    }
+    let head = upid_head(payload);
+    if payload.len() < head + 5 {
+        return false;
+    }
+    let left = payload.len() - (head + 5);
+    let len = size(payload[head + 1]);
+    if left < len {
+        return false;
+    }
+    if left == len + 1 {
+        return false;
+    }
+    payload[4] < 128
+}
+
+// Whether the item at an offset of a loop is one whose UPID can be replaced, but for the UPID's own rules: who replaces it tests them, once.
+pub fn spots_insert(items: &[u8], offset: usize) -> bool
+    ensures { λ r. ⌜ r ≡ spots (now (items .entry)) offset ⌝ }
+{
+    if MAX_LOOP < items.len() {
+        return false;
+    }
+    if !begins_item(items, offset) {
+        return false;
+    }
+    if !is_titled(items, offset) {
+        return false;
+    }
+    let start = offset + 6;
+    let stop = offset + 2 + size(items[offset + 1]);
+    is_complete(&items[start..stop])
 }

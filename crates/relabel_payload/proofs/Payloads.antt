@@ -40,7 +40,7 @@ use Rattle.relabel_payload.specs.Payload.{payload, upidHead, upidPlace, 
 use Rattle.relabel_payload.proofs.Fronts.{ends-head, Split, split-front, Written, written-is, written-puts}
 
 -- what a table reads
-abbrev Of : {X : Type 0} → Table X → Type 0
+abbrev pub Of : {X : Type 0} → Table X → Type 0
 Of {X} t = X
 
 -- the head of the UPID that is read stands where the payload's own bytes say
@@ -53,21 +53,21 @@ head-at s bytes h a eh x m e =
 
 -- ---- an insert that was read, field by field
 
-record Parsed (s : List ℕ) (event : ℕ) (i : SegmentationDetail) : Type 0 where
-  h : Head
-  a : ℕ
-  head-is : parse head (bitsOf s) 0 ≡ got h a
-  stays : h .cancel ≡ false
-  event-is : h .event ≡ event
-  f : Fore
-  m : ℕ
-  front-is : parse front (bitsOf s) a ≡ got f m
-  q : ℕ
-  fine : checkOf (f .front .«segmentation_upid» .«upid_type») (viewed s (f .front .«segmentation_upid» .bytes)) ≡ UpidRead.Fine q
-  b : Of back
-  n : ℕ
-  back-is : parse back (bitsOf s) m ≡ got b n
-  is : insertFrom (f .front) (reportedUpid q (f .front .«segmentation_upid» .bytes)) b ≡ i
+pub record Parsed (s : List ℕ) (event : ℕ) (i : SegmentationDetail) : Type 0 where
+  pub h : Head
+  pub a : ℕ
+  pub head-is : parse head (bitsOf s) 0 ≡ got h a
+  pub stays : h .cancel ≡ false
+  pub event-is : h .event ≡ event
+  pub f : Fore
+  pub m : ℕ
+  pub front-is : parse front (bitsOf s) a ≡ got f m
+  pub q : ℕ
+  pub fine : checkOf (f .front .«segmentation_upid» .«upid_type») (viewed s (f .front .«segmentation_upid» .bytes)) ≡ UpidRead.Fine q
+  pub b : Of back
+  pub n : ℕ
+  pub back-is : parse back (bitsOf s) m ≡ got b n
+  pub is : insertFrom (f .front) (reportedUpid q (f .front .«segmentation_upid» .bytes)) b ≡ i
 
 module _ (s : List ℕ) (x : SegmentationDescriptor) (i : SegmentationDetail) (detail : x .«descriptor_detail» ≡ Active i) where
   module _ (h : Head) (a : ℕ) (eh : parse head (bitsOf s) 0 ≡ got h a) (stays : h .cancel ≡ false) (f : Fore) (m : ℕ) (ef : parse front (bitsOf s) a ≡ got f m) where
@@ -126,12 +126,12 @@ module _ (s : List ℕ) (x : SegmentationDescriptor) (i : SegmentationDetail) (d
   of-head (got h a) eh e = of-cancel h a eh (h .cancel) refl e
   of-head (short expected actual) eh e = zero-one cc
 
-  parsed : segmentationOf s ≡ Is (Segmentation x) → Parsed s (x .«segmentation_event_id») i
+  pub parsed : segmentationOf s ≡ Is (Segmentation x) → Parsed s (x .«segmentation_event_id») i
   unfolding segmentationOf
   parsed e = of-head (parse head (bitsOf s) 0) refl e
 
 -- and the other way round
-assemble : (s : List ℕ) (h : Head) (a : ℕ) (f : Fore) (m q : ℕ) (b : Of back) (n : ℕ) → parse head (bitsOf s) 0 ≡ got h a → h .cancel ≡ false → parse front (bitsOf s) a ≡ got f m
+pub assemble : (s : List ℕ) (h : Head) (a : ℕ) (f : Fore) (m q : ℕ) (b : Of back) (n : ℕ) → parse head (bitsOf s) 0 ≡ got h a → h .cancel ≡ false → parse front (bitsOf s) a ≡ got f m
     → checkOf (f .front .«segmentation_upid» .«upid_type») (viewed s (f .front .«segmentation_upid» .bytes)) ≡ UpidRead.Fine q → parse back (bitsOf s) m ≡ got b n
     → segmentationOf s ≡ Is (Segmentation (record { «segmentation_event_id» = h .event; «descriptor_detail» = Active (insertFrom (f .front) (reportedUpid q (f .front .«segmentation_upid» .bytes)) b) }))
 unfolding segmentationOf insertOf inserted

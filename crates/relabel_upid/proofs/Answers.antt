@@ -11,14 +11,13 @@ use borrow.Author.Tests.{eqb-true, eqb-false, le-ltb, lt-ltb, le-leb, lt-leb, lt
 use Rattle.table.specs.Bits.{pick}
 use Rattle.table.specs.Writing.{Made, made, refused}
 use Rattle.upid.specs.Cover.{Cut, bytesOf}
-use Rattle.upid.specs.Upid.{readOf, checkOf, listOf, reportedOf, upidOf, partsIn, unlessRefused}
+use Rattle.upid.specs.Upid.{readOf, checkOf, listOf, reportedOf, upidOf, partsIn}
 use Rattle.upid.specs.Private.{Accepted}
 use Rattle.upid.specs.declared.Part.{Part}
 use Rattle.upid.specs.declared.UpidRead.{UpidRead}
 use Rattle.upid.specs.declared.UpidRead.the-variants.{Fine, Refused}
-use Rattle.upid.proofs.Answers.{parts-in}
+use Rattle.upid.proofs.Answers.{parts-of-mid, no-mid-no-parts, refused-no-parts, check-of-read}
 use Rattle.upid.proofs.Cutting.{after-head}
-use Rattle.upid.proofs.Answers.{no-mid-no-parts, refused-no-parts}
 use Rattle.upid.proofs.Walks.{check-mid, check-short}
 use Rattle.relabel_upid.specs.Hole.{Hole, headed, filled}
 use Rattle.relabel_upid.specs.Kept.{Identifier, identifiersIn, identifiersAt, insideOf, afterPart, identifiersThen, widened, moved, renewed, partsThen, writtenType, Relabelled}
@@ -247,24 +246,6 @@ stays top i a hi =
     subst (λ (s : List ℕ). replacedIn s (listOf 13 1 0 s) i (writtenType s (partAt (listOf 13 1 0 s) i)) (bytesOf s (partAt (listOf 13 1 0 s) i)) ≡ s) (x .is)
     (subst (λ (j : ℕ). replacedIn (filled h c) (listOf 13 1 0 (filled h c)) j (writtenType (filled h c) (partAt (listOf 13 1 0 (filled h c)) j)) (bytesOf (filled h c) (partAt (listOf 13 1 0 (filled h c)) j)) ≡ filled h c)
     (x .count) (put-back c c h (x .accepted)))
-
--- ---- the reader's own answers
-
-kept : (a : UpidRead) (ps : List Part) → Accepted a → unlessRefused a ps ≡ ps
-unfolding unlessRefused
-kept (Fine k) ps h = refl
-kept (Refused r) ps h = absurd h
-
-pub parts-of-mid : (top : List ℕ) → Accepted (checkOf 13 top) → partsIn (upidOf 13 top) ≡ listOf 13 1 0 top
-parts-of-mid top a = parts-in 13 top ∙ kept _ _ a
-
-pub check-of-read : (k : ℕ) (s : List ℕ) → length s ≤ 255 → Accepted (readOf k 0 s) → Accepted (checkOf k s)
-unfolding checkOf
-check-of-read k s n a = rw (le-ltb _ _ n) (go (eqb (length s) 0))
-  where
-    go : (t : Bool) → Accepted (pick t (Fine 0) (readOf k 0 s))
-    go true = tt
-    go false = a
 
 -- ---- what is made
 

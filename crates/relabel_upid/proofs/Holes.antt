@@ -12,9 +12,16 @@ use Rattle.upid.specs.Cover.{Cut}
 use Rattle.upid.specs.Upid.{readOf, listOf, reportedOf}
 use Rattle.upid.specs.Private.{Accepted}
 use Rattle.upid.specs.declared.Part.{Part}
+use Rattle.upid.proofs.Answers.{then-all, anywhere}
 use Rattle.upid.proofs.Laws.{read-one, read-more, list-nil, list-more, list-plain, accepted-mid, then-both, by-cases}
-use Rattle.relabel_upid.proofs.Anywhere.{anywhere, accepted-headed}
 use Rattle.relabel_upid.specs.Hole.{Hole, here, inside, past, headed, filled}
+
+-- a piece that is accepted, in front of what is accepted
+accepted-headed : (start : ℕ) (c : Cut) (rest : List ℕ) → Accepted (readOf (c .«upid_type») 0 (c .payload)) → Accepted (readOf 13 0 rest) → Accepted (readOf 13 start (headed c rest))
+accepted-headed start c rest ha hb =
+    let n : length (c .payload) ≤ length (c .payload ++ rest) = omega (arith, length-append (c .payload) rest) in
+    rw (read-more, le-ltb _ _ n, take-append-seam, drop-append-seam)
+    (then-all _ _ (anywhere (c .«upid_type») 0 (start + 2) (c .payload) ha) (anywhere 13 0 (start + (2 + length (c .payload))) rest hb))
 
 -- where the hole is: its level, and the place of its head in the top UPID
 abbrev pub levelAt : ℕ → Hole → ℕ

@@ -12,17 +12,13 @@ use Rattle.upid.specs.Cover.{All, none, more, Cut}
 use Rattle.upid.specs.Upid.{readOf, listOf, partsOf, reportedOf}
 use Rattle.upid.specs.Private.{Accepted}
 use Rattle.upid.specs.declared.Part.{Part}
+use Rattle.upid.proofs.Answers.{anywhere}
 use Rattle.upid.proofs.Laws.{read-one, read-more, list-nil, list-more, list-plain, list-mid, accepted-mid, then-both, by-cases}
-use Rattle.upid.proofs.Tree.{all-map}
+use Rattle.upid.proofs.Tree.{all-append, all-map}
 use Rattle.relabel_upid.specs.Hole.{Hole, here, inside, past, headed, filled}
 use Rattle.relabel_upid.specs.Kept.{widened, moved}
 use Rattle.relabel_upid.specs.Relabel.{instead, around, mended}
-use Rattle.relabel_upid.proofs.Anywhere.{anywhere}
 use Rattle.relabel_upid.proofs.Holes.{levelAt, startAt, recorded, inner, before, behind, AcceptedBeside, AcceptedCut, front, back, length-front, length-filled}
-
-pub all-append : {A : Type 0} {P : A → Type 0} {xs ys : List A} → All P xs → All P ys → All P (xs ++ ys)
-all-append none hy = hy
-all-append (more h hx) hy = more h (all-append hx hy)
 
 -- ---- the parts of what is accepted lie in it
 

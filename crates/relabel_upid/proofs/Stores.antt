@@ -17,17 +17,18 @@ use Rattle.upid.specs.Private.{Accepted}
 use Rattle.upid.specs.declared.Part.{Part}
 use Rattle.upid.specs.declared.UpidRead.{UpidRead}
 use Rattle.upid.specs.declared.UpidRead.the-variants.{Fine, Refused}
+use Rattle.upid.proofs.Answers.{parts-of-mid}
 use Rattle.upid.proofs.Laws.{by-cases}
-use Rattle.upid.proofs.Tree.{all-map}
+use Rattle.upid.proofs.Tree.{all-append, all-map}
 use Rattle.upid.proofs.Walks.{check-mid, check-short}
 use Rattle.relabel_upid.specs.Hole.{Hole, here, inside, past, filled}
 use Rattle.relabel_upid.specs.Relabel.{instead, around, mended, spliced, partAt, replacedIn, taken, wholeMade, partMade, upidMade}
 use Rattle.relabel_upid.specs.Private.{heads, nth, nextHead, Walkable, Mends, Mendable, Ahead, Storable}
-use Rattle.relabel_upid.proofs.Answers.{part-is, take-is, parts-of-mid, has-parts}
+use Rattle.relabel_upid.proofs.Answers.{part-is, take-is, taken-accepted, has-parts}
 use Rattle.relabel_upid.proofs.Holes.{startAt, recorded, inner, before, AcceptedBeside, Found, find, length-front, length-filled}
-use Rattle.relabel_upid.proofs.Places.{all-append, lies-in, spot}
+use Rattle.relabel_upid.proofs.Places.{lies-in, spot}
 use Rattle.relabel_upid.proofs.Heads.{Rest, not-yet, told, whole, onward}
-use Rattle.relabel_upid.proofs.Turns.{mends-one, mended-on, mended-off, mended-length, mended-append, part-none, part-long, part-unfit, part-made}
+use Rattle.relabel_upid.proofs.Turns.{mends-one, mended-on, mended-off, mended-length, mended-append, whole-none, whole-refused, part-none, part-long, part-unfit, part-made}
 
 -- ---- where the parts before a part lie
 
@@ -225,11 +226,6 @@ spliced-size top qs p k new two within =
 
 -- ---- what is made of a part
 
-of-taken : (r : UpidRead) → taken r ≡ true → Accepted r
-unfolding taken
-of-taken (Fine k) e = tt
-of-taken (Refused r) e = zero-one cc
-
 never : (r : UpidRead) → Accepted r → taken r ≡ false → ⊥
 unfolding taken
 never (Fine k) a e = zero-one cc
@@ -245,7 +241,7 @@ module _ (upid-type k i : ℕ) (top new : List ℕ) where
 
   module _ (mid : upid-type ≡ 13) (fine : taken (checkOf upid-type top) ≡ true) where
     of-mid : Accepted (checkOf 13 top)
-    of-mid = subst (λ (q : ℕ). Accepted (checkOf q top)) mid (of-taken _ fine)
+    of-mid = subst (λ (q : ℕ). Accepted (checkOf q top)) mid (taken-accepted _ fine)
 
     pub walkable : Walkable top
     walkable = record { accepted = check-mid top of-mid; short = check-short 13 top of-mid }
@@ -310,3 +306,12 @@ pub relabel-more : (upid-type k part : ℕ) (top new : List ℕ) → (part ≡ 0
 unfolding upidMade
 relabel-more upid-type k zero top new h = absurd (h refl)
 relabel-more upid-type k (suc i) top new h = let e : suc i - 1 ≡ i = omega arith in ap (λ (j : ℕ). partMade upid-type top j k new) (sym e)
+
+-- of a UPID that is refused nothing is made
+pub refused-upid : (upid-type : ℕ) (top : List ℕ) (part k : ℕ) (new : List ℕ) → taken (checkOf upid-type top) ≡ false → upidMade upid-type top part k new ≡ refused 41
+unfolding upidMade
+refused-upid upid-type top zero k new e =
+    by-cases 0 (length top)
+    (λ some. whole-refused upid-type k top new (λ z. omega arith) e)
+    (λ none. whole-none upid-type k top new (omega arith))
+refused-upid upid-type top (suc i) k new e = no-reading upid-type k i top new e

@@ -20,10 +20,10 @@ use Rattle.upid.specs.Private.{Accepted}
 use Rattle.upid.specs.declared.Part.{Part}
 use Rattle.upid.specs.declared.UpidRead.{UpidRead}
 use Rattle.upid.specs.declared.UpidRead.the-variants.{Fine, Refused}
+use Rattle.upid.proofs.Answers.{anywhere}
 use Rattle.upid.proofs.Laws.{read-nil, read-more}
 use Rattle.relabel_upid.specs.Relabel.{instead, around, mended, partAt, replacedIn, taken, wholeMade, partMade, upTo}
 use Rattle.relabel_upid.specs.Private.{Mends}
-use Rattle.relabel_upid.proofs.Anywhere.{anywhere}
 
 -- ---- whether an identifier is taken
 
@@ -51,10 +51,6 @@ fine-alone k =
 pub fine-bytes : (k : ℕ) (s : List ℕ) → length s ≤ 255 → (length s ≡ 0 → ⊥) → checkOf k s ≡ readOf k 0 s
 unfolding checkOf
 fine-bytes k s h some = rw (le-ltb _ _ h, ne-eqb _ _ some)
-
-pub empty : (s : List ℕ) → length s ≡ 0 → s ≡ []
-empty [] h = refl
-empty (b ∷ bs) h = absurd (omega arith)
 
 -- ---- the heads around a part
 

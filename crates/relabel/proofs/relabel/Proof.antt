@@ -1,19 +1,20 @@
--- `relabel::relabel`: by what the section reads as.
+-- `relabel::relabel`: by the section's frame and its command.
 use mathlib.Core.Path.{_≡_, ap, sym, _∙_}
+use native.Mathlib.Omega.{arith}
 use Rattle.bit_stores.proofs.Writes.{refused-answer}
 use Rattle.bit_stores.specs.Written.{answerOf, laterOf}
-use Rattle.section.specs.Section.{numberOf}
+use Rattle.section.proofs.Framing.{Framed, framed, command-at}
 use Rattle.table.specs.Writing.{Made}
-use Rattle.relabel.proofs.Mades.{section-refused, section-accepted, framing}
+use Rattle.relabel.proofs.Mades.{frame-refused, command-unknown, command-malformed, command-is, frame-len}
 use borrow.Author.Needs.{needs}
 use Rattle.relabel.proofs.relabel.Statement.{statement}
 use Rattle.relabel.proofs.relabel.Tie as tie
 
-read-section-requires : tie.Need-read-section-requires
-read-section-requires c κs = search needs
+read-frame-requires : tie.Need-read-frame-requires
+read-frame-requires c κs = search needs
 
-enum-known-x : tie.Need-enum-known-x
-enum-known-x c = search needs
+enum-known-f : tie.Need-enum-known-f
+enum-known-f c = search needs
 
 enum-known-r : tie.Need-enum-known-r
 enum-known-r c = search needs
@@ -24,47 +25,132 @@ number-requires c κs = search needs
 returns : tie.Need-returns
 returns c =
     let r = c .before .before in
-    let rs = r .before .before in
-    let st = rs .before .before .before .before in
+    let rf = r .before .before in
+    let st = rf .before .before .before .before in
     let a = st .args in
-    refused-answer _ (a .target .now) _ (section-refused (a .section .now) (a .offset) (a .part) (a .k) (a .new .now) _ _ (sym (rs .read-section .ensures) ∙ r .r .given .1)
-    (c .number .ensures ∙ ap numberOf (sym (r .r .given .1) ∙ rs .read-section .ensures)))
+    refused-answer _ (a .target .now) _ (frame-refused (a .section .now) (a .offset) (a .part) (a .k) (a .new .now) _ _ (sym (r .r .given .1) ∙ rf .read-frame .ensures) (c .number .ensures))
+
+add-end : tie.Need-add-end
+add-end c =
+    let f = c .before .before .before in
+    let rf = f .before .before in
+    let w = framed _ _ (sym (f .f .given .1) ∙ rf .read-frame .ensures) in
+    omega (arith, w .size, w .short, w .fits)
+
+shared-slice-read-read-command : tie.Need-shared-slice-read-read-command
+shared-slice-read-read-command c =
+    let f = c .before .before .before .before in
+    let rf = f .before .before in
+    let w = framed _ _ (sym (f .f .given .1) ∙ rf .read-frame .ensures) in
+    omega (arith, w .size, w .long, w .fits)
+
+sub-read-command : tie.Need-sub-read-command
+sub-read-command c =
+    let f = c .before .before .before .before in
+    let rf = f .before .before in
+    let w = framed _ _ (sym (f .f .given .1) ∙ rf .read-frame .ensures) in
+    omega (arith, w .size, w .long, w .fits)
+
+part-read-command-start : tie.Need-part-read-command-start
+part-read-command-start c =
+    let f = c .before .before .before .before in
+    let rf = f .before .before in
+    let w = framed _ _ (sym (f .f .given .1) ∙ rf .read-frame .ensures) in
+    omega (arith, w .size, w .long, w .fits)
+
+part-read-command-end : tie.Need-part-read-command-end
+part-read-command-end c =
+    let f = c .before .before .before .before in
+    let rf = f .before .before in
+    let w = framed _ _ (sym (f .f .given .1) ∙ rf .read-frame .ensures) in
+    omega (arith, w .size, w .long, w .fits)
+
+read-command-requires : tie.Need-read-command-requires
+read-command-requires c κs = search needs
+
+enum-told : tie.Need-enum-told
+enum-told c = search needs
+
+enum-told-2 : tie.Need-enum-told-2
+enum-told-2 c = search needs
+
+returns-2 : tie.Need-returns-2
+returns-2 c =
+    let rc = c .before .before in
+    let f = rc .before .before .before .before .before .before in
+    let rf = f .before .before in
+    let st = rf .before .before .before .before in
+    let a = st .args in
+    let s = a .section .now in
+    let e = sym (f .f .given .1) ∙ rf .read-frame .ensures in
+    let read = sym (command-at s _ (framed s _ e .place)) ∙ sym (rc .read-command .ensures) in
+    refused-answer _ (a .target .now) 10 (command-unknown s (a .offset) (a .part) (a .k) (a .new .now) _ e (read ∙ c .enum-told2 .given .1))
+
+enum-told-3 : tie.Need-enum-told-3
+enum-told-3 c = search needs
+
+returns-3 : tie.Need-returns-3
+returns-3 c =
+    let rc = c .before .before in
+    let f = rc .before .before .before .before .before .before in
+    let rf = f .before .before in
+    let st = rf .before .before .before .before in
+    let a = st .args in
+    let s = a .section .now in
+    let e = sym (f .f .given .1) ∙ rf .read-frame .ensures in
+    let read = sym (command-at s _ (framed s _ e .place)) ∙ sym (rc .read-command .ensures) in
+    refused-answer _ (a .target .now) 11 (command-malformed s (a .offset) (a .part) (a .k) (a .new .now) _ e (read ∙ c .enum-told3 .given .1))
 
 relabel-in-requires : tie.Need-relabel-in-requires
 relabel-in-requires c κs =
-    let rd = c .before .before .before in
-    let rs = rd .before .before in
-    let st = rs .before .before .before .before in
+    let told = c .before .before in
+    let rc = told .before .before in
+    let f = rc .before .before .before .before .before .before in
+    let rf = f .before .before in
+    let st = rf .before .before .before .before in
     let a = st .args in
     let s = a .section .now in
-    let e = sym (rs .read-section .ensures) ∙ rd .x .given .1 in
-    let f = framing s _ e in
-    (f .at, f .len, f .fits, f .short)
+    let e = sym (f .f .given .1) ∙ rf .read-frame .ensures in
+    let w = framed s _ e in
+    (w .at, frame-len s _ e, w .fits, w .short)
 
 same-length : tie.Need-same-length
 same-length c = search needs
 
-returns-2 : tie.Need-returns-2
-returns-2 c =
+returns-4 : tie.Need-returns-4
+returns-4 c =
     let ri = c .before .before in
-    let rd = ri .before .before .before .before in
-    let rs = rd .before .before in
-    let st = rs .before .before .before .before in
+    let told = ri .before .before .before in
+    let rc = told .before .before in
+    let f = rc .before .before .before .before .before .before in
+    let rf = f .before .before in
+    let st = rf .before .before .before .before in
     let a = st .args in
     let s = a .section .now in
-    let e = sym (rs .read-section .ensures) ∙ rd .x .given .1 in
-    let e₂ = section-accepted s (a .offset) (a .part) (a .k) (a .new .now) _ e in
-    (ri .relabel-in .ensures .0 ∙ ap (λ (m : Made). answerOf m (a .target .now)) (sym e₂), ri .relabel-in .ensures .1 ∙ ap (λ (m : Made). laterOf m (a .target .now)) (sym e₂))
+    let e = sym (f .f .given .1) ∙ rf .read-frame .ensures in
+    let is = command-is s (a .offset) (a .part) (a .k) (a .new .now) _ e _ (sym (command-at s _ (framed s _ e .place)) ∙ sym (rc .read-command .ensures) ∙ told .enum-told .given .1) in
+    (ri .relabel-in .ensures .0 ∙ ap (λ (m : Made). answerOf m (a .target .now)) (sym is), ri .relabel-in .ensures .1 ∙ ap (λ (m : Made). laterOf m (a .target .now)) (sym is))
 
 pub relabel-spec : {M : Type 1} → statement M
 relabel-spec =
     tie.close
     (tie.spec
-    read-section-requires
-    enum-known-x
+    read-frame-requires
+    enum-known-f
     enum-known-r
     number-requires
     returns
+    add-end
+    shared-slice-read-read-command
+    sub-read-command
+    part-read-command-start
+    part-read-command-end
+    read-command-requires
+    enum-told
+    enum-told-2
+    returns-2
+    enum-told-3
+    returns-3
     relabel-in-requires
     same-length
-    returns-2)
+    returns-4)

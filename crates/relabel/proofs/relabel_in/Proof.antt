@@ -9,8 +9,8 @@ use Rattle.bit_stores.specs.Written.{answerOf, laterOf}
 use Rattle.table.specs.Writing.{Made}
 use Rattle.relabel.specs.Private.{placedMade}
 use Rattle.relabel.specs.declared.Place.{Place}
-use Rattle.relabel.proofs.Cuts.{spotted, lies}
-use Rattle.relabel.proofs.Mades.{found-there, none-found, made-same}
+use Rattle.relabel.proofs.Cuts.{loop-byte, spotted-at, lies}
+use Rattle.relabel.proofs.Mades.{spots-there, none-spotted, made-spotted}
 use borrow.Author.Needs.{needs}
 use Rattle.relabel.proofs.relabel_in.Statement.{statement}
 use Rattle.relabel.proofs.relabel_in.Tie as tie
@@ -18,17 +18,17 @@ use Rattle.relabel.proofs.relabel_in.Tie as tie
 add-end : tie.Need-add-end
 add-end c = search needs
 
-sub-finds-insert : tie.Need-sub-finds-insert
-sub-finds-insert c = search needs
+sub-spots-insert : tie.Need-sub-spots-insert
+sub-spots-insert c = search needs
 
-part-finds-insert-start : tie.Need-part-finds-insert-start
-part-finds-insert-start c = search needs
+part-spots-insert-start : tie.Need-part-spots-insert-start
+part-spots-insert-start c = search needs
 
-part-finds-insert-end : tie.Need-part-finds-insert-end
-part-finds-insert-end c = search needs
+part-spots-insert-end : tie.Need-part-spots-insert-end
+part-spots-insert-end c = search needs
 
-finds-insert-requires : tie.Need-finds-insert-requires
-finds-insert-requires c κs = search needs
+spots-insert-requires : tie.Need-spots-insert-requires
+spots-insert-requires c κs = search needs
 
 returns : tie.Need-returns
 returns c =
@@ -37,8 +37,8 @@ returns c =
     let a = st .args in
     let s = a .section .now in
     let bytes : (k : ℕ) → getD s k 0 < 256 = λ k. fi .before .before .before .before .shared-slice-known .given k .fits in
-    let is = found-there s (a .list) (a .len) (a .offset) _ (st .pre .0) (st .pre .1) (st .pre .2) (fi .finds-insert .ensures) in
-    refused-answer _ (a .target .now) 41 (none-found s (a .offset) (a .part) (a .k) (a .new .now) (sym is ∙ not-true _ (c .if1 .taken)))
+    let is = spots-there s (a .list) (a .len) (a .offset) _ (st .pre .0) (st .pre .1) (st .pre .2) (fi .spots-insert .ensures) in
+    refused-answer _ (a .target .now) 41 (none-spotted s (a .offset) (a .part) (a .k) (a .new .now) (loop-byte s (a .offset) bytes (st .pre .2) (st .pre .3)) (sym is ∙ not-true _ (c .if1 .taken)))
 
 place-of-requires : tie.Need-place-of-requires
 place-of-requires c κs =
@@ -47,9 +47,9 @@ place-of-requires c κs =
     let a = st .args in
     let s = a .section .now in
     let bytes : (k : ℕ) → getD s k 0 < 256 = λ k. fi .before .before .before .before .shared-slice-known .given k .fits in
-    let is = found-there s (a .list) (a .len) (a .offset) _ (st .pre .0) (st .pre .1) (st .pre .2) (fi .finds-insert .ensures) in
+    let is = spots-there s (a .list) (a .len) (a .offset) _ (st .pre .0) (st .pre .1) (st .pre .2) (fi .spots-insert .ensures) in
     let yes = sym is ∙ not-false _ (c .if1 .left) in
-    let at = spotted s (a .offset) bytes (st .pre .2) (st .pre .3) yes in
+    let at = spotted-at s (a .offset) bytes (st .pre .2) (st .pre .3) yes in
     (at, st .pre .0, st .pre .1)
 
 limit-of-requires : tie.Need-limit-of-requires
@@ -59,9 +59,9 @@ limit-of-requires c κs =
     let a = st .args in
     let s = a .section .now in
     let bytes : (k : ℕ) → getD s k 0 < 256 = λ k. fi .before .before .before .before .shared-slice-known .given k .fits in
-    let is = found-there s (a .list) (a .len) (a .offset) _ (st .pre .0) (st .pre .1) (st .pre .2) (fi .finds-insert .ensures) in
+    let is = spots-there s (a .list) (a .len) (a .offset) _ (st .pre .0) (st .pre .1) (st .pre .2) (fi .spots-insert .ensures) in
     let yes = sym is ∙ not-false _ (c .before .if1 .left) in
-    let at = spotted s (a .offset) bytes (st .pre .2) (st .pre .3) yes in
+    let at = spotted-at s (a .offset) bytes (st .pre .2) (st .pre .3) yes in
     rw (c .place-of .ensures) (lies s (a .offset) at)
 
 relabel-at-requires : tie.Need-relabel-at-requires
@@ -73,9 +73,9 @@ relabel-at-requires c κs =
     let a = st .args in
     let s = a .section .now in
     let bytes : (k : ℕ) → getD s k 0 < 256 = λ k. fi .before .before .before .before .shared-slice-known .given k .fits in
-    let is = found-there s (a .list) (a .len) (a .offset) _ (st .pre .0) (st .pre .1) (st .pre .2) (fi .finds-insert .ensures) in
+    let is = spots-there s (a .list) (a .len) (a .offset) _ (st .pre .0) (st .pre .1) (st .pre .2) (fi .spots-insert .ensures) in
     let yes = sym is ∙ not-false _ (po .before .if1 .left) in
-    let at = spotted s (a .offset) bytes (st .pre .2) (st .pre .3) yes in
+    let at = spotted-at s (a .offset) bytes (st .pre .2) (st .pre .3) yes in
     (rw (po .place-of .ensures) (lies s (a .offset) at), lo .limit-of .ensures)
 
 same-length : tie.Need-same-length
@@ -91,11 +91,11 @@ returns-2 c =
     let a = st .args in
     let s = a .section .now in
     let bytes : (k : ℕ) → getD s k 0 < 256 = λ k. fi .before .before .before .before .shared-slice-known .given k .fits in
-    let is = found-there s (a .list) (a .len) (a .offset) _ (st .pre .0) (st .pre .1) (st .pre .2) (fi .finds-insert .ensures) in
+    let is = spots-there s (a .list) (a .len) (a .offset) _ (st .pre .0) (st .pre .1) (st .pre .2) (fi .spots-insert .ensures) in
     let yes = sym is ∙ not-false _ (po .before .if1 .left) in
-    let at = spotted s (a .offset) bytes (st .pre .2) (st .pre .3) yes in
+    let at = spotted-at s (a .offset) bytes (st .pre .2) (st .pre .3) yes in
     let lim = rw (po .place-of .ensures) at (lo .limit-of .ensures) in
-    let e = made-same s (a .offset) (a .part) (a .k) (a .new .now) yes at bytes (omega (arith, st .fits .k)) _ lim
+    let e = made-spotted s (a .offset) (a .part) (a .k) (a .new .now) yes at bytes (omega (arith, st .fits .k)) _ lim
     ∙ ap (λ (p : Place). placedMade s p (lo .limit-of .result) (a .part) (a .k) (a .new .now)) (sym (po .place-of .ensures)) in
     (ra .relabel-at .ensures .0 ∙ ap (λ (m : Made). answerOf m (a .target .now)) (sym e), ra .relabel-at .ensures .1 ∙ ap (λ (m : Made). laterOf m (a .target .now)) (sym e))
 
@@ -104,10 +104,10 @@ relabel-in-spec =
     tie.close
     (tie.spec
     add-end
-    sub-finds-insert
-    part-finds-insert-start
-    part-finds-insert-end
-    finds-insert-requires
+    sub-spots-insert
+    part-spots-insert-start
+    part-spots-insert-end
+    spots-insert-requires
     returns
     place-of-requires
     limit-of-requires

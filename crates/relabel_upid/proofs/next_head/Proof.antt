@@ -4,14 +4,14 @@ use Rattle.relabel_upid.proofs.Heads.{next-mid, next-plain}
 use Rattle.relabel_upid.proofs.next_head.Statement.{statement}
 use Rattle.relabel_upid.proofs.next_head.Tie as tie
 
-add-wide : tie.Need-add-wide
-add-wide c = search needs
+add-size : tie.Need-add-size
+add-size c = search needs
 
-shared-slice-read-wide : tie.Need-shared-slice-read-wide
-shared-slice-read-wide c = search needs
+shared-slice-read-size : tie.Need-shared-slice-read-size
+shared-slice-read-size c = search needs
 
-wide-requires : tie.Need-wide-requires
-wide-requires c κs = search needs
+size-requires : tie.Need-size-requires
+size-requires c κs = search needs
 
 shared-slice-read-if1 : tie.Need-shared-slice-read-if1
 shared-slice-read-if1 c = search needs
@@ -29,15 +29,15 @@ add-result-3 : tie.Need-add-result-3
 add-result-3 c = search needs
 
 returns-2 : tie.Need-returns-2
-returns-2 c = let a = c .before .before .before .before .before .args in next-plain (a .upid .now) (a .at) _ (c .if1 .left) (c .before .before .wide .ensures .0)
+returns-2 c = let a = c .before .before .before .before .before .args in next-plain (a .upid .now) (a .at) _ (c .if1 .left) (c .before .before .size .ensures .0)
 
 pub next-head-spec : {M : Type 1} → statement M
 next-head-spec =
     tie.close
     (tie.spec
-    add-wide
-    shared-slice-read-wide
-    wide-requires
+    add-size
+    shared-slice-read-size
+    size-requires
     shared-slice-read-if1
     add-result
     returns
