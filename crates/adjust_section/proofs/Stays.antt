@@ -15,7 +15,7 @@ use Rattle.crc.proofs.Laws.{crc-appended}
 use Rattle.header.specs.Header.{spliceHeader, headerRead, headerOf}
 use Rattle.header.specs.declared.header.HeaderRead.{HeaderRead}
 use Rattle.header.specs.declared.header.SpliceInfoHeader.{SpliceInfoHeader}
-use Rattle.header.proofs.Headers.{header-got, header-is}
+use Rattle.header.proofs.Headers.{header-got}
 use Rattle.names.specs.Algorithm.{algorithmOf}
 use Rattle.names.specs.Command.{commandTypeOf}
 use Rattle.section.specs.Section.{commandLength, commandType, commandBytes, roomAfter, loopLength, loopPlace, frameIn, loopBytes, frameOf, movedRead, accepted, through, sectionOf, numberOf, conditions, None}
@@ -66,6 +66,22 @@ headerIn t = record {
 header-read : (t : List ℕ) → 11 ≤ length t → headerOf t ≡ HeaderRead.Header (headerIn t)
 unfolding headerOf headerRead
 header-read t h = ap headerRead (header-got t h)
+
+-- the header of the numbers in its fields
+module _ (t : List ℕ) (v₁ v₂ v₃ v₄ v₅ v₆ v₇ v₈ : ℕ) where
+  header-is : 11 ≤ length t → v₁ ≡ field (bitsOf t) 0 8 → v₂ ≡ field (bitsOf t) 8 1 → v₃ ≡ field (bitsOf t) 9 6 → v₄ ≡ field (bitsOf t) 15 33 → v₅ ≡ field (bitsOf t) 48 8
+      → v₆ ≡ field (bitsOf t) 56 12 → v₇ ≡ field (bitsOf t) 68 12 → v₈ ≡ field (bitsOf t) 80 8
+      → HeaderRead.Header (record {
+        «protocol_version» = v₁;
+        «encrypted_packet» = eqb v₂ 1;
+        «encryption_algorithm» = algorithmOf v₃;
+        «pts_adjustment» = v₄;
+        «cw_index» = v₅;
+        tier = v₆;
+        «splice_command_length» = v₇;
+        «splice_command_type» = commandTypeOf v₈;
+      }) ≡ headerOf t
+  header-is h e₁ e₂ e₃ e₄ e₅ e₆ e₇ e₈ = rw (header-read t h, e₁, e₂, e₃, e₄, e₅, e₆, e₇, e₈)
 
 module _ (p : ℕ) (s : List ℕ) (x : Section) (is : sectionOf s ≡ SectionRead.Is x) (narrow : p < 2 ^ 33) where
   tests : None (conditions s)
@@ -157,8 +173,8 @@ module _ (p : ℕ) (s : List ℕ) (x : Section) (is : sectionOf s ≡ SectionRea
       λ at w h. header-field s at w ∙ sym (before (24 + at) w (omega arith)) ∙ sym (header-field new at w) in
       let b : (at w : ℕ) → at + w ≤ 40 → field (bitsOf (drop 3 s)) (48 + at) w ≡ field (bitsOf (drop 3 new)) (48 + at) w =
       λ at w h. header-field s (48 + at) w ∙ back at w h ∙ sym (header-field new (48 + at) w) in
-      sym (header-is (drop 3 new) _ _ _ _ _ _ _ _ _ _ (eleven new size) (f 0 8 (omega arith)) (f 8 1 (omega arith)) (f 9 6 (omega arith)) (sym (header-field new 15 33 ∙ moved))
-      (b 0 8 (omega arith)) (b 8 12 (omega arith)) (b 20 12 (omega arith)) (b 32 8 (omega arith)) refl refl)
+      sym (header-is (drop 3 new) _ _ _ _ _ _ _ _ (eleven new size) (f 0 8 (omega arith)) (f 8 1 (omega arith)) (f 9 6 (omega arith)) (sym (header-field new 15 33 ∙ moved))
+      (b 0 8 (omega arith)) (b 8 12 (omega arith)) (b 20 12 (omega arith)) (b 32 8 (omega arith)))
     where
       back : (at w : ℕ) → at + w ≤ 40 → field (bitsOf s) (24 + (48 + at)) w ≡ field (bitsOf new) (24 + (48 + at)) w
       back at w h =

@@ -25,38 +25,51 @@ pub struct FlatBoardAnswer {
     pub id: u64,
 }
 
+// How many places there are, where their marks and the next ids stand, and how many words all are. An event id counts ABOVE times in its word.
+const PLACES: usize = 32;
+
+const MARKS: usize = 32;
+
+const NEXT: usize = 64;
+
+const NEXT_OF_SECOND: usize = 65;
+
+const BOARD_WORDS: usize = 66;
+
+const ABOVE: u64 = 4294967296;
+
 fn place_given(ids: u64, mark: u64) -> Place
     ensures { λ r. ⌜ r ≡ placeGiven ids mark ⌝ }
 {
     Place {
         used: mark % 2 == 1,
-        event: (ids / 4294967296) as u32,
-        provider: (ids % 4294967296) as u32,
+        event: (ids / ABOVE) as u32,
+        provider: (ids % ABOVE) as u32,
     }
 }
 
-fn places_given(words: &[u64]) -> [Place; 32]
+fn places_given(words: &[u64]) -> [Place; PLACES]
     requires { ⌜ 66 ≤ length (now words) ⌝ }
     ensures { λ r. ⌜ r ≡ placesGiven (now (words .entry)) ⌝ }
 {
     let none = blank_place();
-    let mut out = [none; 32];
+    let mut out = [none; PLACES];
     let mut i: usize = 0;
-    while i < 32 {
-        out[i] = place_given(words[i], words[32 + i]);
+    while i < PLACES {
+        out[i] = place_given(words[i], words[MARKS + i]);
         i += 1;
     }
     out
 }
 
-fn whose_given(words: &[u64]) -> [u8; 32]
+fn whose_given(words: &[u64]) -> [u8; PLACES]
     requires { ⌜ 66 ≤ length (now words) ⌝ }
     ensures { λ r. ⌜ r ≡ whoseGiven (now (words .entry)) ⌝ }
 {
-    let mut out = [0; 32];
+    let mut out = [0; PLACES];
     let mut i: usize = 0;
-    while i < 32 {
-        out[i] = (words[32 + i] / 2 % 256) as u8;
+    while i < PLACES {
+        out[i] = (words[MARKS + i] / 2 % 256) as u8;
         i += 1;
     }
     out
@@ -69,8 +82,8 @@ fn board_given(words: &[u64]) -> SharedBoard
     let places = places_given(words);
     let whose = whose_given(words);
     let mut next = [0; 2];
-    next[0] = (words[64] % 4294967296) as u32;
-    next[1] = (words[65] % 4294967296) as u32;
+    next[0] = (words[NEXT] % ABOVE) as u32;
+    next[1] = (words[NEXT_OF_SECOND] % ABOVE) as u32;
     SharedBoard {
         places,
         whose,
@@ -81,7 +94,7 @@ fn board_given(words: &[u64]) -> SharedBoard
 fn ids_word(p: Place) -> u64
     ensures { λ r. ⌜ r ≡ idsWord p ⌝ }
 {
-    (p.event as u64) * 4294967296 + (p.provider as u64)
+    (p.event as u64) * ABOVE + (p.provider as u64)
 }
 
 fn mark_word(p: Place, whose: u8) -> u64
@@ -97,10 +110,10 @@ fn mark_word(p: Place, whose: u8) -> u64
 fn word_of(p: Place, whose: u8, next: u32, at: usize) -> u64
     ensures { λ r. ⌜ r ≡ wordOf p whose next at ⌝ }
 {
-    if at < 32 {
+    if at < MARKS {
         return ids_word(p);
     }
-    if at < 64 {
+    if at < NEXT {
         return mark_word(p, whose);
     }
     next as u64
@@ -115,8 +128,8 @@ fn put_board(words: &mut [u64], b: SharedBoard)
     let whose = b.whose;
     let next = b.next;
     let mut i: usize = 0;
-    while i < 66 {
-        let at = i % 32;
+    while i < BOARD_WORDS {
+        let at = i % PLACES;
         words[i] = word_of(places[at], whose[at], next[i % 2], i);
         i += 1;
     }
@@ -178,7 +191,7 @@ pub fn empty_words(words: &mut [u64]) -> FlatBoardAnswer
     ensures answer { λ r. ⌜ r ≡ emptied (now (words .entry)) .answer ⌝ }
     ensures words { λ _. ⌜ now (words .exit) ≡ emptied (now (words .entry)) .words ⌝ }
 {
-    if words.len() < 66 {
+    if words.len() < BOARD_WORDS {
         return too_short();
     }
     put_board(words, empty());
@@ -189,7 +202,7 @@ pub fn open_words(words: &mut [u64], channel: u8, provider: u32) -> FlatBoardAns
     ensures answer { λ r. ⌜ r ≡ opened (now (words .entry)) channel provider .answer ⌝ }
     ensures words { λ _. ⌜ now (words .exit) ≡ opened (now (words .entry)) channel provider .words ⌝ }
 {
-    if words.len() < 66 {
+    if words.len() < BOARD_WORDS {
         return too_short();
     }
     let t = open_break(board_given(words), channel, provider);
@@ -202,7 +215,7 @@ pub fn close_words(words: &mut [u64], channel: u8, event: u32) -> FlatBoardAnswe
     ensures answer { λ r. ⌜ r ≡ closed (now (words .entry)) channel event .answer ⌝ }
     ensures words { λ _. ⌜ now (words .exit) ≡ closed (now (words .entry)) channel event .words ⌝ }
 {
-    if words.len() < 66 {
+    if words.len() < BOARD_WORDS {
         return too_short();
     }
     let t = close_break(board_given(words), channel, event);

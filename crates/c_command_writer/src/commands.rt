@@ -33,6 +33,7 @@ use command::CommandRead;
 use command::Private;
 use command::SpliceCommand;
 use command::components::ComponentSplice;
+use command::components::MAX_COMPONENTS;
 use command::insert::Break;
 use command::insert::InsertDetail;
 use command::insert::SpliceDetail;
@@ -48,6 +49,19 @@ use table::lent::lies_in;
 
 // ---- the struct that words are
 
+// The words that more than one function looks at, by their fields: each that begins four which are tested together, and the view.
+const RESERVED: usize = 4;
+
+const PROGRAM_TICKS: usize = 8;
+
+const DURATION: usize = 12;
+
+const TIME_KIND: usize = 16;
+
+const PRIVATE_AT: usize = 19;
+
+const PRIVATE_LEN: usize = 20;
+
 fn mode_in(words: &[u64]) -> FlatMode
     ensures { λ r. ⌜ r ≡ modeIn (now (words .entry)) ⌝ }
 {
@@ -55,7 +69,7 @@ fn mode_in(words: &[u64]) -> FlatMode
         program_splice_flag: word_at(words, 6),
         splice_time: FlatTime {
             kind: word_at(words, 7),
-            ticks: word_at(words, 8),
+            ticks: word_at(words, PROGRAM_TICKS),
         },
         component_count: word_at(words, 9),
     }
@@ -67,7 +81,7 @@ fn break_in(words: &[u64]) -> FlatBreak
     FlatBreak {
         duration_flag: word_at(words, 10),
         auto_return: word_at(words, 11),
-        duration: word_at(words, 12),
+        duration: word_at(words, DURATION),
     }
 }
 
@@ -77,7 +91,7 @@ fn insert_in(words: &[u64]) -> FlatInsert
     FlatInsert {
         splice_event_id: word_at(words, 2),
         splice_event_cancel_indicator: word_at(words, 3),
-        reserved: word_at(words, 4),
+        reserved: word_at(words, RESERVED),
         out_of_network_indicator: word_at(words, 5),
         mode: mode_in(words),
         break_duration: break_in(words),
@@ -95,13 +109,13 @@ fn command_in(words: &[u64]) -> FlatCommand
         splice_command_type: word_at(words, 1),
         insert: insert_in(words),
         splice_time: FlatTime {
-            kind: word_at(words, 16),
+            kind: word_at(words, TIME_KIND),
             ticks: word_at(words, 17),
         },
         identifier: word_at(words, 18),
         private_bytes: FlatView {
-            at: word_at(words, 19),
-            len: word_at(words, 20),
+            at: word_at(words, PRIVATE_AT),
+            len: word_at(words, PRIVATE_LEN),
         },
     }
 }
@@ -231,7 +245,7 @@ pub fn command_given(words: &[u64]) -> SpliceCommand
 }
 
 // Its components, as many as it has.
-pub fn components_given(c: SpliceCommand, words: &[u64]) -> [ComponentSplice; 255]
+pub fn components_given(c: SpliceCommand, words: &[u64]) -> [ComponentSplice; MAX_COMPONENTS]
     ensures { λ r. ⌜ r ≡ componentsFrom (countIn c) (now (words .entry)) ⌝ }
 {
     components_from(count_in_command(c) as usize, words)
@@ -246,23 +260,23 @@ fn is_command_within(words: &[u64]) -> bool
         return false;
     }
     // reserved, out_of_network_indicator; program_splice_flag, splice_time.kind
-    if !are_four_within(7, 1, 1, 2, words_from(words, 4)) {
+    if !are_four_within(7, 1, 1, 2, words_from(words, RESERVED)) {
         return false;
     }
     // splice_time.ticks, component_count; duration_flag, auto_return
-    if !are_four_within(33, 8, 1, 1, words_from(words, 8)) {
+    if !are_four_within(33, 8, 1, 1, words_from(words, PROGRAM_TICKS)) {
         return false;
     }
     // duration; unique_program_id, avail_num, avails_expected
-    if !are_four_within(33, 16, 8, 8, words_from(words, 12)) {
+    if !are_four_within(33, 16, 8, 8, words_from(words, DURATION)) {
         return false;
     }
     // splice_time; identifier, private_bytes.at
-    if !are_four_within(2, 33, 32, 64, words_from(words, 16)) {
+    if !are_four_within(2, 33, 32, 64, words_from(words, TIME_KIND)) {
         return false;
     }
     // private_bytes.len
-    is_within(64, word_at(words, 20))
+    is_within(64, word_at(words, PRIVATE_LEN))
 }
 
 // Refusal 33 of the words of a command from its ninth on: are they those of a flat form?
@@ -280,7 +294,7 @@ fn is_flat_behind(c: FlatCommand, words: &[u64]) -> bool
         mode.component_count,
         lasts.duration_flag,
         lasts.auto_return,
-        words_from(words, 8),
+        words_from(words, PROGRAM_TICKS),
     ) {
         return false;
     }
@@ -289,7 +303,7 @@ fn is_flat_behind(c: FlatCommand, words: &[u64]) -> bool
         i.unique_program_id,
         i.avail_num,
         i.avails_expected,
-        words_from(words, 12),
+        words_from(words, DURATION),
     ) {
         return false;
     }
@@ -298,11 +312,11 @@ fn is_flat_behind(c: FlatCommand, words: &[u64]) -> bool
         time.ticks,
         c.identifier,
         bytes.at,
-        words_from(words, 16),
+        words_from(words, TIME_KIND),
     ) {
         return false;
     }
-    word_at(words, 20) == bytes.len
+    word_at(words, PRIVATE_LEN) == bytes.len
 }
 
 // And all of them.
@@ -326,7 +340,7 @@ fn is_flat_command(c: FlatCommand, words: &[u64]) -> bool
         i.out_of_network_indicator,
         mode.program_splice_flag,
         program_time.kind,
-        words_from(words, 4),
+        words_from(words, RESERVED),
     ) {
         return false;
     }
@@ -360,8 +374,8 @@ fn is_command_seen(words: &[u64], lent: &[u8]) -> bool
     lies_in(
         lent,
         View {
-            at: word_at(words, 19) as usize,
-            len: word_at(words, 20) as usize,
+            at: word_at(words, PRIVATE_AT) as usize,
+            len: word_at(words, PRIVATE_LEN) as usize,
         },
     )
 }

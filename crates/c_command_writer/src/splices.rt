@@ -8,8 +8,20 @@ use crate::are_within;
 use crate::word_at;
 use crate::words_from;
 use command::components::ComponentSplice;
+use command::components::MAX_COMPONENTS;
 use command::components::blanks;
 use splice_time::SpliceTime;
+
+// Where the first of them stands, how many words each has, and the words of one.
+const FIRST: usize = 2;
+
+const EACH: usize = 3;
+
+const TAG: usize = 0;
+
+const KIND: usize = 1;
+
+const TICKS: usize = 2;
 
 pub(crate) fn time_from(kind: u64, ticks: u64) -> SpliceTime
     ensures { λ r. ⌜ r ≡ timeFrom (record { kind = kind; ticks = ticks }) ⌝ }
@@ -25,8 +37,8 @@ fn component_from(words: &[u64]) -> ComponentSplice
     ensures { λ r. ⌜ r ≡ componentFrom (now (words .entry)) ⌝ }
 {
     ComponentSplice {
-        component_tag: (word_at(words, 0) % 256) as u8,
-        splice_time: time_from(word_at(words, 1), word_at(words, 2)),
+        component_tag: (word_at(words, TAG) % 256) as u8,
+        splice_time: time_from(word_at(words, KIND), word_at(words, TICKS)),
     }
 }
 
@@ -34,25 +46,25 @@ fn component_from(words: &[u64]) -> ComponentSplice
 fn is_own_component(words: &[u64]) -> bool
     ensures { λ r. ⌜ r ≡ ownComponent (now (words .entry)) ⌝ }
 {
-    if 255 < word_at(words, 0) {
+    if 255 < word_at(words, TAG) {
         return false;
     }
-    match word_at(words, 1) {
-        1 | 2 => word_at(words, 2) == 0,
+    match word_at(words, KIND) {
+        1 | 2 => word_at(words, TICKS) == 0,
         3 => true,
         _ => false,
     }
 }
 
 // The first `count` in their array, blank past them.
-pub(crate) fn components_from(count: usize, words: &[u64]) -> [ComponentSplice; 255]
+pub(crate) fn components_from(count: usize, words: &[u64]) -> [ComponentSplice; MAX_COMPONENTS]
     requires { ⌜ count ≤ 255 ⌝ }
     ensures { λ r. ⌜ r ≡ componentsFrom count (now (words .entry)) ⌝ }
 {
     let mut out = blanks();
     let mut i: usize = 0;
     while i < count {
-        out[i] = component_from(words_from(words, 2 + i * 3));
+        out[i] = component_from(words_from(words, FIRST + i * EACH));
         i += 1;
     }
     out
@@ -63,10 +75,10 @@ pub(crate) fn splices_within(count: usize, words: &[u64]) -> bool
     requires { ⌜ count ≤ 255 ⌝ }
     ensures { λ r. ⌜ r ≡ splicesWithin count (now (words .entry)) ⌝ }
 {
-    let widths: [u64; 3] = [8, 2, 33];
+    let widths: [u64; EACH] = [8, 2, 33];
     let mut i: usize = 0;
     while i < count {
-        if !are_within(&widths, words_from(words, 2 + i * 3)) {
+        if !are_within(&widths, words_from(words, FIRST + i * EACH)) {
             return false;
         }
         i += 1;
@@ -81,7 +93,7 @@ pub(crate) fn own_splices(count: usize, words: &[u64]) -> bool
 {
     let mut i: usize = 0;
     while i < count {
-        if !is_own_component(words_from(words, 2 + i * 3)) {
+        if !is_own_component(words_from(words, FIRST + i * EACH)) {
             return false;
         }
         i += 1;

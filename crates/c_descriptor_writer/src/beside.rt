@@ -1,22 +1,37 @@
 // What stands beside an item: an identifier; components, which are places of two words; and an EIDR, a byte to a word. Before the 255 places stand refusal,
-// three values and the count, five words; so the EIDR begins at word 515.
+// three values and the count, and behind them the EIDR.
 ghost use mathlib.Core.Path.{_≡_};
 ghost use Prim.Native.Nat.{_≤_};
 ghost use Rattle.c_descriptor_writer.specs.ItemGiven.{identifierFrom, placeFrom, placesFrom, eidrFrom, besideFrom};
 ghost use Rattle.c_descriptor_writer.specs.ItemWords.{placesWithin, besideWithin};
+use crate::values::IDENTIFIER;
 use c_command_writer::are_four_within;
 use c_command_writer::are_within;
 use c_command_writer::word_at;
 use c_command_writer::words_from;
+use descriptor::segmentation::MAX_COMPONENTS;
 use descriptor::segmentation::ModeComponent;
 use descriptor::whole::Beside;
 use descriptor::whole::blank_beside;
+
+// Where the first component stands, and how many words each has; where each four bytes of the EIDR stand, and how many words all are.
+pub(crate) const COMPONENTS: usize = 5;
+
+pub(crate) const EACH: usize = 2;
+
+const EIDR: usize = 515;
+
+const EIDR_MIDDLE: usize = 519;
+
+const EIDR_LAST: usize = 523;
+
+pub(crate) const BESIDE_WORDS: usize = 527;
 
 // Four bytes, the high one first.
 pub(crate) fn identifier_from(words: &[u64]) -> [u8; 4]
     ensures { λ r. ⌜ r ≡ identifierFrom (now (words .entry)) ⌝ }
 {
-    let number = word_at(words, 5);
+    let number = word_at(words, IDENTIFIER);
     [
         (number / 0x100_0000 % 256) as u8,
         (number / 0x1_0000 % 256) as u8,
@@ -35,7 +50,7 @@ fn place_from(words: &[u64]) -> ModeComponent
 }
 
 // The first `count` components in their array, blank past them.
-fn places_from(count: usize, words: &[u64]) -> [ModeComponent; 255]
+fn places_from(count: usize, words: &[u64]) -> [ModeComponent; MAX_COMPONENTS]
     requires { ⌜ count ≤ 255 ⌝ }
     ensures { λ r. ⌜ r ≡ placesFrom count (now (words .entry)) ⌝ }
 {
@@ -43,7 +58,7 @@ fn places_from(count: usize, words: &[u64]) -> [ModeComponent; 255]
     let mut out = blank.components;
     let mut i: usize = 0;
     while i < count {
-        out[i] = place_from(words_from(words, 5 + i * 2));
+        out[i] = place_from(words_from(words, COMPONENTS + i * EACH));
         i += 1;
     }
     out
@@ -55,7 +70,7 @@ pub(crate) fn eidr_from(words: &[u64]) -> [u8; 12]
     let mut out = [0u8; 12];
     let mut i: usize = 0;
     while i < 12 {
-        out[i] = (word_at(words, 515 + i) % 256) as u8;
+        out[i] = (word_at(words, EIDR + i) % 256) as u8;
         i += 1;
     }
     out
@@ -76,10 +91,10 @@ fn places_within(count: usize, words: &[u64]) -> bool
     requires { ⌜ count ≤ 255 ⌝ }
     ensures { λ r. ⌜ r ≡ placesWithin count (now (words .entry)) ⌝ }
 {
-    let widths: [u64; 2] = [8, 33];
+    let widths: [u64; EACH] = [8, 33];
     let mut i: usize = 0;
     while i < count {
-        if !are_within(&widths, words_from(words, 5 + i * 2)) {
+        if !are_within(&widths, words_from(words, COMPONENTS + i * EACH)) {
             return false;
         }
         i += 1;
@@ -95,11 +110,11 @@ pub(crate) fn beside_within(count: usize, words: &[u64]) -> bool
     if !places_within(count, words) {
         return false;
     }
-    if !are_four_within(8, 8, 8, 8, words_from(words, 515)) {
+    if !are_four_within(8, 8, 8, 8, words_from(words, EIDR)) {
         return false;
     }
-    if !are_four_within(8, 8, 8, 8, words_from(words, 519)) {
+    if !are_four_within(8, 8, 8, 8, words_from(words, EIDR_MIDDLE)) {
         return false;
     }
-    are_four_within(8, 8, 8, 8, words_from(words, 523))
+    are_four_within(8, 8, 8, 8, words_from(words, EIDR_LAST))
 }

@@ -7,10 +7,18 @@ ghost use Rattle.c_descriptor_writer.specs.ItemGiven.{paddedWords, besid
 ghost use Rattle.c_descriptor_writer.specs.ItemWords.{itemSeen, hasEidr, besideThere};
 ghost use Rattle.c_command_writer.specs.Words.{flatWritten};
 ghost use Rattle.bit_stores.specs.Written.{answerOf, laterOf};
+use crate::beside::BESIDE_WORDS;
+use crate::beside::COMPONENTS;
+use crate::beside::EACH;
 use crate::beside::beside_from;
 use crate::beside::beside_within;
 use crate::beside::eidr_from;
 use crate::beside::identifier_from;
+use crate::values::BYTES_AT;
+use crate::values::BYTES_LEN;
+use crate::values::KIND;
+use crate::values::STEP_WORDS;
+use crate::values::UPID_TYPE;
 use crate::values::descriptor_given;
 use crate::values::is_flat_item;
 use crate::values::is_item_within;
@@ -29,9 +37,13 @@ use descriptor_writer::write_descriptor;
 use descriptor_writer::write_descriptor_without_components;
 use table::View;
 use table::lent::lies_in;
+use upid::UPID_EIDR;
 
 pub mod beside;
 pub mod values;
+
+// An EIDR's type, as a word.
+const EIDR_TYPE: u64 = UPID_EIDR as u64;
 
 // How many components it has.
 fn count_in_descriptor(d: Descriptor) -> u8
@@ -75,10 +87,10 @@ fn is_own_item(d: Descriptor, words: &[u64]) -> bool
 fn has_eidr(words: &[u64]) -> bool
     ensures { λ r. ⌜ r ≡ hasEidr (now (words .entry)) ⌝ }
 {
-    if word_at(words, 6) != 4 {
+    if word_at(words, KIND) != 4 {
         return false;
     }
-    word_at(words, 20) == 0x0A
+    word_at(words, UPID_TYPE) == EIDR_TYPE
 }
 
 // Refusal 33: are the words beside the item there, where it has an EIDR or `count` components? They would count as 0.
@@ -87,12 +99,12 @@ fn is_beside_there(count: usize, words: &[u64], beside: &[u64]) -> bool
     ensures { λ r. ⌜ r ≡ besideThere count (now (words .entry)) (now (beside .entry)) ⌝ }
 {
     if has_eidr(words) {
-        return 527 <= beside.len();
+        return BESIDE_WORDS <= beside.len();
     }
     if count == 0 {
         return true;
     }
-    5 + count * 2 <= beside.len()
+    COMPONENTS + count * EACH <= beside.len()
 }
 
 // Refusals 32 and 33 of the words themselves; 0 for none.
@@ -122,8 +134,8 @@ fn is_item_seen(words: &[u64], lent: &[u8]) -> bool
     lies_in(
         lent,
         View {
-            at: word_at(words, 31) as usize,
-            len: word_at(words, 32) as usize,
+            at: word_at(words, BYTES_AT) as usize,
+            len: word_at(words, BYTES_LEN) as usize,
         },
     )
 }
@@ -159,12 +171,12 @@ fn write_given(
 }
 
 // The words of a step, 0 past the end of the slice.
-fn padded(words: &[u64]) -> [u64; 33]
+fn padded(words: &[u64]) -> [u64; STEP_WORDS]
     ensures { λ r. ⌜ r ≡ paddedWords (now (words .entry)) ⌝ }
 {
-    let mut out = [0u64; 33];
+    let mut out = [0u64; STEP_WORDS];
     let mut i: usize = 0;
-    while i < 33 {
+    while i < STEP_WORDS {
         out[i] = word_at(words, i);
         i += 1;
     }
@@ -199,7 +211,7 @@ pub fn write_descriptor_words(
     ensures answer { λ r. ⌜ r ≡ flatWritten (answerOf (descriptorWordsMade (now (words .entry)) (now (beside .entry)) (now (lent .entry))) (now (target .entry))) ⌝ }
     ensures bytes { λ _. ⌜ now (target .exit) ≡ laterOf (descriptorWordsMade (now (words .entry)) (now (beside .entry)) (now (lent .entry))) (now (target .entry)) ⌝ }
 {
-    if words.len() < 33 {
+    if words.len() < STEP_WORDS {
         let whole = padded(words);
         return write_from_words(&whole, beside, lent, target);
     }

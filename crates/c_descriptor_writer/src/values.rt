@@ -37,14 +37,52 @@ use table::View;
 
 // ---- the struct that words are
 
+// A step's words, and those of them that more than one function looks at, by their fields: each that begins four which are tested together, the kind and the
+// UPID's type, which tell of an EIDR, and the view.
+pub(crate) const STEP_WORDS: usize = 33;
+
+pub(crate) const IDENTIFIER: usize = 5;
+
+pub(crate) const KIND: usize = 6;
+
+const EVENT_ID: usize = 9;
+
+const CANCEL_INDICATOR: usize = 10;
+
+const NOT_RESTRICTED: usize = 13;
+
+const WEB_DELIVERY: usize = 14;
+
+const DEVICE_RESTRICTIONS: usize = 17;
+
+const COMPONENT_COUNT: usize = 18;
+
+pub(crate) const UPID_TYPE: usize = 20;
+
+const TYPE_ID: usize = 21;
+
+const SEGMENT_NUM: usize = 22;
+
+const SUB_SEGMENT_NUM: usize = 25;
+
+const SUB_SEGMENTS_EXPECTED: usize = 26;
+
+const UTC_OFFSET: usize = 29;
+
+const DESCRIPTOR_TAG: usize = 30;
+
+pub(crate) const BYTES_AT: usize = 31;
+
+pub(crate) const BYTES_LEN: usize = 32;
+
 fn restrictions_in(words: &[u64]) -> FlatRestrictions
     ensures { λ r. ⌜ r ≡ restrictionsIn (now (words .entry)) ⌝ }
 {
     FlatRestrictions {
-        web_delivery_allowed_flag: word_at(words, 14),
+        web_delivery_allowed_flag: word_at(words, WEB_DELIVERY),
         no_regional_blackout_flag: word_at(words, 15),
         archive_allowed_flag: word_at(words, 16),
-        device_restrictions: word_at(words, 17),
+        device_restrictions: word_at(words, DEVICE_RESTRICTIONS),
     }
 }
 
@@ -53,8 +91,8 @@ fn sub_segments_in(words: &[u64]) -> FlatSubSegments
 {
     FlatSubSegments {
         present: word_at(words, 24),
-        sub_segment_num: word_at(words, 25),
-        sub_segments_expected: word_at(words, 26),
+        sub_segment_num: word_at(words, SUB_SEGMENT_NUM),
+        sub_segments_expected: word_at(words, SUB_SEGMENTS_EXPECTED),
     }
 }
 
@@ -62,17 +100,17 @@ fn segmentation_in(words: &[u64]) -> FlatSegmentation
     ensures { λ r. ⌜ r ≡ segmentationIn (now (words .entry)) ⌝ }
 {
     FlatSegmentation {
-        segmentation_event_id: word_at(words, 9),
-        segmentation_event_cancel_indicator: word_at(words, 10),
+        segmentation_event_id: word_at(words, EVENT_ID),
+        segmentation_event_cancel_indicator: word_at(words, CANCEL_INDICATOR),
         program_segmentation_flag: word_at(words, 11),
         segmentation_duration_flag: word_at(words, 12),
-        delivery_not_restricted_flag: word_at(words, 13),
+        delivery_not_restricted_flag: word_at(words, NOT_RESTRICTED),
         delivery_restrictions: restrictions_in(words),
-        component_count: word_at(words, 18),
+        component_count: word_at(words, COMPONENT_COUNT),
         segmentation_duration: word_at(words, 19),
-        segmentation_upid_type: word_at(words, 20),
-        segmentation_type_id: word_at(words, 21),
-        segment_num: word_at(words, 22),
+        segmentation_upid_type: word_at(words, UPID_TYPE),
+        segmentation_type_id: word_at(words, TYPE_ID),
+        segment_num: word_at(words, SEGMENT_NUM),
         segments_expected: word_at(words, 23),
         sub_segments: sub_segments_in(words),
     }
@@ -82,19 +120,19 @@ fn item_in(words: &[u64]) -> FlatItem
     ensures { λ r. ⌜ r ≡ itemIn (now (words .entry)) ⌝ }
 {
     FlatItem {
-        kind: word_at(words, 6),
+        kind: word_at(words, KIND),
         provider_avail_id: word_at(words, 7),
         preroll: word_at(words, 8),
         segmentation: segmentation_in(words),
         time: FlatTimeDescriptor {
             tai_seconds: word_at(words, 27),
             tai_nanoseconds: word_at(words, 28),
-            utc_offset: word_at(words, 29),
+            utc_offset: word_at(words, UTC_OFFSET),
         },
-        splice_descriptor_tag: word_at(words, 30),
+        splice_descriptor_tag: word_at(words, DESCRIPTOR_TAG),
         bytes: FlatView {
-            at: word_at(words, 31),
-            len: word_at(words, 32),
+            at: word_at(words, BYTES_AT),
+            len: word_at(words, BYTES_LEN),
         },
     }
 }
@@ -104,34 +142,34 @@ pub(crate) fn is_item_within(words: &[u64]) -> bool
     ensures { λ r. ⌜ r ≡ within itemWidths (drop 5 (now (words .entry))) ⌝ }
 {
     // identifier; kind, provider_avail_id, preroll
-    if !are_four_within(32, 64, 32, 8, words_from(words, 5)) {
+    if !are_four_within(32, 64, 32, 8, words_from(words, IDENTIFIER)) {
         return false;
     }
     // segmentation_event_id, segmentation_event_cancel_indicator, program_segmentation_flag, segmentation_duration_flag
-    if !are_four_within(32, 1, 1, 1, words_from(words, 9)) {
+    if !are_four_within(32, 1, 1, 1, words_from(words, EVENT_ID)) {
         return false;
     }
     // delivery_not_restricted_flag, web_delivery_allowed_flag, no_regional_blackout_flag, archive_allowed_flag
-    if !are_four_within(1, 1, 1, 1, words_from(words, 13)) {
+    if !are_four_within(1, 1, 1, 1, words_from(words, NOT_RESTRICTED)) {
         return false;
     }
     // device_restrictions, component_count, segmentation_duration, segmentation_upid_type
-    if !are_four_within(2, 8, 40, 8, words_from(words, 17)) {
+    if !are_four_within(2, 8, 40, 8, words_from(words, DEVICE_RESTRICTIONS)) {
         return false;
     }
     // segmentation_type_id, segment_num, segments_expected; present
-    if !are_four_within(8, 8, 8, 1, words_from(words, 21)) {
+    if !are_four_within(8, 8, 8, 1, words_from(words, TYPE_ID)) {
         return false;
     }
     // sub_segment_num, sub_segments_expected; tai_seconds, tai_nanoseconds
-    if !are_four_within(8, 8, 48, 32, words_from(words, 25)) {
+    if !are_four_within(8, 8, 48, 32, words_from(words, SUB_SEGMENT_NUM)) {
         return false;
     }
     // utc_offset; splice_descriptor_tag; bytes
-    are_four_within(16, 8, 64, 64, words_from(words, 29))
+    are_four_within(16, 8, 64, 64, words_from(words, UTC_OFFSET))
 }
 
-// Refusal 33 of the words of an item from sub_segments_expected on, word 26: are they those of a flat form?
+// Refusal 33 of the words of an item from sub_segments_expected on: are they those of a flat form?
 fn is_flat_end(i: FlatItem, words: &[u64]) -> bool
     ensures { λ r. ⌜ r ≡ same (drop 20 (itemWords i)) (drop 26 (now (words .entry))) ⌝ }
 {
@@ -144,12 +182,12 @@ fn is_flat_end(i: FlatItem, words: &[u64]) -> bool
         time.tai_seconds,
         time.tai_nanoseconds,
         time.utc_offset,
-        words_from(words, 26),
+        words_from(words, SUB_SEGMENTS_EXPECTED),
     ) {
         return false;
     }
     let last = [i.splice_descriptor_tag, bytes.at, bytes.len];
-    are_same(&last, words_from(words, 30))
+    are_same(&last, words_from(words, DESCRIPTOR_TAG))
 }
 
 // From its count of components on.
@@ -163,7 +201,7 @@ fn is_flat_behind(i: FlatItem, words: &[u64]) -> bool
         s.segmentation_duration,
         s.segmentation_upid_type,
         s.segmentation_type_id,
-        words_from(words, 18),
+        words_from(words, COMPONENT_COUNT),
     ) {
         return false;
     }
@@ -172,7 +210,7 @@ fn is_flat_behind(i: FlatItem, words: &[u64]) -> bool
         s.segments_expected,
         subs.present,
         subs.sub_segment_num,
-        words_from(words, 22),
+        words_from(words, SEGMENT_NUM),
     ) {
         return false;
     }
@@ -190,7 +228,7 @@ pub(crate) fn is_flat_item(i: FlatItem, words: &[u64]) -> bool
         i.provider_avail_id,
         i.preroll,
         s.segmentation_event_id,
-        words_from(words, 6),
+        words_from(words, KIND),
     ) {
         return false;
     }
@@ -199,7 +237,7 @@ pub(crate) fn is_flat_item(i: FlatItem, words: &[u64]) -> bool
         s.program_segmentation_flag,
         s.segmentation_duration_flag,
         s.delivery_not_restricted_flag,
-        words_from(words, 10),
+        words_from(words, CANCEL_INDICATOR),
     ) {
         return false;
     }
@@ -208,7 +246,7 @@ pub(crate) fn is_flat_item(i: FlatItem, words: &[u64]) -> bool
         restrictions.no_regional_blackout_flag,
         restrictions.archive_allowed_flag,
         restrictions.device_restrictions,
-        words_from(words, 14),
+        words_from(words, WEB_DELIVERY),
     ) {
         return false;
     }

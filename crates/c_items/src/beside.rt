@@ -7,6 +7,7 @@ use crate::descriptors::flat_item;
 use crate::steps::refusal_number;
 use crate::steps::refusal_values;
 use crate::upids::flat_eidr;
+use descriptor::segmentation::MAX_COMPONENTS;
 use descriptor::segmentation::ModeComponent;
 use descriptor_loop::reading::Reading;
 
@@ -35,21 +36,21 @@ fn flat_component(c: ModeComponent) -> FlatComponent
     }
 }
 
-fn no_components() -> [FlatComponent; 255]
+fn no_components() -> [FlatComponent; MAX_COMPONENTS]
     ensures { λ r. ⌜ r ≡ noComponents ⌝ }
 {
     [FlatComponent {
         component_tag: 0,
         pts_offset: 0,
-    }; 255]
+    }; MAX_COMPONENTS]
 }
 
-fn flat_components(cs: [ModeComponent; 255]) -> [FlatComponent; 255]
+fn flat_components(cs: [ModeComponent; MAX_COMPONENTS]) -> [FlatComponent; MAX_COMPONENTS]
     ensures { λ r. ⌜ r ≡ map flatComponent cs ⌝ }
 {
     let mut out = no_components();
     let mut i: usize = 0;
-    while i < 255 {
+    while i < MAX_COMPONENTS {
         let c = cs[i];
         out[i] = flat_component(c);
         i += 1;

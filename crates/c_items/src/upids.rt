@@ -4,6 +4,7 @@ ghost use mathlib.Core.List.{map};
 ghost use Rattle.c_items.specs.FlatUpid.{flatPart, noParts, flatUpid};
 use crate::refusals::number;
 use crate::refusals::values;
+use upid::MAX_PARTS;
 use upid::Part;
 use upid::PartList;
 use upid::Upid;
@@ -39,7 +40,7 @@ fn flat_part(p: Part) -> FlatPart
     }
 }
 
-fn no_parts() -> [FlatPart; 127]
+fn no_parts() -> [FlatPart; MAX_PARTS]
     ensures { λ r. ⌜ r ≡ noParts ⌝ }
 {
     [FlatPart {
@@ -47,15 +48,15 @@ fn no_parts() -> [FlatPart; 127]
         level: 0,
         start: 0,
         len: 0,
-    }; 127]
+    }; MAX_PARTS]
 }
 
-fn flat_parts(ps: [Part; 127]) -> [FlatPart; 127]
+fn flat_parts(ps: [Part; MAX_PARTS]) -> [FlatPart; MAX_PARTS]
     ensures { λ r. ⌜ r ≡ map flatPart ps ⌝ }
 {
     let mut out = no_parts();
     let mut i: usize = 0;
-    while i < 127 {
+    while i < MAX_PARTS {
         let p = ps[i];
         out[i] = flat_part(p);
         i += 1;

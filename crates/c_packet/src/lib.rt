@@ -12,6 +12,17 @@ use transport::feed;
 use transport::take;
 use transport_packet::packet::Refusal;
 
+// The state's words, and how many they are.
+const PID: usize = 0;
+
+const COUNTER: usize = 1;
+
+const HELD: usize = 2;
+
+const AT: usize = 3;
+
+const STATE_WORDS: usize = 4;
+
 fn number(r: Refusal) -> u64
     ensures { λ n. ⌜ n ≡ numberOf r ⌝ }
 {
@@ -47,49 +58,49 @@ fn put_word(words: &mut [u64], at: usize, v: usize)
 fn state_in(words: &[u64]) -> Assembler
     ensures { λ r. ⌜ r ≡ stateIn (now (words .entry)) ⌝ }
 {
-    if 4 <= words.len() {
+    if STATE_WORDS <= words.len() {
         return Assembler {
-            pid: words[0] as usize,
-            counter: words[1] as usize,
-            held: words[2] as usize,
-            at: words[3] as usize,
+            pid: words[PID] as usize,
+            counter: words[COUNTER] as usize,
+            held: words[HELD] as usize,
+            at: words[AT] as usize,
         };
     }
     Assembler {
-        pid: word_at(words, 0),
-        counter: word_at(words, 1),
-        held: word_at(words, 2),
-        at: word_at(words, 3),
+        pid: word_at(words, PID),
+        counter: word_at(words, COUNTER),
+        held: word_at(words, HELD),
+        at: word_at(words, AT),
     }
 }
 
 fn keep(words: &mut [u64], a: Assembler)
     ensures { λ _. ⌜ now (words .exit) ≡ keptIn (now (words .entry)) a ⌝ }
 {
-    if 4 <= words.len() {
-        words[0] = a.pid as u64;
-        words[1] = a.counter as u64;
-        words[2] = a.held as u64;
-        words[3] = a.at as u64;
+    if STATE_WORDS <= words.len() {
+        words[PID] = a.pid as u64;
+        words[COUNTER] = a.counter as u64;
+        words[HELD] = a.held as u64;
+        words[AT] = a.at as u64;
         return;
     }
-    put_word(words, 0, a.pid);
-    put_word(words, 1, a.counter);
-    put_word(words, 2, a.held);
-    put_word(words, 3, a.at);
+    put_word(words, PID, a.pid);
+    put_word(words, COUNTER, a.counter);
+    put_word(words, HELD, a.held);
+    put_word(words, AT, a.at);
 }
 
 // What `take` changes of the state: the PID and the counter stay.
 fn keep_place(words: &mut [u64], held: usize, at: usize)
     ensures { λ _. ⌜ now (words .exit) ≡ keptIn (now (words .entry)) (holding (stateIn (now (words .entry))) held at) ⌝ }
 {
-    if 4 <= words.len() {
-        words[2] = held as u64;
-        words[3] = at as u64;
+    if STATE_WORDS <= words.len() {
+        words[HELD] = held as u64;
+        words[AT] = at as u64;
         return;
     }
-    put_word(words, 2, held);
-    put_word(words, 3, at);
+    put_word(words, HELD, held);
+    put_word(words, AT, at);
 }
 
 // The state before the first packet of a PID.

@@ -7,6 +7,7 @@ use crate::commands::flat_command;
 use crate::flat_time;
 use command::CommandRead;
 use command::components::ComponentSplice;
+use command::components::MAX_COMPONENTS;
 
 #[repr(C)]
 pub struct FlatComponentSplice {
@@ -32,21 +33,21 @@ fn flat_component(c: ComponentSplice) -> FlatComponentSplice
     }
 }
 
-fn no_components() -> [FlatComponentSplice; 255]
+fn no_components() -> [FlatComponentSplice; MAX_COMPONENTS]
     ensures { λ r. ⌜ r ≡ noComponents ⌝ }
 {
     [FlatComponentSplice {
         component_tag: 0,
         splice_time: FlatTime { kind: 0, ticks: 0 },
-    }; 255]
+    }; MAX_COMPONENTS]
 }
 
-fn flat_components(cs: [ComponentSplice; 255]) -> [FlatComponentSplice; 255]
+fn flat_components(cs: [ComponentSplice; MAX_COMPONENTS]) -> [FlatComponentSplice; MAX_COMPONENTS]
     ensures { λ r. ⌜ r ≡ map flatComponent cs ⌝ }
 {
     let mut out = no_components();
     let mut i: usize = 0;
-    while i < 255 {
+    while i < MAX_COMPONENTS {
         let c = cs[i];
         out[i] = flat_component(c);
         i += 1;
@@ -55,7 +56,7 @@ fn flat_components(cs: [ComponentSplice; 255]) -> [FlatComponentSplice; 255]
 }
 
 // Of the answer to an insert's payload, and its components.
-pub fn flat_splices(read: CommandRead, cs: [ComponentSplice; 255]) -> FlatSplices
+pub fn flat_splices(read: CommandRead, cs: [ComponentSplice; MAX_COMPONENTS]) -> FlatSplices
     ensures { λ r. ⌜ r ≡ flatSplices read cs ⌝ }
 {
     match read {

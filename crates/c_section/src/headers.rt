@@ -5,10 +5,9 @@ ghost use Rattle.header.specs.Header.{headerOf};
 use crate::flat_flag;
 use header::header::HeaderRead;
 use header::header::SpliceInfoHeader;
+use header_numbers::NumbersRead;
+use header_numbers::read_header_numbers;
 use splice_time::AdjustedTime;
-use table::numbers::big_endian;
-use table::numbers::time33;
-use table::numbers::wide;
 
 #[repr(C)]
 pub struct FlatHeader {
@@ -43,20 +42,19 @@ pub(crate) fn no_header(refusal: u64) -> FlatHeader
 pub fn read_flat_header(s: &[u8]) -> FlatHeader
     ensures { λ r. ⌜ r ≡ flatHeaderRead (headerOf (now (s .entry))) ⌝ }
 {
-    if s.len() < 11 {
-        return no_header(5);
-    }
-    let flags = wide(s[1]);
-    FlatHeader {
-        refusal: 0,
-        protocol_version: wide(s[0]),
-        encrypted_packet: flags / 128,
-        encryption_algorithm: flags / 2 % 64,
-        pts_adjustment: time33(s, 1),
-        cw_index: wide(s[6]),
-        tier: big_endian(s, 7, 2) / 16,
-        splice_command_length: big_endian(s, 8, 2) % 4096,
-        splice_command_type: wide(s[10]),
+    match read_header_numbers(s) {
+        NumbersRead::Numbers(n) => FlatHeader {
+            refusal: 0,
+            protocol_version: n.protocol_version as u64,
+            encrypted_packet: flat_flag(n.encrypted_packet),
+            encryption_algorithm: n.encryption_algorithm as u64,
+            pts_adjustment: n.pts_adjustment,
+            cw_index: n.cw_index as u64,
+            tier: n.tier as u64,
+            splice_command_length: n.splice_command_length as u64,
+            splice_command_type: n.splice_command_type as u64,
+        },
+        NumbersRead::NoHeader => no_header(5),
     }
 }
 

@@ -19,6 +19,9 @@ use splice_time::TimeRead;
 use table::cursor::Short;
 use table::numbers::bits;
 
+// An insert has at most so many components.
+pub const MAX_COMPONENTS: usize = 255;
+
 pub struct ComponentSplice {
     pub component_tag: u8,
     pub splice_time: SpliceTime,
@@ -27,7 +30,7 @@ pub struct ComponentSplice {
 // A command as it was read, or its refusal, and its components: blank past their count.
 pub struct ListedCommand {
     pub read: CommandRead,
-    pub components: [ComponentSplice; 255],
+    pub components: [ComponentSplice; MAX_COMPONENTS],
 }
 
 // A component and the place of the byte after it.
@@ -92,17 +95,17 @@ pub(crate) fn skim(s: &[u8], first: usize, count: usize, immediate: bool) -> Ski
 }
 
 // No components: every place blank.
-pub fn blanks() -> [ComponentSplice; 255]
+pub fn blanks() -> [ComponentSplice; MAX_COMPONENTS]
     ensures { λ r. ⌜ r ≡ array [] ⌝ }
 {
     [ComponentSplice {
         component_tag: 0,
         splice_time: SpliceTime::Unspecified,
-    }; 255]
+    }; MAX_COMPONENTS]
 }
 
 // `count` components in their array, blank past them.
-fn fill(s: &[u8], first: usize, count: usize, immediate: bool) -> [ComponentSplice; 255]
+fn fill(s: &[u8], first: usize, count: usize, immediate: bool) -> [ComponentSplice; MAX_COMPONENTS]
     requires { ⌜ count ≤ 255 ⌝ }
     ensures { λ r. ⌜ r ≡ array (listIn (parse (list count blank (component immediate)) (bitsOf (now (s .entry))) (first * 8))) ⌝ }
 {
@@ -152,7 +155,7 @@ fn count_of(read: CommandRead) -> u8
 }
 
 // The components of an insert's payload, blank past their count; none where the payload is malformed.
-fn list_components(payload: &[u8]) -> [ComponentSplice; 255]
+fn list_components(payload: &[u8]) -> [ComponentSplice; MAX_COMPONENTS]
     ensures { λ r. ⌜ r ≡ componentsOf (now (payload .entry)) ⌝ }
 {
     let count = count_of(read_other(5, payload));

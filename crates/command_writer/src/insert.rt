@@ -16,6 +16,7 @@ ghost use Rattle.table.proofs.Steppings.{Settled};
 use crate::time::store_time;
 use bit_stores::put_bits;
 use command::components::ComponentSplice;
+use command::components::MAX_COMPONENTS;
 use command::components::blanks;
 use command::insert::Break;
 use command::insert::InsertDetail;
@@ -47,7 +48,7 @@ fn store_component(out: &mut [u8], c: Cursor, component: ComponentSplice, at_onc
 fn store_components(
     out: &mut [u8],
     c: Cursor,
-    components: [ComponentSplice; 255],
+    components: [ComponentSplice; MAX_COMPONENTS],
     count: usize,
     at_once: bool,
 ) -> Cursor
@@ -163,7 +164,7 @@ fn store_listed(
     c: Cursor,
     insert: InsertDetail,
     n: u8,
-    components: [ComponentSplice; 255],
+    components: [ComponentSplice; MAX_COMPONENTS],
 ) -> Cursor
     requires { ⌜ (insert .«splice_mode» ≡ SpliceMode.Components n) × Fits (now out) c (ink (activeFields insert (placesOf insert components))) ⌝ }
     ensures { λ r. ⌜ Pens (now (out .entry)) c (ink (activeFields insert (placesOf insert components))) (now (out .exit)) r ⌝ }
@@ -244,7 +245,7 @@ pub(crate) fn store_insert(
     out: &mut [u8],
     c: Cursor,
     i: SpliceInsert,
-    components: [ComponentSplice; 255],
+    components: [ComponentSplice; MAX_COMPONENTS],
 ) -> Cursor
     requires { ⌜ Fits (now out) c (ink (insertFields (counted i components))) ⌝ }
     ensures { λ r. ⌜ Pens (now (out .entry)) c (ink (insertFields (counted i components))) (now (out .exit)) r ⌝ }

@@ -21,6 +21,7 @@ use bit_stores::put_run;
 use command::Private;
 use command::SpliceCommand;
 use command::components::ComponentSplice;
+use command::components::MAX_COMPONENTS;
 use command::insert::SpliceInsert;
 use command_measure::Measured;
 use command_measure::measure::measure_insert;
@@ -121,7 +122,12 @@ pub fn write_command_without_components(
 // ---- with an array of components, which only an insert has
 
 // Of an insert, the payload from a byte on.
-fn put_insert(out: &mut [u8], at: usize, i: SpliceInsert, components: [ComponentSplice; 255])
+fn put_insert(
+    out: &mut [u8],
+    at: usize,
+    i: SpliceInsert,
+    components: [ComponentSplice; MAX_COMPONENTS],
+)
     ensures { λ _. ⌜ now (out .exit) ≡ stored (now (out .entry)) at (bytesIn (insertMade (counted i components))) ⌝ }
 {
     if has_room(measure_insert(i, components), at, out.len()) {
@@ -134,7 +140,7 @@ pub fn put_command(
     out: &mut [u8],
     at: usize,
     command: SpliceCommand,
-    components: [ComponentSplice; 255],
+    components: [ComponentSplice; MAX_COMPONENTS],
     lent: &[u8],
 )
     ensures { λ _. ⌜ now (out .exit) ≡ stored (now (out .entry)) at (bytesIn (commandMade command components (now (lent .entry)))) ⌝ }
@@ -146,7 +152,11 @@ pub fn put_command(
 }
 
 // Of an insert, the payload from the first byte on.
-fn write_insert(i: SpliceInsert, components: [ComponentSplice; 255], target: &mut [u8]) -> Written
+fn write_insert(
+    i: SpliceInsert,
+    components: [ComponentSplice; MAX_COMPONENTS],
+    target: &mut [u8],
+) -> Written
     ensures answer { λ r. ⌜ r ≡ answerOf (insertMade (counted i components)) (now (target .entry)) ⌝ }
     ensures bytes { λ _. ⌜ now (target .exit) ≡ laterOf (insertMade (counted i components)) (now (target .entry)) ⌝ }
 {
@@ -163,7 +173,7 @@ fn write_insert(i: SpliceInsert, components: [ComponentSplice; 255], target: &mu
 // The payload from the target's first byte on, or a refusal: 31, 32, 33 or 36.
 pub fn write_command(
     command: SpliceCommand,
-    components: [ComponentSplice; 255],
+    components: [ComponentSplice; MAX_COMPONENTS],
     lent: &[u8],
     target: &mut [u8],
 ) -> Written

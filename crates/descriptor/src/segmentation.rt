@@ -43,6 +43,9 @@ pub enum SegmentationMode {
     Component(u8),
 }
 
+// A segmentation descriptor has at most so many components.
+pub const MAX_COMPONENTS: usize = 255;
+
 pub struct ModeComponent {
     pub component_tag: u8,
     pub pts_offset: u64,

@@ -18,6 +18,7 @@ use crate::front::read_component;
 use crate::front::read_mode_and_upid;
 use crate::read_descriptor;
 use crate::segmentation::HeadRead;
+use crate::segmentation::MAX_COMPONENTS;
 use crate::segmentation::ModeComponent;
 use crate::segmentation::SegmentationMode;
 use crate::segmentation::read_head;
@@ -27,7 +28,7 @@ use upid::eidr;
 
 // The components, blank past their count, and the EIDR identifier, all zero where the UPID is no EIDR.
 pub struct Beside {
-    pub components: [ModeComponent; 255],
+    pub components: [ModeComponent; MAX_COMPONENTS],
     pub eidr: [u8; 12],
 }
 
@@ -38,14 +39,14 @@ pub struct WholeDescriptor {
     pub beside: Beside,
 }
 
-fn no_components() -> [ModeComponent; 255]
+fn no_components() -> [ModeComponent; MAX_COMPONENTS]
     ensures { λ r. ⌜ r ≡ filled [] ⌝ }
 {
     let none = ModeComponent {
         component_tag: 0,
         pts_offset: 0,
     };
-    [none; 255]
+    [none; MAX_COMPONENTS]
 }
 
 // Nothing beside: all components and the EIDR blank.
@@ -59,7 +60,7 @@ pub fn blank_beside() -> Beside
 }
 
 // n components from a byte on; none where they are not all there.
-fn list_components(s: &[u8], from: usize, n: u8) -> [ModeComponent; 255]
+fn list_components(s: &[u8], from: usize, n: u8) -> [ModeComponent; MAX_COMPONENTS]
     requires { ⌜ from ≤ length (now s) ⌝ }
     ensures { λ r. ⌜ r ≡ filling (filled []) 0 (parse (list n blankComponent component) (bitsOf (now (s .entry))) (from * 8)) ⌝ }
 {

@@ -5,6 +5,7 @@ ghost use Rattle.canonical_form.specs.Descriptor.{canonicalPayload, canonicalDe
 use crate::payload::is_canonical_dtmf;
 use crate::segment::is_canonical_segmentation;
 use descriptor::is_cuei;
+use descriptor_loop::MAX_DESCRIPTOR;
 use table::numbers::size;
 
 mod payload;
@@ -38,7 +39,7 @@ pub fn is_canonical_descriptor(s: &[u8]) -> bool
     if len + 2 != end {
         return false;
     }
-    if 254 < len {
+    if MAX_DESCRIPTOR < len {
         return false;
     }
     let identifier = [s[2], s[3], s[4], s[5]];

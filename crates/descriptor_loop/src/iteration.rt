@@ -5,6 +5,7 @@ ghost use lib.ListN.{length};
 ghost use Rattle.descriptor_loop.specs.Items.{withoutIdentifier, short, wholeAt, stepOf, countOf};
 use crate::Item;
 use crate::ItemRefusal;
+use crate::MAX_DESCRIPTOR;
 use crate::MAX_LOOP;
 use crate::Step;
 use crate::place::move_descriptor;
@@ -82,7 +83,7 @@ fn by_length(bytes: &[u8], offset: usize) -> Step
     if left < len + 2 {
         return plain(lacks(len + 2, 0), end);
     }
-    if 254 < len {
+    if MAX_DESCRIPTOR < len {
         return plain(Item::Refused(ItemRefusal::InvalidDescriptorLength), end);
     }
     if len < 4 {

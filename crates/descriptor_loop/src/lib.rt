@@ -9,6 +9,9 @@ pub mod reading;
 // A loop has at most so many bytes: a section's 4,096 less the 20 around command and loop.
 pub const MAX_LOOP: usize = 4076;
 
+// The greatest descriptor_length.
+pub const MAX_DESCRIPTOR: usize = 254;
+
 // Refusals 2 and 21 to 25: 22, and those that a UPID has too.
 pub enum ItemRefusal {
     InvalidDescriptorLength,

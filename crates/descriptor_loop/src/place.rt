@@ -17,6 +17,7 @@ use descriptor::segmentation::SegmentationUpid;
 use table::View;
 use table::lent::view;
 use upid::Refusal;
+use upid::UPID_EIDR;
 
 // A view of a part that lies at `base` of a whole, as a view of the whole.
 fn move_view(v: View, base: usize) -> View
@@ -39,7 +40,7 @@ fn move_upid(u: SegmentationUpid, base: usize) -> SegmentationUpid
     if upid_type == 0 {
         return u;
     }
-    if upid_type == 10 {
+    if upid_type == UPID_EIDR {
         return u;
     }
     SegmentationUpid {
@@ -160,7 +161,7 @@ fn upid_view(u: SegmentationUpid) -> View
     if u.upid_type == 0 {
         return View { at: 0, len: 0 };
     }
-    if u.upid_type == 10 {
+    if u.upid_type == UPID_EIDR {
         return View { at: 0, len: 0 };
     }
     u.bytes

@@ -14,6 +14,7 @@ use crate::is_zero;
 use crate::upids::is_writable_upid;
 use descriptor::segmentation::DeliveryRestrictionFlags;
 use descriptor::segmentation::DescriptorDetail;
+use descriptor::segmentation::MAX_COMPONENTS;
 use descriptor::segmentation::ModeComponent;
 use descriptor::segmentation::SegmentationDescriptor;
 use descriptor::segmentation::SegmentationDetail;
@@ -22,6 +23,7 @@ use descriptor::segmentation::SegmentationMode;
 use descriptor::segmentation::SubSegments;
 use table::lent::lies_in;
 use table::numbers::wide;
+use upid::MAX_UPID;
 
 // ---- what each flag should say
 
@@ -81,7 +83,7 @@ fn is_writable_insert(i: SegmentationDetail) -> bool
 // ---- refusal 32. A number whose type is as wide as its field always fits.
 
 // The first n components. Places past them are not looked at.
-fn components_fit(components: [ModeComponent; 255], n: usize) -> bool
+fn components_fit(components: [ModeComponent; MAX_COMPONENTS], n: usize) -> bool
     requires { ⌜ n < 256 ⌝ }
     ensures { λ r. ⌜ r ≡ within (componentsFields (take n components)) ⌝ }
 {
@@ -96,7 +98,7 @@ fn components_fit(components: [ModeComponent; 255], n: usize) -> bool
     true
 }
 
-fn mode_fits(mode: SegmentationMode, components: [ModeComponent; 255]) -> bool
+fn mode_fits(mode: SegmentationMode, components: [ModeComponent; MAX_COMPONENTS]) -> bool
     ensures { λ r. ⌜ (r ≡ within (modeFields mode (take (countOf mode) components))) × (countOf mode < 256) ⌝ }
 {
     match mode {
@@ -174,7 +176,7 @@ fn refusal_of_insert(
     if !lies_in(lent, bytes) {
         return 31;
     }
-    if 255 < bytes.len {
+    if MAX_UPID < bytes.len {
         return 32;
     }
     if !numbers_fit(i) {
@@ -232,7 +234,7 @@ pub fn refusal_with_no_components(
 pub fn refusal_of_segmentation(
     x: SegmentationDescriptor,
     identifier: [u8; 4],
-    components: [ModeComponent; 255],
+    components: [ModeComponent; MAX_COMPONENTS],
     eidr: [u8; 12],
     lent: &[u8],
 ) -> u8

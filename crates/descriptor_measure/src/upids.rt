@@ -4,6 +4,7 @@ ghost use Rattle.descriptor_measure.specs.Writing.{writtenType, writtenU
 use crate::is_zero;
 use descriptor::segmentation::SegmentationUpid;
 use table::lent::view;
+use upid::UPID_EIDR;
 use upid::UpidRead;
 use upid::check_upid;
 
@@ -25,7 +26,7 @@ pub(crate) fn is_writable_upid(u: SegmentationUpid, eidr: [u8; 12], lent: &[u8])
     ensures { λ r. ⌜ r ≡ writableUpid u eidr (now (lent .entry)) ⌝ }
 {
     let bytes = u.bytes;
-    if u.upid_type == 10 {
+    if u.upid_type == UPID_EIDR {
         return bytes.len == 0;
     }
     if !is_zero(&eidr[..]) {
@@ -52,7 +53,7 @@ pub fn upid_size(u: SegmentationUpid) -> usize
     ensures { λ r. ⌜ r ≡ writtenUpid u .bytes .len ⌝ }
 {
     let bytes = u.bytes;
-    if u.upid_type == 10 {
+    if u.upid_type == UPID_EIDR {
         return 12;
     }
     bytes.len

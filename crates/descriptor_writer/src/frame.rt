@@ -10,6 +10,9 @@ use bit_stores::put_run;
 use table::cursor::Cursor;
 use table::numbers::wide;
 
+// A payload has at most so many bytes: the greatest descriptor_length, 254, less the identifier's four.
+pub(crate) const MAX_PAYLOAD: usize = 250;
+
 pub(crate) fn cuei() -> [u8; 4]
     ensures { λ r. ⌜ r ≡ cuei ⌝ }
 {

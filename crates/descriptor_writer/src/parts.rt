@@ -11,6 +11,7 @@ ghost use Rattle.descriptor_writer.specs.Private.{Stores, componentBytes
 use bit_stores::put_bits;
 use bit_stores::put_run;
 use descriptor::segmentation::DeliveryRestrictionFlags;
+use descriptor::segmentation::MAX_COMPONENTS;
 use descriptor::segmentation::ModeComponent;
 use descriptor::segmentation::SegmentationDetail;
 use descriptor::segmentation::SegmentationDuration;
@@ -82,7 +83,7 @@ fn store_component(out: &mut [u8], c: Cursor, component: ModeComponent) -> Curso
 pub(crate) fn store_components(
     out: &mut [u8],
     c: Cursor,
-    components: [ModeComponent; 255],
+    components: [ModeComponent; MAX_COMPONENTS],
     n: usize,
 ) -> Cursor
     requires { ⌜ n < 256 ⌝ }

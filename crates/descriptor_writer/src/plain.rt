@@ -5,6 +5,7 @@ ghost use Rattle.descriptor.specs.Plain.{avail, dtmf, time, privateBytes};
 ghost use Rattle.descriptor_measure.specs.Writing.{cuei, framedMade, alone, writableReserved};
 ghost use Rattle.table.specs.Writing.{make};
 ghost use Rattle.descriptor_writer.specs.Stores.{Writes};
+use crate::frame::MAX_PAYLOAD;
 use crate::frame::cuei;
 use crate::frame::store_frame;
 use bit_stores::Written;
@@ -113,7 +114,7 @@ pub(crate) fn write_reserved(
     if !is_writable_reserved(tag, identifier, eidr) {
         return Written::Refused(33);
     }
-    if 250 < private_bytes.len {
+    if MAX_PAYLOAD < private_bytes.len {
         return Written::Refused(34);
     }
     if target.len() < 6 + private_bytes.len {

@@ -12,6 +12,7 @@ ghost use Rattle.descriptor_measure.specs.Writing.{cuei, framedMade, segmentati
 ghost use Rattle.table.specs.Writing.{contents};
 ghost use Rattle.descriptor_writer.specs.Stores.{Writes};
 ghost use Rattle.descriptor_writer.specs.Private.{Stores, WritesTested, componentBytes};
+use crate::frame::MAX_PAYLOAD;
 use crate::frame::cuei;
 use crate::frame::store_frame;
 use crate::parts::store_back;
@@ -24,6 +25,7 @@ use bit_stores::Written;
 use bit_stores::put_bits;
 use bit_stores::put_run;
 use descriptor::segmentation::DescriptorDetail;
+use descriptor::segmentation::MAX_COMPONENTS;
 use descriptor::segmentation::ModeComponent;
 use descriptor::segmentation::SegmentationDescriptor;
 use descriptor::segmentation::SegmentationDetail;
@@ -43,6 +45,7 @@ use descriptor_measure::upids::written_type;
 use table::cursor::Cursor;
 use table::lent::view;
 use table::numbers::wide;
+use upid::UPID_EIDR;
 
 // ---- the bytes of a payload
 
@@ -83,7 +86,7 @@ fn store_written_upid(
 {
     let upid_type = wide(written_type(u));
     let second = put_bits(out, c, 16, upid_type * 256 + upid_size(u) as u64 % 256);
-    if u.upid_type == 10 {
+    if u.upid_type == UPID_EIDR {
         return put_run(out, second, &eidr[..]);
     }
     let bytes = u.bytes;
@@ -149,7 +152,7 @@ fn write_tested_segmentation(
     ensures { λ r. ⌜ WritesTested x (now (listed .entry)) eidr (now (lent .entry)) (now (target .entry)) (now (target .exit)) r ⌝ }
 {
     let size = size_of(x);
-    if 250 < size {
+    if MAX_PAYLOAD < size {
         return Written::Refused(34);
     }
     if target.len() < size + 6 {
@@ -164,7 +167,7 @@ fn write_tested_segmentation(
 pub(crate) fn write_segmentation(
     x: SegmentationDescriptor,
     identifier: [u8; 4],
-    components: [ModeComponent; 255],
+    components: [ModeComponent; MAX_COMPONENTS],
     eidr: [u8; 12],
     lent: &[u8],
     target: &mut [u8],

@@ -1,30 +1,28 @@
 -- The splice header: what the reader answers, and its laws as a structure.
-use Prim.Native.Nat.{ℕ, _+_, _*_, _/_, _%_, _^_, _<_, _≤_}
+use Prim.Native.Nat.{ℕ, _*_, _%_, _<_, _≤_}
 use mathlib.Core.Bool.{Bool, true, false, _&&_}
 use mathlib.Core.List.{List, [], _∷_, _++_}
 use mathlib.Core.Path.{_≡_, refl, ap, ap₂, sym, _∙_}
 use native.Mathlib.Omega.{arith}
 use lib.Dec.{eqb}
-use lib.ListN.{length, getD}
-use lib.Pow.{high, low}
+use lib.ListN.{length}
 use Rattle.names.specs.Algorithm.{algorithmNumber, algorithmOf, writableAlgorithm}
 use Rattle.names.specs.Command.{commandNumber, commandTypeOf, writableCommand}
-use Rattle.names.specs.declared.algorithm.EncryptionAlgorithm.{EncryptionAlgorithm}
-use Rattle.names.specs.declared.command.SpliceCommandType.{SpliceCommandType}
 use Rattle.names.proofs.Algorithms.{algorithm-laws}
 use Rattle.names.proofs.Commands.{command-laws}
 use Rattle.table.specs.Bits.{bitsOf, field, AllBytes}
 use Rattle.table.specs.Table.{number, bit, Answer, got, short, parse, canonical}
 use Rattle.table.specs.Writing.{Same, made, make}
-use Rattle.table.proofs.Bits.{length-bits}
-use Rattle.table.proofs.Fields.{field-in, field-add}
 use Rattle.table.proofs.Laws.{Tells}
 use Rattle.table.proofs.Leading.{Leads, leads-done, leads-number, leads-flag}
 use Rattle.table.proofs.Lists.{and-true}
-use Rattle.table.proofs.Reading.{field-exact, field-lt}
 use Rattle.table.proofs.Steps.{takes-number, takes-flag, reads-number, reads-flag}
 use Rattle.table.proofs.Structure as laws
 use Rattle.table.proofs.Telling.{tells-number, tells-flag}
+use Rattle.header_numbers.specs.Numbers.{numbersIn, numbersRead}
+use Rattle.header_numbers.specs.declared.HeaderNumbers.{HeaderNumbers}
+use Rattle.header_numbers.specs.declared.NumbersRead.{NumbersRead}
+use Rattle.header_numbers.proofs.Places.{numbers-told, none-told}
 use Rattle.header.specs.Header.{spliceHeader, headerRead, headerOf}
 use Rattle.header.specs.declared.header.HeaderRead.{HeaderRead}
 use Rattle.header.specs.declared.header.HeaderRead.the-variants.{Header, NoHeader}
@@ -140,38 +138,30 @@ pub header-there : (s : List ℕ) → 11 ≤ length s → (x : SpliceInfoHeader)
 unfolding headerOf headerRead
 header-there s h = (_, ap headerRead (header-got s h))
 
--- the six bits after the first of a byte
-module _ (s : List ℕ) (i x : ℕ) (there : i < length s) (is : x ≡ getD s i 0) (byte : x < 256) where
-  pub algorithm-of : x / 2 % 64 ≡ field (bitsOf s) (i * 8 + 1) 6
-  algorithm-of = ap (λ (y : ℕ). y / 2 % 64) is ∙ sym (field-in s i there (rw (← is) byte) 1 6 1 refl)
+-- ---- the places of the numbers are those of the table
+-- what numbers name
+abbrev pub named : HeaderNumbers → SpliceInfoHeader
+named n =
+    record {
+      «protocol_version» = n .«protocol_version»;
+      «encrypted_packet» = n .«encrypted_packet»;
+      «encryption_algorithm» = algorithmOf (n .«encryption_algorithm»);
+      «pts_adjustment» = n .«pts_adjustment»;
+      «cw_index» = n .«cw_index»;
+      tier = n .tier;
+      «splice_command_length» = n .«splice_command_length»;
+      «splice_command_type» = commandTypeOf (n .«splice_command_type»);
+    }
 
--- the first m bits of a number of m + k, and the last k
-module _ (s : List ℕ) (at m k v : ℕ) (small : m + k ≤ 64) (there : at + m + k ≤ length s * 8) (is : v ≡ field (bitsOf s) at (m + k) % 2 ^ 64) where
-  parts : v ≡ field (bitsOf s) at m * 2 ^ k + field (bitsOf s) (at + m) k
-  parts = is ∙ field-exact s at (m + k) small ∙ field-add (bitsOf s) at m k (rw (length-bits s) there)
+pub header-of-numbers : (s : List ℕ) → 11 ≤ length s → headerOf s ≡ Header (named (numbersIn s))
+unfolding headerOf headerRead numbersIn
+header-of-numbers s h = ap headerRead (header-got s h)
 
-  pub high-part : v / 2 ^ k ≡ field (bitsOf s) at m
-  high-part = ap (λ (x : ℕ). x / 2 ^ k) parts ∙ high (field (bitsOf s) at m) k (field-lt s (at + m) k)
+pub header-named : (s : List ℕ) (n : HeaderNumbers) → NumbersRead.Numbers n ≡ numbersRead s → Header (named n) ≡ headerOf s
+header-named s n e = let k = numbers-told s n e in rw (header-of-numbers s (k .0), k .1)
 
-  pub low-part : v % 2 ^ k ≡ field (bitsOf s) (at + m) k
-  low-part = ap (λ (x : ℕ). x % 2 ^ k) parts ∙ low (field (bitsOf s) at m) k (field-lt s (at + m) k)
-
--- what the reader's numbers say
-module _ (s : List ℕ) (v₁ v₂ v₃ v₄ v₅ v₆ v₇ v₈ : ℕ) (a : EncryptionAlgorithm) (t : SpliceCommandType) where
-  pub header-is : 11 ≤ length s → v₁ ≡ field (bitsOf s) 0 8 → v₂ ≡ field (bitsOf s) 8 1 → v₃ ≡ field (bitsOf s) 9 6 → v₄ ≡ field (bitsOf s) 15 33 → v₅ ≡ field (bitsOf s) 48 8
-      → v₆ ≡ field (bitsOf s) 56 12 → v₇ ≡ field (bitsOf s) 68 12 → v₈ ≡ field (bitsOf s) 80 8 → a ≡ algorithmOf v₃ → t ≡ commandTypeOf v₈
-      → Header (record {
-        «protocol_version» = v₁;
-        «encrypted_packet» = eqb v₂ 1;
-        «encryption_algorithm» = a;
-        «pts_adjustment» = v₄;
-        «cw_index» = v₅;
-        tier = v₆;
-        «splice_command_length» = v₇;
-        «splice_command_type» = t;
-      }) ≡ headerOf s
-  unfolding headerOf headerRead
-  header-is h e₁ e₂ e₃ e₄ e₅ e₆ e₇ e₈ ea et = rw (header-got s h, ea, et, e₁, e₂, e₃, e₄, e₅, e₆, e₇, e₈)
+pub header-missing : (s : List ℕ) → NumbersRead.NoHeader ≡ numbersRead s → NoHeader ≡ headerOf s
+header-missing s e = sym (header-refused s (none-told s e))
 
 -- ---- the round trips
 nothing-asked : (bs : List ℕ) → canonical spliceHeader bs 0 ≡ true

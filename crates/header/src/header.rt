@@ -1,11 +1,10 @@
 // The splice header: eleven bytes after a section's first three.
 ghost use mathlib.Core.Path.{_≡_};
 ghost use Rattle.header.specs.Header.{headerOf};
+use header_numbers::NumbersRead;
+use header_numbers::read_header_numbers;
 use names::algorithm::EncryptionAlgorithm;
 use names::command::SpliceCommandType;
-use table::numbers::big_endian;
-use table::numbers::time33;
-use table::numbers::wide;
 
 pub struct SpliceInfoHeader {
     pub protocol_version: u8,
@@ -24,22 +23,21 @@ pub enum HeaderRead {
     NoHeader,
 }
 
-// The header in the first eleven bytes.
+// The header in the first eleven bytes: its numbers, of which algorithm and type are named.
 pub fn read_header(s: &[u8]) -> HeaderRead
     ensures { λ r. ⌜ r ≡ headerOf (now (s .entry)) ⌝ }
 {
-    if s.len() < 11 {
-        return HeaderRead::NoHeader;
+    match read_header_numbers(s) {
+        NumbersRead::Numbers(n) => HeaderRead::Header(SpliceInfoHeader {
+            protocol_version: n.protocol_version,
+            encrypted_packet: n.encrypted_packet,
+            encryption_algorithm: EncryptionAlgorithm::from_id(n.encryption_algorithm),
+            pts_adjustment: n.pts_adjustment,
+            cw_index: n.cw_index,
+            tier: n.tier,
+            splice_command_length: n.splice_command_length,
+            splice_command_type: SpliceCommandType::from_id(n.splice_command_type),
+        }),
+        NumbersRead::NoHeader => HeaderRead::NoHeader,
     }
-    let flags = wide(s[1]);
-    HeaderRead::Header(SpliceInfoHeader {
-        protocol_version: s[0],
-        encrypted_packet: flags / 128 == 1,
-        encryption_algorithm: EncryptionAlgorithm::from_id((flags / 2 % 64) as u8),
-        pts_adjustment: time33(s, 1),
-        cw_index: s[6],
-        tier: (big_endian(s, 7, 2) / 16) as u16,
-        splice_command_length: (big_endian(s, 8, 2) % 4096) as u16,
-        splice_command_type: SpliceCommandType::from_id(s[10]),
-    })
 }

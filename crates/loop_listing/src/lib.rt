@@ -11,6 +11,7 @@ use descriptor_loop::iteration::Counted;
 use descriptor_loop::iteration::count_items;
 use descriptor_loop::iteration::step;
 use upid::Refusal;
+use upid::UPID_EIDR;
 
 // A space and a number.
 fn value(x: u64) {
@@ -53,7 +54,7 @@ fn print_refusal(r: Refusal) {
 
 // The bytes of a UPID: an EIDR has 12, held by value.
 fn upid_length(u: SegmentationUpid) -> usize {
-    if u.upid_type == 10 {
+    if u.upid_type == UPID_EIDR {
         return 12;
     }
     let bytes = u.bytes;

@@ -39,6 +39,8 @@ use command::read_command;
 use crc::crc32;
 use descriptor_loop::iteration::step;
 use descriptor_loop::reading::read_item;
+use section::COMMAND_AT;
+use section::COMMAND_TYPE_AT;
 use section::FrameRead;
 use section::Refusal;
 use section::read_command_part;
@@ -88,8 +90,8 @@ pub extern "C" fn scte35_read_section(s: &[u8], at: usize) -> FlatSection
     };
     let header = read_flat_header(&t[3..]);
     let payload = frame.command;
-    let end = 14 + payload.len;
-    match read_command_part(t[13], &t[14..end]) {
+    let end = COMMAND_AT + payload.len;
+    match read_command_part(t[COMMAND_TYPE_AT], &t[COMMAND_AT..end]) {
         CommandRead::Is(command) => match command {
             SpliceCommand::SpliceNull => return flat_parts(
                 header,

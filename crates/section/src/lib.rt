@@ -27,7 +27,12 @@ pub mod whole;
 // A section has at most so many bytes.
 pub const MAX_SECTION: usize = 4096;
 
-// Its command's payload starts at this byte.
+// It has a header only from so many bytes on: three, the header's eleven and the CRC's four.
+const LEAST_WITH_HEADER: usize = 18;
+
+// Its command's type stands in this byte, and its command's payload starts at the next.
+pub const COMMAND_TYPE_AT: usize = 13;
+
 pub const COMMAND_AT: usize = 14;
 
 // What a section says. Views count from its first byte; the items of the loop are read one step at a time. The payload is the command's.
@@ -141,10 +146,10 @@ fn read_layout(s: &[u8]) -> FrameRead
         return FrameRead::Refused(Refusal::Encrypted);
     }
     let size = command_length(s);
-    if s.len() - 18 < size {
+    if s.len() - LEAST_WITH_HEADER < size {
         return FrameRead::Refused(Refusal::CommandTooLong);
     }
-    let room = s.len() - 18 - size;
+    let room = s.len() - LEAST_WITH_HEADER - size;
     if room < 2 {
         return FrameRead::Refused(Refusal::NoLoopLength);
     }
@@ -181,7 +186,7 @@ fn test_frame(s: &[u8]) -> FrameRead
     if crc32(s) != 0 {
         return FrameRead::Refused(Refusal::WrongCrc);
     }
-    if s.len() < 18 {
+    if s.len() < LEAST_WITH_HEADER {
         return FrameRead::Refused(Refusal::NoHeader);
     }
     read_layout(s)
@@ -220,7 +225,7 @@ fn read_parts(s: &[u8], frame: Frame) -> SectionRead
     let payload = frame.command;
     let descriptors = frame.descriptors;
     let end = COMMAND_AT + payload.len;
-    match read_command(s[13], &s[COMMAND_AT..end]) {
+    match read_command(s[COMMAND_TYPE_AT], &s[COMMAND_AT..end]) {
         CommandRead::Is(c) => SectionRead::Is(Section {
             header,
             command: move_command(c, COMMAND_AT),

@@ -5,6 +5,7 @@ use crate::SectionRead;
 use crate::read_section;
 use command::SpliceCommand;
 use command::components::ComponentSplice;
+use command::components::MAX_COMPONENTS;
 use command::components::blanks;
 use command::components::read_components;
 use table::lent::view;
@@ -12,11 +13,11 @@ use table::lent::view;
 // The components are blank past their count, and all of them where the command is no insert by components.
 pub struct WholeSection {
     pub read: SectionRead,
-    pub components: [ComponentSplice; 255],
+    pub components: [ComponentSplice; MAX_COMPONENTS],
 }
 
 // What stands beside a command with this payload.
-fn beside_command(c: SpliceCommand, payload: &[u8]) -> [ComponentSplice; 255]
+fn beside_command(c: SpliceCommand, payload: &[u8]) -> [ComponentSplice; MAX_COMPONENTS]
     ensures { λ r. ⌜ r ≡ besideCommand c (now (payload .entry)) ⌝ }
 {
     match c {

@@ -18,6 +18,7 @@ use bit_stores::Written;
 use command::CommandRead;
 use command::SpliceCommand;
 use command::components::ComponentSplice;
+use command::components::MAX_COMPONENTS;
 use command::read_command;
 use command_canonical::is_canonical_command;
 use command_measure::Measured;
@@ -29,6 +30,7 @@ use crc::crc32;
 use descriptor_canonical::is_canonical_loop;
 use header::header::SpliceInfoHeader;
 use section::COMMAND_AT;
+use section::COMMAND_TYPE_AT;
 use section::Frame;
 use section::FrameRead;
 use section::read_frame;
@@ -188,7 +190,7 @@ fn answer_section(
 pub fn write_section(
     header: SpliceInfoHeader,
     command: SpliceCommand,
-    components: [ComponentSplice; 255],
+    components: [ComponentSplice; MAX_COMPONENTS],
     lent: &[u8],
     descriptors: &[u8],
     target: &mut [u8],
@@ -244,7 +246,7 @@ fn is_canonical_around(s: &[u8], frame: Frame) -> bool
 {
     let payload = frame.command;
     let end = COMMAND_AT + payload.len;
-    match read_command(s[13], &s[COMMAND_AT..end]) {
+    match read_command(s[COMMAND_TYPE_AT], &s[COMMAND_AT..end]) {
         CommandRead::Is(_) => {}
         CommandRead::UnknownType => return false,
         CommandRead::Malformed => return false,
@@ -284,7 +286,7 @@ pub fn is_canonical_section(s: &[u8]) -> bool
         return false;
     }
     let payload = frame.command;
-    if !is_canonical_command(s[13], view(s, payload)) {
+    if !is_canonical_command(s[COMMAND_TYPE_AT], view(s, payload)) {
         return false;
     }
     let descriptors = frame.descriptors;

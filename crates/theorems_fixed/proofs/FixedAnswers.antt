@@ -14,6 +14,7 @@ use Rattle.crc_table.specs.Turns.{reversed, turns}
 use Rattle.descriptor.specs.Descriptor.{availOf, descriptorOf, dtmfOf, isCuei, reservedOf, segmentationOf as descriptorSegmentationOf, timeOf}
 use Rattle.descriptor.specs.Whole.{besideRead, blankBeside, identifierRead, wholeOf}
 use Rattle.header.specs.Header.{headerOf}
+use Rattle.header_numbers.specs.Numbers.{numbersRead}
 use Rattle.splice_time.specs.Time.{adjustedOf, spliceTime, timeRead}
 use Rattle.descriptor_loop.specs.Items.{countOf, readingOf, stepOf}
 use Rattle.descriptor_loop.specs.Place.{viewOf}
@@ -77,6 +78,7 @@ use Rattle.names.proofs.flags.ReturnMode.from_flag.Reads as return-mode-from-fl
 use Rattle.names.proofs.flags.ReturnMode.flag.Reads as return-mode-flag
 use Rattle.names.proofs.flags.DeviceRestrictions.from_bits.Reads as restrictions-from-bits
 use Rattle.names.proofs.flags.DeviceRestrictions.bits.Reads as restrictions-bits
+use Rattle.header_numbers.proofs.read_header_numbers.Reads as read-header-numbers
 use Rattle.header.proofs.header.read_header.Reads as read-header
 use Rattle.splice_time.proofs.read_splice_time.Reads as read-splice-time
 use Rattle.splice_time.proofs.read_whole_time.Reads as read-whole-time
@@ -274,6 +276,9 @@ pub restrictions-bits-answers : Answers restrictions-bits.Asked restrictions-bit
 restrictions-bits-answers = record { takes-any = λ κ a. tt; is = λ κ a r e l. l }
 
 -- ---- header
+
+pub read-header-numbers-answers : Answers read-header-numbers.Asked read-header-numbers.Learnt (λ κ r e. r) (λ κ a. numbersRead (now (a .0)))
+read-header-numbers-answers = record { takes-any = λ κ a. tt; is = λ κ a r e l. l }
 
 pub read-header-answers : Answers read-header.Asked read-header.Learnt (λ κ r e. r) (λ κ a. headerOf (now (a .0)))
 read-header-answers = record { takes-any = λ κ a. tt; is = λ κ a r e l. l }

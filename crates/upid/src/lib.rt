@@ -12,6 +12,16 @@ mod mid;
 mod plain;
 pub mod text;
 
+// A UPID has at most so many bytes, and a MID so many parts, at all levels together.
+pub const MAX_UPID: usize = 255;
+
+pub const MAX_PARTS: usize = 127;
+
+// The types that are read in another way than the others: an EIDR is handed on by value, a MID has parts.
+pub const UPID_EIDR: u8 = 10;
+
+pub const UPID_MID: u8 = 13;
+
 // Refusals 2, 21, 23, 24 and 25. A view counts from the start of the UPID.
 pub enum Refusal {
     InputTooLong,
@@ -47,7 +57,7 @@ pub struct Part {
 
 // The parts of a MID, each before those inside it; all zero past the count.
 pub struct PartList {
-    pub parts: [Part; 127],
+    pub parts: [Part; MAX_PARTS],
     pub count: usize,
 }
 
@@ -62,7 +72,7 @@ pub struct Upid {
 pub fn check_upid(upid_type: u8, bytes: &[u8]) -> UpidRead
     ensures { λ r. ⌜ r ≡ checkOf «upid_type» (now (bytes .entry)) ⌝ }
 {
-    if 255 < bytes.len() {
+    if MAX_UPID < bytes.len() {
         return UpidRead::Refused(Refusal::InputTooLong);
     }
     if bytes.len() == 0 {
@@ -96,7 +106,7 @@ pub fn eidr(upid_type: u8, bytes: &[u8]) -> [u8; 12]
     ensures { λ r. ⌜ r ≡ eidrOf «upid_type» (now (bytes .entry)) ⌝ }
 {
     let mut out = [0u8; 12];
-    if upid_type != 10 {
+    if upid_type != UPID_EIDR {
         return out;
     }
     if bytes.len() != 12 {

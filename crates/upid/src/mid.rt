@@ -5,9 +5,11 @@ ghost use Prim.Native.Nat.{_+_, _≤_, _<_};
 ghost use lib.ListN.{length};
 ghost use Rattle.upid.specs.Upid.{readOf, listOf, listed};
 ghost use Rattle.upid.specs.Private.{Listable};
+use crate::MAX_PARTS;
 use crate::Part;
 use crate::PartList;
 use crate::Refusal;
+use crate::UPID_MID;
 use crate::UpidRead;
 use crate::plain::check_plain;
 use crate::plain::reported;
@@ -18,10 +20,10 @@ pub(crate) fn check_payload(upid_type: u8, s: &[u8], start: usize) -> UpidRead
     requires { ⌜ start + length (now s) ≤ 255 ⌝ }
     ensures { λ r. ⌜ r ≡ readOf «upid_type» start (now (s .entry)) ⌝ }
 {
-    if upid_type != 13 {
+    if upid_type != UPID_MID {
         return check_plain(upid_type, s, start);
     }
-    let mut answer = UpidRead::Fine(13);
+    let mut answer = UpidRead::Fine(UPID_MID);
     let mut at: usize = 0;
     'walk: while at < s.len() {
         let left = s.len() - at;
@@ -68,7 +70,7 @@ pub(crate) fn blank() -> PartList
         len: 0,
     };
     PartList {
-        parts: [none; 127],
+        parts: [none; MAX_PARTS],
         count: 0,
     }
 }
@@ -80,7 +82,7 @@ pub(crate) fn list_parts(upid_type: u8, s: &[u8]) -> PartList
     ensures { λ r. ⌜ r ≡ listed (listOf «upid_type» 1 0 (now (s .entry))) ⌝ }
 {
     let mut out = blank();
-    if upid_type != 13 {
+    if upid_type != UPID_MID {
         return out;
     }
     let mut ends = [0u8; 128];
@@ -106,7 +108,7 @@ pub(crate) fn list_parts(upid_type: u8, s: &[u8]) -> PartList
             len: l,
         };
         out.count = count + 1;
-        if k != 13 {
+        if k != UPID_MID {
             at = to;
             continue 'walk;
         }
