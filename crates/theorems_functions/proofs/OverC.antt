@@ -54,7 +54,9 @@ use Rattle.theorems_writer.proofs.Theorems as writing
 use Rattle.theorems_c.specs.Boards.{May}
 use Rattle.theorems_reader.specs.Identifiers.{Identifier, inLent, partsRead, Announced, Unsplit}
 use Rattle.theorems_c.specs.OverC.{splicesWords, componentsAnswered, stepWords, besideWords, wordsMadeAt}
-use Rattle.theorems_reader.specs.Whole.{upidAt, WholeAt}
+use Rattle.theorems_reader.specs.Whole.{upidAt}
+use Rattle.theorems_reader.proofs.Whole.{whole-case}
+use Rattle.theorems_reader.proofs.WholeCases.{ItemCase}
 use Rattle.upid.specs.Cover.{All}
 use Rattle.upid.specs.Cover.All.{none, more}
 use Rattle.upid.specs.Upid.{checkOf, upidOf, partsIn, partView}
@@ -182,7 +184,7 @@ items-lie : (s : List ℕ) (f : FlatSection) (offset : ℕ) (i : FlatStep) → A
 unfolding readingOf
 items-lie s f offset i a x q =
     let e : i ≡ flatStep (stepOf (loopIn s (x .section)) offset) = reads-item-so q ∙ ap (λ (l : List ℕ). flatStep (stepOf l offset)) (x .loop) in
-    let w : WholeAt s (x .section) offset (readingOf (loopIn s (x .section)) offset) = reading.every-identifier-of-an-item-is-whole s (x .section) (x .is) a offset in
+    let w : ItemCase s (x .section .descriptors .at) (loopIn s (x .section)) offset (readingOf (loopIn s (x .section)) offset) (readingOf (loopIn s (x .section)) offset .step .item) = whole-case s (x .section) (x .is) a offset in
     let h : ItemLies s (x .section .descriptors .at + offset) (x .section .descriptors .at) i = rw e (flat.step-lies s (x .section .descriptors .at) (loopIn s (x .section)) offset (readingOf (loopIn s (x .section)) offset) w) in
     subst (λ (n : ℕ). ItemLies s (n + offset) n i) (sym (x .base)) h
 

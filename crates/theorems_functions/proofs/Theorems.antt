@@ -9,6 +9,7 @@ use lib.ListN.{length, take, drop}
 use denote.Ref.{now}
 use Rattle.command.specs.Command.{countIn, componentsOf}
 use Rattle.command.specs.declared.SpliceCommand.{SpliceCommand}
+use Rattle.command.specs.declared.components.ComponentSplice.{ComponentSplice}
 use Rattle.command_measure.specs.Made.{commandMade}
 use Rattle.descriptor.specs.declared.Descriptor.{Descriptor}
 use Rattle.descriptor.specs.declared.segmentation.SegmentationDescriptor.{SegmentationDescriptor}
@@ -22,12 +23,14 @@ use Rattle.descriptor_loop.specs.Place.{viewOf}
 use Rattle.descriptor_loop.specs.declared.Item.{Item}
 use Rattle.descriptor_loop.specs.declared.Step.{Step}
 use Rattle.descriptor_loop.specs.declared.reading.Reading.{Reading}
-use Rattle.canonical_form.specs.Same.{Given, Pairs, SameHeader, SameSections}
-use Rattle.loop_round_trips.specs.Loops.{WrittenAgain}
+use Rattle.descriptor_round_trips.specs.Trips.{Handed}
+use Rattle.header.specs.declared.header.SpliceInfoHeader.{SpliceInfoHeader}
+use Rattle.canonical_form.specs.Same.{Given, Pairs, ItemBack, SameHeader, SameSections}
+use Rattle.loop_round_trips.specs.Loops.{givenMade, WrittenAgain}
 use Rattle.canonical_form.specs.Same.Pairs.{over, pair}
 use Rattle.bit_stores.specs.Written.{answerOf, laterOf}
 use Rattle.bit_stores.specs.declared.Written.{Written}
-use Rattle.section.specs.Section.{commandBytes, conditions, first, sectionOf, numberOf, None, loopIn}
+use Rattle.section.specs.Section.{commandBytes, loopBytes, conditions, first, sectionOf, numberOf, None, loopIn}
 use Rattle.section.specs.Whole.{besideCommand, wholeSectionOf}
 use Rattle.section.specs.declared.Section.{Section}
 use Rattle.section.specs.declared.SectionRead.{SectionRead}
@@ -42,7 +45,9 @@ use Rattle.theorems_reader.proofs.Theorems as reading
 use Rattle.theorems_writer.proofs.Theorems as writing
 use Rattle.theorems_reader.specs.Identifiers.{inLent, partsRead, Unsplit}
 use Rattle.theorems_writer.specs.Making.{HasHeader, SectionBytes}
-use Rattle.theorems_reader.specs.Whole.{upidAt, WholeAt}
+use Rattle.theorems_reader.specs.Whole.{upidAt}
+use Rattle.theorems_reader.proofs.Whole.{whole-case, whole-command}
+use Rattle.theorems_reader.proofs.WholeCases.{ItemCase}
 use Rattle.upid.specs.Cover.{All}
 use Rattle.upid.specs.Cover.All.{none, more}
 use Rattle.upid.specs.Upid.{upidOf, partsIn, partView}
@@ -92,7 +97,7 @@ the-bytes-of-an-item-are-whole s x loop offset r b a d g i h =
     let e : sectionOf s ≡ SectionRead.Is x = sym (reads-section-so d) in
     let l : loop ≡ loopIn s x = gives-loop-so g in
     let q : r ≡ readingOf (loopIn s x) offset = reads-item-so i ∙ ap (λ (y : List ℕ). readingOf y offset) l in
-    let w : WholeAt s x offset r = rw q (reading.every-identifier-of-an-item-is-whole s x e a offset) in
+    let w : ItemCase s (x .descriptors .at) (loopIn s x) offset r (r .step .item) = rw q (whole-case s x e a offset) in
     slices.read-slice s (x .descriptors .at) (loopIn s x) offset r b w (gives-bytes-so h ∙ ap (λ (y : List ℕ). viewed y (viewOf (r .step .item))) l)
 
 -- the step says what the full reading says
@@ -118,7 +123,7 @@ the-bytes-of-a-part-are-whole s x loop offset st d i b u rs g t is detail k h ru
 
 -- the private bytes of a command
 pub the-private-bytes-are-whole : (s : List ℕ) (x : Section) (b : List ℕ) → ReadsSection s (SectionRead.Is x) → GivesPrivate s (x .command) b → PrivateSlice s b (x .command)
-the-private-bytes-are-whole s x b d g = rw (gives-private-so g) (slices.private-slice s (x .command) (reading.the-private-bytes-of-the-section-are-whole s x (sym (reads-section-so d))))
+the-private-bytes-are-whole s x b d g = rw (gives-private-so g) (slices.private-slice s (x .command) (whole-command s x (sym (reads-section-so d))))
 
 -- ---- writing
 
@@ -196,6 +201,30 @@ pub what-is-written-is-accepted : (g : SectionGiven) (target : List ℕ) (n : �
 what-is-written-is-accepted g target n later places count lent loop p r t d q =
     let h : HasHeader (g .header) (take n later) = what-is-written-is-read-back g target n later places count lent loop p .header in
     (tells-canonical-so q ∙ h .form, h .reading, reads-section-so d ∙ h .reads, h .same)
+
+-- A descriptor with what stands beside it, written by `write_descriptor`: the bytes that were written
+pub record WritesBytes (g : Given) (b : List ℕ) : Type 0 where
+  pub target : List ℕ
+  pub number : ℕ
+  pub later : List ℕ
+  pub writes : WritesDescriptor g target (Written.Wrote number) later
+  pub bytes : b ≡ take number later
+
+made-of : {gs : List Given} {bs : List (List ℕ)} → Pairs WritesBytes gs bs → Pairs (λ (g : Given) (b : List ℕ). givenMade g ≡ made b) gs bs
+made-of over = over
+made-of (pair {x = g} w ws) =
+    let c = writing.an-accepted-write-changes-only-its-result (givenMade g) (w .target) (w .number) (sym (writes-descriptor-so (w .writes) .answer)) in
+    let e = w .bytes ∙ ap (take (w .number)) (writes-descriptor-so (w .writes) .target-later) ∙ c .start in
+    pair (c .is ∙ ap made (sym e)) (made-of ws)
+
+-- and so of any header, command and items, in one statement: the descriptors written, joined in order, and the section written around them, are read as this header, this command and these items
+pub what-is-written-of-items-is-read-back : (h : SpliceInfoHeader) (c : SpliceCommand) (places : List ComponentSplice) (lent : List ℕ) (gs : List Given) (bs : List (List ℕ)) (target : List ℕ) (n : ℕ) (later : List ℕ)
+    → length places ≡ 255 → countIn c ≤ 255 → AllBytes lent → AllBytes (joined bs) → All (λ (g : Given). Handed (g .descriptor) (g .identifier) (g .beside) (g .lent)) gs → Pairs WritesBytes gs bs
+    → WritesSection (record { header = h; command = c; components = places; lent = lent; loop = joined bs }) target (Written.Wrote n) later
+    → SectionBytes h c places lent (joined bs) (take n later) × Pairs (ItemBack (loopBytes (take n later))) (itemsOf (loopBytes (take n later))) gs
+what-is-written-of-items-is-read-back h c places lent gs bs target n later full count bytes joins types w p =
+    let s = what-is-written-is-read-back (record { header = h; command = c; components = places; lent = lent; loop = joined bs }) target n later full count bytes joins p in
+    (s, writing.what-is-written-of-descriptors-reads-back gs bs types (made-of w) (take n later) (s .header .reading) (s .header .reads) (s .loops))
 
 -- Demand 3: two canonical sections with equal readings are one
 pub canonical-sections-with-equal-readings-are-one : (s r : List ℕ) (x y : Section) → AllBytes s → AllBytes r → TellsCanonical s true → TellsCanonical r true

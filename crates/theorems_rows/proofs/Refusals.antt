@@ -5,7 +5,7 @@ use mathlib.Core.List.{List, [], _∷_}
 use mathlib.Core.Path.{_≡_, refl, ap, sym, _∙_}
 use native.Mathlib.Omega.{arith}
 use lib.Dec.{eqb, ltb}
-use lib.ListN.{length, take, drop, getD, length-drop}
+use lib.ListN.{length, take, drop, getD, replicate, length-drop}
 use lib.Seq.{getD-drop}
 use borrow.Author.Tests.{eq-eqb, ne-eqb, lt-ltb, le-ltb, eqb-true}
 use Rattle.command.specs.Command.{numberOf}
@@ -272,3 +272,8 @@ ending loop offset fits (Ends.full a b) =
     let n : length (drop offset loop) ≡ length loop - offset = length-drop offset loop in
     let L : getD (drop offset loop) 1 0 ≡ getD loop (offset + 1) 0 = getD-drop offset loop 1 0 in
     length-255 loop offset fits (omega (arith, n, a, b)) (omega (arith, n, a, L)) (omega (arith, b, L))
+
+-- ---- by each rule
+pub loops-that-end : (few : Ends (0x00 ∷ [])) × (over : Ends (0x02 ∷ 0x09 ∷ 0x43 ∷ 0x55 ∷ 0x45 ∷ 0x49 ∷ [])) × (full : Ends (0x02 ∷ 0xFF ∷ replicate 255 0))
+    × (endValues few ≡ 2 ∷ 0 ∷ []) × (endValues over ≡ 11 ∷ 0 ∷ []) × (endNumber full ≡ 22)
+loops-that-end = (Ends.few {rest = 0x00 ∷ []} (omega arith) (omega arith), Ends.over {rest = 0x02 ∷ 0x09 ∷ 0x43 ∷ 0x55 ∷ 0x45 ∷ 0x49 ∷ []} (omega arith) (omega arith), Ends.full {rest = 0x02 ∷ 0xFF ∷ replicate 255 0} (omega arith) (omega arith), refl, refl, refl)
