@@ -1,3 +1,4 @@
 pub mod Contracts
 pub mod Lines
+pub mod Faults
 pub mod Theorems
