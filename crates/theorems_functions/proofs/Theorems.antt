@@ -4,7 +4,7 @@
 use Prim.Native.Nat.{ℕ, _+_, _≤_}
 use mathlib.Core.Bool.{Bool, true}
 use mathlib.Core.List.{List, [], _∷_, map}
-use mathlib.Core.Path.{_≡_, refl, ap, ap₂, sym, _∙_}
+use mathlib.Core.Path.{_≡_, refl, ap, ap₂, sym, subst, _∙_}
 use lib.ListN.{length, take, drop}
 use denote.Ref.{now}
 use Rattle.command.specs.Command.{countIn, componentsOf}
@@ -15,6 +15,9 @@ use Rattle.descriptor.specs.declared.Descriptor.{Descriptor}
 use Rattle.descriptor.specs.declared.segmentation.SegmentationDescriptor.{SegmentationDescriptor}
 use Rattle.descriptor.specs.declared.segmentation.DescriptorDetail.{DescriptorDetail}
 use Rattle.descriptor.specs.declared.segmentation.SegmentationDetail.{SegmentationDetail}
+use Rattle.canonical_form.specs.Descriptor.{canonicalDescriptor}
+use Rattle.command.specs.declared.insert.SpliceInsert.{SpliceInsert}
+use Rattle.descriptor_measure.specs.Writing.{descriptorMade}
 use Rattle.descriptor_writer.specs.Stores.{Writes}
 use Rattle.descriptor_loop.proofs.Places.{all-into}
 use Rattle.descriptor_loop.specs.Cover.{joined, runOf, Covered}
@@ -23,7 +26,7 @@ use Rattle.descriptor_loop.specs.Place.{viewOf}
 use Rattle.descriptor_loop.specs.declared.Item.{Item}
 use Rattle.descriptor_loop.specs.declared.Step.{Step}
 use Rattle.descriptor_loop.specs.declared.reading.Reading.{Reading}
-use Rattle.descriptor_round_trips.specs.Trips.{Handed}
+use Rattle.descriptor_round_trips.specs.Trips.{Handed, ReadAs}
 use Rattle.header.specs.declared.header.SpliceInfoHeader.{SpliceInfoHeader}
 use Rattle.canonical_form.specs.Same.{Given, Pairs, ItemBack, SameHeader, SameSections}
 use Rattle.loop_round_trips.specs.Loops.{givenMade, WrittenAgain}
@@ -37,6 +40,7 @@ use Rattle.section.specs.declared.SectionRead.{SectionRead}
 use Rattle.section.specs.declared.whole.WholeSection.{WholeSection}
 use Rattle.canonical_form.specs.Section.{canonicalSection}
 use Rattle.section_writer.specs.Writing.{typeOf, sectionMade}
+use Rattle.table.proofs.Lists.{zero-one}
 use Rattle.table.specs.Bits.{AllBytes}
 use Rattle.table.specs.Lent.{viewed}
 use Rattle.table.specs.Writing.{Made, made}
@@ -44,7 +48,8 @@ use Rattle.theorems_reader.proofs.Sections.{loop-short}
 use Rattle.theorems_reader.proofs.Theorems as reading
 use Rattle.theorems_writer.proofs.Theorems as writing
 use Rattle.theorems_reader.specs.Identifiers.{inLent, partsRead, Unsplit}
-use Rattle.theorems_writer.specs.Making.{HasHeader, SectionBytes}
+use Rattle.theorems_writer.specs.Making.{CommandPayload, CommandMakes, HasHeader, SectionBytes}
+use Rattle.theorems_writer.specs.Writable.{Writable}
 use Rattle.theorems_reader.specs.Whole.{upidAt}
 use Rattle.theorems_reader.proofs.Whole.{whole-case, whole-command}
 use Rattle.theorems_reader.proofs.WholeCases.{ItemCase}
@@ -61,7 +66,7 @@ use Rattle.section_writer.proofs.write_section_without_components.Reads as writ
 use Rattle.section_writer.proofs.write_section.Reads as write-section
 use Rattle.theorems_functions.specs.Calls.{Stepped, SectionGiven, Puts}
 use Rattle.theorems_functions.specs.Slices.{ItemSlice, PartSlice, Parted, PrivateSlice}
-use Rattle.theorems_functions.proofs.Contracts.{ReadsSection, reads-section-so, ReadsWholeSection, reads-whole-section-so, Steps, steps-so, ReadsItem, reads-item-so, ReadsUpid, reads-upid-so, GivesLoop, gives-loop-so, GivesPrivate, gives-private-so, GivesBytes, gives-bytes-so, GivesPart, gives-part-so, TellsCanonical, tells-canonical-so, WritesSection, writes-section-so, WritesDescriptor, writes-descriptor-so, sectionFrom}
+use Rattle.theorems_functions.proofs.Contracts.{ReadsSection, reads-section-so, ReadsWholeSection, reads-whole-section-so, Steps, steps-so, ReadsItem, reads-item-so, ReadsUpid, reads-upid-so, GivesLoop, gives-loop-so, GivesPrivate, gives-private-so, GivesBytes, gives-bytes-so, GivesPart, gives-part-so, TellsCanonical, tells-canonical-so, WritesSection, writes-section-so, WritesDescriptor, writes-descriptor-so, WritesCommand, writes-command-so, sectionFrom}
 use Rattle.theorems_functions.proofs.Slices as slices
 use Rattle.theorems_functions.proofs.Steps as steps
 use Rattle.theorems_functions.proofs.Writes as writes
@@ -225,6 +230,50 @@ pub what-is-written-of-items-is-read-back : (h : SpliceInfoHeader) (c : SpliceCo
 what-is-written-of-items-is-read-back h c places lent gs bs target n later full count bytes joins types w p =
     let s = what-is-written-is-read-back (record { header = h; command = c; components = places; lent = lent; loop = joined bs }) target n later full count bytes joins p in
     (s, writing.what-is-written-of-descriptors-reads-back gs bs types (made-of w) (take n later) (s .header .reading) (s .header .reads) (s .loops))
+
+-- ---- what is read can be written, canonical or not
+
+-- every item that is read: what `write_descriptor` writes of it is a canonical descriptor that reads as it
+pub an-item-that-is-read-is-written : (s : List ℕ) (x : Section) (loop : List ℕ) (offset : ℕ) (r : Reading) (d : Descriptor) → AllBytes s → ReadsSection s (SectionRead.Is x) → GivesLoop s x loop
+    → ReadsItem loop offset r → r .step .item ≡ Item.Is d
+    → (b : List ℕ) × (canonicalDescriptor b ≡ true) × ReadAs b d (r .step .identifier) (r .beside) loop × ((target : List ℕ) (answer : Written) (later : List ℕ)
+    → WritesDescriptor (record { descriptor = d; identifier = r .step .identifier; beside = r .beside; lent = loop }) target answer later → Puts b target answer later)
+unfolding readingOf
+an-item-that-is-read-is-written s x loop offset r d a rs g i is =
+    let e : sectionOf s ≡ SectionRead.Is x = sym (reads-section-so rs) in
+    let l : loop ≡ loopIn s x = gives-loop-so g in
+    let q : r ≡ readingOf loop offset = reads-item-so i in
+    let there : stepOf (loopIn s x) offset .item ≡ Item.Is d = ap (λ (y : List ℕ). stepOf y offset .item) (sym l) ∙ ap (λ (y : Reading). y .step .item) (sym q) ∙ is in
+    let w : Writable loop offset d = subst (λ (y : List ℕ). Writable y offset d) (sym l) (writing.what-is-read-can-be-written s x a e offset d there) in
+    let m : descriptorMade d (r .step .identifier) (r .beside) loop ≡ made (w .bytes) = subst (λ (y : Reading). descriptorMade d (y .step .identifier) (y .beside) loop ≡ made (w .bytes)) (sym q) (w .writes) in
+    let back : ReadAs (w .bytes) d (r .step .identifier) (r .beside) loop = subst (λ (y : Reading). ReadAs (w .bytes) d (y .step .identifier) (y .beside) loop) (sym q) (w .back) in
+    (w .bytes, w .form, back, λ target answer later p. writes.puts-made _ (w .bytes) target answer later m (writes-descriptor-so p))
+
+-- and the command of every section, but for "insert reserved other than 127": what `write_command` writes of it is a canonical payload that reads as it
+pub the-command-of-a-section-is-written : (s : List ℕ) (w : WholeSection) (x : Section) → AllBytes s → ReadsWholeSection s w → w .read ≡ SectionRead.Is x
+    → ((i : SpliceInsert) → x .command ≡ SpliceCommand.SpliceInsert i → i .reserved ≡ 127)
+    → (p : List ℕ) × CommandPayload (x .command) (componentsOf (commandBytes s)) s p × ((target : List ℕ) (answer : Written) (later : List ℕ)
+    → WritesCommand (x .command) (w .components) s target answer later → Puts p target answer later)
+the-command-of-a-section-is-written s w x a d r ones =
+    let e : sectionOf s ≡ SectionRead.Is x = writes.whole-read s w x (reads-whole-section-so d) r in
+    let c : w .components ≡ besideCommand (x .command) (commandBytes s) = writes.whole-beside s w x (reads-whole-section-so d) r in
+    let k = writing.what-is-read-of-a-command-can-be-written s x a e ones in
+    let m : commandMade (x .command) (w .components) s ≡ made (k .0) = ap (λ (l : List ComponentSplice). commandMade (x .command) l s) c ∙ writes.beside-serves (x .command) (commandBytes s) s ∙ k .1 in
+    (k .0, k .2, λ target answer later p. writes.puts-made _ (k .0) target answer later m (writes-command-so p))
+
+payload-of : (c : SpliceCommand) (places : List ComponentSplice) (lent : List ℕ) {m : Made} → CommandMakes c places lent m → (b : List ℕ) → m ≡ made b → CommandPayload c places lent b
+payload-of c places lent (CommandMakes.outside f) b e = zero-one cc
+payload-of c places lent (CommandMakes.over f g) b e = zero-one cc
+payload-of c places lent (CommandMakes.nobodys f g h) b e = zero-one cc
+payload-of c places lent (CommandMakes.its f p h) b e = let q : p ≡ b = cc in subst (CommandPayload c places lent) q h
+
+-- whatever was written of a command is a canonical payload that reads as it
+pub what-is-written-of-a-command-is-read-back : (c : SpliceCommand) (places : List ComponentSplice) (lent target : List ℕ) (n : ℕ) (later : List ℕ) → length places ≡ 255 → countIn c ≤ 255 → AllBytes lent
+    → WritesCommand c places lent target (Written.Wrote n) later → CommandPayload c places lent (take n later)
+what-is-written-of-a-command-is-read-back c places lent target n later full count bytes p =
+    let k = writing.an-accepted-write-changes-only-its-result (commandMade c places lent) target n (sym (writes-command-so p .answer)) in
+    let b : take n later ≡ k .result = ap (take n) (writes-command-so p .target-later) ∙ k .start in
+    rw b (payload-of c places lent (writing.what-is-made-of-a-command c places lent full count bytes) (k .result) (k .is))
 
 -- Demand 3: two canonical sections with equal readings are one
 pub canonical-sections-with-equal-readings-are-one : (s r : List ℕ) (x y : Section) → AllBytes s → AllBytes r → TellsCanonical s true → TellsCanonical r true

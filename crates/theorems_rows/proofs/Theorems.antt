@@ -1,13 +1,15 @@
 -- Worked sections, and each refusal of an item and of a UPID by its own words. A reader needs the specs of this crate beside this file. (Those of a section, 1 to 11: theorems/proofs/Theorems.antt,
--- `refusals-1-to-11-in-order`; of an adjusted time, 32: `numbers-of-34-bits-are-not-adjusted` there; of a short target, 36: `Puts` in theorems_functions.)
+-- `refusals-1-to-11-in-order`; of an adjusted time, 32: `numbers-of-34-bits-are-not-adjusted` there; of a short target, 36, of the writers: `Puts` in theorems_functions.)
 use Prim.Native.Nat.{ℕ, _+_, _-_, _/_, _≤_, _<_}
 use mathlib.Core.Bool.{true, false}
-use mathlib.Core.List.{List, [], _∷_}
+use mathlib.Core.List.{List, [], _∷_, _++_}
 use mathlib.Core.Path.{_≡_, refl, sym, _∙_}
 use native.Mathlib.Omega.{arith}
 use lib.ListN.{length, take, drop, getD, replicate}
 use lib.Dec.{eqb}
-use borrow.Author.Tests.{ne-eqb}
+use borrow.Author.Tests.{ne-eqb, le-leb, lt-leb}
+use Rattle.bit_stores.specs.Written.{answerOf, laterOf}
+use Rattle.bit_stores.specs.declared.Written.{Written}
 use Rattle.command.specs.Command.{commandOf, componentsOf, private}
 use Rattle.command.specs.Insert.{WithComponents, insert}
 use Rattle.command.specs.declared.CommandRead.{CommandRead}
@@ -17,6 +19,7 @@ use Rattle.command.specs.declared.insert.SpliceInsert.{SpliceInsert}
 use Rattle.descriptor.proofs.Plains.{avail-short, avail-is, time-short, time-is, reserved-is}
 use Rattle.descriptor.specs.Descriptor.{availOf, timeOf, reservedOf, cuei, descriptorOf, isCuei}
 use Rattle.descriptor.specs.Plain.{dtmf}
+use Rattle.descriptor.specs.Whole.{blankBeside}
 use Rattle.descriptor.specs.declared.Descriptor.{Descriptor}
 use Rattle.descriptor.specs.declared.DescriptorRead.{DescriptorRead}
 use Rattle.descriptor.specs.declared.plain.DTMFDescriptor.{DTMFDescriptor}
@@ -27,6 +30,7 @@ use Rattle.header.specs.declared.header.SpliceInfoHeader.{SpliceInfoHeader}
 use Rattle.descriptor_loop.specs.Cover.{Ends}
 use Rattle.descriptor_loop.specs.Items.{stepOf, readingOf, wholeAt}
 use Rattle.descriptor_loop.specs.declared.Item.{Item}
+use Rattle.descriptor_loop.specs.declared.ItemRefusal.{ItemRefusal}
 use Rattle.names.specs.Flags.{Answer, networkOf, returnOf, restrictionsOf}
 use Rattle.names.specs.declared.flags.DeviceRestrictions.{DeviceRestrictions}
 use Rattle.names.specs.declared.flags.NetworkIndicator.{NetworkIndicator}
@@ -39,6 +43,7 @@ use Rattle.splice_time.specs.Time.{spliceTime}
 use Rattle.splice_time.specs.declared.SpliceTime.{SpliceTime}
 use Rattle.table.specs.Bits.{bitsOf, field, AllBytes}
 use Rattle.table.specs.Table.{got, short, parse}
+use Rattle.table.specs.Writing.{made}
 use Rattle.canonical_form.specs.Same.{SameSections}
 use Rattle.theorems_rows.specs.Examples.{EmptyCommand, Identified, spliceNull, eight, twelve, both, eightAndTwelve}
 use Rattle.upid.specs.Cover.{All}
@@ -188,6 +193,11 @@ pub any-other-item-is-read-by-its-descriptor : (loop : List ℕ) (offset : ℕ) 
     → 4 ≤ getD loop (offset + 1) 0 → getD loop (offset + 1) 0 ≤ 254 → stepOf loop offset ≡ wholeAt loop offset (getD loop (offset + 1) 0)
 any-other-item-is-read-by-its-descriptor = refusals.else-read
 
+-- a refusal is no reading: of whatever refused item, components, EIDR and identifier are blank
+pub nothing-stands-beside-a-refused-item : (loop : List ℕ) (offset : ℕ) (r : ItemRefusal) → stepOf loop offset .item ≡ Item.Refused r
+    → (readingOf loop offset .beside ≡ blankBeside) × (stepOf loop offset .identifier ≡ replicate 4 0)
+nothing-stands-beside-a-refused-item = refusals.nothing-beside
+
 -- ---- the kind is what tag and identifier say
 
 -- "Identifier "CUEI", by tag: 0 avail, 1 DTMF, 2 segmentation, 3 time": what is read is of that kind
@@ -293,6 +303,17 @@ pub an-empty-part-is-read-by-its-type : (k start : ℕ) → (k ≡ 13 → ⊥) �
     × ((k ≡ 0 → ⊥) → 1 ≤ lengthOf k → readOf k start [] ≡ UpidRead.Refused (Refusal.InvalidUpidLength k (lengthOf k) 0))
     × ((k ≡ 0 → ⊥) → lengthOf k ≡ 0 → readOf k start [] ≡ UpidRead.Fine (reportedOf k))
 an-empty-part-is-read-by-its-type = mids.part-empty
+
+-- ---- 36: "target shorter than the result", and no other target
+
+pub a-target-that-is-long-enough-is-written : (b target : List ℕ) → length b ≤ length target
+    → (answerOf (made b) target ≡ Written.Wrote (length b)) × (laterOf (made b) target ≡ b ++ drop (length b) target)
+unfolding answerOf laterOf
+a-target-that-is-long-enough-is-written b target h = let e = le-leb (length b) (length target) h in (rw e, rw e)
+
+pub a-shorter-target-is-refused-with-36 : (b target : List ℕ) → length target < length b → (answerOf (made b) target ≡ Written.Refused 36) × (laterOf (made b) target ≡ target)
+unfolding answerOf laterOf
+a-shorter-target-is-refused-with-36 b target h = let e = lt-leb (length b) (length target) h in (rw e, rw e)
 
 -- ---- the worked rows
 
