@@ -6,3 +6,4 @@ pub mod Theorems
 pub mod Flat
 pub mod WrittenOverC
 pub mod OverC
+pub mod Premises
