@@ -4,4 +4,5 @@ pub mod ItemsOverC
 pub mod ItemsTyped
 pub mod LoopsOverC
 pub mod SectionsOverC
+pub mod HandedOverC
 pub mod Theorems

@@ -8,15 +8,18 @@ use lib.ListN.{length}
 use Rattle.c_section.specs.FlatSection.{flatSectionRead}
 use Rattle.c_descriptor_writer.proofs.Answered as answered
 use Rattle.c_descriptor_writer.specs.ItemGiven.{descriptorWordsMade}
-use Rattle.c_descriptor_writer.specs.ItemWords.{DescriptorAnswer}
+use Rattle.c_descriptor_writer.specs.ItemWords.{itemFits, DescriptorIs, DescriptorAnswer}
 use Rattle.c_section_writer.proofs.Answers as section-answers
 use Rattle.c_section_writer.specs.SectionGiven.{sectionWordsMade}
 use Rattle.c_section_writer.specs.SectionWords.{headerWords, SectionAnswer}
 use Rattle.c_command_writer.proofs.Answers as command-answers
 use Rattle.c_command_writer.specs.CommandGiven.{commandWordsMade}
 use Rattle.c_command_writer.specs.CommandWords.{commandWords, placesGiven, CommandAnswer}
+use Rattle.descriptor.specs.declared.Descriptor.{Descriptor}
+use Rattle.descriptor.specs.declared.whole.Beside.{Beside}
 use Rattle.descriptor_loop.specs.Cover.{runOf}
 use Rattle.descriptor_loop.specs.Items.{itemsOf}
+use Rattle.descriptor_round_trips.specs.Trips.{Handed}
 use Rattle.section.specs.Section.{sectionOf, loopIn}
 use Rattle.section.specs.declared.Section.{Section}
 use Rattle.section.specs.declared.SectionRead.{SectionRead}
@@ -25,6 +28,7 @@ use Rattle.table.specs.Bits.{AllBytes}
 use Rattle.table.specs.Writing.{Made, made}
 use Rattle.upid.specs.Cover.{All}
 use Rattle.theorems_c.specs.OverC.{componentsAnswered, splicesWords, wordsMadeAt}
+use Rattle.theorems_c.proofs.HandedOverC as handed-over-c
 use Rattle.theorems_c.proofs.LoopsOverC as loops-over-c
 use Rattle.theorems_c.proofs.SectionsOverC as sections-over-c
 
@@ -66,6 +70,11 @@ descriptor-words-are-answered = answered.descriptor-words-are-answered
 -- and that leaves one answer
 pub descriptor-answers-are-one : (words beside lent : List ℕ) (m n : Made) → DescriptorAnswer words beside lent m → DescriptorAnswer words beside lent n → m ≡ n
 descriptor-answers-are-one words beside lent m n = answered.descriptor-answers-are-one words beside lent
+
+-- The value that words make is of its types, so that what is proved of a descriptor that is handed in (`Handed`) holds of it: 33 where no canonical payload reads as it, and else that payload
+pub the-value-that-words-make-is-handed : (words beside lent : List ℕ) (d : Descriptor) (identifier : List ℕ) (b : Beside) → AllBytes lent → itemFits words beside ≡ true
+    → DescriptorIs words beside d identifier b → Handed d identifier b lent
+the-value-that-words-make-is-handed = handed-over-c.words-handed
 
 -- and by items: each item of a canonical section is written of its words as its own bytes, which joined are its loop (`a-canonical-section-is-what-is-written-of-its-items`)
 pub the-items-of-a-canonical-section-are-written-of-their-words : (s : List ℕ) (x : Section) → AllBytes s → sectionOf s ≡ SectionRead.Is x → canonicalSection s ≡ true

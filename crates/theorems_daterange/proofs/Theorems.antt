@@ -8,6 +8,7 @@ use Rattle.bit_stores.specs.Written.{answerOf, laterOf}
 use Rattle.bit_stores.specs.declared.Written.{Written}
 use Rattle.c_command_writer.specs.Words.{flatWritten}
 use Rattle.c_command_writer.specs.declared.FlatWritten.{FlatWritten}
+use Rattle.c_daterange.specs.FlatDaterange.{flatDaterange}
 use Rattle.c_daterange.specs.declared.FlatDaterange.{FlatDaterange}
 use Rattle.daterange.specs.Choice.{cueFor, daterangeMade}
 use Rattle.daterange_line.specs.Reading.{readOf, readLater}
@@ -22,8 +23,10 @@ use Rattle.table.specs.Bits.{AllBytes}
 use Rattle.table.specs.Writing.{Made}
 use Rattle.theorems_reader.proofs.Theorems as reading
 use Rattle.theorems_writer.proofs.Theorems as writing
+use Rattle.theorems_daterange.specs.Faults.{LineRead}
 use Rattle.theorems_daterange.specs.Lines.{Cued, lineAnswered, ReadsBack, ReadsBackC}
 use Rattle.theorems_daterange.proofs.Contracts.{WritesLine, writes-line-so, WritesDaterange, writes-daterange-so, WritesDaterangeC, writes-daterange-c-so, ReadsLine, reads-line-so, ReadsDaterangeC, reads-daterange-c-so}
+use Rattle.theorems_daterange.proofs.Faults as faults
 use Rattle.theorems_daterange.proofs.Lines as lines
 
 -- ---- which answer: "1 to 11 for the section; 53 an ID or date holding a double quote, CR or LF; 36"; nothing else is refused
@@ -41,6 +44,20 @@ pub an-accepted-section-has-a-line : (q : Cued) (x : Section) (target : List ℕ
     → answer ≡ lineAnswered (cueFor (x .command)) q (length target)
 an-accepted-section-has-a-line q x target answer later d e =
     writes-daterange-so d .0 ∙ ap (λ (m : Made). answerOf m target) (lines.of-accepted q x e) ∙ lines.line-answers (cueFor (x .command)) q target
+
+-- ---- a line that is read: 52, 51 and 36 in order, by the list of its attributes that the RFC's grammar gives it, in words of its own (specs/Faults.antt); nothing else is refused
+
+pub read-line-answers-in-order : (line target : List ℕ) (answer : Read) (later : List ℕ) → ReadsLine line target answer later → LineRead line target answer later
+read-line-answers-in-order line target answer later d = faults.reads-so line target (reads-line-so d .0) (reads-line-so d .1)
+
+-- and that leaves one answer, and one target
+pub a-line-is-read-in-one-way : (line target : List ℕ) (a b : Read) (x y : List ℕ) → LineRead line target a x → LineRead line target b y → (a ≡ b) × (x ≡ y)
+a-line-is-read-in-one-way = faults.reads-one
+
+-- the same over C, whose words are those of what was read, or the refusal's number and zeros
+pub read-line-over-c-answers-in-order : (line target : List ℕ) (f : FlatDaterange) (later : List ℕ) → ReadsDaterangeC line target f later
+    → (answer : Read) × (f ≡ flatDaterange answer) × LineRead line target answer later
+read-line-over-c-answers-in-order line target f later d = (readOf line target, reads-daterange-c-so d .0, faults.reads-so line target refl (reads-daterange-c-so d .1))
 
 -- ---- what is written reads back: the same ID and date, and the very bytes of the section, by any reader that meets its contract and has room for them
 

@@ -5,6 +5,7 @@ use mathlib.Core.List.{List}
 use mathlib.Core.Path.{_≡_, refl, sym, _∙_, ap}
 use denote.Ref.{now}
 use Rattle.command.specs.declared.SpliceCommand.{SpliceCommand}
+use Rattle.command.specs.declared.components.ComponentSplice.{ComponentSplice}
 use Rattle.command_measure.specs.Made.{commandMade}
 use Rattle.descriptor_writer.specs.Stores.{Writes}
 use Rattle.descriptor_loop.specs.Items.{stepOf, readingOf}
@@ -29,6 +30,7 @@ use Rattle.theorems_c.specs.Boards.{May}
 use Rattle.upid.specs.Upid.{upidOf, partView}
 use Rattle.upid.specs.declared.Part.{Part}
 use Rattle.upid.specs.declared.Upid.{Upid}
+use Rattle.command_writer.proofs.write_command.Reads as write-command
 use Rattle.descriptor_writer.proofs.write_descriptor.Reads as write-descriptor
 use Rattle.descriptor_loop.proofs.iteration.step.Reads as step
 use Rattle.descriptor_loop.proofs.place.bytes_of.Reads as bytes-of
@@ -138,4 +140,19 @@ pub writes-descriptor-so : {g : Given} {target : List ℕ} {answer : Written} {l
 writes-descriptor-so d = record {
   answer = sym (ap (λ (v : Written × List ℕ). v .0) (d .left)) ∙ d .learnt-so .answer ∙ ap (λ (v : Given × List ℕ). answerOf (givenMade (v .0)) (v .1)) (d .taken);
   target-later = sym (ap (λ (v : Written × List ℕ). v .1) (d .left)) ∙ d .learnt-so .target-later ∙ ap (λ (v : Given × List ℕ). laterOf (givenMade (v .0)) (v .1)) (d .taken);
+}
+
+-- a command, its components and the bytes that its view refers to
+abbrev pub WritesCommand : SpliceCommand → List ComponentSplice → List ℕ → List ℕ → Written → List ℕ → Type 0
+WritesCommand c places lent target answer later =
+    May write-command.Learnt {S = SpliceCommand × (List ComponentSplice × (List ℕ × List ℕ))} {T = Written × List ℕ}
+    (λ κ a. (a .0, (a .1 .0, (now (a .1 .1 .0), now (a .1 .1 .1 .0))))) (λ κ r e. (r, now (e .1 .1 .1 .0))) (c, (places, (lent, target))) (answer, later)
+
+pub writes-command-so : {c : SpliceCommand} {places : List ComponentSplice} {lent target : List ℕ} {answer : Written} {later : List ℕ} → WritesCommand c places lent target answer later
+    → Writes (commandMade c places lent) target later answer
+writes-command-so d = record {
+  answer = sym (ap (λ (v : Written × List ℕ). v .0) (d .left)) ∙ d .learnt-so .0
+      ∙ ap (λ (v : SpliceCommand × (List ComponentSplice × (List ℕ × List ℕ))). answerOf (commandMade (v .0) (v .1 .0) (v .1 .1 .0)) (v .1 .1 .1)) (d .taken);
+  target-later = sym (ap (λ (v : Written × List ℕ). v .1) (d .left)) ∙ d .learnt-so .1
+      ∙ ap (λ (v : SpliceCommand × (List ComponentSplice × (List ℕ × List ℕ))). laterOf (commandMade (v .0) (v .1 .0) (v .1 .1 .0)) (v .1 .1 .1)) (d .taken);
 }

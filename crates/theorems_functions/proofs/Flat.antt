@@ -27,7 +27,8 @@ use Rattle.canonical_form.specs.Same.Pairs.{over, pair}
 use Rattle.table.specs.Bits.{bitsOf, field}
 use Rattle.table.specs.declared.View.{View}
 use Rattle.theorems_reader.specs.Identifiers.{Identifier, inLent}
-use Rattle.theorems_reader.specs.Whole.{Exactly, WholeUpid, WholeDetail, WholeRefusal, WholeItem}
+use Rattle.theorems_reader.specs.Whole.{Exactly, WholeUpid}
+use Rattle.theorems_reader.proofs.WholeCases.{DetailCase, RefusalCase, ItemCase}
 use Rattle.upid.specs.Upid as upid
 use Rattle.upid.specs.Upid.{upidOf, checkOf, eidrOf, listOf, listed, unlessRefused, partsIn}
 use Rattle.upid.specs.declared.Part.{Part}
@@ -70,7 +71,7 @@ module _ (s : List ℕ) (base : ℕ) (loop : List ℕ) where
     abbrev withDetail : ℕ → DescriptorDetail → Item
     withDetail event d = Item.Is (Descriptor.Segmentation (record { «segmentation_event_id» = event; «descriptor_detail» = d }))
 
-    detail-lies : (event : ℕ) (d : DescriptorDetail) → WholeDetail s (base + offset + 6) base loop (r .beside .eidr) d → ItemLies s (base + offset) base (flatStep (stepWith (withDetail event d)))
+    detail-lies : (event : ℕ) (d : DescriptorDetail) → DetailCase s (base + offset + 6) base loop (r .beside .eidr) d → ItemLies s (base + offset) base (flatStep (stepWith (withDetail event d)))
     unfolding flatStep flatItem refusalIn flatDescriptor segmentationItem blankItem wholeSegmentation
     detail-lies event DescriptorDetail.Cancel w = none-lies (flatStep (stepWith (withDetail event DescriptorDetail.Cancel))) 3 refl (omega arith) (eqb-false 3 2 refl) (eqb-false 3 4 refl) refl
     detail-lies event (DescriptorDetail.Active i) w = record {
@@ -96,7 +97,7 @@ module _ (s : List ℕ) (base : ℕ) (loop : List ℕ) where
       read = λ n. absurd (n refl);
     }
 
-    refusal-lies : (q : ItemRefusal) → WholeRefusal s (base + offset + 6) base loop q → ItemLies s (base + offset) base (flatStep (stepWith (Item.Refused q)))
+    refusal-lies : (q : ItemRefusal) → RefusalCase s (base + offset + 6) base loop q → ItemLies s (base + offset) base (flatStep (stepWith (Item.Refused q)))
     unfolding items.numberOf upid.numberOf items.valuesOf upid.valuesOf
     refusal-lies ItemRefusal.InvalidDescriptorLength w = refused-lies ItemRefusal.InvalidDescriptorLength (λ e. absurd (eqb-false 22 24 refl e))
     refusal-lies (ItemRefusal.Other Refusal.InputTooLong) w = refused-lies (ItemRefusal.Other Refusal.InputTooLong) (λ e. absurd (eqb-false 2 24 refl e))
@@ -114,7 +115,7 @@ module _ (s : List ℕ) (base : ℕ) (loop : List ℕ) where
     })
     refusal-lies (ItemRefusal.Other (Refusal.InvalidUpidLength «upid_type» expected actual)) w = refused-lies (ItemRefusal.Other (Refusal.InvalidUpidLength «upid_type» expected actual)) (λ e. absurd (eqb-false 25 24 refl e))
 
-    item-lies : (it : Item) → WholeItem s base loop offset r it → ItemLies s (base + offset) base (flatStep (stepWith it))
+    item-lies : (it : Item) → ItemCase s base loop offset r it → ItemLies s (base + offset) base (flatStep (stepWith it))
     unfolding flatStep flatItem refusalIn flatDescriptor segmentationItem blankItem wholeSegmentation
     item-lies Item.End w = none-lies (flatStep (stepWith Item.End)) 0 refl (omega arith) (eqb-false 0 2 refl) (eqb-false 0 4 refl) refl
     item-lies (Item.Refused q) w = refusal-lies q w
@@ -140,7 +141,7 @@ module _ (s : List ℕ) (base : ℕ) (loop : List ℕ) where
       read = λ n. refl;
     }
 
-  pub step-lies : (offset : ℕ) (r : Reading) → WholeItem s base loop offset r (r .step .item) → ItemLies s (base + offset) base (flatStep (r .step))
+  pub step-lies : (offset : ℕ) (r : Reading) → ItemCase s base loop offset r (r .step .item) → ItemLies s (base + offset) base (flatStep (r .step))
   step-lies offset r w = item-lies offset r (r .step .next) (r .step .item) w
 
 -- ---- an item that has a UPID of type k by its words

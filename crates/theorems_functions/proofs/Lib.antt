@@ -4,4 +4,6 @@ pub mod Slices
 pub mod Writes
 pub mod Theorems
 pub mod Flat
+pub mod WrittenOverC
 pub mod OverC
+pub mod Premises

@@ -9,8 +9,9 @@ use lib.ListN.{length, take, drop, getD}
 use denote.Ref.{now}
 use borrow.Author.Tests.{eqb-false}
 use Rattle.command.specs.Command.{commandOf, componentsOf}
-use Rattle.c_section.specs.Flat.{flatView}
-use Rattle.c_section.specs.FlatCommand.{flatSplices}
+use Rattle.command.specs.declared.SpliceCommand.{SpliceCommand}
+use Rattle.c_section.specs.Flat.{flatView, flatHeader}
+use Rattle.c_section.specs.FlatCommand.{flatCommand, flatSplices}
 use Rattle.c_section.specs.FlatSection.{flatSectionRead}
 use Rattle.c_section.specs.declared.FlatView.{FlatView}
 use Rattle.c_section.specs.declared.components.FlatSplices.{FlatSplices}
@@ -25,7 +26,7 @@ use Rattle.c_items.specs.declared.upids.FlatUpid.{FlatUpid}
 use Rattle.c_section_writer.specs.SectionGiven.{sectionWordsMade}
 use Rattle.c_section_writer.specs.SectionWords.{headerWords}
 use Rattle.c_command_writer.specs.CommandWords.{commandWords}
-use Rattle.c_command_writer.specs.Words.{flatWritten}
+use Rattle.c_command_writer.specs.Words.{same, flatWritten}
 use Rattle.c_command_writer.specs.declared.FlatWritten.{FlatWritten}
 use Rattle.descriptor_loop.proofs.Places.{all-into}
 use Rattle.descriptor_loop.specs.Items.{stepOf, readingOf, Listed, itemsOf}
@@ -38,7 +39,7 @@ use Rattle.canonical_form.specs.Same.Pairs.{over, pair}
 use Rattle.bit_stores.specs.Written.{answerOf, laterOf}
 use Rattle.bit_stores.specs.declared.Written.{Written}
 use Rattle.section.proofs.Acceptance.{is-read}
-use Rattle.section.specs.Section.{commandLength, commandBytes, conditions, first, loopPlace, loopLength, sectionOf, numberOf, loopIn}
+use Rattle.section.specs.Section.{commandLength, commandType, commandBytes, loopBytes, moved, conditions, first, loopPlace, loopLength, sectionOf, numberOf, loopIn}
 use Rattle.section.specs.declared.Section.{Section}
 use Rattle.section.specs.declared.SectionRead.{SectionRead}
 use Rattle.canonical_form.specs.Section.{canonicalSection}
@@ -54,7 +55,9 @@ use Rattle.theorems_writer.proofs.Theorems as writing
 use Rattle.theorems_c.specs.Boards.{May}
 use Rattle.theorems_reader.specs.Identifiers.{Identifier, inLent, partsRead, Announced, Unsplit}
 use Rattle.theorems_c.specs.OverC.{splicesWords, componentsAnswered, stepWords, besideWords, wordsMadeAt}
-use Rattle.theorems_reader.specs.Whole.{upidAt, WholeAt}
+use Rattle.theorems_reader.specs.Whole.{upidAt}
+use Rattle.theorems_reader.proofs.Whole.{whole-case}
+use Rattle.theorems_reader.proofs.WholeCases.{ItemCase}
 use Rattle.upid.specs.Cover.{All}
 use Rattle.upid.specs.Cover.All.{none, more}
 use Rattle.upid.specs.Upid.{checkOf, upidOf, partsIn, partView}
@@ -69,11 +72,12 @@ use Rattle.scte35.proofs.scte35_read_upid.Reads as scte35-read-upid
 use Rattle.scte35.proofs.writing.scte35_write_command_words.Reads as scte35-write-command-words
 use Rattle.scte35.proofs.writing.scte35_write_descriptor_words.Reads as scte35-write-descriptor-words
 use Rattle.scte35.proofs.writing.scte35_write_section_words.Reads as scte35-write-section-words
-use Rattle.theorems_functions.specs.Flat.{Lies, taken, ItemLies, upidRefusal, SamePart, PartLies, PutsFlat}
+use Rattle.theorems_functions.specs.Flat.{Lies, taken, ItemLies, upidRefusal, SamePart, PartLies, PutsFlat, WrittenOf, ReadsAgain}
 use Rattle.theorems_functions.specs.Slices.{Slice, reportedAs}
 use Rattle.theorems_functions.proofs.Flat as flat
 use Rattle.theorems_functions.proofs.Slices.{reported-as}
 use Rattle.theorems_functions.proofs.Writes as writes
+use Rattle.theorems_functions.proofs.WrittenOverC as written-over-c
 
 -- ---- what the contracts allow
 
@@ -182,7 +186,7 @@ items-lie : (s : List ℕ) (f : FlatSection) (offset : ℕ) (i : FlatStep) → A
 unfolding readingOf
 items-lie s f offset i a x q =
     let e : i ≡ flatStep (stepOf (loopIn s (x .section)) offset) = reads-item-so q ∙ ap (λ (l : List ℕ). flatStep (stepOf l offset)) (x .loop) in
-    let w : WholeAt s (x .section) offset (readingOf (loopIn s (x .section)) offset) = reading.every-identifier-of-an-item-is-whole s (x .section) (x .is) a offset in
+    let w : ItemCase s (x .section .descriptors .at) (loopIn s (x .section)) offset (readingOf (loopIn s (x .section)) offset) (readingOf (loopIn s (x .section)) offset .step .item) = whole-case s (x .section) (x .is) a offset in
     let h : ItemLies s (x .section .descriptors .at + offset) (x .section .descriptors .at) i = rw e (flat.step-lies s (x .section .descriptors .at) (loopIn s (x .section)) offset (readingOf (loopIn s (x .section)) offset) w) in
     subst (λ (n : ℕ). ItemLies s (n + offset) n i) (sym (x .base)) h
 
@@ -259,6 +263,10 @@ the-parts-of-a-mid-over-c-are-whole s f offset i u a d z q four mid r = mid-lies
 
 -- ---- writing
 
+-- the loop that a reading says is the section's
+laid-loop : (s : List ℕ) (x : Section) → sectionOf s ≡ SectionRead.Is x → loopIn s x ≡ loopBytes s
+laid-loop s x e = ap (viewed s) (reading.what-an-accepted-section-says s x e .2)
+
 puts-flat : (m : Made) (b target : List ℕ) (answer : FlatWritten) (later : List ℕ) → m ≡ made b → answer ≡ flatWritten (answerOf m target) → later ≡ laterOf m target → PutsFlat b target answer later
 unfolding flatWritten
 puts-flat m b target answer later e f g =
@@ -300,6 +308,39 @@ the-items-of-a-canonical-section-over-c-are-written-back s f a t d z =
     let w = writes-descriptor-so p in
     let m : descriptorWordsMade (stepWords i) (besideWords beside) loop ≡ made (runOf loop y) = rw (reads-item-so q, reads-beside-so b, sym (k .1)) (k .0) in
     puts-flat _ (runOf loop y) target answer later m (w .0) (w .1)) (writes.with-steps loop fits h)
+
+-- "reading what the writer wrote gives what it was handed": whatever was written over C is a canonical section with the header, the command, the components and the bytes whose words were handed in, and
+-- with the loop (`WrittenOf`)
+pub what-is-written-over-c-is-read-back : (header command components lent loop target : List ℕ) (answer : FlatWritten) (later : List ℕ) → AllBytes lent → AllBytes loop
+    → WritesSectionC header command components lent loop target answer later → answer .refusal ≡ 0 → WrittenOf header command components lent loop (take (answer .«length») later)
+what-is-written-over-c-is-read-back header command components lent loop target answer later a l p z =
+    written-over-c.written-back header command components lent loop target answer later a l (writes-section-so p .0) (writes-section-so p .1) z
+
+-- and read over C it has the header's and the command's words, and the loop
+pub what-is-written-over-c-has-its-words : (header command components lent loop target : List ℕ) (answer : FlatWritten) (later : List ℕ) (f : FlatSection) → AllBytes lent → AllBytes loop
+    → WritesSectionC header command components lent loop target answer later → answer .refusal ≡ 0 → ReadsSectionC (take (answer .«length») later) f
+    → ReadsAgain header command loop (take (answer .«length») later) f
+unfolding flatSectionRead
+what-is-written-over-c-has-its-words header command components lent loop target answer later f a l p z d =
+    let b : List ℕ = take (answer .«length») later in
+    let w = what-is-written-over-c-is-read-back header command components lent loop target answer later a l p z in
+    let x : Section = w .section .header .reading in
+    let e : f ≡ flatSectionRead (SectionRead.Is x) = reads-section-so d ∙ ap flatSectionRead (w .section .header .reads) in
+    let k : headerWords (f .header) ≡ headerWords (flatHeader (w .own-header)) =
+    ap (λ (v : FlatSection). headerWords (v .header)) e ∙ written-over-c.same-words (x .header) (w .own-header) (w .section .header .same) in
+    let g : SpliceCommand = w .section .command .again in
+    let moves : x .command ≡ moved 14 g =
+    written-over-c.moved-command g (commandOf (commandType b) (commandBytes b)) (x .command)
+    (ap (λ (k : ℕ). commandOf k (commandBytes b)) (w .section .type) ∙ w .section .command .reading) (reading.what-an-accepted-section-says b x (w .section .header .reads) .1) in
+    let h : take 19 (commandWords (f .command)) ≡ take 19 (commandWords (flatCommand (w .own-command))) =
+    ap (λ (v : FlatSection). take 19 (commandWords (v .command))) e ∙ written-over-c.command-words (x .command) (w .own-command) g moves (w .section .command .values) in
+    let q = accepted b f d (ap (λ (v : FlatSection). v .refusal) e) in
+    record {
+      accepted = ap (λ (v : FlatSection). v .refusal) e;
+      words = ap (λ (v : List ℕ). same v header) k ∙ w .header-is .own;
+      command-words = ap (λ (v : List ℕ). same v command) h ∙ written-over-c.same-take 19 (commandWords (flatCommand (w .own-command))) command (w .command-is .own);
+      loops = q .loop ∙ laid-loop b (q .section) (q .is) ∙ w .section .loops;
+    }
 
 -- "A refused write leaves the target's bytes"
 left : (m : Made) (target : List ℕ) (n : ℕ) → flatWritten (answerOf m target) .refusal ≡ n → (n ≡ 0 → ⊥) → laterOf m target ≡ target

@@ -24,7 +24,8 @@ use Rattle.table.specs.Bits.{pick}
 use Rattle.table.specs.Lent.{viewed, noView}
 use Rattle.table.specs.declared.View.{View}
 use Rattle.theorems_reader.specs.Identifiers.{Identifier, inLent, inSection, partsRead, Announced, Unsplit}
-use Rattle.theorems_reader.specs.Whole.{Exactly, WholeUpid, upidAt, WholeDetail, WholeItem, WholeCommand}
+use Rattle.theorems_reader.specs.Whole.{Exactly, WholeUpid, upidAt}
+use Rattle.theorems_reader.proofs.WholeCases.{DetailCase, ItemCase, CommandCase}
 use Rattle.upid.specs.Cover.{All}
 use Rattle.upid.specs.Upid.{reportedOf, partView}
 use Rattle.upid.specs.declared.Part.{Part}
@@ -59,7 +60,7 @@ module _ (s : List ℕ) (base : ℕ) (loop : List ℕ) where
   }
 
   module _ (offset : ℕ) (r : Reading) where
-    item-slice : (it : Item) → WholeItem s base loop offset r it → ItemSlice s (base + offset) r (viewed loop (viewOf it)) it
+    item-slice : (it : Item) → ItemCase s base loop offset r it → ItemSlice s (base + offset) r (viewed loop (viewOf it)) it
     item-slice Item.End w = nothing-viewed loop
     item-slice (Item.Refused ItemRefusal.InvalidDescriptorLength) w = nothing-viewed loop
     item-slice (Item.Refused (ItemRefusal.Other Refusal.InputTooLong)) w = nothing-viewed loop
@@ -72,7 +73,7 @@ module _ (s : List ℕ) (base : ℕ) (loop : List ℕ) where
     item-slice (Item.Is (Descriptor.Dtmf x)) w = slice-of s _ _ (inLent base loop (x .«dtmf_chars»)) w
     item-slice (Item.Is (Descriptor.Segmentation x)) w = detail (x .«descriptor_detail») w
       where
-        detail : (d : DescriptorDetail) → WholeDetail s (base + offset + 6) base loop (r .beside .eidr) d
+        detail : (d : DescriptorDetail) → DetailCase s (base + offset + 6) base loop (r .beside .eidr) d
             → DetailSlice s (base + offset + 6) (r .beside .eidr) (viewed loop (firstView (detailViews d))) d
         detail DescriptorDetail.Cancel w = w
         detail (DescriptorDetail.Active i) w = upid-slice _ _ (i .«segmentation_upid») w
@@ -80,7 +81,7 @@ module _ (s : List ℕ) (base : ℕ) (loop : List ℕ) where
     item-slice (Item.Is (Descriptor.Reserved tag v)) w = (slice-of s _ _ (inLent base loop v) (w .0), w .1)
 
 -- what is read, and the slice that is handed back of it
-pub read-slice : (s : List ℕ) (base : ℕ) (loop : List ℕ) (offset : ℕ) (r : Reading) (b : List ℕ) → WholeItem s base loop offset r (r .step .item)
+pub read-slice : (s : List ℕ) (base : ℕ) (loop : List ℕ) (offset : ℕ) (r : Reading) (b : List ℕ) → ItemCase s base loop offset r (r .step .item)
     → b ≡ viewed loop (viewOf (r .step .item)) → ItemSlice s (base + offset) r b (r .step .item)
 read-slice s base loop offset r b w e = rw e (item-slice s base loop offset r (r .step .item) w)
 
@@ -114,7 +115,7 @@ parts-whole s mid b ps Gives so u e q =
 
 -- ---- a command
 
-pub private-slice : (s : List ℕ) (c : SpliceCommand) → WholeCommand s c → PrivateSlice s (viewed s (privateView c)) c
+pub private-slice : (s : List ℕ) (c : SpliceCommand) → CommandCase s c → PrivateSlice s (viewed s (privateView c)) c
 private-slice s SpliceCommand.SpliceNull w = nothing-viewed s
 private-slice s (SpliceCommand.SpliceInsert i) w = nothing-viewed s
 private-slice s (SpliceCommand.TimeSignal t) w = nothing-viewed s

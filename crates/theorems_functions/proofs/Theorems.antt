@@ -4,16 +4,20 @@
 use Prim.Native.Nat.{ℕ, _+_, _≤_}
 use mathlib.Core.Bool.{Bool, true}
 use mathlib.Core.List.{List, [], _∷_, map}
-use mathlib.Core.Path.{_≡_, refl, ap, ap₂, sym, _∙_}
+use mathlib.Core.Path.{_≡_, refl, ap, ap₂, sym, subst, _∙_}
 use lib.ListN.{length, take, drop}
 use denote.Ref.{now}
 use Rattle.command.specs.Command.{countIn, componentsOf}
 use Rattle.command.specs.declared.SpliceCommand.{SpliceCommand}
+use Rattle.command.specs.declared.components.ComponentSplice.{ComponentSplice}
 use Rattle.command_measure.specs.Made.{commandMade}
 use Rattle.descriptor.specs.declared.Descriptor.{Descriptor}
 use Rattle.descriptor.specs.declared.segmentation.SegmentationDescriptor.{SegmentationDescriptor}
 use Rattle.descriptor.specs.declared.segmentation.DescriptorDetail.{DescriptorDetail}
 use Rattle.descriptor.specs.declared.segmentation.SegmentationDetail.{SegmentationDetail}
+use Rattle.canonical_form.specs.Descriptor.{canonicalDescriptor}
+use Rattle.command.specs.declared.insert.SpliceInsert.{SpliceInsert}
+use Rattle.descriptor_measure.specs.Writing.{descriptorMade}
 use Rattle.descriptor_writer.specs.Stores.{Writes}
 use Rattle.descriptor_loop.proofs.Places.{all-into}
 use Rattle.descriptor_loop.specs.Cover.{joined, runOf, Covered}
@@ -22,18 +26,21 @@ use Rattle.descriptor_loop.specs.Place.{viewOf}
 use Rattle.descriptor_loop.specs.declared.Item.{Item}
 use Rattle.descriptor_loop.specs.declared.Step.{Step}
 use Rattle.descriptor_loop.specs.declared.reading.Reading.{Reading}
-use Rattle.canonical_form.specs.Same.{Given, Pairs, SameHeader, SameSections}
-use Rattle.loop_round_trips.specs.Loops.{WrittenAgain}
+use Rattle.descriptor_round_trips.specs.Trips.{Handed, ReadAs}
+use Rattle.header.specs.declared.header.SpliceInfoHeader.{SpliceInfoHeader}
+use Rattle.canonical_form.specs.Same.{Given, Pairs, ItemBack, SameHeader, SameSections}
+use Rattle.loop_round_trips.specs.Loops.{givenMade, WrittenAgain}
 use Rattle.canonical_form.specs.Same.Pairs.{over, pair}
 use Rattle.bit_stores.specs.Written.{answerOf, laterOf}
 use Rattle.bit_stores.specs.declared.Written.{Written}
-use Rattle.section.specs.Section.{commandBytes, conditions, first, sectionOf, numberOf, None, loopIn}
+use Rattle.section.specs.Section.{commandBytes, loopBytes, conditions, first, sectionOf, numberOf, None, loopIn}
 use Rattle.section.specs.Whole.{besideCommand, wholeSectionOf}
 use Rattle.section.specs.declared.Section.{Section}
 use Rattle.section.specs.declared.SectionRead.{SectionRead}
 use Rattle.section.specs.declared.whole.WholeSection.{WholeSection}
 use Rattle.canonical_form.specs.Section.{canonicalSection}
 use Rattle.section_writer.specs.Writing.{typeOf, sectionMade}
+use Rattle.table.proofs.Lists.{zero-one}
 use Rattle.table.specs.Bits.{AllBytes}
 use Rattle.table.specs.Lent.{viewed}
 use Rattle.table.specs.Writing.{Made, made}
@@ -41,8 +48,11 @@ use Rattle.theorems_reader.proofs.Sections.{loop-short}
 use Rattle.theorems_reader.proofs.Theorems as reading
 use Rattle.theorems_writer.proofs.Theorems as writing
 use Rattle.theorems_reader.specs.Identifiers.{inLent, partsRead, Unsplit}
-use Rattle.theorems_writer.specs.Making.{HasHeader, SectionBytes}
-use Rattle.theorems_reader.specs.Whole.{upidAt, WholeAt}
+use Rattle.theorems_writer.specs.Making.{CommandPayload, CommandMakes, HasHeader, SectionBytes}
+use Rattle.theorems_writer.specs.Writable.{Writable}
+use Rattle.theorems_reader.specs.Whole.{upidAt}
+use Rattle.theorems_reader.proofs.Whole.{whole-case, whole-command}
+use Rattle.theorems_reader.proofs.WholeCases.{ItemCase}
 use Rattle.upid.specs.Cover.{All}
 use Rattle.upid.specs.Cover.All.{none, more}
 use Rattle.upid.specs.Upid.{upidOf, partsIn, partView}
@@ -56,7 +66,7 @@ use Rattle.section_writer.proofs.write_section_without_components.Reads as writ
 use Rattle.section_writer.proofs.write_section.Reads as write-section
 use Rattle.theorems_functions.specs.Calls.{Stepped, SectionGiven, Puts}
 use Rattle.theorems_functions.specs.Slices.{ItemSlice, PartSlice, Parted, PrivateSlice}
-use Rattle.theorems_functions.proofs.Contracts.{ReadsSection, reads-section-so, ReadsWholeSection, reads-whole-section-so, Steps, steps-so, ReadsItem, reads-item-so, ReadsUpid, reads-upid-so, GivesLoop, gives-loop-so, GivesPrivate, gives-private-so, GivesBytes, gives-bytes-so, GivesPart, gives-part-so, TellsCanonical, tells-canonical-so, WritesSection, writes-section-so, WritesDescriptor, writes-descriptor-so, sectionFrom}
+use Rattle.theorems_functions.proofs.Contracts.{ReadsSection, reads-section-so, ReadsWholeSection, reads-whole-section-so, Steps, steps-so, ReadsItem, reads-item-so, ReadsUpid, reads-upid-so, GivesLoop, gives-loop-so, GivesPrivate, gives-private-so, GivesBytes, gives-bytes-so, GivesPart, gives-part-so, TellsCanonical, tells-canonical-so, WritesSection, writes-section-so, WritesDescriptor, writes-descriptor-so, WritesCommand, writes-command-so, sectionFrom}
 use Rattle.theorems_functions.proofs.Slices as slices
 use Rattle.theorems_functions.proofs.Steps as steps
 use Rattle.theorems_functions.proofs.Writes as writes
@@ -92,7 +102,7 @@ the-bytes-of-an-item-are-whole s x loop offset r b a d g i h =
     let e : sectionOf s ≡ SectionRead.Is x = sym (reads-section-so d) in
     let l : loop ≡ loopIn s x = gives-loop-so g in
     let q : r ≡ readingOf (loopIn s x) offset = reads-item-so i ∙ ap (λ (y : List ℕ). readingOf y offset) l in
-    let w : WholeAt s x offset r = rw q (reading.every-identifier-of-an-item-is-whole s x e a offset) in
+    let w : ItemCase s (x .descriptors .at) (loopIn s x) offset r (r .step .item) = rw q (whole-case s x e a offset) in
     slices.read-slice s (x .descriptors .at) (loopIn s x) offset r b w (gives-bytes-so h ∙ ap (λ (y : List ℕ). viewed y (viewOf (r .step .item))) l)
 
 -- the step says what the full reading says
@@ -118,7 +128,7 @@ the-bytes-of-a-part-are-whole s x loop offset st d i b u rs g t is detail k h ru
 
 -- the private bytes of a command
 pub the-private-bytes-are-whole : (s : List ℕ) (x : Section) (b : List ℕ) → ReadsSection s (SectionRead.Is x) → GivesPrivate s (x .command) b → PrivateSlice s b (x .command)
-the-private-bytes-are-whole s x b d g = rw (gives-private-so g) (slices.private-slice s (x .command) (reading.the-private-bytes-of-the-section-are-whole s x (sym (reads-section-so d))))
+the-private-bytes-are-whole s x b d g = rw (gives-private-so g) (slices.private-slice s (x .command) (whole-command s x (sym (reads-section-so d))))
 
 -- ---- writing
 
@@ -196,6 +206,74 @@ pub what-is-written-is-accepted : (g : SectionGiven) (target : List ℕ) (n : �
 what-is-written-is-accepted g target n later places count lent loop p r t d q =
     let h : HasHeader (g .header) (take n later) = what-is-written-is-read-back g target n later places count lent loop p .header in
     (tells-canonical-so q ∙ h .form, h .reading, reads-section-so d ∙ h .reads, h .same)
+
+-- A descriptor with what stands beside it, written by `write_descriptor`: the bytes that were written
+pub record WritesBytes (g : Given) (b : List ℕ) : Type 0 where
+  pub target : List ℕ
+  pub number : ℕ
+  pub later : List ℕ
+  pub writes : WritesDescriptor g target (Written.Wrote number) later
+  pub bytes : b ≡ take number later
+
+made-of : {gs : List Given} {bs : List (List ℕ)} → Pairs WritesBytes gs bs → Pairs (λ (g : Given) (b : List ℕ). givenMade g ≡ made b) gs bs
+made-of over = over
+made-of (pair {x = g} w ws) =
+    let c = writing.an-accepted-write-changes-only-its-result (givenMade g) (w .target) (w .number) (sym (writes-descriptor-so (w .writes) .answer)) in
+    let e = w .bytes ∙ ap (take (w .number)) (writes-descriptor-so (w .writes) .target-later) ∙ c .start in
+    pair (c .is ∙ ap made (sym e)) (made-of ws)
+
+-- and so of any header, command and items, in one statement: the descriptors written, joined in order, and the section written around them, are read as this header, this command and these items
+pub what-is-written-of-items-is-read-back : (h : SpliceInfoHeader) (c : SpliceCommand) (places : List ComponentSplice) (lent : List ℕ) (gs : List Given) (bs : List (List ℕ)) (target : List ℕ) (n : ℕ) (later : List ℕ)
+    → length places ≡ 255 → countIn c ≤ 255 → AllBytes lent → AllBytes (joined bs) → All (λ (g : Given). Handed (g .descriptor) (g .identifier) (g .beside) (g .lent)) gs → Pairs WritesBytes gs bs
+    → WritesSection (record { header = h; command = c; components = places; lent = lent; loop = joined bs }) target (Written.Wrote n) later
+    → SectionBytes h c places lent (joined bs) (take n later) × Pairs (ItemBack (loopBytes (take n later))) (itemsOf (loopBytes (take n later))) gs
+what-is-written-of-items-is-read-back h c places lent gs bs target n later full count bytes joins types w p =
+    let s = what-is-written-is-read-back (record { header = h; command = c; components = places; lent = lent; loop = joined bs }) target n later full count bytes joins p in
+    (s, writing.what-is-written-of-descriptors-reads-back gs bs types (made-of w) (take n later) (s .header .reading) (s .header .reads) (s .loops))
+
+-- ---- what is read can be written, canonical or not
+
+-- every item that is read: what `write_descriptor` writes of it is a canonical descriptor that reads as it
+pub an-item-that-is-read-is-written : (s : List ℕ) (x : Section) (loop : List ℕ) (offset : ℕ) (r : Reading) (d : Descriptor) → AllBytes s → ReadsSection s (SectionRead.Is x) → GivesLoop s x loop
+    → ReadsItem loop offset r → r .step .item ≡ Item.Is d
+    → (b : List ℕ) × (canonicalDescriptor b ≡ true) × ReadAs b d (r .step .identifier) (r .beside) loop × ((target : List ℕ) (answer : Written) (later : List ℕ)
+    → WritesDescriptor (record { descriptor = d; identifier = r .step .identifier; beside = r .beside; lent = loop }) target answer later → Puts b target answer later)
+unfolding readingOf
+an-item-that-is-read-is-written s x loop offset r d a rs g i is =
+    let e : sectionOf s ≡ SectionRead.Is x = sym (reads-section-so rs) in
+    let l : loop ≡ loopIn s x = gives-loop-so g in
+    let q : r ≡ readingOf loop offset = reads-item-so i in
+    let there : stepOf (loopIn s x) offset .item ≡ Item.Is d = ap (λ (y : List ℕ). stepOf y offset .item) (sym l) ∙ ap (λ (y : Reading). y .step .item) (sym q) ∙ is in
+    let w : Writable loop offset d = subst (λ (y : List ℕ). Writable y offset d) (sym l) (writing.what-is-read-can-be-written s x a e offset d there) in
+    let m : descriptorMade d (r .step .identifier) (r .beside) loop ≡ made (w .bytes) = subst (λ (y : Reading). descriptorMade d (y .step .identifier) (y .beside) loop ≡ made (w .bytes)) (sym q) (w .writes) in
+    let back : ReadAs (w .bytes) d (r .step .identifier) (r .beside) loop = subst (λ (y : Reading). ReadAs (w .bytes) d (y .step .identifier) (y .beside) loop) (sym q) (w .back) in
+    (w .bytes, w .form, back, λ target answer later p. writes.puts-made _ (w .bytes) target answer later m (writes-descriptor-so p))
+
+-- and the command of every section, but for "insert reserved other than 127": what `write_command` writes of it is a canonical payload that reads as it
+pub the-command-of-a-section-is-written : (s : List ℕ) (w : WholeSection) (x : Section) → AllBytes s → ReadsWholeSection s w → w .read ≡ SectionRead.Is x
+    → ((i : SpliceInsert) → x .command ≡ SpliceCommand.SpliceInsert i → i .reserved ≡ 127)
+    → (p : List ℕ) × CommandPayload (x .command) (componentsOf (commandBytes s)) s p × ((target : List ℕ) (answer : Written) (later : List ℕ)
+    → WritesCommand (x .command) (w .components) s target answer later → Puts p target answer later)
+the-command-of-a-section-is-written s w x a d r ones =
+    let e : sectionOf s ≡ SectionRead.Is x = writes.whole-read s w x (reads-whole-section-so d) r in
+    let c : w .components ≡ besideCommand (x .command) (commandBytes s) = writes.whole-beside s w x (reads-whole-section-so d) r in
+    let k = writing.what-is-read-of-a-command-can-be-written s x a e ones in
+    let m : commandMade (x .command) (w .components) s ≡ made (k .0) = ap (λ (l : List ComponentSplice). commandMade (x .command) l s) c ∙ writes.beside-serves (x .command) (commandBytes s) s ∙ k .1 in
+    (k .0, k .2, λ target answer later p. writes.puts-made _ (k .0) target answer later m (writes-command-so p))
+
+payload-of : (c : SpliceCommand) (places : List ComponentSplice) (lent : List ℕ) {m : Made} → CommandMakes c places lent m → (b : List ℕ) → m ≡ made b → CommandPayload c places lent b
+payload-of c places lent (CommandMakes.outside f) b e = zero-one cc
+payload-of c places lent (CommandMakes.over f g) b e = zero-one cc
+payload-of c places lent (CommandMakes.nobodys f g h) b e = zero-one cc
+payload-of c places lent (CommandMakes.its f p h) b e = let q : p ≡ b = cc in subst (CommandPayload c places lent) q h
+
+-- whatever was written of a command is a canonical payload that reads as it
+pub what-is-written-of-a-command-is-read-back : (c : SpliceCommand) (places : List ComponentSplice) (lent target : List ℕ) (n : ℕ) (later : List ℕ) → length places ≡ 255 → countIn c ≤ 255 → AllBytes lent
+    → WritesCommand c places lent target (Written.Wrote n) later → CommandPayload c places lent (take n later)
+what-is-written-of-a-command-is-read-back c places lent target n later full count bytes p =
+    let k = writing.an-accepted-write-changes-only-its-result (commandMade c places lent) target n (sym (writes-command-so p .answer)) in
+    let b : take n later ≡ k .result = ap (take n) (writes-command-so p .target-later) ∙ k .start in
+    rw b (payload-of c places lent (writing.what-is-made-of-a-command c places lent full count bytes) (k .result) (k .is))
 
 -- Demand 3: two canonical sections with equal readings are one
 pub canonical-sections-with-equal-readings-are-one : (s r : List ℕ) (x y : Section) → AllBytes s → AllBytes r → TellsCanonical s true → TellsCanonical r true

@@ -1,16 +1,26 @@
 -- The same over C: what the words of an answer say of the section.
 use Prim.Native.Nat.{ℕ, _+_, _*_, _-_, _/_, _≤_, _<_}
+use mathlib.Core.Bool.{true}
 use mathlib.Core.List.{List, [], _∷_, _++_}
 use mathlib.Core.Path.{_≡_}
 use lib.Dec.{eqb}
 use lib.ListN.{length, take, drop, getD}
+use Rattle.c_command_writer.specs.CommandWords.{commandWords, CommandIs}
+use Rattle.c_command_writer.specs.Words.{same}
 use Rattle.c_section.specs.declared.FlatView.{FlatView}
+use Rattle.c_section.specs.declared.sections.FlatSection.{FlatSection}
+use Rattle.c_section_writer.specs.SectionWords.{headerWords, HeaderIs}
+use Rattle.command.specs.Command.{array}
+use Rattle.command.specs.declared.SpliceCommand.{SpliceCommand}
+use Rattle.command.specs.declared.components.ComponentSplice.{ComponentSplice}
+use Rattle.header.specs.declared.header.SpliceInfoHeader.{SpliceInfoHeader}
 use Rattle.c_items.specs.declared.descriptors.FlatItem.{FlatItem}
 use Rattle.c_items.specs.declared.steps.FlatStep.{FlatStep}
 use Rattle.c_items.specs.declared.upids.FlatPart.{FlatPart}
 use Rattle.c_command_writer.specs.declared.FlatWritten.{FlatWritten}
 use Rattle.table.specs.Bits.{pick, bitsOf, field}
 use Rattle.theorems_reader.specs.Whole.{upidAt}
+use Rattle.theorems_writer.specs.Making.{SectionBytes}
 use Rattle.upid.specs.Upid.{numberOf}
 use Rattle.upid.specs.declared.Part.{Part}
 use Rattle.upid.specs.declared.UpidRead.{UpidRead}
@@ -77,3 +87,19 @@ pub record PartLies (s : List ℕ) (start : ℕ) (q : FlatPart) : Type 0 where
 pub record PutsFlat (b target : List ℕ) (answer : FlatWritten) (later : List ℕ) : Type 0 where
   pub fits : length b ≤ length target → (answer .refusal ≡ 0) × (answer .«length» ≡ length b) × (later ≡ b ++ drop (length b) target)
   pub short : length target < length b → (answer .refusal ≡ 36) × (later ≡ target)
+
+-- ---- what was written of words: they are those of a header, of a command and of its components (`HeaderIs`, `CommandIs`), and b is a canonical section with these and the loop
+pub record WrittenOf (header command components lent loop b : List ℕ) : Type 0 where
+  pub own-header : SpliceInfoHeader
+  pub own-command : SpliceCommand
+  pub own-components : List ComponentSplice
+  pub header-is : HeaderIs header own-header
+  pub command-is : CommandIs command components own-command own-components
+  pub section : SectionBytes own-header own-command (array own-components) lent loop b
+
+-- and the words that are read of it: accepted, the header's and the command's words as they were handed in, but for where its private bytes lie, and the loop
+pub record ReadsAgain (header command loop b : List ℕ) (f : FlatSection) : Type 0 where
+  pub accepted : f .refusal ≡ 0
+  pub words : same (headerWords (f .header)) header ≡ true
+  pub command-words : same (take 19 (commandWords (f .command))) command ≡ true
+  pub loops : taken b (f .descriptors) ≡ loop

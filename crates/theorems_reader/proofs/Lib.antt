@@ -6,6 +6,7 @@ pub mod Items
 pub mod Sections
 pub mod WholeTexts
 pub mod WholePayloads
+pub mod WholeCases
 pub mod Whole
 pub mod Listing
 pub mod Tolerated

@@ -2,7 +2,7 @@
 use Prim.Native.Nat.{ℕ, _+_}
 use mathlib.Core.Bool.{Bool, true, false, cond as pick}
 use mathlib.Core.List.{List, [], _∷_, _++_, map, List·Memᴰ, List·Memᴰ·head, List·Memᴰ·tail, Memᴰ·append-left, Memᴰ·append-right}
-use mathlib.Core.Path.{_≡_, refl}
+use mathlib.Core.Path.{_≡_, refl, subst}
 use lib.Dec.{eqb}
 use borrow.Author.Tests.{eq-eqb, ne-eqb}
 use Rattle.command.specs.Command.{ofPrivate}
@@ -11,6 +11,7 @@ use Rattle.descriptor.specs.Views.{upidViews}
 use Rattle.descriptor.specs.declared.Descriptor.{Descriptor}
 use Rattle.descriptor.specs.declared.segmentation.SegmentationDescriptor.{SegmentationDescriptor}
 use Rattle.descriptor.specs.declared.segmentation.DescriptorDetail.{DescriptorDetail}
+use Rattle.descriptor.specs.declared.segmentation.SegmentationDetail.{SegmentationDetail}
 use Rattle.descriptor.specs.declared.segmentation.SegmentationUpid.{SegmentationUpid}
 use Rattle.descriptor_loop.specs.Items.{Listed, itemsOf}
 use Rattle.descriptor_loop.specs.Place.{viewsOf}
@@ -25,7 +26,7 @@ use Rattle.upid.specs.declared.Part.{Part}
 use Rattle.upid.specs.declared.Refusal.{Refusal}
 use Rattle.theorems_reader.specs.Identifiers.{Identifier, inSection, inLent, upidsOf, partsOf, partsRead, eidrOf, besidesOf, each, identifiersOfItem, identifiersOf}
 use Rattle.section.specs.Section.{loopIn}
-use Rattle.theorems_reader.specs.Listing.{ListsUpid, ListsDetail, ListsItem, ListsCommand}
+use Rattle.theorems_reader.specs.Listing.{ListsUpid, ListsItem, ListsCommand}
 
 module _ (ids : List Identifier) where
   -- all of a list are among the identifiers
@@ -64,36 +65,33 @@ module _ (ids : List Identifier) where
           parts = map-lists (λ (p : Part). inLent (base + u .bytes .at) (viewed loop (u .bytes)) (partView p)) (partsRead (u .«upid_type») (viewed loop (u .bytes))) (into-left (partsOf base loop u) _ g);
         }
 
-    detail-lists : (x : SegmentationDescriptor) (d : DescriptorDetail) → x .«descriptor_detail» ≡ d → Into (ofItem (Item.Is (Descriptor.Segmentation x))) → ListsDetail ids base loop y d
-    detail-lists x DescriptorDetail.Cancel e f = tt
-    detail-lists x (DescriptorDetail.Active i) e f =
+    detail-lists : (x : SegmentationDescriptor) (i : SegmentationDetail) → x .«descriptor_detail» ≡ DescriptorDetail.Active i → Into (ofItem (Item.Is (Descriptor.Segmentation x)))
+        → ListsUpid ids base loop y (i .«segmentation_upid»)
+    detail-lists x i e f =
         let g = rw e at f in
         upid-lists (i .«segmentation_upid»)
         (into-left (map (inLent base loop) (upidViews (i .«segmentation_upid»))) _ g)
         (into-left (ofUpid (i .«segmentation_upid»)) [] (into-left (each ofUpid (i .«segmentation_upid» ∷ [])) [] (into-right (map (inLent base loop) (upidViews (i .«segmentation_upid»))) _ g)))
 
-    item-lists : (it : Item) → Into (ofItem it) → ListsItem ids base loop y it
-    item-lists Item.End f = tt
-    item-lists (Item.Refused ItemRefusal.InvalidDescriptorLength) f = tt
-    item-lists (Item.Refused (ItemRefusal.Other Refusal.InputTooLong)) f = tt
-    item-lists (Item.Refused (ItemRefusal.Other (Refusal.NotEnoughData expected actual))) f = tt
-    item-lists (Item.Refused (ItemRefusal.Other Refusal.UpidLengthTypeMismatch)) f = tt
-    item-lists (Item.Refused (ItemRefusal.Other (Refusal.InvalidUpidContent upid-type v))) f = into-first (inLent base loop v) _ f
-    item-lists (Item.Refused (ItemRefusal.Other (Refusal.InvalidUpidLength upid-type expected actual))) f = tt
-    item-lists (Item.Is (Descriptor.Avail x)) f = tt
-    item-lists (Item.Is (Descriptor.Dtmf x)) f = into-first (inLent base loop (x .«dtmf_chars»)) _ f
-    item-lists (Item.Is (Descriptor.Segmentation x)) f = detail-lists x (x .«descriptor_detail») refl f
-    item-lists (Item.Is (Descriptor.Time x)) f = tt
-    item-lists (Item.Is (Descriptor.Reserved tag v)) f = (into-first (inLent base loop v) _ f, into-first _ [] (λ i m. f i (List·Memᴰ·tail m)))
+    item-lists : Into (ofItem (y .step .item)) → ListsItem ids base loop y
+    item-lists f =
+        record {
+          dtmf = λ d e. into-first (inLent base loop (d .«dtmf_chars»)) _ (seen (Item.Is (Descriptor.Dtmf d)) e);
+          upid = λ d i e g. detail-lists d i g (seen (Item.Is (Descriptor.Segmentation d)) e);
+          reserved = λ tag v e.
+              let g : Into (ofItem (Item.Is (Descriptor.Reserved tag v))) = seen (Item.Is (Descriptor.Reserved tag v)) e in
+              (into-first (inLent base loop v) _ g, into-first _ [] (λ i m. g i (List·Memᴰ·tail m)));
+          text = λ k v e. into-first (inLent base loop v) _ (seen (Item.Refused (ItemRefusal.Other (Refusal.InvalidUpidContent k v))) e);
+        }
+      where
+        seen : (it : Item) → y .step .item ≡ it → Into (ofItem it)
+        seen it e = subst (λ (z : Item). Into (ofItem z)) e f
 
 -- ---- of a section
 
 command-lists : (ids : List Identifier) (s : List ℕ) (c : SpliceCommand) → Into ids (ofPrivate (λ p. inSection s (p .«private_bytes») ∷ []) [] c) → ListsCommand ids s c
-command-lists ids s SpliceCommand.SpliceNull f = tt
-command-lists ids s (SpliceCommand.SpliceInsert i) f = tt
-command-lists ids s (SpliceCommand.TimeSignal t) f = tt
-command-lists ids s SpliceCommand.BandwidthReservation f = tt
-command-lists ids s (SpliceCommand.PrivateCommand p) f = into-first ids (inSection s (p .«private_bytes»)) [] f
+command-lists ids s c f p e =
+    into-first ids (inSection s (p .«private_bytes»)) [] (subst (λ (d : SpliceCommand). Into ids (ofPrivate (λ p. inSection s (p .«private_bytes») ∷ []) [] d)) e f)
 
 module _ (s : List ℕ) (x : Section) where
   abbrev own : List Identifier
@@ -103,9 +101,9 @@ module _ (s : List ℕ) (x : Section) where
   unfolding identifiersOf
   lists-command = command-lists (identifiersOf s x) s (x .command) (into-left (identifiersOf s x) own _ (λ i m. m))
 
-  pub lists-items : All (λ (y : Listed). ListsItem (identifiersOf s x) (x .descriptors .at) (loopIn s x) y (y .step .item)) (itemsOf (loopIn s x))
+  pub lists-items : All (ListsItem (identifiersOf s x) (x .descriptors .at) (loopIn s x)) (itemsOf (loopIn s x))
   unfolding identifiersOf
   lists-items =
       each-lists (identifiersOf s x) (identifiersOfItem (x .descriptors .at) (loopIn s x))
-      (λ y f. item-lists (identifiersOf s x) (x .descriptors .at) (loopIn s x) y (y .step .item) f) (itemsOf (loopIn s x))
+      (λ y f. item-lists (identifiersOf s x) (x .descriptors .at) (loopIn s x) y f) (itemsOf (loopIn s x))
       (into-right (identifiersOf s x) own (each (identifiersOfItem (x .descriptors .at) (loopIn s x)) (itemsOf (loopIn s x))) (λ i m. m))

@@ -61,6 +61,7 @@ use Rattle.theorems_reader.proofs.Sections as sections
 use Rattle.splice_time.proofs.Times as adjustments
 use Rattle.theorems_reader.proofs.Tolerated as tolerated
 use Rattle.theorems_reader.proofs.Whole as whole-runs
+use Rattle.theorems_reader.proofs.WholeCases as cases
 
 -- ---- acceptance
 
@@ -159,7 +160,7 @@ every-identifier-of-the-loop-is-whole = whole-runs.whole-items
 
 -- and of a command: its private bytes
 pub the-private-bytes-of-the-section-are-whole : (s : List ℕ) (x : Section) → sectionOf s ≡ SectionRead.Is x → WholeCommand s (x .command)
-the-private-bytes-of-the-section-are-whole = whole-runs.whole-command
+the-private-bytes-of-the-section-are-whole s x e = cases.command-whole s (x .command) (whole-runs.whole-command s x e)
 
 -- so a reader that cuts one is not the definition's: of a UPID of type 15 with 20 bytes announced twelve are not the whole
 pub a-cut-upid-is-not-whole : (s : List ℕ) (h base : ℕ) (loop beside : List ℕ) (u : SegmentationUpid) → u .«upid_type» ≡ 15 → u .bytes .len ≡ 12 → getD s (h + 1) 0 ≡ 20
@@ -168,7 +169,7 @@ a-cut-upid-is-not-whole = whole-runs.a-cut-upid-is-not-whole
 
 -- and the list of identifiers above leaves none out (specs/Listing.antt)
 pub the-list-of-identifiers-is-complete : (s : List ℕ) (x : Section)
-    → All (λ y. ListsItem (identifiersOf s x) (x .descriptors .at) (loopIn s x) y (y .step .item)) (itemsOf (loopIn s x)) × ListsCommand (identifiersOf s x) s (x .command)
+    → All (ListsItem (identifiersOf s x) (x .descriptors .at) (loopIn s x)) (itemsOf (loopIn s x)) × ListsCommand (identifiersOf s x) s (x .command)
 the-list-of-identifiers-is-complete s x = (listing.lists-items s x, listing.lists-command s x)
 
 -- (The parts of a UPID, as `read_upid` answers them: those of its walk, and none of what is refused)

@@ -56,7 +56,9 @@ use Rattle.section.specs.declared.Section.{Section}
 use Rattle.section.specs.declared.SectionRead.{SectionRead}
 use Rattle.table.proofs.Bits.{byte-in}
 use Rattle.theorems_reader.specs.Identifiers.{Identifier, OneRun, inSection, inLent, partsRead, upidsOf, Unsplit}
-use Rattle.theorems_reader.specs.Whole.{Exactly, WholeUpid, upidAt, WholeDetail, WholeText, WholeRefusal, WholeItem, WholeAt, WholePrivate, WholeCommand}
+use Rattle.theorems_reader.specs.Whole.{Exactly, WholeUpid, upidAt, WholeText, WholeAt, WholePrivate}
+use Rattle.theorems_reader.proofs.WholeCases.{DetailCase, RefusalCase, ItemCase, CommandCase}
+use Rattle.theorems_reader.proofs.WholeCases as cases
 use Rattle.theorems_reader.proofs.Framed.{laid}
 use Rattle.theorems_reader.proofs.Items.{Found, found, unsplit, mid-of}
 use Rattle.theorems_reader.proofs.Runs.{viewed-is, length-viewed, length-run, section-run, lent-run, getD-run}
@@ -226,7 +228,7 @@ module _ (s : List ℕ) (i : Identifier) (r : OneRun s i) (offset L : ℕ) (st :
             (g .len ∙ byte (v .at - 0 - 1) (omega (arith, g .behind, g .inside)) (i .start + (offset + 6 + v .at) - 1) (omega (arith, g .behind)));
       }
 
-  refusal-whole : (q : Refusal) → SaysRefusal payload q → WholeRefusal s (i .start + offset + 6) (i .start) (i .bytes) (ItemRefusal.Other (movedRefusal (offset + 6) q))
+  refusal-whole : (q : Refusal) → SaysRefusal payload q → RefusalCase s (i .start + offset + 6) (i .start) (i .bytes) (ItemRefusal.Other (movedRefusal (offset + 6) q))
   refusal-whole Refusal.InputTooLong t = tt
   refusal-whole (Refusal.NotEnoughData expected actual) t = tt
   refusal-whole Refusal.UpidLengthTypeMismatch t = tt
@@ -249,7 +251,7 @@ module _ (s : List ℕ) (i : Identifier) (r : OneRun s i) (offset L : ℕ) (st :
   again = ap (λ (n : ℕ). take n (drop (offset + 6) (i .bytes))) (let z : offset + (L + 2) - (offset + 6) ≡ L - 4 = omega arith in z)
 
   detail-whole : (d : DescriptorDetail) → SaysDetail payload d
-      → WholeDetail s (i .start + offset + 6) (i .start) (i .bytes) (besideOf payloadAgain .eidr) (movedDetail (offset + 6) d)
+      → DetailCase s (i .start + offset + 6) (i .start) (i .bytes) (besideOf payloadAgain .eidr) (movedDetail (offset + 6) d)
   detail-whole DescriptorDetail.Cancel t = ap (λ (n : ℕ). n / 128 % 2) (sym (byte 4 (omega (arith, t .0, size)) (i .start + offset + 6 + 4) refl)) ∙ t .1
   detail-whole (DescriptorDetail.Active d) t = rw (← by-bytes d t) (upid-whole d t (besideOf payloadAgain .eidr) (ap (λ (l : List ℕ). besideOf l .eidr) again))
 
@@ -272,7 +274,7 @@ module _ (s : List ℕ) (i : Identifier) (r : OneRun s i) (offset L : ℕ) (st :
       → Exactly s at n (inLent (i .start) (i .bytes) (shifted (offset + 6) v))
   view-exactly v w e g at n ea en = rw e (exactly s (inLent (i .start) (i .bytes) (shifted (offset + 6) w)) (moved-run w g) at n ea en)
 
-  item-whole : (d : DescriptorRead) → Says payload d → WholeItem s (i .start) (i .bytes) offset (readingIs d) (itemAt (offset + 6) d)
+  item-whole : (d : DescriptorRead) → Says payload d → ItemCase s (i .start) (i .bytes) offset (readingIs d) (itemAt (offset + 6) d)
   item-whole (DescriptorRead.Is (Descriptor.Avail x)) t = tt
   item-whole (DescriptorRead.Is (Descriptor.Dtmf x)) t =
       let n : getD payload 1 0 ≡ getD s (i .start + offset + 6 + 1) 0 = byte 1 (omega (arith, t .1, size)) (i .start + offset + 6 + 1) refl in
@@ -288,7 +290,7 @@ module _ (s : List ℕ) (i : Identifier) (r : OneRun s i) (offset L : ℕ) (st :
 -- ---- at any offset
 
 -- a refusal without a view
-no-text : (s : List ℕ) (p base : ℕ) (loop : List ℕ) (q : ItemRefusal) → viewsOf (Item.Refused q) ≡ [] → WholeRefusal s p base loop q
+no-text : (s : List ℕ) (p base : ℕ) (loop : List ℕ) (q : ItemRefusal) → viewsOf (Item.Refused q) ≡ [] → RefusalCase s p base loop q
 no-text s p base loop ItemRefusal.InvalidDescriptorLength e = tt
 no-text s p base loop (ItemRefusal.Other Refusal.InputTooLong) e = tt
 no-text s p base loop (ItemRefusal.Other (Refusal.NotEnoughData expected actual)) e = tt
@@ -309,7 +311,7 @@ module _ (s : List ℕ) (a : AllBytes s) (i : Identifier) (r : OneRun s i) where
       let l : List ℕ = take (L - 4) (drop (offset + 6) (i .bytes)) in
       payload-says l (byte-in l (bytes-take (L - 4) (drop (offset + 6) (i .bytes)) (bytes-drop (offset + 6) (i .bytes) loop-bytes))) _ _
 
-  whole-by : (offset : ℕ) {st : Step} → Clause (i .bytes) offset st → WholeItem s (i .start) (i .bytes) offset (readingBy offset st) (st .item)
+  whole-by : (offset : ℕ) {st : Step} → Clause (i .bytes) offset st → ItemCase s (i .start) (i .bytes) offset (readingBy offset st) (st .item)
   unfolding wholeAt
   whole-by offset (long h) = tt
   whole-by offset (ended h) = tt
@@ -317,7 +319,7 @@ module _ (s : List ℕ) (a : AllBytes s) (i : Identifier) (r : OneRun s i) where
   whole-by offset (small L t) = tt
   whole-by offset (entire L t h) = item-whole s i r offset L t h (readAt (i .bytes) offset L) (says offset L)
 
-  whole-reading : (offset : ℕ) → WholeItem s (i .start) (i .bytes) offset (readingOf (i .bytes) offset) (stepOf (i .bytes) offset .item)
+  whole-reading : (offset : ℕ) → ItemCase s (i .start) (i .bytes) offset (readingOf (i .bytes) offset) (stepOf (i .bytes) offset .item)
   unfolding readingOf
   whole-reading offset = whole-by offset (clause (i .bytes) offset)
 
@@ -364,22 +366,25 @@ module _ (s : List ℕ) where
 
 -- what is said of an item says it of its UPID
 upid-from : (s : List ℕ) (base : ℕ) (loop : List ℕ) (offset : ℕ) (r : Reading) (it : Item) (d : SegmentationDescriptor) (i : SegmentationDetail) → it ≡ Item.Is (Descriptor.Segmentation d)
-    → d .«descriptor_detail» ≡ DescriptorDetail.Active i → WholeItem s base loop offset r it → WholeUpid s (upidAt s (base + offset + 6)) base loop (r .beside .eidr) (i .«segmentation_upid»)
+    → d .«descriptor_detail» ≡ DescriptorDetail.Active i → ItemCase s base loop offset r it → WholeUpid s (upidAt s (base + offset + 6)) base loop (r .beside .eidr) (i .«segmentation_upid»)
 upid-from s base loop offset r it d i e f w =
-    let g : WholeDetail s (base + offset + 6) base loop (r .beside .eidr) (d .«descriptor_detail») = rw e at w in
+    let g : DetailCase s (base + offset + 6) base loop (r .beside .eidr) (d .«descriptor_detail») = rw e at w in
     rw f at g
 
 module _ (s : List ℕ) (x : Section) (e : sectionOf s ≡ SectionRead.Is x) where
-  pub whole-at : AllBytes s → (offset : ℕ) → WholeAt s x offset (readingOf (loopIn s x) offset)
+  pub whole-case : AllBytes s → (offset : ℕ) → ItemCase s (x .descriptors .at) (loopIn s x) offset (readingOf (loopIn s x) offset) (readingOf (loopIn s x) offset .step .item)
   unfolding readingOf
-  whole-at a offset = whole-reading s a (inSection s (x .descriptors)) (loop-run s x e) offset
+  whole-case a offset = whole-reading s a (inSection s (x .descriptors)) (loop-run s x e) offset
+
+  pub whole-at : AllBytes s → (offset : ℕ) → WholeAt s x offset (readingOf (loopIn s x) offset)
+  whole-at a offset = cases.item-whole s (x .descriptors .at) (loopIn s x) offset (readingOf (loopIn s x) offset) (whole-case a offset)
 
   -- of the items of the loop, which are what is read at their offsets
   pub whole-items : AllBytes s → All (λ (y : Listed). (y .step ≡ readingOf (loopIn s x) (y .offset) .step) × WholeAt s x (y .offset) (readingOf (loopIn s x) (y .offset))) (itemsOf (loopIn s x))
   unfolding readingOf
   whole-items a = each-item (λ o inside. (refl, whole-at a o)) (walked (loopIn s x) (loop-short s x e))
 
-  command-whole : (k : ℕ) (c : SpliceCommand) → 14 + commandLength s ≤ length s → commandOf k (commandBytes s) ≡ CommandRead.Is c → WholeCommand s (moved 14 c)
+  command-whole : (k : ℕ) (c : SpliceCommand) → 14 + commandLength s ≤ length s → commandOf k (commandBytes s) ≡ CommandRead.Is c → CommandCase s (moved 14 c)
   unfolding moved commandBytes
   command-whole k (SpliceCommand.PrivateCommand p) h f =
       let g : Ends (commandBytes s) (CommandRead.Is (SpliceCommand.PrivateCommand p)) = rw f at (all-end (commandBytes s) k) in
@@ -396,7 +401,7 @@ module _ (s : List ℕ) (x : Section) (e : sectionOf s ≡ SectionRead.Is x) whe
   command-whole k (SpliceCommand.TimeSignal t) h f = tt
   command-whole k SpliceCommand.BandwidthReservation h f = tt
 
-  pub whole-command : WholeCommand s (x .command)
+  pub whole-command : CommandCase s (x .command)
   whole-command =
       let l = laid s x e in
       rw (l .command) (command-whole _ (l .read) (omega (arith, l .fits)) (l .from))
@@ -408,7 +413,7 @@ module _ (s : List ℕ) (x : Section) (e : sectionOf s ≡ SectionRead.Is x) whe
     pub whole-upid : AllBytes s
         → WholeUpid s (upidAt s (x .descriptors .at + offset + 6)) (x .descriptors .at) (loopIn s x) (readingOf (loopIn s x) offset .beside .eidr) (i .«segmentation_upid»)
     unfolding readingOf
-    whole-upid a = upid-from s (x .descriptors .at) (loopIn s x) offset (readingOf (loopIn s x) offset) (stepOf (loopIn s x) offset .item) d i is detail (whole-at a offset)
+    whole-upid a = upid-from s (x .descriptors .at) (loopIn s x) offset (readingOf (loopIn s x) offset) (stepOf (loopIn s x) offset .item) d i is detail (whole-case a offset)
 
     pub whole-mid : i .«segmentation_upid» .«upid_type» ≡ 13 → Unsplit s (inLent (x .descriptors .at) (loopIn s x) (i .«segmentation_upid» .bytes))
     whole-mid k =

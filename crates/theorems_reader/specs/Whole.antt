@@ -5,10 +5,14 @@ use mathlib.Core.List.{List}
 use mathlib.Core.Path.{_≡_}
 use lib.Dec.{eqb}
 use lib.ListN.{length, take, drop, getD}
+use Rattle.command.specs.declared.Private.{Private}
 use Rattle.command.specs.declared.SpliceCommand.{SpliceCommand}
 use Rattle.descriptor.specs.Segmentation.{fieldsBefore}
 use Rattle.descriptor.specs.declared.Descriptor.{Descriptor}
+use Rattle.descriptor.specs.declared.plain.DTMFDescriptor.{DTMFDescriptor}
 use Rattle.descriptor.specs.declared.segmentation.DescriptorDetail.{DescriptorDetail}
+use Rattle.descriptor.specs.declared.segmentation.SegmentationDescriptor.{SegmentationDescriptor}
+use Rattle.descriptor.specs.declared.segmentation.SegmentationDetail.{SegmentationDetail}
 use Rattle.descriptor.specs.declared.segmentation.SegmentationUpid.{SegmentationUpid}
 use Rattle.descriptor_loop.specs.declared.Item.{Item}
 use Rattle.descriptor_loop.specs.declared.ItemRefusal.{ItemRefusal}
@@ -16,6 +20,7 @@ use Rattle.descriptor_loop.specs.declared.reading.Reading.{Reading}
 use Rattle.section.specs.Section.{commandLength, loopIn}
 use Rattle.section.specs.declared.Section.{Section}
 use Rattle.table.specs.Bits.{pick}
+use Rattle.table.specs.declared.View.{View}
 use Rattle.upid.specs.declared.Refusal.{Refusal}
 use Rattle.theorems_reader.specs.Identifiers.{Identifier, inSection, inLent, Unsplit}
 
@@ -41,44 +46,29 @@ pub record WholeUpid (s : List ℕ) (h base : ℕ) (loop beside : List ℕ) (u :
 abbrev pub upidAt : List ℕ → ℕ → ℕ
 upidAt s p = p + (6 + fieldsBefore (getD s (p + 5) 0) (getD s (p + 6) 0))
 
--- (a cancelled one has no UPID, and its cancel bit is set: none is left out)
-abbrev pub WholeDetail : List ℕ → ℕ → ℕ → List ℕ → List ℕ → DescriptorDetail → Type 0
-WholeDetail s p base loop eidr DescriptorDetail.Cancel = getD s (p + 4) 0 / 128 % 2 ≡ 1
-WholeDetail s p base loop eidr (DescriptorDetail.Active i) = WholeUpid s (upidAt s p) base loop eidr (i .«segmentation_upid»)
-
 -- ---- the text of refusal 24, of a UPID or of a part of a MID: the two bytes before it are its type and its length
 pub record WholeText (s : List ℕ) (p k : ℕ) (i : Identifier) : Type 0 where
   pub behind : p + 2 ≤ i .start
   pub «upid_type» : k ≡ getD s (i .start - 2) 0
   pub whole : Exactly s (i .start) (getD s (i .start - 1) 0) i
 
-abbrev pub WholeRefusal : List ℕ → ℕ → ℕ → List ℕ → ItemRefusal → Type 0
-WholeRefusal s p base loop ItemRefusal.InvalidDescriptorLength = Unit {0}
-WholeRefusal s p base loop (ItemRefusal.Other Refusal.InputTooLong) = Unit {0}
-WholeRefusal s p base loop (ItemRefusal.Other (Refusal.NotEnoughData expected actual)) = Unit {0}
-WholeRefusal s p base loop (ItemRefusal.Other Refusal.UpidLengthTypeMismatch) = Unit {0}
-WholeRefusal s p base loop (ItemRefusal.Other (Refusal.InvalidUpidContent «upid_type» v)) = WholeText s p «upid_type» (inLent base loop v)
-WholeRefusal s p base loop (ItemRefusal.Other (Refusal.InvalidUpidLength «upid_type» expected actual)) = Unit {0}
-
--- ---- an item that is read at `offset` of a loop which starts at `base` of the section, with what stands beside it; its payload starts 6 bytes behind its head.
--- "1 DTMF: preroll 8, count 3, reserved 5, count bytes"; "reserved, with tag, identifier and bytes": the length that is written counts
--- the identifier's four bytes and these
-abbrev pub WholeItem : List ℕ → ℕ → List ℕ → ℕ → Reading → Item → Type 0
-WholeItem s base loop offset r Item.End = Unit {0}
-WholeItem s base loop offset r (Item.Refused q) = WholeRefusal s (base + offset + 6) base loop q
-WholeItem s base loop offset r (Item.Is (Descriptor.Avail x)) = Unit {0}
-WholeItem s base loop offset r (Item.Is (Descriptor.Dtmf x)) =
-    let p : ℕ = base + offset + 6 in
-    Exactly s (p + 2) (getD s (p + 1) 0 / 32) (inLent base loop (x .«dtmf_chars»))
-WholeItem s base loop offset r (Item.Is (Descriptor.Segmentation x)) = WholeDetail s (base + offset + 6) base loop (r .beside .eidr) (x .«descriptor_detail»)
-WholeItem s base loop offset r (Item.Is (Descriptor.Time x)) = Unit {0}
-WholeItem s base loop offset r (Item.Is (Descriptor.Reserved tag v)) =
-    Exactly s (base + offset + 6) (getD s (base + offset + 1) 0 - 4) (inLent base loop v)
-    × Exactly s (base + offset + 2) 4 (record { start = base + offset + 2; len = 4; bytes = r .step .identifier })
+-- ---- an item that is read at `offset` of a loop which starts at `base` of the section, with what stands beside it; its payload starts 6 bytes behind its head
+pub record WholeItem (s : List ℕ) (base : ℕ) (loop : List ℕ) (offset : ℕ) (r : Reading) : Type 0 where
+  -- "1 DTMF: preroll 8, count 3, reserved 5, count bytes"
+  pub dtmf : (d : DTMFDescriptor) → r .step .item ≡ Item.Is (Descriptor.Dtmf d)
+      → Exactly s (base + offset + 6 + 2) (getD s (base + offset + 6 + 1) 0 / 32) (inLent base loop (d .«dtmf_chars»))
+  pub upid : (d : SegmentationDescriptor) (i : SegmentationDetail) → r .step .item ≡ Item.Is (Descriptor.Segmentation d) → d .«descriptor_detail» ≡ DescriptorDetail.Active i
+      → WholeUpid s (upidAt s (base + offset + 6)) base loop (r .beside .eidr) (i .«segmentation_upid»)
+  -- (a cancelled one has no UPID, and its cancel bit is set: none is left out)
+  pub cancelled : (d : SegmentationDescriptor) → r .step .item ≡ Item.Is (Descriptor.Segmentation d) → d .«descriptor_detail» ≡ DescriptorDetail.Cancel → getD s (base + offset + 6 + 4) 0 / 128 % 2 ≡ 1
+  -- "reserved, with tag, identifier and bytes": the length that is written counts the identifier's four bytes and these
+  pub reserved : (tag : ℕ) (v : View) → r .step .item ≡ Item.Is (Descriptor.Reserved tag v) → Exactly s (base + offset + 6) (getD s (base + offset + 1) 0 - 4) (inLent base loop v)
+      × Exactly s (base + offset + 2) 4 (record { start = base + offset + 2; len = 4; bytes = r .step .identifier })
+  pub text : (k : ℕ) (v : View) → r .step .item ≡ Item.Refused (ItemRefusal.Other (Refusal.InvalidUpidContent k v)) → WholeText s (base + offset + 6) k (inLent base loop v)
 
 -- the item that is read at an offset of a section's loop
 abbrev pub WholeAt : List ℕ → Section → ℕ → Reading → Type 0
-WholeAt s x offset r = WholeItem s (x .descriptors .at) (loopIn s x) offset r (r .step .item)
+WholeAt s x offset r = WholeItem s (x .descriptors .at) (loopIn s x) offset r
 
 -- ---- the private bytes of a command: from 18 to its end
 pub record WholePrivate (s : List ℕ) (i : Identifier) : Type 0 where
@@ -86,8 +76,4 @@ pub record WholePrivate (s : List ℕ) (i : Identifier) : Type 0 where
   pub whole : Exactly s 18 (commandLength s - 4) i
 
 abbrev pub WholeCommand : List ℕ → SpliceCommand → Type 0
-WholeCommand s SpliceCommand.SpliceNull = Unit {0}
-WholeCommand s (SpliceCommand.SpliceInsert i) = Unit {0}
-WholeCommand s (SpliceCommand.TimeSignal t) = Unit {0}
-WholeCommand s SpliceCommand.BandwidthReservation = Unit {0}
-WholeCommand s (SpliceCommand.PrivateCommand p) = WholePrivate s (inSection s (p .«private_bytes»))
+WholeCommand s c = (p : Private) → c ≡ SpliceCommand.PrivateCommand p → WholePrivate s (inSection s (p .«private_bytes»))

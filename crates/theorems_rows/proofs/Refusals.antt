@@ -5,7 +5,7 @@ use mathlib.Core.List.{List, [], _∷_}
 use mathlib.Core.Path.{_≡_, refl, ap, sym, _∙_}
 use native.Mathlib.Omega.{arith}
 use lib.Dec.{eqb, ltb}
-use lib.ListN.{length, take, drop, getD, length-drop}
+use lib.ListN.{length, take, drop, getD, replicate, length-drop}
 use lib.Seq.{getD-drop}
 use borrow.Author.Tests.{eq-eqb, ne-eqb, lt-ltb, le-ltb, eqb-true}
 use Rattle.command.specs.Command.{numberOf}
@@ -13,13 +13,14 @@ use Rattle.command.specs.declared.CommandRead.{CommandRead}
 use Rattle.descriptor.specs.Descriptor.{availOf, dtmfOf, timeOf, reservedOf, segmentationOf, insertOf, inserted, isCuei, cuei, descriptorOf, _andThen_, ifFine}
 use Rattle.descriptor.specs.Plain.{avail, dtmf, time}
 use Rattle.descriptor.specs.Segmentation.{head, front, back}
+use Rattle.descriptor.specs.Whole.{blankBeside, identifierRead}
 use Rattle.descriptor.specs.declared.Descriptor.{Descriptor}
 use Rattle.descriptor.specs.declared.segmentation.DescriptorDetail.{DescriptorDetail}
 use Rattle.descriptor.specs.declared.DescriptorRead.{DescriptorRead}
 use Rattle.descriptor.specs.declared.segmentation.SegmentationUpid.{SegmentationUpid}
-use Rattle.descriptor_loop.proofs.Steps.{step-long, step-end, step-few, step-over, step-full, step-small, step-whole}
+use Rattle.descriptor_loop.proofs.Steps.{Clause, clause, step-long, step-end, step-few, step-over, step-full, step-small, step-whole}
 use Rattle.descriptor_loop.specs.Cover.{Ends}
-use Rattle.descriptor_loop.specs.Items.{withoutIdentifier, short, stepOf, wholeAt}
+use Rattle.descriptor_loop.specs.Items.{withoutIdentifier, short, itemAt, readAt, stepOf, readingOf, wholeAt}
 use Rattle.descriptor_loop.specs.Items as items
 use Rattle.descriptor_loop.specs.declared.Item.{Item}
 use Rattle.descriptor_loop.specs.declared.ItemRefusal.{ItemRefusal}
@@ -272,3 +273,26 @@ ending loop offset fits (Ends.full a b) =
     let n : length (drop offset loop) ≡ length loop - offset = length-drop offset loop in
     let L : getD (drop offset loop) 1 0 ≡ getD loop (offset + 1) 0 = getD-drop offset loop 1 0 in
     length-255 loop offset fits (omega (arith, n, a, b)) (omega (arith, n, a, L)) (omega (arith, b, L))
+
+-- ---- by each rule
+pub loops-that-end : (few : Ends (0x00 ∷ [])) × (over : Ends (0x02 ∷ 0x09 ∷ 0x43 ∷ 0x55 ∷ 0x45 ∷ 0x49 ∷ [])) × (full : Ends (0x02 ∷ 0xFF ∷ replicate 255 0))
+    × (endValues few ≡ 2 ∷ 0 ∷ []) × (endValues over ≡ 11 ∷ 0 ∷ []) × (endNumber full ≡ 22)
+loops-that-end = (Ends.few {rest = 0x00 ∷ []} (omega arith) (omega arith), Ends.over {rest = 0x02 ∷ 0x09 ∷ 0x43 ∷ 0x55 ∷ 0x45 ∷ 0x49 ∷ []} (omega arith) (omega arith), Ends.full {rest = 0x02 ∷ 0xFF ∷ replicate 255 0} (omega arith) (omega arith), refl, refl, refl)
+
+-- ---- a refused item is no reading: nothing stands beside it
+by-clause : (loop : List ℕ) (offset : ℕ) (r : ItemRefusal) {st : Step} → Clause loop offset st → st .item ≡ Item.Refused r → st .identifier ≡ replicate 4 0
+unfolding wholeAt
+by-clause loop offset r (Clause.long h) e = refl
+by-clause loop offset r (Clause.ended h) e = refl
+by-clause loop offset r (Clause.last q v h) e = refl
+by-clause loop offset r (Clause.small L t) e = refl
+by-clause loop offset r (Clause.entire L t h) e = go (readAt loop offset L) e
+  where
+    go : (d : DescriptorRead) → itemAt (offset + 6) d ≡ Item.Refused r → identifierRead d (take 4 (drop (offset + 2) loop)) ≡ replicate 4 0
+    go (DescriptorRead.Is d) e = zero-one cc
+    go (DescriptorRead.Refused q) e = refl
+
+pub nothing-beside : (loop : List ℕ) (offset : ℕ) (r : ItemRefusal) → stepOf loop offset .item ≡ Item.Refused r
+    → (readingOf loop offset .beside ≡ blankBeside) × (stepOf loop offset .identifier ≡ replicate 4 0)
+unfolding readingOf
+nothing-beside loop offset r e = (rw e, by-clause loop offset r (clause loop offset) e)

@@ -1,14 +1,16 @@
 -- Worked sections, and each refusal of an item and of a UPID by its own words. A reader needs the specs of this crate beside this file. (Those of a section, 1 to 11: theorems/proofs/Theorems.antt,
--- `refusals-1-to-11-in-order`; of an adjusted time, 32: `numbers-of-34-bits-are-not-adjusted` there; of a short target, 36: `Puts` in theorems_functions.)
-use Prim.Native.Nat.{ℕ, _+_, _-_, _≤_, _<_}
+-- `refusals-1-to-11-in-order`; of an adjusted time, 32: `numbers-of-34-bits-are-not-adjusted` there; of a short target, 36, of the writers: `Puts` in theorems_functions.)
+use Prim.Native.Nat.{ℕ, _+_, _-_, _/_, _≤_, _<_}
 use mathlib.Core.Bool.{true, false}
-use mathlib.Core.List.{List, [], _∷_}
+use mathlib.Core.List.{List, [], _∷_, _++_}
 use mathlib.Core.Path.{_≡_, refl, sym, _∙_}
 use native.Mathlib.Omega.{arith}
-use lib.ListN.{length, take, drop, getD}
+use lib.ListN.{length, take, drop, getD, replicate}
 use lib.Dec.{eqb}
-use borrow.Author.Tests.{ne-eqb}
-use Rattle.command.specs.Command.{commandOf, private}
+use borrow.Author.Tests.{ne-eqb, le-leb, lt-leb}
+use Rattle.bit_stores.specs.Written.{answerOf, laterOf}
+use Rattle.bit_stores.specs.declared.Written.{Written}
+use Rattle.command.specs.Command.{commandOf, componentsOf, private}
 use Rattle.command.specs.Insert.{WithComponents, insert}
 use Rattle.command.specs.declared.CommandRead.{CommandRead}
 use Rattle.command.specs.declared.Private.{Private}
@@ -16,17 +18,24 @@ use Rattle.command.specs.declared.SpliceCommand.{SpliceCommand}
 use Rattle.command.specs.declared.insert.SpliceInsert.{SpliceInsert}
 use Rattle.descriptor.proofs.Plains.{avail-short, avail-is, time-short, time-is, reserved-is}
 use Rattle.descriptor.specs.Descriptor.{availOf, timeOf, reservedOf, cuei, descriptorOf, isCuei}
+use Rattle.descriptor.specs.Plain.{dtmf}
+use Rattle.descriptor.specs.Whole.{blankBeside}
 use Rattle.descriptor.specs.declared.Descriptor.{Descriptor}
 use Rattle.descriptor.specs.declared.DescriptorRead.{DescriptorRead}
+use Rattle.descriptor.specs.declared.plain.DTMFDescriptor.{DTMFDescriptor}
 use Rattle.header.proofs.Headers.{header-refused, header-there}
 use Rattle.header.specs.Header.{headerOf}
 use Rattle.header.specs.declared.header.HeaderRead.{HeaderRead}
 use Rattle.header.specs.declared.header.SpliceInfoHeader.{SpliceInfoHeader}
 use Rattle.descriptor_loop.specs.Cover.{Ends}
-use Rattle.descriptor_loop.specs.Items.{stepOf, wholeAt}
+use Rattle.descriptor_loop.specs.Items.{stepOf, readingOf, wholeAt}
 use Rattle.descriptor_loop.specs.declared.Item.{Item}
+use Rattle.descriptor_loop.specs.declared.ItemRefusal.{ItemRefusal}
 use Rattle.names.specs.Flags.{Answer, networkOf, returnOf, restrictionsOf}
-use Rattle.section.specs.Section.{commandType, commandBytes, malformedCommand, sectionOf, loopLength, numberOf}
+use Rattle.names.specs.declared.flags.DeviceRestrictions.{DeviceRestrictions}
+use Rattle.names.specs.declared.flags.NetworkIndicator.{NetworkIndicator}
+use Rattle.names.specs.declared.flags.ReturnMode.{ReturnMode}
+use Rattle.section.specs.Section.{commandType, commandBytes, loopBytes, malformedCommand, sectionOf, loopLength, numberOf}
 use Rattle.section.specs.declared.Section.{Section}
 use Rattle.section.specs.declared.SectionRead.{SectionRead}
 use Rattle.canonical_form.specs.Section.{canonicalSection}
@@ -34,17 +43,21 @@ use Rattle.splice_time.specs.Time.{spliceTime}
 use Rattle.splice_time.specs.declared.SpliceTime.{SpliceTime}
 use Rattle.table.specs.Bits.{bitsOf, field, AllBytes}
 use Rattle.table.specs.Table.{got, short, parse}
+use Rattle.table.specs.Writing.{made}
 use Rattle.canonical_form.specs.Same.{SameSections}
 use Rattle.theorems_rows.specs.Examples.{EmptyCommand, Identified, spliceNull, eight, twelve, both, eightAndTwelve}
 use Rattle.upid.specs.Cover.{All}
 use Rattle.upid.specs.Text.{textOf}
-use Rattle.upid.specs.Upid.{checkOf}
+use Rattle.upid.specs.Upid.{checkOf, readOf, lengthOf, reportedOf}
 use Rattle.upid.specs.declared.Refusal.{Refusal}
 use Rattle.upid.specs.declared.UpidRead.{UpidRead}
 use Rattle.theorems_rows.specs.Refusals.{StepRefused, endNumber, endValues, UpidRefused, kindOf, fixedLengths, texts, plainLengths}
 use Rattle.theorems_rows.specs.Sections.{eighteen, nineteen, insertSection, otherInsertSection, everyIdentifier, everyDescriptor, everyCommand}
+use Rattle.theorems_rows.specs.Payloads.{SegmentationReads, Unrefused, MidReads, partRead, kindsOf}
 use Rattle.theorems_rows.specs.Rows.{Holds, rows}
 use Rattle.header.specs.Header as header
+use Rattle.theorems_rows.proofs.Mids as mids
+use Rattle.theorems_rows.proofs.Payloads as payloads
 use Rattle.theorems_rows.proofs.Refusals as refusals
 use Rattle.theorems_rows.proofs.Worked as worked
 use Rattle.theorems_rows.proofs.RowsHold as rows-hold
@@ -77,6 +90,12 @@ two-sections-with-equal-readings = (worked.insertReading, worked.insertReading, 
 -- there is a canonical section with an insert by components and every kind of descriptor
 pub a-canonical-section-with-every-descriptor : canonicalSection everyDescriptor ≡ true
 a-canonical-section-with-every-descriptor = worked.every-descriptor-canonical
+
+-- which are these, in order: avail, DTMF, segmentation, a cancelled one, time, reserved; the insert has two components, and the first segmentation one
+pub the-descriptors-of-that-section : (kindsOf everyDescriptor ≡ 0 ∷ 1 ∷ 2 ∷ 2 ∷ 3 ∷ 4 ∷ []) × (commandType everyDescriptor ≡ 0x05)
+    × (take 2 (componentsOf (commandBytes everyDescriptor)) ≡ record { «component_tag» = 1; «splice_time» = SpliceTime.At 90000 } ∷ record { «component_tag» = 2; «splice_time» = SpliceTime.At 90001 } ∷ [])
+    × (take 1 (readingOf (loopBytes everyDescriptor) 19 .beside .components) ≡ record { «component_tag» = 5; «pts_offset» = 7 } ∷ [])
+the-descriptors-of-that-section = (worked.every-kind, worked.its-insert .0, worked.its-insert .1, worked.its-components)
 
 -- and one with each other command (a time_signal: `the-section-with-eight-and-twelve-is-canonical`)
 pub canonical-sections-with-every-command : All (λ (c : List ℕ × ℕ). (canonicalSection (c .0) ≡ true) × (commandType (c .0) ≡ c .1)) everyCommand
@@ -116,10 +135,19 @@ condition-11-is-of-the-command s = (λ e. rw e, λ e. refusals.malformed-only (c
 
 -- ---- 12: "a flag number over 1 or a restriction number over 3"
 
-pub flags-over-1-are-refused-with-12 : (networkOf 2 ≡ Answer.refuses 12 []) × (returnOf 2 ≡ Answer.refuses 12 []) × (restrictionsOf 4 ≡ Answer.refuses 12 [])
-    × (networkOf 255 ≡ Answer.refuses 12 []) × (returnOf 255 ≡ Answer.refuses 12 []) × (restrictionsOf 255 ≡ Answer.refuses 12 [])
+pub flags-over-1-are-refused-with-12 : (n : ℕ) → 1 < n → (networkOf n ≡ Answer.refuses 12 []) × (returnOf n ≡ Answer.refuses 12 []) × (3 < n → restrictionsOf n ≡ Answer.refuses 12 [])
 unfolding networkOf returnOf restrictionsOf
-flags-over-1-are-refused-with-12 = (refl, refl, refl, refl, refl, refl)
+flags-over-1-are-refused-with-12 n h =
+    let a : eqb n 0 ≡ false = ne-eqb n 0 (λ e. omega arith) in
+    let b : eqb n 1 ≡ false = ne-eqb n 1 (λ e. omega arith) in
+    (rw (a, b), rw (a, b), λ g. rw (a, b, ne-eqb n 2 (λ e. omega arith), ne-eqb n 3 (λ e. omega arith)))
+
+-- and no other number is
+pub flags-of-one-bit-are-read : (networkOf 0 ≡ Answer.gives NetworkIndicator.In) × (networkOf 1 ≡ Answer.gives NetworkIndicator.Out) × (returnOf 0 ≡ Answer.gives ReturnMode.Manual)
+    × (returnOf 1 ≡ Answer.gives ReturnMode.Automatic) × (restrictionsOf 0 ≡ Answer.gives DeviceRestrictions.RestrictGroup0) × (restrictionsOf 1 ≡ Answer.gives DeviceRestrictions.RestrictGroup1)
+    × (restrictionsOf 2 ≡ Answer.gives DeviceRestrictions.RestrictGroup2) × (restrictionsOf 3 ≡ Answer.gives DeviceRestrictions.None)
+unfolding networkOf returnOf restrictionsOf
+flags-of-one-bit-are-read = (refl, refl, refl, refl, refl, refl, refl, refl)
 
 -- ---- "Loop items": each rule, with its number, its values in order, and the next offset
 
@@ -150,6 +178,11 @@ pub an-ending-refusal-is-21-or-22 : (loop : List ℕ) (offset : ℕ) → length 
     → StepRefused (stepOf loop offset) (endNumber e) (endValues e) (length loop)
 an-ending-refusal-is-21-or-22 = refusals.ending
 
+-- there are loops that end by each rule: one byte left, an item of six bytes that says 9, one that says 255 and has them
+pub there-are-loops-that-end : (few : Ends (0x00 ∷ [])) × (over : Ends (0x02 ∷ 0x09 ∷ 0x43 ∷ 0x55 ∷ 0x45 ∷ 0x49 ∷ [])) × (full : Ends (0x02 ∷ 0xFF ∷ replicate 255 0))
+    × (endValues few ≡ 2 ∷ 0 ∷ []) × (endValues over ≡ 11 ∷ 0 ∷ []) × (endNumber full ≡ 22)
+there-are-loops-that-end = refusals.loops-that-end
+
 -- "L from 0 to 3: 21 (6, L + 2); the next item follows after L + 2 bytes"
 pub an-item-under-4-bytes-is-refused-with-21 : (loop : List ℕ) (offset : ℕ) → length loop ≤ 4076 → offset + 6 ≤ length loop → getD loop (offset + 1) 0 + 2 ≤ length loop - offset
     → getD loop (offset + 1) 0 ≤ 3 → StepRefused (stepOf loop offset) 21 (6 ∷ (getD loop (offset + 1) 0 + 2) ∷ []) (offset + (getD loop (offset + 1) 0 + 2))
@@ -159,6 +192,11 @@ an-item-under-4-bytes-is-refused-with-21 = refusals.length-below-4
 pub any-other-item-is-read-by-its-descriptor : (loop : List ℕ) (offset : ℕ) → length loop ≤ 4076 → offset + 6 ≤ length loop → getD loop (offset + 1) 0 + 2 ≤ length loop - offset
     → 4 ≤ getD loop (offset + 1) 0 → getD loop (offset + 1) 0 ≤ 254 → stepOf loop offset ≡ wholeAt loop offset (getD loop (offset + 1) 0)
 any-other-item-is-read-by-its-descriptor = refusals.else-read
+
+-- a refusal is no reading: of whatever refused item, components, EIDR and identifier are blank
+pub nothing-stands-beside-a-refused-item : (loop : List ℕ) (offset : ℕ) (r : ItemRefusal) → stepOf loop offset .item ≡ Item.Refused r
+    → (readingOf loop offset .beside ≡ blankBeside) × (stepOf loop offset .identifier ≡ replicate 4 0)
+nothing-stands-beside-a-refused-item = refusals.nothing-beside
 
 -- ---- the kind is what tag and identifier say
 
@@ -187,7 +225,38 @@ pub a-time-is-read-of-12-bytes : (s : List ℕ) → (length s < 12 → descripto
 unfolding descriptorOf isCuei
 a-time-is-read-of-12-bytes s = (λ h. sym (time-short s h), λ h. sym (time-is s _ _ _ h refl refl refl))
 
--- ---- "Identifiers": a UPID alone (of a MID: theorems/proofs/Theorems.antt, and rows h to j)
+-- "1 DTMF: preroll 8, count 3, reserved 5, count bytes": 21 where its table lacks bytes of a field, w/8 and m/8 of it; and so by bytes. Else it is read.
+pub a-dtmf-is-refused-with-21-where-its-table-lacks-bytes : (s : List ℕ) (expected actual : ℕ) → parse dtmf (bitsOf s) 0 ≡ short expected actual
+    → descriptorOf 1 cuei s ≡ DescriptorRead.Refused (Refusal.NotEnoughData expected actual)
+a-dtmf-is-refused-with-21-where-its-table-lacks-bytes = payloads.dtmf-lacks
+
+pub a-dtmf-that-its-table-reads-is-read : (s : List ℕ) (x : DTMFDescriptor) (end : ℕ) → parse dtmf (bitsOf s) 0 ≡ got x end → descriptorOf 1 cuei s ≡ DescriptorRead.Is (Descriptor.Dtmf x)
+a-dtmf-that-its-table-reads-is-read = payloads.dtmf-reads
+
+pub a-dtmf-is-read-of-as-many-bytes-as-it-counts : (s : List ℕ) → AllBytes s
+    → (length s ≡ 0 → descriptorOf 1 cuei s ≡ DescriptorRead.Refused (Refusal.NotEnoughData 1 0))
+    × (length s ≡ 1 → descriptorOf 1 cuei s ≡ DescriptorRead.Refused (Refusal.NotEnoughData 0 0))
+    × (2 ≤ length s → length s < 2 + getD s 1 0 / 32 → descriptorOf 1 cuei s ≡ DescriptorRead.Refused (Refusal.NotEnoughData 1 0))
+    × (2 ≤ length s → 2 + getD s 1 0 / 32 ≤ length s
+    → descriptorOf 1 cuei s ≡ DescriptorRead.Is (Descriptor.Dtmf (record { preroll = getD s 0 0; «dtmf_chars» = record { at = 2; len = getD s 1 0 / 32 } })))
+a-dtmf-is-read-of-as-many-bytes-as-it-counts s a = (payloads.no-preroll s, payloads.no-count s, payloads.no-characters s a, payloads.characters s a)
+
+-- "2 segmentation": every payload is refused with 21 where its table lacks bytes (unless a UPID that is refused stands before), with the UPID's refusal, or read, as `SegmentationReads`
+-- has it (specs/Payloads.antt), and in no other way
+pub what-is-read-of-a-segmentation : (s : List ℕ) → SegmentationReads s (descriptorOf 2 cuei s)
+what-is-read-of-a-segmentation = payloads.reads
+
+pub nothing-else-is-read-of-a-segmentation : (s : List ℕ) (a b : DescriptorRead) → SegmentationReads s a → SegmentationReads s b → a ≡ b
+nothing-else-is-read-of-a-segmentation = payloads.reads-one
+
+-- The other way round: an item whose payload nothing refuses is read, as the kind that its tag and identifier say
+pub an-item-that-nothing-refuses-is-read : (loop : List ℕ) (offset : ℕ) → length loop ≤ 4076 → offset + 6 ≤ length loop → getD loop (offset + 1) 0 + 2 ≤ length loop - offset
+    → 4 ≤ getD loop (offset + 1) 0 → getD loop (offset + 1) 0 ≤ 254 → (kind : ℕ)
+    → Unrefused (getD loop offset 0) (take 4 (drop (offset + 2) loop)) (take (getD loop (offset + 1) 0 - 4) (drop (offset + 6) loop)) kind
+    → (d : Descriptor) × (stepOf loop offset .item ≡ Item.Is d) × (kindOf d ≡ kind)
+an-item-that-nothing-refuses-is-read = payloads.item-read
+
+-- ---- "Identifiers": a UPID alone (of a MID: below, and rows h to j)
 
 -- 2: "UPID over 255 bytes"
 pub a-upid-over-255-bytes-is-refused-with-2 : (b : List ℕ) (k : ℕ) → 255 < length b → UpidRefused (checkOf k b) 2 []
@@ -219,6 +288,32 @@ untested-types-take-any-bytes = refusals.upid-untested
 
 pub types-above-14-take-any-bytes : (b : List ℕ) → 1 ≤ length b → length b ≤ 255 → (k : ℕ) → 15 ≤ k → checkOf k b ≡ UpidRead.Fine k
 types-above-14-take-any-bytes = refusals.upid-above-14
+
+-- A MID, part by part: 21 for what its bytes lack, the refusal of its first faulty part, and else it is read (`MidReads`, specs/Payloads.antt); a part is read as the UPID alone, but an empty one is no None
+pub a-mid-is-read-part-by-part : (start : ℕ) → MidReads start
+a-mid-is-read-part-by-part = mids.mid-reads
+
+pub a-mid-at-top-is-read-so : (b : List ℕ) → 1 ≤ length b → length b ≤ 255 → checkOf 13 b ≡ readOf 13 0 b
+a-mid-at-top-is-read-so = mids.mid-at-top
+
+pub a-part-is-read-as-the-upid-alone : (k start : ℕ) (b : List ℕ) → (k ≡ 13 → ⊥) → 1 ≤ length b → length b ≤ 255 → readOf k start b ≡ partRead start (checkOf k b)
+a-part-is-read-as-the-upid-alone = mids.part-alone
+
+pub an-empty-part-is-read-by-its-type : (k start : ℕ) → (k ≡ 13 → ⊥) → (k ≡ 0 → readOf k start [] ≡ UpidRead.Refused Refusal.UpidLengthTypeMismatch)
+    × ((k ≡ 0 → ⊥) → 1 ≤ lengthOf k → readOf k start [] ≡ UpidRead.Refused (Refusal.InvalidUpidLength k (lengthOf k) 0))
+    × ((k ≡ 0 → ⊥) → lengthOf k ≡ 0 → readOf k start [] ≡ UpidRead.Fine (reportedOf k))
+an-empty-part-is-read-by-its-type = mids.part-empty
+
+-- ---- 36: "target shorter than the result", and no other target
+
+pub a-target-that-is-long-enough-is-written : (b target : List ℕ) → length b ≤ length target
+    → (answerOf (made b) target ≡ Written.Wrote (length b)) × (laterOf (made b) target ≡ b ++ drop (length b) target)
+unfolding answerOf laterOf
+a-target-that-is-long-enough-is-written b target h = let e = le-leb (length b) (length target) h in (rw e, rw e)
+
+pub a-shorter-target-is-refused-with-36 : (b target : List ℕ) → length target < length b → (answerOf (made b) target ≡ Written.Refused 36) × (laterOf (made b) target ≡ target)
+unfolding answerOf laterOf
+a-shorter-target-is-refused-with-36 b target h = let e = lt-leb (length b) (length target) h in (rw e, rw e)
 
 -- ---- the worked rows
 

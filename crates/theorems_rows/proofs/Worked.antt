@@ -3,7 +3,7 @@ use Prim.Native.Nat.{ℕ}
 use mathlib.Core.Bool.{true, false}
 use mathlib.Core.List.{List, [], _∷_}
 use mathlib.Core.Path.{_≡_, refl, ap}
-use lib.ListN.{length, getD}
+use lib.ListN.{length, take, getD}
 use borrow.Author.Tests.{eqb-false}
 use Rattle.command.specs.Command.{commandOf, componentsOf, private, read, array}
 use Rattle.command.specs.Insert.{insert, active, moded, ending, breakDuration, timeUnless, component, blank}
@@ -17,17 +17,18 @@ use Rattle.descriptor.specs.Segmentation as segment
 use Rattle.canonical_form.specs.Descriptor.{canonicalUpid, canonicalSegmentation, canonicalPayload, canonicalDescriptor, canonicalFrom, canonicalLoop}
 use Rattle.canonical_form.specs.Section.{canonicalFrame, canonicalSection}
 use Rattle.crc.specs.Crc.{crcOf, crcBits, crcBit}
-use Rattle.descriptor.specs.Descriptor.{descriptorOf, isCuei, segmentationOf, insertOf, inserted, dtmfOf, reservedOf}
+use Rattle.descriptor.specs.Descriptor.{descriptorOf, isCuei, segmentationOf, insertOf, inserted, availOf, dtmfOf, timeOf, reservedOf}
 use Rattle.descriptor.specs.Plain.{avail, dtmf, time, privateBytes}
 use Rattle.descriptor.specs.Segmentation.{deliveryRestrictions, mode, duration, writtenUpid, parts, front, subSegments, back, head, segmentation}
 use Rattle.descriptor.specs.Whole.{besideOf, besideIn, filled}
 use Rattle.header.specs.Header.{headerOf, headerRead, spliceHeader}
 use Rattle.splice_time.specs.Time.{spliceTime}
-use Rattle.descriptor_loop.specs.Items.{readAt, wholeAt, stepOf, itemsFrom, itemsOf}
+use Rattle.splice_time.specs.declared.SpliceTime.{SpliceTime}
+use Rattle.descriptor_loop.specs.Items.{readAt, wholeAt, stepOf, readingOf, itemsFrom, itemsOf}
 use Rattle.canonical_form.specs.Same.Pairs.{over}
 use Rattle.names.specs.Algorithm.{algorithmOf}
 use Rattle.names.specs.Command as names
-use Rattle.section.specs.Section.{commandLength, commandType, commandBytes, roomAfter, loopLength, loopPlace, frameIn, moved, movedRead, accepted, frameOf, sectionOf, numberOf}
+use Rattle.section.specs.Section.{commandLength, commandType, commandBytes, loopBytes, roomAfter, loopLength, loopPlace, frameIn, moved, movedRead, accepted, frameOf, sectionOf, numberOf}
 use Rattle.section.specs.declared.Section.{Section}
 use Rattle.section.specs.declared.SectionRead.{SectionRead}
 use Rattle.table.specs.Lent.{viewed}
@@ -35,6 +36,7 @@ use Rattle.table.specs.Table.{number, bit, reserved, part, remaining, list, can
 use Rattle.theorems_reader.specs.Identifiers.{identifiersOf}
 use Rattle.canonical_form.specs.Same.{SameSections}
 use Rattle.theorems_rows.specs.Examples.{EmptyCommand, Identified}
+use Rattle.theorems_rows.specs.Payloads.{kindsOf}
 use Rattle.upid.specs.Cover.{All, none, more}
 use Rattle.upid.specs.Text.{textOf, done, step, within}
 use Rattle.upid.specs.Upid.{upidOf, checkOf, readOf, walkOf, _then_, plainOf, lengthOf, isText, reportedOf, listOf, partsOf, listed, unlessRefused, eidrOf}
@@ -135,6 +137,19 @@ other-bytes e = eqb-false 0x0F 0x1F refl (ap (λ (l : List ℕ). getD l 19 0) e)
 pub every-descriptor-canonical : canonicalSection everyDescriptor ≡ true
 unfolding everyDescriptor canonicalSection canonicalFrame canonicalCommand canonicalLoop canonicalFrom canonicalDescriptor canonicalPayload canonicalSegmentation canonicalBy canonicalUpid numberOf sectionOf frameOf frameIn accepted movedRead moved commandLength commandType commandBytes roomAfter loopLength loopPlace crcOf crcBits crcBit headerOf headerRead spliceHeader spliceTime commandOf insert active moded ending breakDuration timeUnless component isCuei avail dtmf time privateBytes segmentation head front parts deliveryRestrictions mode segment.component duration writtenUpid back subSegments number bit reserved part remaining list viewed checkOf readOf walkOf _then_ plainOf lengthOf isText reportedOf textOf done step within
 every-descriptor-canonical = refl
+
+pub every-kind : kindsOf everyDescriptor ≡ 0 ∷ 1 ∷ 2 ∷ 2 ∷ 3 ∷ 4 ∷ []
+unfolding everyDescriptor commandLength commandType commandBytes roomAfter loopLength loopPlace itemsOf itemsFrom stepOf wholeAt readAt descriptorOf isCuei availOf timeOf segmentationOf insertOf inserted dtmfOf reservedOf avail dtmf time privateBytes segmentation head front parts deliveryRestrictions mode segment.component duration writtenUpid back subSegments number bit reserved part remaining list viewed checkOf readOf walkOf _then_ plainOf lengthOf isText reportedOf textOf done step within
+every-kind = refl
+
+pub its-insert : (commandType everyDescriptor ≡ 0x05)
+    × (take 2 (componentsOf (commandBytes everyDescriptor)) ≡ record { «component_tag» = 1; «splice_time» = SpliceTime.At 90000 } ∷ record { «component_tag» = 2; «splice_time» = SpliceTime.At 90001 } ∷ [])
+unfolding everyDescriptor commandLength commandType commandBytes roomAfter componentsOf array spliceTime insert active moded ending breakDuration timeUnless component number bit reserved part remaining list viewed
+its-insert = (refl, refl)
+
+pub its-components : take 1 (readingOf (loopBytes everyDescriptor) 19 .beside .components) ≡ record { «component_tag» = 5; «pts_offset» = 7 } ∷ []
+unfolding everyDescriptor readingOf commandLength commandType commandBytes roomAfter loopLength loopPlace stepOf wholeAt readAt descriptorOf isCuei segmentationOf insertOf inserted besideOf besideIn filled segmentation head front parts deliveryRestrictions mode segment.component duration writtenUpid back subSegments number bit reserved part remaining list viewed checkOf readOf walkOf _then_ plainOf lengthOf isText reportedOf textOf done step within eidrOf
+its-components = refl
 
 -- ---- and with every other command
 

@@ -34,7 +34,9 @@ use Rattle.section_writer.proofs.Whole.{Held}
 use Rattle.section_writer.specs.Frame.{headed, headerBytes, opening, head, withLength, body, frame, numbersFit, writableHead}
 use Rattle.section_writer.specs.Writing.{typeOf, unless, sectionMade}
 use Rattle.table.proofs.Bits.{all-num, all-bytesN}
+use Rattle.names.specs.Algorithm.{algorithmNumber, algorithmOf, writableAlgorithm}
 use Rattle.table.proofs.Lists.{zero-one, and-true}
+use Rattle.theorems_reader.proofs.Theorems.{algorithms-go-by-their-table}
 use Rattle.table.specs.Bits.{pick, bitsOfNum, bigEndian, AllBytes}
 use Rattle.table.specs.Lent.{liesIn}
 use Rattle.table.specs.Writing.{walk, contents, Made, made, refused}
@@ -122,7 +124,7 @@ written-back h s o =
     sym (by-header (o .reading .header) h (made (commandBytes s)) (commandType s) (loopBytes s) (o .same))
     ∙ section-read-write s (o .reading) (o .bytes) (o .reads) (o .form)
 
-of-header : (h : SpliceInfoHeader) (s : List ℕ) → HasHeader h s → (fit (headerNumbers h) ≡ true) × (writableHead h ≡ true)
+pub of-header : (h : SpliceInfoHeader) (s : List ℕ) → HasHeader h s → (fit (headerNumbers h) ≡ true) × (writableHead h ≡ true)
 of-header h s o =
     let w = section-wrote h (made (commandBytes s)) (commandType s) (loopBytes s) s (written-back h s o) in
     (sym (header-fits h) ∙ w .fits, w .writable)
@@ -131,7 +133,7 @@ empty-loop : canonicalLoop [] ≡ true
 unfolding canonicalLoop canonicalFrom
 empty-loop = refl
 
-header-of : (h : SpliceInfoHeader) → fit (headerNumbers h) ≡ true → writableHead h ≡ true → HasHeader h (frame h 0x00 [] [])
+pub header-of : (h : SpliceInfoHeader) → fit (headerNumbers h) ≡ true → writableHead h ≡ true → HasHeader h (frame h 0x00 [] [])
 header-of h fits writable =
     let b = frame h 0x00 [] [] in
     let e : sectionMade h (made []) 0x00 [] ≡ made b = of-made h 0x00 [] [] ∙ rw (fits, writable, empty-loop) in
@@ -143,6 +145,24 @@ header-of h fits writable =
       reads = section-write-read h [] 0x00 [] b SpliceCommand.SpliceNull (omega arith) e n .0;
       same = own-header h 0 0x00;
     }
+
+-- so a canonical section has exactly the headers that are not encrypted and whose algorithm is that of its own number
+pub header-had : (h : SpliceInfoHeader) → fit (headerNumbers h) ≡ true → h .«encrypted_packet» ≡ false → algorithmOf (algorithmNumber (h .«encryption_algorithm»)) ≡ h .«encryption_algorithm»
+    → (b : List ℕ) × HasHeader h b
+unfolding writableHead
+header-had h fits clear own = (frame h 0x00 [] [], header-of h fits (rw (clear, algorithms-go-by-their-table .writably (h .«encryption_algorithm») own)))
+
+pub header-only : (h : SpliceInfoHeader) (b : List ℕ) → HasHeader h b
+    → (fit (headerNumbers h) ≡ true) × (h .«encrypted_packet» ≡ false) × (algorithmOf (algorithmNumber (h .«encryption_algorithm»)) ≡ h .«encryption_algorithm»)
+unfolding writableHead
+header-only h b o =
+    let w = of-header h b o in
+    let a = and-true (not (h .«encrypted_packet»)) (writableAlgorithm (h .«encryption_algorithm»)) (w .1) in
+    (w .0, clear (h .«encrypted_packet») (a .0), algorithms-go-by-their-table .own (h .«encryption_algorithm») (a .1))
+  where
+    clear : (e : Bool) → not e ≡ true → e ≡ false
+    clear true z = zero-one cc
+    clear false z = refl
 
 -- ---- the relation
 type-is-byte : (c : SpliceCommand) → typeOf c < 2 ^ 8

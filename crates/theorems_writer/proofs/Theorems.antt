@@ -1,7 +1,7 @@
 -- What is proved of writing, over the definitions. A reader needs the specs of this crate beside this file, the room `canonical_form` (canonical form and equal readings), and the specs of
 -- `bit_stores` (Written.antt), `loop_round_trips` (the loop by its items) and `descriptor_round_trips` (a descriptor). The proofs stand in the other files of this folder.
 use Prim.Native.Nat.{ℕ, _≤_}
-use mathlib.Core.Bool.{true}
+use mathlib.Core.Bool.{true, false}
 use mathlib.Core.List.{List, map}
 use mathlib.Core.Path.{_≡_}
 use lib.ListN.{length}
@@ -16,9 +16,10 @@ use Rattle.descriptor.specs.declared.whole.Beside.{Beside}
 use Rattle.canonical_form.specs.Descriptor.{canonicalDescriptor, canonicalLoop}
 use Rattle.descriptor_measure.specs.Writing.{descriptorMade}
 use Rattle.descriptor_round_trips.proofs.Theorems as descriptors
-use Rattle.descriptor_round_trips.specs.Making.{DescriptorMakes}
+use Rattle.descriptor_round_trips.specs.Making.{fit, DescriptorMakes}
 use Rattle.descriptor_round_trips.specs.Trips.{Handed}
 use Rattle.header.specs.declared.header.SpliceInfoHeader.{SpliceInfoHeader}
+use Rattle.names.specs.Algorithm.{algorithmNumber, algorithmOf}
 use Rattle.descriptor_loop.specs.Cover.{joined, runOf}
 use Rattle.descriptor_loop.specs.Items.{stepOf, itemsOf}
 use Rattle.descriptor_loop.specs.declared.Item.{Item}
@@ -36,7 +37,7 @@ use Rattle.section_writer.specs.Writing.{typeOf, sectionMade}
 use Rattle.table.specs.Bits.{AllBytes}
 use Rattle.table.specs.Writing.{Made, made}
 use Rattle.upid.specs.Cover.{All}
-use Rattle.theorems_writer.specs.Making.{CommandPayload, CommandMakes, SectionBytes, SectionMakes}
+use Rattle.theorems_writer.specs.Making.{headerNumbers, CommandPayload, CommandMakes, HasHeader, SectionBytes, SectionMakes}
 use Rattle.theorems_writer.specs.Writable.{Writable}
 use Rattle.theorems_writer.specs.Written.{KeepsUpid, ChangesOnlyResult}
 use Rattle.theorems_writer.proofs.Answers as answers
@@ -82,6 +83,15 @@ what-is-made-of-a-section = sections-made.section-makes
 pub what-is-made-of-a-section-is-one : (h : SpliceInfoHeader) (c : SpliceCommand) (places : List ComponentSplice) (lent loop : List ℕ) → length places ≡ 255 → countIn c ≤ 255 → AllBytes lent
     → AllBytes loop → (m n : Made) → SectionMakes h c places lent loop m → SectionMakes h c places lent loop n → m ≡ n
 what-is-made-of-a-section-is-one = sections-made.one-section-made
+
+-- (Which headers a canonical section has, so that 33 is of no other: those that are not encrypted, whose algorithm is that of its own number, and whose numbers fit)
+pub a-canonical-section-has-each-such-header : (h : SpliceInfoHeader) → fit (headerNumbers h) ≡ true → h .«encrypted_packet» ≡ false
+    → algorithmOf (algorithmNumber (h .«encryption_algorithm»)) ≡ h .«encryption_algorithm» → (b : List ℕ) × HasHeader h b
+a-canonical-section-has-each-such-header = sections-made.header-had
+
+pub a-canonical-section-has-no-other-header : (h : SpliceInfoHeader) (b : List ℕ) → HasHeader h b
+    → (fit (headerNumbers h) ≡ true) × (h .«encrypted_packet» ≡ false) × (algorithmOf (algorithmNumber (h .«encryption_algorithm»)) ≡ h .«encryption_algorithm»)
+a-canonical-section-has-no-other-header = sections-made.header-only
 
 -- "33 .. a value that no canonical reading has (list below)". What is made of a descriptor that is handed in is told by what is read, and by the widths of the fields (`DescriptorMakes`,
 -- descriptor_round_trips/specs/Making.antt): 33 where no canonical payload reads as it, and else that payload in its frame. So the cases of 33 in `descriptorMade` need no belief for what is written; that they are 01's list is read there.

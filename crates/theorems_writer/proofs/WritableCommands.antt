@@ -30,11 +30,11 @@ use Rattle.table.specs.Table.{Answer, got, short, parse, done, ones, uimsbf}
 use Rattle.table.specs.Writing.{made}
 use Rattle.theorems_reader.specs.Identifiers.{Identifier}
 use Rattle.theorems_writer.specs.Making.{commandNumbers, CommandPayload}
-use Rattle.theorems_reader.specs.Whole.{WholeCommand}
 use Rattle.theorems_writer.proofs.CommandsMade.{writable-made, writableOf, payload-made}
 use Rattle.theorems_reader.proofs.Framed.{laid}
 use Rattle.theorems_writer.proofs.InsertsRead.{time-fits}
 use Rattle.theorems_reader.proofs.Whole.{whole-command}
+use Rattle.theorems_reader.proofs.WholeCases.{CommandCase}
 
 abbrev NoInsert : SpliceCommand → Type 0
 NoInsert SpliceCommand.SpliceNull = Unit {0}
@@ -107,7 +107,7 @@ module _ (s : List ℕ) (places : List ComponentSplice) where
   nothing-seen : liesIn s noView ≡ true
   nothing-seen = le-leb 0 (length s) (omega arith)
 
-  written : (c : SpliceCommand) → NoInsert c → Keeps [] (CommandRead.Is c) → WholeCommand s (moved 14 c) → (p : List ℕ) × (commandMade (moved 14 c) places s ≡ made p)
+  written : (c : SpliceCommand) → NoInsert c → Keeps [] (CommandRead.Is c) → CommandCase s (moved 14 c) → (p : List ℕ) × (commandMade (moved 14 c) places s ≡ made p)
   unfolding moved
   written SpliceCommand.SpliceNull n k w = writable-made SpliceCommand.SpliceNull places s tt nothing-seen refl refl
   written (SpliceCommand.SpliceInsert i) n k w = absurd n
@@ -149,7 +149,7 @@ command-written s x places a n e o =
     let j : NoInsert (moved 14 (l .read)) = rw (l .command) at i in
     let c = no-insert (l .read) j in
     let k : Keeps (commandBytes s) (CommandRead.Is (l .read)) = rw (l .from) at (all-keep (commandBytes s) (commandType s)) in
-    let w : WholeCommand s (moved 14 (l .read)) = rw (l .command) at (whole-command s x e) in
+    let w : CommandCase s (moved 14 (l .read)) = rw (l .command) at (whole-command s x e) in
     let m = written s places (l .read) c (kept-in (commandBytes s) (l .read) c k) w in
     let r : commandMade (x .command) places s ≡ made (m .0) = ap (λ (d : SpliceCommand). commandMade d places s) (l .command) ∙ m .1 in
     (m .0, r, payload-made (x .command) places s (m .0) n (counts-none (x .command) i) a r)
