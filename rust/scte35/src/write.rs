@@ -149,7 +149,7 @@ fn all_of(bytes: &[u8]) -> raw::View {
 /// A command's words, those of its components, and its bytes.
 fn of_command<'a>(command: &SpliceCommand<'a>) -> (raw::Command, Vec<u64>, &'a [u8]) {
     let mut c = raw::Command::ZERO;
-    let (kind, components, lent): (_, _, &[u8]) = match command {
+    let (command_type, components, lent): (_, _, &[u8]) = match command {
         SpliceCommand::SpliceNull => (0, vec![], &[]),
         SpliceCommand::SpliceInsert(i) => (5, of_insert(i, &mut c.insert), &[]),
         SpliceCommand::TimeSignal(t) => {
@@ -163,7 +163,7 @@ fn of_command<'a>(command: &SpliceCommand<'a>) -> (raw::Command, Vec<u64>, &'a [
             (255, vec![], private_bytes)
         }
     };
-    c.splice_command_type = kind;
+    c.splice_command_type = command_type;
     (c, components, lent)
 }
 
