@@ -54,7 +54,7 @@ pub fn read_daterange<'a>(line: &'a [u8], target: &'a mut [u8]) -> Result<Datera
     said(line, &answer, &target[..answer.length as usize])
 }
 
-/// The same, with the section in a vector that is made as long as it: what stood there is gone. A line that is refused leaves it empty.
+/// What `read_daterange` reads, with the section in a vector that is made as long as it: what stood there is gone. A refused line leaves it empty.
 pub fn read_daterange_to_vec<'a>(line: &'a [u8], section: &'a mut Vec<u8>) -> Result<Daterange<'a>, Refusal> {
     section.clear();
     section.resize(line.len() / 2, 0);
@@ -81,7 +81,7 @@ pub fn write_daterange(section: &[u8], id: &[u8], date: &[u8], target: &mut [u8]
     }
 }
 
-/// The same, as bytes of their own.
+/// What `write_daterange` writes, as bytes of their own.
 pub fn write_daterange_to_vec(section: &[u8], id: &[u8], date: &[u8]) -> Result<Vec<u8>, Refusal> {
     // 50 bytes of tag, names and quotes at most
     let mut target = vec![0; 50 + id.len() + date.len() + 2 * section.len().min(MAX_SECTION)];
