@@ -176,7 +176,7 @@ struct scte35_header {
 
 /*
  * The splice header alone.
- * Takes the 11 bytes from the offset on; others may follow. Refuses with 5. Stack: 1 KB.
+ * Takes the 11 bytes from `at` on; others may follow. Refuses with 5. Stack: 1 KB.
  */
 struct scte35_header scte35_read_header(const uint8_t *s, size_t n, size_t at);
 
@@ -226,7 +226,7 @@ struct scte35_command {
 
 /*
  * A command alone.
- * Takes the command's type, and its payload from the offset to the end. Refuses with 10, 11. Stack: 1 KB.
+ * Takes the command's type, and its payload from `at` to the end. Refuses with 10, 11. Stack: 1 KB.
  */
 struct scte35_command scte35_read_command(uint8_t command_type, const uint8_t *s, size_t n, size_t at);
 
@@ -243,7 +243,7 @@ struct scte35_insert_components {
 
 /*
  * The components of an insert.
- * Takes the insert's payload from the offset to the end. Refuses with 11. Stack: 25 KB.
+ * Takes the insert's payload from `at` to the end. Refuses with 11. Stack: 25 KB.
  * Of a section that was read, scte35_read_section_components calls it with the right places.
  */
 struct scte35_insert_components scte35_read_insert_components(const uint8_t *s, size_t n, size_t at);
@@ -260,7 +260,7 @@ struct scte35_section {
 
 /*
  * A section.
- * Takes the bytes from the offset to the end: all of the section, from its table id to its CRC. Refuses with 1 to 11. Stack: 1 KB.
+ * Takes the bytes from `at` to the end: all of the section, from its table id to its CRC. Refuses with 1 to 11. Stack: 1 KB.
  */
 struct scte35_section scte35_read_section(const uint8_t *s, size_t n, size_t at);
 
@@ -277,7 +277,7 @@ static inline struct scte35_insert_components scte35_read_section_components(con
 }
 
 /*
- * The CRC of ISO/IEC 13818-1, Annex A: of the bytes from the offset on; 0 for a whole section. Refuses nothing. Stack: 1 KB.
+ * The CRC of ISO/IEC 13818-1, Annex A: of the bytes from `at` on; 0 for a whole section. Refuses nothing. Stack: 1 KB.
  */
 uint32_t scte35_crc(const uint8_t *s, size_t n, size_t at);
 
@@ -419,7 +419,7 @@ static inline uint8_t scte35_written_upid_type(uint64_t upid_type, uint64_t len)
     return (uint8_t)upid_type;
 }
 
-/* The same of an item's UPID. (That of an empty UPID is 0, whichever type stands there.) */
+/* The type that stands before the bytes of an item's UPID: of an ISAN of 8 bytes 5, of an empty UPID 0, whichever type stands there. */
 static inline uint8_t scte35_item_written_type(const struct scte35_item *item)
 {
     return scte35_written_upid_type(item->segmentation.segmentation_upid_type, item->bytes.len);
@@ -473,7 +473,7 @@ struct scte35_upid {
 
 /*
  * A UPID, and the parts of a MID.
- * Takes the type as written, and the UPID's bytes from the offset to the end. Refuses with 2, 21, 23 to 25. Stack: 24 KB, for a MID 128 levels deep.
+ * Takes the type as written, and the UPID's bytes from `at` to the end. Refuses with 2, 21, 23 to 25. Stack: 24 KB, for a MID 128 levels deep.
  */
 struct scte35_upid scte35_read_upid(uint8_t upid_type, const uint8_t *s, size_t n, size_t at);
 
@@ -548,15 +548,16 @@ struct scte35_written scte35_write_section_words(const uint64_t *header, size_t 
                                                  const uint8_t *descriptors, size_t descriptors_length, uint8_t *target, size_t target_length);
 
 /*
- * The same over the structs; they refuse with the same numbers and need the same stack. NULL for a header, a command or a step is 33, behind 31 and 32 of all
- * else that is handed in. `components` and `beside` may be NULL where none are counted and the UPID is no EIDR: else that, too, is 33.
+ * The writers over structs: each refuses with the numbers of the one over words, and needs its stack. NULL for a header, a command or a step is 33, behind 31
+ * and 32 of all else that is handed in. `components` and `beside` may be NULL where none are counted and the UPID is no EIDR: else that, too, is 33.
  */
 
 /* the words of a struct of this file */
 #define SCTE35_ALL_WORDS(x) (const uint64_t *)(x), (x) ? sizeof *(x) / sizeof(uint64_t) : 0
-/* the same, and of NULL the first word of a struct that was refused: a refusal that is not 0 is no value's */
+/* the words of a struct, and of NULL the first word of one that was refused: a refusal that is not 0 is no value's */
 #define SCTE35_OWN_WORDS(x) (x) ? (const uint64_t *)(x) : &no_value, (x) ? sizeof *(x) / sizeof(uint64_t) : 1
 
+/* Writes a command's payload, as scte35_write_command_words does, of structs. */
 static inline struct scte35_written scte35_write_command(const struct scte35_command *command, const struct scte35_insert_components *components,
                                                          const uint8_t *lent, size_t lent_length, uint8_t *target, size_t target_length)
 {
@@ -564,6 +565,7 @@ static inline struct scte35_written scte35_write_command(const struct scte35_com
     return scte35_write_command_words(SCTE35_OWN_WORDS(command), SCTE35_ALL_WORDS(components), lent, lent_length, target, target_length);
 }
 
+/* Writes an item's descriptor, as scte35_write_descriptor_words does, of structs. */
 static inline struct scte35_written scte35_write_descriptor(const struct scte35_step *step, const struct scte35_item_components *beside,
                                                             const uint8_t *lent, size_t lent_length, uint8_t *target, size_t target_length)
 {
@@ -571,6 +573,7 @@ static inline struct scte35_written scte35_write_descriptor(const struct scte35_
     return scte35_write_descriptor_words(SCTE35_ALL_WORDS(step), SCTE35_ALL_WORDS(beside), lent, lent_length, target, target_length);
 }
 
+/* Writes a section, as scte35_write_section_words does, of structs. */
 static inline struct scte35_written scte35_write_section(const struct scte35_header *header, const struct scte35_command *command,
                                                          const struct scte35_insert_components *components, const uint8_t *lent, size_t lent_length,
                                                          const uint8_t *descriptors, size_t descriptors_length, uint8_t *target, size_t target_length)
@@ -584,7 +587,7 @@ static inline struct scte35_written scte35_write_section(const struct scte35_hea
 #undef SCTE35_OWN_WORDS
 
 /*
- * Whether all bytes from the offset on are a canonical section, a loop of canonical descriptors (or of none), or one canonical descriptor. A loop of any
+ * Whether all bytes from `at` on are a canonical section, a loop of canonical descriptors (or of none), or one canonical descriptor. A loop of any
  * length may be canonical, though scte35_read_item refuses one over 4,076 bytes. Refuse nothing. Stack: 16 KB.
  */
 bool scte35_is_canonical_section(const uint8_t *s, size_t n, size_t at);
@@ -630,7 +633,7 @@ struct scte35_adjustment scte35_undo_adjustment(uint64_t a);
 
 /*
  * A section with its pts_adjustment moved, in place of a chain of splicers.
- * Writes the section in all bytes from the offset on to the target: its pts_adjustment is what scte35_chain_adjustments makes of the old one and this, its CRC
+ * Writes the section in all bytes from `at` on to the target: its pts_adjustment is what scte35_chain_adjustments makes of the old one and this, its CRC
  * is mended, and no other byte is changed, whatever the section holds (spare bytes, refused items, reserved bits); so its length stays. Refuses with 1 to 11
  * for the section, 32 where the adjustment has more than 33 bits, and 36 where the target is shorter than the section, in this order; a refused write changes
  * no byte. Stack: 2 KB.
@@ -668,7 +671,7 @@ struct scte35_daterange {
 
 /*
  * The line of a section.
- * Takes the section, in all bytes from the offset on, an ID and a START-DATE, and the target. Writes #EXT-X-DATERANGE:ID="..",START-DATE="..",SCTE35-OUT=0x..
+ * Takes the section, in all bytes from `at` on, an ID and a START-DATE, and the target. Writes #EXT-X-DATERANGE:ID="..",START-DATE="..",SCTE35-OUT=0x..
  * in this order, hexadecimal digits in capitals, no line end: 50 bytes, with ID and date, and two for each byte of the section; a byte less of SCTE35-IN. The
  * name is SCTE35-OUT for a splice insert, not cancelled, that leaves the network, SCTE35-IN for one that returns, SCTE35-CMD for all else. ID and date are not
  * looked at but for 53: whether the date is one is the caller's part. Refuses with 1 to 11 for the section, 53, and 36, in this order; a refused write changes
@@ -679,7 +682,7 @@ struct scte35_written scte35_write_daterange(const uint8_t *s, size_t n, size_t 
 
 /*
  * What a line says.
- * Takes the line, all bytes from the offset on, and a target for the section; half the line's length is always enough. Attributes stand in any order, those
+ * Takes the line, all bytes from `at` on, and a target for the section; half the line's length is always enough. Attributes stand in any order, those
  * of other names are passed over, and of SCTE35-CMD, SCTE35-OUT and SCTE35-IN the first in the line is used. The section's bytes go into the target and are not
  * judged: hand them to scte35_read_section. Refuses with 52, 51, 36, in this order; then no byte of the target is changed. Stack: 1 KB.
  *

@@ -40,7 +40,7 @@ pub fn adjust_section(section: &[u8], adjustment: u64, target: &mut [u8]) -> Res
     }
 }
 
-/// The same, as bytes of their own.
+/// What `adjust_section` writes, as bytes of their own.
 pub fn adjust_section_to_vec(section: &[u8], adjustment: u64) -> Result<Vec<u8>, Refusal> {
     let mut target = vec![0; section.len().min(MAX_SECTION)];
     let length = adjust_section(section, adjustment, &mut target)?;

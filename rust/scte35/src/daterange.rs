@@ -51,13 +51,22 @@ pub struct Daterange<'a> {
 /// of `Refusal::MalformedLine`, `Refusal::AttributeMissing`, `Refusal::TargetTooShort`.
 pub fn read_daterange<'a>(line: &'a [u8], target: &'a mut [u8]) -> Result<Daterange<'a>, Refusal> {
     let answer = raw::read_daterange(line, 0, target);
+    said(line, &answer, &target[..answer.length as usize])
+}
+
+/// What `read_daterange` reads, with the section in a vector that is made as long as it: what stood there is gone. A refused line leaves it empty.
+pub fn read_daterange_to_vec<'a>(line: &'a [u8], section: &'a mut Vec<u8>) -> Result<Daterange<'a>, Refusal> {
+    section.clear();
+    section.resize(line.len() / 2, 0);
+    let answer = raw::read_daterange(line, 0, section);
+    section.truncate(answer.length as usize);
+    said(line, &answer, section)
+}
+
+/// What a line says, with its section. Of a refused one the length is 0.
+fn said<'a>(line: &'a [u8], answer: &raw::Daterange, section: &'a [u8]) -> Result<Daterange<'a>, Refusal> {
     match answer.refusal {
-        0 => Ok(Daterange {
-            id: view(line, &answer.id),
-            date: view(line, &answer.date),
-            name: CueName::of(answer.name),
-            section: &target[..answer.length as usize],
-        }),
+        0 => Ok(Daterange { id: view(line, &answer.id), date: view(line, &answer.date), name: CueName::of(answer.name), section }),
         n => Err(Refusal::answered(n, [0; 3])),
     }
 }
@@ -72,7 +81,7 @@ pub fn write_daterange(section: &[u8], id: &[u8], date: &[u8], target: &mut [u8]
     }
 }
 
-/// The same, as bytes of their own.
+/// What `write_daterange` writes, as bytes of their own.
 pub fn write_daterange_to_vec(section: &[u8], id: &[u8], date: &[u8]) -> Result<Vec<u8>, Refusal> {
     // 50 bytes of tag, names and quotes at most
     let mut target = vec![0; 50 + id.len() + date.len() + 2 * section.len().min(MAX_SECTION)];

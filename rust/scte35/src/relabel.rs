@@ -30,7 +30,7 @@ pub fn relabel(
     }
 }
 
-/// The same, as bytes of their own.
+/// What `relabel` writes, as bytes of their own.
 pub fn relabel_to_vec(section: &[u8], offset: usize, part: usize, upid_type: SegmentationUpidType, bytes: &[u8]) -> Result<Vec<u8>, Refusal> {
     let mut target = vec![0; MAX_SECTION];
     let length = relabel(section, offset, part, upid_type, bytes, &mut target)?;
@@ -60,7 +60,7 @@ impl<'a> Section<'a> {
         }
     }
 
-    /// The same, as bytes of their own.
+    /// What `Section::relabel` writes, as bytes of their own.
     pub fn relabel_to_vec(&self, item: usize, part: usize, new: &Upid<'_>) -> Result<Vec<u8>, Refusal> {
         let mut target = vec![0; MAX_SECTION];
         let length = self.relabel(item, part, new, &mut target)?;

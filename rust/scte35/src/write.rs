@@ -15,7 +15,7 @@ pub fn write_command(command: &SpliceCommand<'_>, target: &mut [u8]) -> Result<u
     written(true, target, |target| raw::write_command_words(words.words(), &components, lent, target))
 }
 
-/// The same, as bytes of their own.
+/// What `write_command` writes, as bytes of their own.
 pub fn write_command_to_vec(command: &SpliceCommand<'_>) -> Result<Vec<u8>, Refusal> {
     to_vec(MAX_SECTION, |target| write_command(command, target))
 }
@@ -28,7 +28,7 @@ pub fn write_descriptor(descriptor: &SpliceDescriptor<'_>, target: &mut [u8]) ->
     written(is_read(descriptor), target, |target| raw::write_descriptor_words(step.words(), beside.words(), lent, target))
 }
 
-/// The same, as bytes of their own.
+/// What `write_descriptor` writes, as bytes of their own.
 pub fn write_descriptor_to_vec(descriptor: &SpliceDescriptor<'_>) -> Result<Vec<u8>, Refusal> {
     to_vec(MAX_DESCRIPTOR, |target| write_descriptor(descriptor, target))
 }
@@ -41,7 +41,7 @@ pub fn write_loop(descriptors: &[SpliceDescriptor<'_>], target: &mut [u8]) -> Re
     Ok(all.len())
 }
 
-/// The same, as bytes of their own. They may be more than a section's loop has room for.
+/// What `write_loop` writes, as bytes of their own. They may be more than a section's loop has room for.
 pub fn write_loop_to_vec(descriptors: &[SpliceDescriptor<'_>]) -> Result<Vec<u8>, Refusal> {
     let mut all = vec![];
     for descriptor in descriptors {
@@ -62,7 +62,7 @@ pub fn write_section(section: &Section<'_>, target: &mut [u8]) -> Result<usize, 
     written(read, target, |target| raw::write_section_words(header.words(), words.words(), &components, lent, section.descriptors.bytes(), target))
 }
 
-/// The same, as bytes of their own.
+/// What `write_section` writes, as bytes of their own.
 pub fn write_section_to_vec(section: &Section<'_>) -> Result<Vec<u8>, Refusal> {
     to_vec(MAX_SECTION, |target| write_section(section, target))
 }
@@ -85,7 +85,7 @@ impl Section<'_> {
         write_section(&Section { descriptors: SpliceDescriptors::new(&descriptors[..length]), ..self.clone() }, target)
     }
 
-    /// The same, as bytes of their own.
+    /// What `Section::write_back` writes, as bytes of their own.
     pub fn write_back_to_vec(&self) -> Result<Vec<u8>, Refusal> {
         to_vec(MAX_SECTION, |target| self.write_back(target))
     }
@@ -149,7 +149,7 @@ fn all_of(bytes: &[u8]) -> raw::View {
 /// A command's words, those of its components, and its bytes.
 fn of_command<'a>(command: &SpliceCommand<'a>) -> (raw::Command, Vec<u64>, &'a [u8]) {
     let mut c = raw::Command::ZERO;
-    let (kind, components, lent): (_, _, &[u8]) = match command {
+    let (command_type, components, lent): (_, _, &[u8]) = match command {
         SpliceCommand::SpliceNull => (0, vec![], &[]),
         SpliceCommand::SpliceInsert(i) => (5, of_insert(i, &mut c.insert), &[]),
         SpliceCommand::TimeSignal(t) => {
@@ -163,7 +163,7 @@ fn of_command<'a>(command: &SpliceCommand<'a>) -> (raw::Command, Vec<u64>, &'a [
             (255, vec![], private_bytes)
         }
     };
-    c.splice_command_type = kind;
+    c.splice_command_type = command_type;
     (c, components, lent)
 }
 

@@ -269,6 +269,10 @@ fn lines_of_playlists() {
         let turned = format!("#EXT-X-DATERANGE:{}=0X{digits},X-A=\"=,\",START-DATE=\"2026-01-01T00:00:00Z\",ID=\"a, b\"", name.name());
         let mut other = vec![0; section.len()];
         assert_eq!(read_daterange(turned.as_bytes(), &mut other), read_daterange(&line, &mut room));
+        // a vector takes whatever the line holds
+        let mut own = vec![7; 3];
+        assert_eq!(read_daterange_to_vec(&line, &mut own), read_daterange(&line, &mut room));
+        assert_eq!(own, section);
     }
 }
 
@@ -293,6 +297,9 @@ fn refused_lines() {
     for wrong in [text.replace("ID=", "IDS="), text.replace("START-DATE", "END-DATE"), text.replace("SCTE35-CMD", "X")] {
         assert_eq!(read(&wrong), Some(Refusal::AttributeMissing), "{wrong}");
     }
+    let mut own = vec![7; 3];
+    assert_eq!(read_daterange_to_vec(b"", &mut own), Err(Refusal::MalformedLine));
+    assert!(own.is_empty());
     // nothing is changed where it is refused
     let mut room = [7; 19];
     assert_eq!(read_daterange(&line, &mut room), Err(Refusal::TargetTooShort));
