@@ -4,15 +4,16 @@
  * Every function takes any bytes and any numbers, and returns. There are no globals and no allocation; nothing is kept between calls; any thread may
  * call any function at any time.
  *
- * `s` points to `n` bytes that the function only reads. Where a length is 0 its pointer may be NULL. A reader at an offset reads s[at] .. s[n - 1], and
- * nothing where `at` lies past the end.
+ * A reader's pointer bears the name of what it points to (section, payload, descriptors, upid, ..; `s`: any bytes), and `n` is their number; they are only
+ * read. Where a length is 0 its pointer may be NULL. A reader at a place reads from byte `at` to the last one, and nothing where `at` lies past the end; an
+ * item's place in its loop is its `offset`.
  *
  * A reader answers a struct of 64-bit words. The first word, `refusal`, is 0 where it read; otherwise it is a number of enum scte35_refusal, `values` are
  * those named there, and every other word is 0 (but a step's `next` and its item's kind).
  *
  * Named numbers (types, algorithms, flags) are their numbers. What belongs to another kind of command or item is 0. A view names bytes by place: it
- * counts from s[at], those of a step from the loop's first byte. A kind that has no view has 0, 0 there; a view of no bytes keeps its place. Four bytes that
- * are an identifier stand as one number, the first byte highest.
+ * counts from byte `at`, those of a step from the loop's first byte. A kind that has no view has 0, 0 there; a view of no bytes keeps its place. Four bytes
+ * that are an identifier stand as one number, the first byte highest.
  *
  * A writer takes the same structs, so that what was read is written back as it is; see "writing" below.
  *
@@ -228,9 +229,9 @@ struct scte35_command {
  * A command alone.
  * Takes the command's type, and its payload from `at` to the end. Refuses with 10, 11. Stack: 1 KB.
  */
-struct scte35_command scte35_read_command(uint8_t command_type, const uint8_t *s, size_t n, size_t at);
+struct scte35_command scte35_read_command(uint8_t command_type, const uint8_t *payload, size_t n, size_t at);
 
-struct scte35_component_splice {
+struct scte35_insert_component {
     uint64_t component_tag;
     struct scte35_time splice_time;
 };
@@ -238,7 +239,7 @@ struct scte35_component_splice {
 struct scte35_insert_components {
     uint64_t refusal;
     uint64_t count; /* past it: tag 0, time unspecified */
-    struct scte35_component_splice components[255];
+    struct scte35_insert_component components[255];
 };
 
 /*
@@ -246,7 +247,7 @@ struct scte35_insert_components {
  * Takes the insert's payload from `at` to the end. Refuses with 11. Stack: 25 KB.
  * Of a section that was read, scte35_read_section_components calls it with the right places.
  */
-struct scte35_insert_components scte35_read_insert_components(const uint8_t *s, size_t n, size_t at);
+struct scte35_insert_components scte35_read_insert_components(const uint8_t *payload, size_t n, size_t at);
 
 /* ---- sections */
 
@@ -262,18 +263,18 @@ struct scte35_section {
  * A section.
  * Takes the bytes from `at` to the end: all of the section, from its table id to its CRC. Refuses with 1 to 11. Stack: 1 KB.
  */
-struct scte35_section scte35_read_section(const uint8_t *s, size_t n, size_t at);
+struct scte35_section scte35_read_section(const uint8_t *section, size_t n, size_t at);
 
-/* The first byte of the loop of a section that was read at offset 0 of `s`; it has x->descriptors.len bytes. For scte35_read_item. */
-static inline const uint8_t *scte35_loop_bytes(const uint8_t *s, const struct scte35_section *x)
+/* The first byte of the loop of a section that was read at place 0 of `section`; it has x->descriptors.len bytes. For scte35_read_item. */
+static inline const uint8_t *scte35_loop_bytes(const uint8_t *section, const struct scte35_section *x)
 {
-    return x->descriptors.len ? s + x->descriptors.at : NULL;
+    return x->descriptors.len ? section + x->descriptors.at : NULL;
 }
 
-/* The components of the insert of a section that was read at offset 0 of `s`. Of another command the answer is refused (11) or says nothing. */
-static inline struct scte35_insert_components scte35_read_section_components(const uint8_t *s, const struct scte35_section *x)
+/* The components of the insert of a section that was read at place 0 of `section`. Of another command the answer is refused (11) or says nothing. */
+static inline struct scte35_insert_components scte35_read_section_components(const uint8_t *section, const struct scte35_section *x)
 {
-    return scte35_read_insert_components(s, x->payload.at + x->payload.len, x->payload.at);
+    return scte35_read_insert_components(section, x->payload.at + x->payload.len, x->payload.at);
 }
 
 /*
@@ -353,7 +354,7 @@ struct scte35_segmentation {
     uint64_t segmentation_duration_flag;
     uint64_t delivery_not_restricted_flag;
     struct scte35_restrictions delivery_restrictions;
-    uint64_t component_count; /* see scte35_read_item_components */
+    uint64_t component_count; /* see scte35_read_segmentation_components */
     uint64_t segmentation_duration; /* ticks of 90 kHz, 40 bits */
     uint64_t segmentation_upid_type; /* as reported: 0 for none, 6 for both kinds of ISAN; see scte35_item_written_type */
     uint64_t segmentation_type_id; /* enum scte35_segmentation_type */
@@ -402,7 +403,7 @@ struct scte35_step {
  * Takes all of the loop, and the offset. Answers the item and the offset of the next one; at the loop's end or past it SCTE35_ITEM_END. A refused item
  * ends the loop (`next` is its length) or is passed over. Refuses with 2, 21 to 25. Stack: 16 KB.
  */
-struct scte35_step scte35_read_item(const uint8_t *s, size_t n, size_t offset);
+struct scte35_step scte35_read_item(const uint8_t *descriptors, size_t n, size_t offset);
 
 /* The bytes that an item's view names, in the loop that it was read from: item->bytes.len of them. NULL where there are none. */
 static inline const uint8_t *scte35_item_bytes(const uint8_t *descriptors, const struct scte35_item *item)
@@ -434,16 +435,16 @@ static inline size_t scte35_item_upid_at(const struct scte35_item *item, size_t 
     return offset + 6 + 6 + components + (s->segmentation_duration_flag ? 5 : 0) + 2;
 }
 
-struct scte35_component {
+struct scte35_segmentation_component {
     uint64_t component_tag;
     uint64_t pts_offset;
 };
 
-struct scte35_item_components {
+struct scte35_segmentation_components {
     uint64_t refusal;
     uint64_t values[3];
     uint64_t count; /* all zero past it */
-    struct scte35_component components[255];
+    struct scte35_segmentation_component components[255];
     uint64_t eidr[12]; /* a byte in each; all zero where the UPID is no EIDR */
 };
 
@@ -451,7 +452,7 @@ struct scte35_item_components {
  * What stands beside an item: the components and the EIDR of a segmentation descriptor; none of any other.
  * Takes all of the loop, and the item's offset. Refuses as scte35_read_item does. Stack: 28 KB.
  */
-struct scte35_item_components scte35_read_item_components(const uint8_t *s, size_t n, size_t offset);
+struct scte35_segmentation_components scte35_read_segmentation_components(const uint8_t *descriptors, size_t n, size_t offset);
 
 /* ---- UPIDs */
 
@@ -475,7 +476,7 @@ struct scte35_upid {
  * A UPID, and the parts of a MID.
  * Takes the type as written, and the UPID's bytes from `at` to the end. Refuses with 2, 21, 23 to 25. Stack: 24 KB, for a MID 128 levels deep.
  */
-struct scte35_upid scte35_read_upid(uint8_t upid_type, const uint8_t *s, size_t n, size_t at);
+struct scte35_upid scte35_read_upid(uint8_t upid_type, const uint8_t *upid, size_t n, size_t at);
 
 /* The bytes of a part, in the UPID that was read: part->len of them. NULL where there are none. */
 static inline const uint8_t *scte35_part_bytes(const uint8_t *upid, const struct scte35_part *part)
@@ -502,7 +503,7 @@ static inline uint8_t scte35_part_written_type(const struct scte35_part *part)
  * To write back a section that was read, x = scte35_read_section(s, n, 0), with its loop d = scte35_loop_bytes(s, &x) of k = x.descriptors.len bytes:
  *
  *   1. for each item, with the offset at which it stands,
- *          step = scte35_read_item(d, k, offset), beside = scte35_read_item_components(d, k, offset),
+ *          step = scte35_read_item(d, k, offset), beside = scte35_read_segmentation_components(d, k, offset),
  *          scte35_write_descriptor(&step, &beside, d, k, ..), each behind the one before, into `loop`
  *   2. components = scte35_read_section_components(s, &x), which are looked at only where the command counts some
  *   3. scte35_write_section(&x.header, &x.command, &components, s, n, loop, its length, ..)
@@ -531,9 +532,9 @@ struct scte35_written scte35_write_command_words(const uint64_t *command, size_t
 
 /*
  * An item's descriptor.
- * Takes the words of struct scte35_step (of these refusal, values and next are not looked at) and of struct scte35_item_components (of these the places up to
- * the item's own count, and the EIDR), the bytes that its view names, the target. The words of components that it counts and of an EIDR that it has must be
- * there: else it is 33, and no zeros are written. Refuses with 31 to 34, 36. Stack: 37 KB.
+ * Takes the words of struct scte35_step (of these refusal, values and next are not looked at) and of struct scte35_segmentation_components (of these the places
+ * up to the item's own count, and the EIDR), the bytes that its view names, the target. The words of components that it counts and of an EIDR that it has must
+ * be there: else it is 33, and no zeros are written. Refuses with 31 to 34, 36. Stack: 37 KB.
  */
 struct scte35_written scte35_write_descriptor_words(const uint64_t *step, size_t step_words, const uint64_t *beside, size_t beside_words,
                                                     const uint8_t *lent, size_t lent_length, uint8_t *target, size_t target_length);
@@ -566,7 +567,7 @@ static inline struct scte35_written scte35_write_command(const struct scte35_com
 }
 
 /* Writes an item's descriptor, as scte35_write_descriptor_words does, of structs. */
-static inline struct scte35_written scte35_write_descriptor(const struct scte35_step *step, const struct scte35_item_components *beside,
+static inline struct scte35_written scte35_write_descriptor(const struct scte35_step *step, const struct scte35_segmentation_components *beside,
                                                             const uint8_t *lent, size_t lent_length, uint8_t *target, size_t target_length)
 {
     /* of NULL the kind counts as 0, which no descriptor has */
@@ -590,9 +591,9 @@ static inline struct scte35_written scte35_write_section(const struct scte35_hea
  * Whether all bytes from `at` on are a canonical section, a loop of canonical descriptors (or of none), or one canonical descriptor. A loop of any
  * length may be canonical, though scte35_read_item refuses one over 4,076 bytes. Refuse nothing. Stack: 16 KB.
  */
-bool scte35_is_canonical_section(const uint8_t *s, size_t n, size_t at);
-bool scte35_is_canonical_loop(const uint8_t *s, size_t n, size_t at);
-bool scte35_is_canonical_descriptor(const uint8_t *s, size_t n, size_t at);
+bool scte35_is_canonical_section(const uint8_t *section, size_t n, size_t at);
+bool scte35_is_canonical_loop(const uint8_t *descriptors, size_t n, size_t at);
+bool scte35_is_canonical_descriptor(const uint8_t *descriptor, size_t n, size_t at);
 
 /* ---- numbers */
 
@@ -638,7 +639,7 @@ struct scte35_adjustment scte35_undo_adjustment(uint64_t a);
  * for the section, 32 where the adjustment has more than 33 bits, and 36 where the target is shorter than the section, in this order; a refused write changes
  * no byte. Stack: 2 KB.
  */
-struct scte35_written scte35_adjust_section(const uint8_t *s, size_t n, size_t at, uint64_t adjustment, uint8_t *target, size_t target_length);
+struct scte35_written scte35_adjust_section(const uint8_t *section, size_t n, size_t at, uint64_t adjustment, uint8_t *target, size_t target_length);
 
 /* ---- one identifier replaced, every other one kept */
 
@@ -653,7 +654,7 @@ struct scte35_written scte35_adjust_section(const uint8_t *s, size_t n, size_t a
  * the section over 4,096 bytes; and 36 where the target is shorter than the result, in this order; a refused write changes no byte. Stack: 24 KB, for a MID
  * 128 levels deep.
  */
-struct scte35_written scte35_relabel(const uint8_t *s, size_t n, size_t offset, size_t part, uint8_t upid_type, const uint8_t *bytes, size_t bytes_length,
+struct scte35_written scte35_relabel(const uint8_t *section, size_t n, size_t offset, size_t part, uint8_t upid_type, const uint8_t *bytes, size_t bytes_length,
                                      uint8_t *target, size_t target_length);
 
 /* ---- cues in streaming playlists: an EXT-X-DATERANGE line of RFC 8216, without its line end */
@@ -677,7 +678,7 @@ struct scte35_daterange {
  * looked at but for 53: whether the date is one is the caller's part. Refuses with 1 to 11 for the section, 53, and 36, in this order; a refused write changes
  * no byte. Stack: 2 KB.
  */
-struct scte35_written scte35_write_daterange(const uint8_t *s, size_t n, size_t at, const uint8_t *id, size_t id_length, const uint8_t *date,
+struct scte35_written scte35_write_daterange(const uint8_t *section, size_t n, size_t at, const uint8_t *id, size_t id_length, const uint8_t *date,
                                              size_t date_length, uint8_t *target, size_t target_length);
 
 /*
@@ -690,7 +691,7 @@ struct scte35_written scte35_write_daterange(const uint8_t *s, size_t n, size_t 
  * behind the cue costs some 6 more for each of the cue's characters, and a line of n characters in very many attributes at most 4 n * n in all (measured:
  * docs/COST.md). A caller who is sent hostile lines bounds their length.
  */
-struct scte35_daterange scte35_read_daterange(const uint8_t *s, size_t n, size_t at, uint8_t *target, size_t target_length);
+struct scte35_daterange scte35_read_daterange(const uint8_t *line, size_t n, size_t at, uint8_t *target, size_t target_length);
 
 /* ---- named numbers */
 
@@ -803,7 +804,7 @@ SCTE35_WORDS(scte35_section, 1 + 9 + 21 + 2 + 2);
 SCTE35_WORDS(scte35_segmentation, 18);
 SCTE35_WORDS(scte35_item, 27);
 SCTE35_WORDS(scte35_step, 6 + 27);
-SCTE35_WORDS(scte35_item_components, 5 + 255 * 2 + 12);
+SCTE35_WORDS(scte35_segmentation_components, 5 + 255 * 2 + 12);
 SCTE35_WORDS(scte35_upid, 18 + 127 * 4);
 SCTE35_WORDS(scte35_written, 2);
 SCTE35_WORDS(scte35_adjusted_time, 3);

@@ -73,7 +73,7 @@ static struct scte35_written write_loop(const uint8_t *loop, size_t n, uint8_t *
     struct scte35_written all = {0, 0};
     for (uint64_t at = 0; at < n;) {
         struct scte35_step item = scte35_read_item(loop, n, at);
-        struct scte35_item_components beside = scte35_read_item_components(loop, n, at);
+        struct scte35_segmentation_components beside = scte35_read_segmentation_components(loop, n, at);
         struct scte35_written one = scte35_write_descriptor(&item, &beside, loop, n, target + all.length, room - all.length);
         if (one.refusal)
             return one;

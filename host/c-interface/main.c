@@ -87,7 +87,7 @@ static void places(void)
             if (x.item.bytes.len)
                 CHECK(upid == x.item.bytes.at && loop[upid - 2] == written[k] && loop[upid - 1] == x.item.bytes.len);
             if (written[k] == SCTE35_UPID_EIDR) {
-                struct scte35_item_components beside = scte35_read_item_components(loop, n, at);
+                struct scte35_segmentation_components beside = scte35_read_segmentation_components(loop, n, at);
                 for (size_t i = 0; i < 12; i++)
                     CHECK(loop[upid + i] == beside.eidr[i]);
             }
@@ -133,7 +133,7 @@ static void handed(void)
     /* components and an EIDR that are not handed in are not written as zeros */
     uint8_t loop[64];
     size_t n = unhex("02 22 43554549 00000007 7F 3F 01 09 FE 00000005 0A 0C 0102030405060708090A0B0C 34 02 03", loop);
-    struct scte35_item_components beside = scte35_read_item_components(loop, n, 0);
+    struct scte35_segmentation_components beside = scte35_read_segmentation_components(loop, n, 0);
     segmentation = scte35_read_item(loop, n, 0);
     CHECK(DESCRIPTOR(&segmentation, &beside, loop, n).length == n && !memcmp(target, loop, n));
     CHECK(DESCRIPTOR(&segmentation, NULL, loop, n).refusal == 33);
@@ -174,7 +174,7 @@ static struct scte35_command command;
 static struct scte35_insert_components components;
 static struct scte35_section whole;
 static struct scte35_step step;
-static struct scte35_item_components beside;
+static struct scte35_segmentation_components beside;
 static struct scte35_upid upid;
 static struct scte35_adjusted_time adjusted;
 static struct scte35_adjustment adjustment;
@@ -194,7 +194,7 @@ MEASURED(scte35_read_section, whole = scte35_read_section(section, section_lengt
 MEASURED(scte35_read_command, command = scte35_read_command(section[13], section, section_length, SCTE35_PLACE_COMMAND))
 MEASURED(scte35_read_insert_components, components = scte35_read_section_components(section, &whole))
 MEASURED(scte35_read_item, step = scte35_read_item(loop, loop_length, 0))
-MEASURED(scte35_read_item_components, beside = scte35_read_item_components(loop, loop_length, 0))
+MEASURED(scte35_read_segmentation_components, beside = scte35_read_segmentation_components(loop, loop_length, 0))
 MEASURED(scte35_read_upid, upid = scte35_read_upid(SCTE35_UPID_MID, mid, 254, 0))
 MEASURED(scte35_is_canonical_section, told = scte35_is_canonical_section(section, section_length, 0))
 MEASURED(scte35_is_canonical_loop, told = scte35_is_canonical_loop(loop, loop_length, 0))
@@ -225,7 +225,7 @@ MEASURED(scte35_packet_feed, told = scte35_packet_feed(packets, SCTE35_PACKET_WO
 MEASURED(scte35_packet_take, told = scte35_packet_take(packets, SCTE35_PACKET_WORDS, packet, sizeof packet, gathered, sizeof gathered))
 
 #define EACH(X)                                                                                                                                              \
-    X(abi) X(crc) X(read_header) X(read_section) X(read_command) X(read_insert_components) X(read_item) X(read_item_components) X(read_upid)                 \
+    X(abi) X(crc) X(read_header) X(read_section) X(read_command) X(read_insert_components) X(read_item) X(read_segmentation_components) X(read_upid)                 \
     X(is_canonical_section) X(is_canonical_loop) X(is_canonical_descriptor) X(adjust_section) X(relabel) X(write_command_words) X(write_descriptor_words)    \
     X(write_section_words) X(write_daterange) X(read_daterange) X(adjust_time) X(move_time) X(chain_adjustments) X(undo_adjustment)                          \
     X(classify_algorithm) X(classify_command_type) X(classify_upid_type) X(classify_segmentation_type) X(classify_network_indicator)                         \

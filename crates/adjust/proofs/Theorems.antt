@@ -81,10 +81,10 @@ only-one-takes-it-back t a u h k l e =
     let f : adjustOf (At t) ((a + u) % 8589934592) ≡ Moved.Is (At t) = sym (a-and-then-b-is-once-by-their-sum (At t) a u h k l) ∙ e in
     let g : Moved.Is (At ((t + (a + u) % 8589934592) % 8589934592)) ≡ Moved.Is (At t) = sym (adjust-is (At t) ((a + u) % 8589934592) (remainder-fits (a + u)) h) ∙ f in
     let n : (t + (a + u) % 8589934592) % 8589934592 ≡ t = cc in
-    undo-is a k ∙ ap Adjustment.Is (mod-only a u k l (whole t a u h k l n))
+    undo-is a k ∙ ap Adjustment.Is (mod-only a u k l (overall t a u h k l n))
   where
-    whole : (t a u : ℕ) → t < 8589934592 → a < 8589934592 → u < 8589934592 → (t + (a + u) % 8589934592) % 8589934592 ≡ t → (a + u) % 8589934592 ≡ 0
-    whole t a u h k l n = omega (arith, n)
+    overall : (t a u : ℕ) → t < 8589934592 → a < 8589934592 → u < 8589934592 → (t + (a + u) % 8589934592) % 8589934592 ≡ t → (a + u) % 8589934592 ≡ 0
+    overall t a u h k l n = omega (arith, n)
 
 -- ---- a chain of any length: adjusting by each of a list in turn is adjusting once by the remainder of their sum
 through-is : (t : SpliceTime) (l : List ℕ) → ticks t < 2 ^ 33 → Each33 l → through (Moved.Is t) l ≡ adjustOf t (sum l % 8589934592)

@@ -44,10 +44,10 @@ sectionIn x (SectionRead.Refused r) = x
 accepted-with : (p : ℕ) (f : FrameRead) (h : SpliceInfoHeader) (r : CommandRead) (x : Section) → through f (HeaderRead.Header h) r ≡ SectionRead.Is x
     → (through f (HeaderRead.Header (headerWith p h)) r ≡ SectionRead.Is (readingWith p x)) × (x .header ≡ h)
 unfolding accepted
-accepted-with p (FrameRead.Whole v) h (CommandRead.Is c) x e =
+accepted-with p (FrameRead.Is v) h (CommandRead.Is c) x e =
     (ap (λ (r : SectionRead). SectionRead.Is (readingWith p (sectionIn x r))) e, sym (ap (λ (r : SectionRead). sectionIn x r .header) e))
-accepted-with p (FrameRead.Whole v) h CommandRead.UnknownType x e = zero-one cc
-accepted-with p (FrameRead.Whole v) h CommandRead.Malformed x e = zero-one cc
+accepted-with p (FrameRead.Is v) h CommandRead.UnknownType x e = zero-one cc
+accepted-with p (FrameRead.Is v) h CommandRead.Malformed x e = zero-one cc
 accepted-with p (FrameRead.Refused n) h r x e = zero-one cc
 
 -- the header's fields

@@ -1,4 +1,4 @@
 pub mod Runs
 pub mod Cuts
-pub mod Wholes
+pub mod Completes
 pub mod Lists

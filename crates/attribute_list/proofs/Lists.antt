@@ -17,7 +17,7 @@ use Rattle.attribute_list.specs.Grammar.{all, Attribute, valid, valueTex
 use Rattle.attribute_list.specs.Cutting.{same, closed, cutOf, endOf, attributeIn, consed, attributesBy, attributesFrom, attributesOf}
 use Rattle.attribute_list.specs.declared.cutting.Cut.{Cut}
 use Rattle.attribute_list.specs.declared.cutting.Cut.the-variants.{Nothing, Is}
-use Rattle.attribute_list.proofs.Wholes.{Whole, Sound, cut-sound, Exact, cut-exact, isQuoted, sized}
+use Rattle.attribute_list.proofs.Completes.{Complete, Sound, cut-sound, Exact, cut-exact, isQuoted, sized}
 
 pub record Listed (l : List Attribute) (s : List ℕ) : Type 0 where
   pub some : 0 < length l
@@ -41,7 +41,7 @@ no-bytes (x ∷ r) e = absurd (omega arith)
 
 -- ---- what is found is by the grammar
 
-last-sound : (s : List ℕ) (n : ℕ) (q : Bool) (k : ℕ) → Whole s n q k → eqb (length (drop (endOf n q k) s)) 0 ≡ true → Listed (attributeIn s n q k ∷ []) s
+last-sound : (s : List ℕ) (n : ℕ) (q : Bool) (k : ℕ) → Complete s n q k → eqb (length (drop (endOf n q k) s)) 0 ≡ true → Listed (attributeIn s n q k ∷ []) s
 unfolding all laterText listText
 last-sound s n q k w e =
     record {
@@ -50,7 +50,7 @@ last-sound s n q k w e =
       text = ap (λ (r : List ℕ). textOf (attributeIn s n q k) ++ r) (sym (no-bytes (drop (endOf n q k) s) (eqb-true (length (drop (endOf n q k) s)) 0 e))) ∙ w .text;
     }
 
-more-sound : (s : List ℕ) (n : ℕ) (q : Bool) (k : ℕ) → Whole s n q k → eqb (length (drop (endOf n q k) s)) 0 ≡ false
+more-sound : (s : List ℕ) (n : ℕ) (q : Bool) (k : ℕ) → Complete s n q k → eqb (length (drop (endOf n q k) s)) 0 ≡ false
     → (l : List Attribute) → Listed l (drop (endOf n q k + 1) s) → Listed (attributeIn s n q k ∷ l) s
 unfolding all listText
 more-sound s n q k w e l h =

@@ -1,7 +1,7 @@
 -- Bits stored into a target.
 --     penned-fits, penned-none, length-penned     what is stored where there is room, and where there is none; the target keeps its length
 --     penned-append                               bits stored behind others: storing both at once
---     penned-byte, penned-stored, penned-whole    bits of one byte; whole bytes; whole bytes from the target's first on
+--     penned-byte, penned-stored, penned-aligned    bits of one byte; whole bytes; whole bytes from the target's first on
 --     bits-number                                 the bits of a number's bytes
 use Prim.Native.Nat.{ℕ, zero, suc, _+_, _*_, _-_, _/_, _%_, _^_, _<_, _≤_}
 use mathlib.Core.Bool.{Bool, true, false}
@@ -39,8 +39,8 @@ module _ (t : List ℕ) (at : ℕ) (b : List ℕ) where
       let n : at ≤ length (bitsOf t) = omega (arith, length-bits t) in
       length-append (take at (bitsOf t)) b ∙ ap (λ (n : ℕ). n + length b) (length-take-le at (bitsOf t) n)
 
-  whole : at + length b ≤ length t * 8 → length (take at (bitsOf t) ++ b ++ drop (at + length b) (bitsOf t)) ≡ length t * 8
-  whole h =
+  overall : at + length b ≤ length t * 8 → length (take at (bitsOf t) ++ b ++ drop (at + length b) (bitsOf t)) ≡ length t * 8
+  overall h =
       length-append (take at (bitsOf t) ++ b) (drop (at + length b) (bitsOf t))
       ∙ omega (arith, front h, length-drop (at + length b) (bitsOf t), length-bits t)
 
@@ -52,7 +52,7 @@ module _ (t : List ℕ) (at : ℕ) (b : List ℕ) where
       go false e = refl
       go true e =
           let l = take at (bitsOf t) ++ b ++ drop (at + length b) (bitsOf t) in
-          length-bytesN (length l / 8) l ∙ omega (arith, whole (leb-true _ _ e))
+          length-bytesN (length l / 8) l ∙ omega (arith, overall (leb-true _ _ e))
 
   -- the bits that the target has then
   pub bits-penned : AllBits b → at + length b ≤ length t * 8 → bitsOf (penned t at b) ≡ take at (bitsOf t) ++ b ++ drop (at + length b) (bitsOf t)
@@ -61,7 +61,7 @@ module _ (t : List ℕ) (at : ℕ) (b : List ℕ) where
       ∙ bits-bytes (length t) (take at (bitsOf t) ++ b ++ drop (at + length b) (bitsOf t))
       (all-append (take at (bitsOf t) ++ b) (drop (at + length b) (bitsOf t))
       (all-append (take at (bitsOf t)) b (all-take at (bitsOf t) (all-bits t)) k) (all-drop (at + length b) (bitsOf t) (all-bits t)))
-      (whole h)
+      (overall h)
 
 -- ---- one store behind another
 pub penned-append : (t : List ℕ) (at : ℕ) (b c : List ℕ) → AllBits b → at + length b + length c ≤ length t * 8
@@ -200,8 +200,8 @@ all-number zero v = tt
 all-number (suc n) v = (mod-lt (v / 2 ^ (n * 8)) (omega arith), all-number n v)
 
 -- whole bytes from the target's first on
-pub penned-whole : (t : List ℕ) (b : List ℕ) (n : ℕ) → AllBytes t → AllBits b → length b ≡ n * 8 → n ≤ length t → penned t 0 b ≡ bytesOf b ++ drop n t
-penned-whole t b n a k e h =
+pub penned-aligned : (t : List ℕ) (b : List ℕ) (n : ℕ) → AllBytes t → AllBits b → length b ≡ n * 8 → n ≤ length t → penned t 0 b ≡ bytesOf b ++ drop n t
+penned-aligned t b n a k e h =
     penned-fits t 0 b (omega arith)
     ∙ ap (λ (m : ℕ). bytesOf (b ++ drop m (bitsOf t))) (zero-add (length b) ∙ e)
     ∙ ap (λ (l : List ℕ). bytesOf (b ++ l)) (bits-from n t)

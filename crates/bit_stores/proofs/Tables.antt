@@ -44,7 +44,7 @@ pens-place t c b u d h p =
 -- ---- a store and what is stored behind it: there is room for the rest; and the rest stored there is all stored
 pub record Goes (t : List ℕ) (c : Cursor) (all : List ℕ) (u : List ℕ) (d : Cursor) (more : List ℕ) : Type 0 where
   pub room : Fits u d more
-  pub whole : (v : List ℕ) (e : Cursor) → Pens u d more v e → Pens t c all v e
+  pub both : (v : List ℕ) (e : Cursor) → Pens u d more v e → Pens t c all v e
 
 pub pens-append : (t : List ℕ) (c : Cursor) (b : List ℕ) (u : List ℕ) (d : Cursor) (r : List ℕ) → AllBits b → Fits t c (b ++ r) → Pens t c b u d → Goes t c (b ++ r) u d r
 pens-append t c b u d r k h p =
@@ -55,7 +55,7 @@ pens-append t c b u d r k h p =
     let m : place d + length r ≡ place c + length (b ++ r) = omega arith in
     record {
       room = omega arith;
-      whole = λ v e q. record {
+      both = λ v e q. record {
         bytes = q .bytes ∙ ap₂ (λ (x : List ℕ) (y : ℕ). penned x y r) (p .bytes) i ∙ penned-append t (place c) b r k (omega arith);
         cursor = q .cursor ∙ after-fits u d (length r) (omega arith) ∙ ap cursorAt m ∙ sym (after-fits t c (length (b ++ r)) h);
       };
@@ -79,7 +79,7 @@ pens-byte t c s i x u d v e h is f p q =
     ap bitsOf (ap (λ (n : ℕ). take n s) (add-one i) ∙ take-suc s i 0 h) ∙ bits-append (take i s) (getD s i 0 ∷ []) ∙ ap (λ (y : ℕ). b ++ bitsOfNum 8 y) (sym is) in
     let l : length (b ++ bitsOfNum 8 x) ≡ i * 8 + 8 =
     length-append b (bitsOfNum 8 x) ∙ omega (arith, length-bits (take i s), length-take-le i s (omega arith)) in
-    rw k (pens-append t c b u d (bitsOfNum 8 x) (all-bits (take i s)) (omega (arith, length-bits s)) p .whole v e q)
+    rw k (pens-append t c b u d (bitsOfNum 8 x) (all-bits (take i s)) (omega (arith, length-bits s)) p .both v e q)
 
 -- the same bits
 pub pens-same : (t : List ℕ) (c : Cursor) (b r : List ℕ) (u : List ℕ) (d : Cursor) → b ≡ r → Pens t c b u d → Pens t c r u d

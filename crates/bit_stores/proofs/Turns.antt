@@ -112,9 +112,9 @@ pens-number t at n v a h =
     rw (bits-number n v, l) at p
 
 -- so a field of whole bytes at a byte's first bit is stored
-pub pens-whole : (t : List ℕ) (c : Cursor) (w v : ℕ) (u : List ℕ) (e : Cursor) → c .bit ≡ 0 → w % 8 ≡ 0
+pub pens-aligned : (t : List ℕ) (c : Cursor) (w v : ℕ) (u : List ℕ) (e : Cursor) → c .bit ≡ 0 → w % 8 ≡ 0
     → Pens t (record { byte = c .byte; bit = 0 }) (bitsOfNum (w / 8 * 8) v) u e → Pens t c (bitsOfNum w v) u e
-pens-whole t c w v u e z m p =
+pens-aligned t c w v u e z m p =
     let n : w / 8 * 8 ≡ w = omega arith in
     same _ c _ _ (ap (λ (j : ℕ). record { byte = c .byte; bit = j }) (sym z)) (ap (λ (k : ℕ). bitsOfNum k v) n) p
   where

@@ -78,7 +78,7 @@ fn put_across(out: &mut [u8], c: Cursor, w: usize, v: u64) -> Cursor
 }
 
 // A field of n bytes, where a byte begins.
-fn put_whole(out: &mut [u8], at: usize, n: usize, v: u64) -> Cursor
+fn put_aligned(out: &mut [u8], at: usize, n: usize, v: u64) -> Cursor
     ensures { λ r. ⌜ Pens (now (out .entry)) (record { byte = at; bit = 0 }) (bitsOfNum (n * 8) v) (now (out .exit)) r ⌝ }
 {
     if out.len() < at {
@@ -100,7 +100,7 @@ pub fn put_bits(out: &mut [u8], c: Cursor, w: usize, v: u64) -> Cursor
 {
     if c.bit == 0 {
         if w % 8 == 0 {
-            return put_whole(out, c.byte, w / 8, v);
+            return put_aligned(out, c.byte, w / 8, v);
         }
     }
     put_across(out, c, w, v)

@@ -31,16 +31,16 @@ abbrev pub settled : FlatBoardAnswer → SharedBoard → List ℕ → List ℕ
 settled answer b words = pick (eqb (answer .refusal) 0) (stored b words) words
 
 -- a run that is shorter than a board is refused (36)
-abbrev pub whole : List ℕ → Lent → Lent
-whole words l = pick (ltb (length words) 66) (record { answer = record { refusal = 36; id = 0 }; words = words }) l
+abbrev pub longEnough : List ℕ → Lent → Lent
+longEnough words l = pick (ltb (length words) 66) (record { answer = record { refusal = 36; id = 0 }; words = words }) l
 
 abbrev pub called : (SharedBoard → Turn) → List ℕ → Lent
 called turn words =
     let t : Turn = turn (boardGiven words) in
-    whole words (record { answer = flatReply (t .reply); words = settled (flatReply (t .reply)) (t .board) words })
+    longEnough words (record { answer = flatReply (t .reply); words = settled (flatReply (t .reply)) (t .board) words })
 
 unfoldable pub emptied : List ℕ → Lent
-emptied words = whole words (record { answer = record { refusal = 0; id = 0 }; words = stored emptyShared words })
+emptied words = longEnough words (record { answer = record { refusal = 0; id = 0 }; words = stored emptyShared words })
 
 unfoldable pub opened : List ℕ → ℕ → ℕ → Lent
 opened words channel provider = called (λ b. openOf b channel provider) words

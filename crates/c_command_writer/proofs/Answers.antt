@@ -12,7 +12,7 @@ use Rattle.command.specs.Command.{array, countIn, Tags}
 use Rattle.command.specs.Insert as insert
 use Rattle.command.specs.Insert.{count, immediate, programTime, insertOf}
 use Rattle.command.specs.declared.SpliceCommand.{SpliceCommand}
-use Rattle.command.specs.declared.components.ComponentSplice.{ComponentSplice}
+use Rattle.command.specs.declared.components.InsertComponent.{InsertComponent}
 use Rattle.command.specs.declared.insert.InsertDetail.{InsertDetail}
 use Rattle.command.specs.declared.insert.SpliceInsert.{SpliceInsert}
 use Rattle.command.specs.declared.insert.SpliceDetail.{SpliceDetail}
@@ -28,8 +28,8 @@ use Rattle.splice_time.specs.declared.SpliceTime.{SpliceTime}
 use Rattle.bit_stores.specs.Written.{bytesIn}
 use Rattle.table.proofs.Lists.{zero-one, and-true}
 use Rattle.table.specs.Writing.{Made, made, refused}
-use Rattle.c_command_writer.specs.CommandGiven.{commandGiven, componentFrom, componentsFrom, splicesWithin, ownComponent, ownSplices, wordsRefusal, commandRefusal, commandWordsMade}
-use Rattle.c_command_writer.specs.CommandWords.{commandWords, commandWidths, splicesIn, componentWidths, placesGiven, CommandIs, commandSeen, commandFits, CommandAnswer, outside, over, nobodys, its}
+use Rattle.c_command_writer.specs.CommandGiven.{commandGiven, componentFrom, componentsFrom, insertComponentsWithin, ownComponent, ownInsertComponents, wordsRefusal, commandRefusal, commandWordsMade}
+use Rattle.c_command_writer.specs.CommandWords.{commandWords, commandWidths, insertComponentsIn, componentWidths, placesGiven, CommandIs, commandSeen, commandFits, CommandAnswer, outside, over, nobodys, its}
 use Rattle.c_command_writer.specs.Words.{within, same, placesOf, eachPlace, refusalOf, seenFirst, lowest, noLess}
 use Rattle.command.proofs.Arrays.{array-take, array-there}
 use Rattle.c_command_writer.proofs.Fits.{over-or-fits, fit-within}
@@ -70,7 +70,7 @@ mode-count : (m : SpliceMode) → TypedMode m → count m < 256
 mode-count (SpliceMode.Program t) h = omega arith
 mode-count (SpliceMode.Components n) h = h
 
-module _ (places : List ComponentSplice) (lent : List ℕ) where
+module _ (places : List InsertComponent) (lent : List ℕ) where
   abbrev Last : SpliceCommand → Type 0
   Last c = Late 32 (commandMade c places lent) × (Small c → timesFit (take (countIn c) places) ≡ true → Late 33 (commandMade c places lent))
 
@@ -136,81 +136,81 @@ module _ (words components lent : List ℕ) where
   abbrev pub given : SpliceCommand
   given = commandGiven words
 
-  abbrev pub listed : List ComponentSplice
-  listed = placesOf componentFrom 3 (countIn given) (splicesIn components)
+  abbrev pub listed : List InsertComponent
+  listed = placesOf componentFrom 3 (countIn given) (insertComponentsIn components)
 
-  abbrev pub whole : Made
-  whole = commandMade given (array listed) lent
+  abbrev pub overall : Made
+  overall = commandMade given (array listed) lent
 
   abbrev pub fits : Bool
-  fits = within commandWidths words && splicesWithin (countIn given) components
+  fits = within commandWidths words && insertComponentsWithin (countIn given) components
 
   abbrev pub own : Bool
-  own = same (commandWords (flatCommand given)) words && ownSplices (countIn given) components
+  own = same (commandWords (flatCommand given)) words && ownInsertComponents (countIn given) components
 
-  words-made : commandWordsMade words components lent ≡ noLess (seenFirst (commandSeen words lent) (refusalOf fits own)) whole
+  words-made : commandWordsMade words components lent ≡ noLess (seenFirst (commandSeen words lent) (refusalOf fits own)) overall
   unfolding commandWordsMade commandRefusal wordsRefusal componentsFrom
   words-made = refl
 
-  words-seen : commandSeen words lent ≡ true → commandWordsMade words components lent ≡ noLess (refusalOf fits own) whole
+  words-seen : commandSeen words lent ≡ true → commandWordsMade words components lent ≡ noLess (refusalOf fits own) overall
   words-seen e = words-made ∙ rw e
 
   pub fits-are : commandFits words components ≡ fits
-  unfolding commandFits splicesWithin
+  unfolding commandFits insertComponentsWithin
   fits-are = go (within commandWidths words) refl
     where
-      go : (b : Bool) → within commandWidths words ≡ b → b && eachPlace (within componentWidths) 3 (placesGiven words) (splicesIn components) ≡ b && eachPlace (within componentWidths) 3 (countIn given) (splicesIn components)
-      go true e = ap (λ (n : ℕ). eachPlace (within componentWidths) 3 n (splicesIn components)) (sym (given-count words e))
+      go : (b : Bool) → within commandWidths words ≡ b → b && eachPlace (within componentWidths) 3 (placesGiven words) (insertComponentsIn components) ≡ b && eachPlace (within componentWidths) 3 (countIn given) (insertComponentsIn components)
+      go true e = ap (λ (n : ℕ). eachPlace (within componentWidths) 3 n (insertComponentsIn components)) (sym (given-count words e))
       go false e = refl
 
   listed-length : length listed ≡ countIn given
-  listed-length = places-length componentFrom 3 (countIn given) (splicesIn components)
+  listed-length = places-length componentFrom 3 (countIn given) (insertComponentsIn components)
 
-  value-late : seenBy given lent ≡ true → Late 32 whole × (fits ≡ true → Late 33 whole)
-  unfolding splicesWithin
+  value-late : seenBy given lent ≡ true → Late 32 overall × (fits ≡ true → Late 33 overall)
+  unfolding insertComponentsWithin
   value-late e =
       let t : take (countIn given) (array listed) ≡ listed = array-take listed (countIn given) listed-length in
-      let l = command-late (array listed) lent given (given-typed words) (array-there listed (countIn given) listed-length) (rw t (places-tags (countIn given) (splicesIn components))) e in
-      (l .0, λ f. let a = and-true (within commandWidths words) (splicesWithin (countIn given) components) f in l .1 (given-small words (a .0)) (rw t (places-fit (countIn given) (splicesIn components) (a .1))))
+      let l = command-late (array listed) lent given (given-typed words) (array-there listed (countIn given) listed-length) (rw t (places-tags (countIn given) (insertComponentsIn components))) e in
+      (l .0, λ f. let a = and-true (within commandWidths words) (insertComponentsWithin (countIn given) components) f in l .1 (given-small words (a .0)) (rw t (places-fit (countIn given) (insertComponentsIn components) (a .1))))
 
-  pub given-late : commandSeen words lent ≡ true → Late 32 whole × (fits ≡ true → Late 33 whole)
+  pub given-late : commandSeen words lent ≡ true → Late 32 overall × (fits ≡ true → Late 33 overall)
   given-late e = value-late (given-seen words lent e)
 
-  any-late : Late 31 whole
+  any-late : Late 31 overall
   any-late = go (seenBy given lent) refl
     where
-      go : (s : Bool) → seenBy given lent ≡ s → Late 31 whole
-      go true e = late-31 whole (value-late e .0)
+      go : (s : Bool) → seenBy given lent ≡ s → Late 31 overall
+      go true e = late-31 overall (value-late e .0)
       go false e = rw (unseen-made (array listed) lent given e) (omega arith)
 
   -- ---- by each case
   made-outside : commandSeen words lent ≡ false → commandWordsMade words components lent ≡ refused 31
-  made-outside e = words-made ∙ rw e (refused-31 whole any-late)
+  made-outside e = words-made ∙ rw e (refused-31 overall any-late)
 
   made-over : commandSeen words lent ≡ true → commandFits words components ≡ false → commandWordsMade words components lent ≡ refused 32
-  made-over e f = words-seen e ∙ refused-32 fits own whole (sym fits-are ∙ f) (given-late e .0)
+  made-over e f = words-seen e ∙ refused-32 fits own overall (sym fits-are ∙ f) (given-late e .0)
 
   made-other : commandSeen words lent ≡ true → commandFits words components ≡ true → own ≡ false → commandWordsMade words components lent ≡ refused 33
-  made-other e f g = words-seen e ∙ refused-33 fits own whole (sym fits-are ∙ f) g (given-late e .1 (sym fits-are ∙ f))
+  made-other e f g = words-seen e ∙ refused-33 fits own overall (sym fits-are ∙ f) g (given-late e .1 (sym fits-are ∙ f))
 
-  made-own : commandSeen words lent ≡ true → commandFits words components ≡ true → own ≡ true → commandWordsMade words components lent ≡ whole
-  made-own e f g = words-seen e ∙ unrefused fits own whole (sym fits-are ∙ f) g
+  made-own : commandSeen words lent ≡ true → commandFits words components ≡ true → own ≡ true → commandWordsMade words components lent ≡ overall
+  made-own e f g = words-seen e ∙ unrefused fits own overall (sym fits-are ∙ f) g
 
   -- ---- their own value
   pub given-is : own ≡ true → CommandIs words components given listed
-  unfolding ownSplices
+  unfolding ownInsertComponents
   given-is e =
-      let a = and-true (same (commandWords (flatCommand given)) words) (ownSplices (countIn given) components) e in
-      record { own = a .0; counts = listed-length; places = places-own (countIn given) (splicesIn components) (a .1) }
+      let a = and-true (same (commandWords (flatCommand given)) words) (ownInsertComponents (countIn given) components) e in
+      record { own = a .0; counts = listed-length; places = places-own (countIn given) (insertComponentsIn components) (a .1) }
 
-  pub is-given : (c : SpliceCommand) (cs : List ComponentSplice) → CommandIs words components c cs → commandFits words components ≡ true → (given ≡ c) × (listed ≡ cs) × (own ≡ true)
-  unfolding splicesWithin ownSplices
+  pub is-given : (c : SpliceCommand) (cs : List InsertComponent) → CommandIs words components c cs → commandFits words components ≡ true → (given ≡ c) × (listed ≡ cs) × (own ≡ true)
+  unfolding insertComponentsWithin ownInsertComponents
   is-given c cs h f =
-      let a = and-true (within commandWidths words) (splicesWithin (countIn given) components) (sym fits-are ∙ f) in
+      let a = and-true (within commandWidths words) (insertComponentsWithin (countIn given) components) (sym fits-are ∙ f) in
       let g : given ≡ c = own-given c words (a .0) (h .own) in
       let n : length cs ≡ countIn given = h .counts ∙ sym (ap countIn g) in
-      let p = own-places cs (splicesIn components) (rw n (a .1)) (h .places) in
-      (g, ap (λ (k : ℕ). placesOf componentFrom 3 k (splicesIn components)) (sym n) ∙ p .0, rw (g, h .own) (ap (λ (k : ℕ). eachPlace ownComponent 3 k (splicesIn components)) (sym (h .counts)) ∙ p .1))
+      let p = own-places cs (insertComponentsIn components) (rw n (a .1)) (h .places) in
+      (g, ap (λ (k : ℕ). placesOf componentFrom 3 k (insertComponentsIn components)) (sym n) ∙ p .0, rw (g, h .own) (ap (λ (k : ℕ). eachPlace ownComponent 3 k (insertComponentsIn components)) (sym (h .counts)) ∙ p .1))
 
   pub answered : CommandAnswer words components lent (commandWordsMade words components lent)
   answered = go (commandSeen words lent) refl (commandFits words components) refl own refl
@@ -222,16 +222,16 @@ module _ (words components lent : List ℕ) where
       go true e true g true h = rw (made-own e g h) (its given listed (given-is h))
 
   -- ---- a value whose words they are is refused with 31 and with 32 where they are
-  pub is-unseen : (c : SpliceCommand) (cs : List ComponentSplice) → CommandIs words components c cs → commandSeen words lent ≡ false → commandMade c (array cs) lent ≡ refused 31
+  pub is-unseen : (c : SpliceCommand) (cs : List InsertComponent) → CommandIs words components c cs → commandSeen words lent ≡ false → commandMade c (array cs) lent ≡ refused 31
   is-unseen c cs h e = unseen-made (array cs) lent c (sym (own-seen c words lent (h .own)) ∙ e)
 
   module _ (short : length lent < 2 ^ 64) where
-    pub is-over : (c : SpliceCommand) (cs : List ComponentSplice) → CommandIs words components c cs → commandSeen words lent ≡ true → commandFits words components ≡ false → commandMade c (array cs) lent ≡ refused 32
+    pub is-over : (c : SpliceCommand) (cs : List InsertComponent) → CommandIs words components c cs → commandSeen words lent ≡ true → commandFits words components ≡ false → commandMade c (array cs) lent ≡ refused 32
     is-over c cs h e f =
         let s = sym (own-seen c words lent (h .own)) ∙ e in
         ⊎-elim (λ r. r) (λ r. let z = fit-within words components lent c cs short h s r in zero-one cc) (over-or-fits lent c cs (h .counts) s)
 
-    is-made : (c : SpliceCommand) (cs : List ComponentSplice) → CommandIs words components c cs → commandMade c (array cs) lent ≡ commandWordsMade words components lent
+    is-made : (c : SpliceCommand) (cs : List InsertComponent) → CommandIs words components c cs → commandMade c (array cs) lent ≡ commandWordsMade words components lent
     is-made c cs h = go (commandSeen words lent) refl (commandFits words components) refl
       where
         go : (s : Bool) → commandSeen words lent ≡ s → (f : Bool) → commandFits words components ≡ f → commandMade c (array cs) lent ≡ commandWordsMade words components lent
@@ -239,7 +239,7 @@ module _ (words components lent : List ℕ) where
         go true e false g = is-over c cs h e g ∙ sym (made-over e g)
         go true e true g =
             let i = is-given c cs h g in
-            ap₂ (λ (d : SpliceCommand) (l : List ComponentSplice). commandMade d (array l) lent) (sym (i .0)) (sym (i .1)) ∙ sym (made-own e g (i .2))
+            ap₂ (λ (d : SpliceCommand) (l : List InsertComponent). commandMade d (array l) lent) (sym (i .0)) (sym (i .1)) ∙ sym (made-own e g (i .2))
 
     -- so nothing else is an answer
     pub answer-is : (m : Made) → CommandAnswer words components lent m → m ≡ commandWordsMade words components lent

@@ -9,7 +9,7 @@ use Rattle.command.specs.declared.insert.InsertDetail.{InsertDetail}
 use Rattle.command.specs.declared.insert.SpliceDetail.{SpliceDetail}
 use Rattle.command.specs.declared.insert.SpliceMode.{SpliceMode}
 use Rattle.c_section.specs.Flat.{flatTime}
-use Rattle.c_section.specs.FlatCommand.{flatMode, flatBreak, wholeInsert, insertHead, flatDetail, flatInsertion, noCommand, flatCommand}
+use Rattle.c_section.specs.FlatCommand.{flatMode, flatBreak, activeInsert, insertHead, flatDetail, flatInsertion, noCommand, flatCommand}
 use Rattle.c_section.specs.declared.commands.FlatCommand.{FlatCommand}
 use Rattle.splice_time.specs.declared.SpliceTime.{SpliceTime}
 use Rattle.names.specs.Flags.{networkFlag, returnFlag}
@@ -49,14 +49,14 @@ unfolding breakFrom flatBreak
 break-back Break.Absent = refl
 break-back (Break.Lasts d) = rw (return-back (d .«return_mode»))
 
-insert-back : (event reserved : ℕ) (i : InsertDetail) → TypedDetail (SpliceDetail.Insert i) → insertFrom (wholeInsert event 0 reserved i) ≡ i
-unfolding insertFrom wholeInsert
+insert-back : (event reserved : ℕ) (i : InsertDetail) → TypedDetail (SpliceDetail.Insert i) → insertFrom (activeInsert event 0 reserved i) ≡ i
+unfolding insertFrom activeInsert
 insert-back event reserved i h =
     rw (network-back (i .«network_indicator»), mode-back (i .«splice_mode») (h .3), break-back (i .duration), mod-eq-of-lt (h .0), mod-eq-of-lt (h .1), mod-eq-of-lt (h .2))
 
 detail-back : (event reserved : ℕ) (d : SpliceDetail) → event < 2 ^ 32 → reserved < 256 → TypedDetail d
     → insertionFrom (flatDetail event reserved d) ≡ record { «splice_event_id» = event; reserved = reserved; «splice_detail» = d }
-unfolding insertionFrom insertHead wholeInsert
+unfolding insertionFrom insertHead activeInsert
 detail-back event reserved SpliceDetail.Cancel e r h = rw (mod-eq-of-lt e, mod-eq-of-lt r)
 detail-back event reserved (SpliceDetail.Insert i) e r h = rw (mod-eq-of-lt e, mod-eq-of-lt r, insert-back event reserved i h)
 

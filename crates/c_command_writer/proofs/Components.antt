@@ -11,7 +11,7 @@ use lib.Seq.{paste}
 use borrow.Author.Tests.{ltb-true, ltb-false, eq-eqb, ne-eqb}
 use Rattle.command.specs.Command.{array}
 use Rattle.command.specs.Insert.{blank}
-use Rattle.command.specs.declared.components.ComponentSplice.{ComponentSplice}
+use Rattle.command.specs.declared.components.InsertComponent.{InsertComponent}
 use Rattle.c_section.specs.FlatCommand.{flatComponent}
 use Rattle.c_command_writer.specs.CommandGiven.{componentFrom, componentsFrom, ownComponent}
 use Rattle.c_command_writer.specs.CommandWords.{componentWords}
@@ -51,7 +51,7 @@ module _ (words : List ℕ) where
   own-none h a b c = rw (narrow h, word-drop words 1, ne-eqb (word words 1) 1 a, ne-eqb (word words 1) 3 c, ne-eqb (word words 1) 2 b)
 
 -- ---- their array
-pub filled-array : (out s : List ComponentSplice) (i n : ℕ) → length s ≡ n → n ≡ i → out ≡ paste (array []) 0 s i → out ≡ array s
+pub filled-array : (out s : List InsertComponent) (i n : ℕ) → length s ≡ n → n ≡ i → out ≡ paste (array []) 0 s i → out ≡ array s
 unfolding array
 filled-array out s i n l e p = filled-front 255 blank out s i n l e p
 

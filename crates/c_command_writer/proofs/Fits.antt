@@ -13,7 +13,7 @@ use Rattle.command.specs.Writable.{writableInsert}
 use Rattle.command.specs.Insert as insert
 use Rattle.command.specs.Insert.{WithComponents, count, programTime, immediate, allImmediate, insertOf, byProgram, lasting, outOfNetwork}
 use Rattle.command.specs.declared.SpliceCommand.{SpliceCommand}
-use Rattle.command.specs.declared.components.ComponentSplice.{ComponentSplice}
+use Rattle.command.specs.declared.components.InsertComponent.{InsertComponent}
 use Rattle.command.specs.declared.insert.Break.{Break}
 use Rattle.command.specs.declared.insert.InsertDetail.{InsertDetail}
 use Rattle.command.specs.declared.insert.SpliceInsert.{SpliceInsert}
@@ -25,7 +25,7 @@ use Rattle.command_measure.specs.Fields.{unlessFields, listFields, modeFields, 
 use Rattle.command_measure.specs.Made.{timesFit, insertMade, commandMade, measuredOf}
 use Rattle.command_measure.specs.Survey.{measured, timeBytes}
 use Rattle.c_section.specs.Flat.{flatTime}
-use Rattle.c_section.specs.FlatCommand.{flatMode, flatBreak, wholeInsert, insertHead, flatInsertion, noCommand, flatCommand, flatComponent}
+use Rattle.c_section.specs.FlatCommand.{flatMode, flatBreak, activeInsert, insertHead, flatInsertion, noCommand, flatCommand, flatComponent}
 use Rattle.splice_time.specs.Time.{ticks}
 use Rattle.splice_time.specs.declared.SpliceTime.{SpliceTime}
 use Rattle.names.specs.Flags.{networkFlag, returnFlag}
@@ -36,21 +36,21 @@ use Rattle.table.specs.Bits.{pick}
 use Rattle.table.specs.Table.{flagNumber}
 use Rattle.table.specs.Writing as writing
 use Rattle.table.specs.Writing.{Field, walk, seen, Made, made, refused, makeOf}
-use Rattle.c_command_writer.specs.CommandWords.{commandWords, commandWidths, componentWords, componentWidths, placesWords, splicesIn, placesGiven, CommandIs, commandFits}
+use Rattle.c_command_writer.specs.CommandWords.{commandWords, commandWidths, componentWords, componentWidths, placesWords, insertComponentsIn, placesGiven, CommandIs, commandFits}
 use Rattle.c_command_writer.specs.Words.{word, within, same, eachPlace}
 use Rattle.command.proofs.Arrays.{array-take}
 use Rattle.c_command_writer.proofs.Given.{same-at, same-append, within-same, SmallDetail, Small, seenBy}
 use Rattle.c_command_writer.proofs.Typed.{TypedMode, TypedDetail, Typed}
 
 -- ---- the numbers of fields that are within their widths
-list-tags : (b : Bool) (cs : List ComponentSplice) → writing.within (listFields b cs) ≡ true → Tags cs
+list-tags : (b : Bool) (cs : List InsertComponent) → writing.within (listFields b cs) ≡ true → Tags cs
 list-tags b [] w = tt
 list-tags b (c ∷ cs) w =
     let a = and-true (ltb (c .«component_tag») (2 ^ 8)) _ w in
     let r = and-true (writing.within (unlessFields b (c .«splice_time»))) _ (sym (within-append (unlessFields b (c .«splice_time»)) (listFields b cs)) ∙ a .1) in
     (ltb-true _ _ (a .0), list-tags b cs (r .1))
 
-mode-fits : (b : Bool) (k : SpliceMode) (cs : List ComponentSplice) → b ≡ allImmediate (record { value = k; components = cs }) → length cs ≡ count k → writing.within (modeFields b k cs) ≡ true
+mode-fits : (b : Bool) (k : SpliceMode) (cs : List InsertComponent) → b ≡ allImmediate (record { value = k; components = cs }) → length cs ≡ count k → writing.within (modeFields b k cs) ≡ true
     → TypedMode k × Tags cs × (ltb (ticks (programTime k)) (2 ^ 33) ≡ true)
 mode-fits b (SpliceMode.Program t) [] f e w = (tt, tt, sym (within-unless t) ∙ ap (λ (x : Bool). writing.within (unlessFields x t)) (sym f) ∙ w)
 mode-fits b (SpliceMode.Program t) (c ∷ cs) f e w = absurd (omega arith)
@@ -58,7 +58,7 @@ mode-fits b (SpliceMode.Components n) cs f e w =
     let a = and-true (ltb n (2 ^ 8)) _ w in
     (ltb-true _ _ (a .0), list-tags b cs (a .1), refl)
 
-active-fits : (i : InsertDetail) (cs : List ComponentSplice) → length cs ≡ count (i .«splice_mode») → writing.within (modeFields (immediateIn i cs) (i .«splice_mode») cs ++ endFields i) ≡ true
+active-fits : (i : InsertDetail) (cs : List InsertComponent) → length cs ≡ count (i .«splice_mode») → writing.within (modeFields (immediateIn i cs) (i .«splice_mode») cs ++ endFields i) ≡ true
     → TypedDetail (SpliceDetail.Insert i) × SmallDetail (SpliceDetail.Insert i) × Tags cs
 active-fits i cs e w =
     let m = modeFields (immediateIn i cs) (i .«splice_mode») cs in
@@ -75,7 +75,7 @@ active-fits i cs e w =
 abbrev insertion : ℕ → ℕ → SpliceDetail → SpliceInsert
 insertion event kept d = record { «splice_event_id» = event; reserved = kept; «splice_detail» = d }
 
-insert-fits : (event kept : ℕ) (d : SpliceDetail) (cs : List ComponentSplice) → length cs ≡ count (insertOf d .«splice_mode»)
+insert-fits : (event kept : ℕ) (d : SpliceDetail) (cs : List InsertComponent) → length cs ≡ count (insertOf d .«splice_mode»)
     → writing.within (insertFields (record { value = insertion event kept d; components = cs })) ≡ true
     → Typed (SpliceCommand.SpliceInsert (insertion event kept d)) × Small (SpliceCommand.SpliceInsert (insertion event kept d)) × Tags cs
 insert-fits event kept SpliceDetail.Cancel [] e w =
@@ -95,12 +95,12 @@ insert-fits event kept (SpliceDetail.Insert i) cs e w =
     let t = active-fits i cs e (f₄ .1) in
     ((ltb-true _ _ (a .0), omega (arith, k), t .0), (c .0, t .1), t .2)
 
-insert-seen : (event kept : ℕ) (d : SpliceDetail) (cs : List ComponentSplice) → seen [] (insertFields (record { value = insertion event kept d; components = cs })) ≡ true
+insert-seen : (event kept : ℕ) (d : SpliceDetail) (cs : List InsertComponent) → seen [] (insertFields (record { value = insertion event kept d; components = cs })) ≡ true
 insert-seen event kept SpliceDetail.Cancel cs = refl
 insert-seen event kept (SpliceDetail.Insert i) cs = plain-seen [] (insertFields (record { value = insertion event kept (SpliceDetail.Insert i); components = cs })) (plain-active i cs)
 
 -- ---- a command is refused with 32, or its numbers fit
-pub record Fit (c : SpliceCommand) (cs : List ComponentSplice) : Type 0 where
+pub record Fit (c : SpliceCommand) (cs : List InsertComponent) : Type 0 where
   pub typed : Typed c
   pub small : Small c
   pub tags : Tags cs
@@ -113,7 +113,7 @@ measured-over fits writable size m e f = go m (measured-parts (measured fits wri
     go (made b) g = let z : measured fits writable size .refusal ≡ 32 = rw e in absurd (omega arith)
     go (refused k) g = let z : measured fits writable size .refusal ≡ 32 = rw e in ap refused (sym g ∙ z)
 
-insert-or : (event kept : ℕ) (d : SpliceDetail) (cs : List ComponentSplice) → length cs ≡ count (insertOf d .«splice_mode»)
+insert-or : (event kept : ℕ) (d : SpliceDetail) (cs : List InsertComponent) → length cs ≡ count (insertOf d .«splice_mode»)
     → (insertMade (record { value = insertion event kept d; components = cs }) ≡ refused 32) ⊎ Fit (SpliceCommand.SpliceInsert (insertion event kept d)) cs
 unfolding insertMade
 insert-or event kept d cs e = go (timesFit cs) refl (writing.within fs) refl
@@ -135,11 +135,11 @@ insert-or event kept d cs e = go (timesFit cs) refl (writing.within fs) refl
         let r = insert-fits event kept d cs e (sym (ap writing.within is) ∙ g) in
         inr (record { typed = r .0; small = r .1; tags = r .2; times = f })
 
-no-tags : (cs : List ComponentSplice) → length cs ≡ 0 → Tags cs × (timesFit cs ≡ true)
+no-tags : (cs : List InsertComponent) → length cs ≡ 0 → Tags cs × (timesFit cs ≡ true)
 no-tags [] e = (tt, refl)
 no-tags (c ∷ cs) e = absurd (omega arith)
 
-pub over-or-fits : (lent : List ℕ) (c : SpliceCommand) (cs : List ComponentSplice) → length cs ≡ countIn c → seenBy c lent ≡ true → (commandMade c (array cs) lent ≡ refused 32) ⊎ Fit c cs
+pub over-or-fits : (lent : List ℕ) (c : SpliceCommand) (cs : List InsertComponent) → length cs ≡ countIn c → seenBy c lent ≡ true → (commandMade c (array cs) lent ≡ refused 32) ⊎ Fit c cs
 unfolding commandMade
 over-or-fits lent SpliceCommand.SpliceNull cs n e = let t = no-tags cs n in inr (record { typed = tt; small = tt; tags = t .0; times = t .1 })
 over-or-fits lent (SpliceCommand.SpliceInsert x) cs n e =
@@ -189,12 +189,12 @@ break-within Break.Absent e = (refl, refl, refl)
 break-within (Break.Lasts d) e = (refl, return-within (d .«return_mode»), e)
 
 cancel-within : (event kept : ℕ) → event < 2 ^ 32 → ltb kept (2 ^ 7) ≡ true → within commandWidths (commandWords (flatCommand (SpliceCommand.SpliceInsert (insertion event kept SpliceDetail.Cancel)))) ≡ true
-unfolding within commandWidths commandWords flatCommand flatInsertion wholeInsert insertHead flatMode flatBreak
+unfolding within commandWidths commandWords flatCommand flatInsertion activeInsert insertHead flatMode flatBreak
 cancel-within event kept h e = rw (lt-ltb event (2 ^ 32) h, e)
 
 insert-within : (event kept : ℕ) (d : SpliceDetail) → Typed (SpliceCommand.SpliceInsert (insertion event kept d)) → Small (SpliceCommand.SpliceInsert (insertion event kept d))
     → within commandWidths (commandWords (flatCommand (SpliceCommand.SpliceInsert (insertion event kept d)))) ≡ true
-unfolding within commandWidths commandWords flatCommand flatInsertion wholeInsert insertHead flatBreak
+unfolding within commandWidths commandWords flatCommand flatInsertion activeInsert insertHead flatBreak
 insert-within event kept SpliceDetail.Cancel t s = cancel-within event kept (t .0) (s .0)
 insert-within event kept (SpliceDetail.Insert i) t s =
     let m = mode-within (i .«splice_mode») (t .2 .3) (s .1 .0) in
@@ -216,7 +216,7 @@ insert-within event kept (SpliceDetail.Insert i) t s =
     )
 
 command-within : (lent : List ℕ) (c : SpliceCommand) → length lent < 2 ^ 64 → seenBy c lent ≡ true → Typed c → Small c → within commandWidths (commandWords (flatCommand c)) ≡ true
-unfolding within commandWidths commandWords flatCommand noCommand wholeInsert insertHead flatMode flatBreak
+unfolding within commandWidths commandWords flatCommand noCommand activeInsert insertHead flatMode flatBreak
 command-within lent SpliceCommand.SpliceNull l e t s = refl
 command-within lent (SpliceCommand.SpliceInsert x) l e t s = insert-within (x .«splice_event_id») (x .reserved) (x .«splice_detail») t s
 command-within lent (SpliceCommand.TimeSignal x) l e t s = let w = time-within x s in rw (w .0, w .1)
@@ -225,11 +225,11 @@ command-within lent (SpliceCommand.PrivateCommand p) l e t s =
     let h = leb-true (p .«private_bytes» .at + p .«private_bytes» .len) (length lent) e in
     rw (lt-ltb (p .identifier) (2 ^ 32) t, lt-ltb (p .«private_bytes» .at) (2 ^ 64) (omega arith), lt-ltb (p .«private_bytes» .len) (2 ^ 64) (omega arith))
 
-component-within : (c : ComponentSplice) → c .«component_tag» < 256 → ltb (ticks (c .«splice_time»)) (2 ^ 33) ≡ true → within componentWidths (componentWords (flatComponent c)) ≡ true
+component-within : (c : InsertComponent) → c .«component_tag» < 256 → ltb (ticks (c .«splice_time»)) (2 ^ 33) ≡ true → within componentWidths (componentWords (flatComponent c)) ≡ true
 unfolding within componentWidths componentWords flatComponent
 component-within c h e = let w = time-within (c .«splice_time») e in rw (lt-ltb (c .«component_tag») 256 h, w .0, w .1)
 
-components-within : (cs : List ComponentSplice) (words : List ℕ) → Tags cs → timesFit cs ≡ true → same (placesWords (map flatComponent cs)) words ≡ true → eachPlace (within componentWidths) 3 (length cs) words ≡ true
+components-within : (cs : List InsertComponent) (words : List ℕ) → Tags cs → timesFit cs ≡ true → same (placesWords (map flatComponent cs)) words ≡ true → eachPlace (within componentWidths) 3 (length cs) words ≡ true
 unfolding eachPlace componentWords componentWidths
 components-within [] words t f e = refl
 components-within (c ∷ cs) words t f e =
@@ -240,7 +240,7 @@ components-within (c ∷ cs) words t f e =
 
 -- ---- a command's own words say how many components it has
 pub own-count : (c : SpliceCommand) (words : List ℕ) → same (commandWords (flatCommand c)) words ≡ true → placesGiven words ≡ countIn c
-unfolding commandWords flatCommand noCommand flatInsertion wholeInsert insertHead flatMode
+unfolding commandWords flatCommand noCommand flatInsertion activeInsert insertHead flatMode
 own-count c words e =
     let w : (i : ℕ) → i < 21 → word words i ≡ word (commandWords (flatCommand c)) i = same-at (commandWords (flatCommand c)) words e in
     rw (w 1 (omega arith), w 3 (omega arith), w 6 (omega arith), w 9 (omega arith)) (go c)
@@ -260,9 +260,9 @@ own-count c words e =
     go SpliceCommand.BandwidthReservation = refl
     go (SpliceCommand.PrivateCommand p) = refl
 
-pub fit-within : (words components lent : List ℕ) (c : SpliceCommand) (cs : List ComponentSplice) → length lent < 2 ^ 64 → CommandIs words components c cs → seenBy c lent ≡ true → Fit c cs
+pub fit-within : (words components lent : List ℕ) (c : SpliceCommand) (cs : List InsertComponent) → length lent < 2 ^ 64 → CommandIs words components c cs → seenBy c lent ≡ true → Fit c cs
     → commandFits words components ≡ true
 unfolding commandFits commandWidths commandWords
 fit-within words components lent c cs l h e f =
     rw (within-same commandWidths (commandWords (flatCommand c)) words refl (h .own) ∙ command-within lent c l e (f .typed) (f .small), own-count c words (h .own), ← h .counts)
-    (components-within cs (splicesIn components) (f .tags) (f .times) (h .places))
+    (components-within cs (insertComponentsIn components) (f .tags) (f .times) (h .places))

@@ -13,14 +13,14 @@ use Rattle.command.specs.Command.{countIn, ofPrivate}
 use Rattle.command.specs.Insert as insert
 use Rattle.command.specs.Insert.{programTime}
 use Rattle.command.specs.declared.SpliceCommand.{SpliceCommand}
-use Rattle.command.specs.declared.components.ComponentSplice.{ComponentSplice}
+use Rattle.command.specs.declared.components.InsertComponent.{InsertComponent}
 use Rattle.command.specs.declared.insert.Break.{Break}
 use Rattle.command.specs.declared.insert.InsertDetail.{InsertDetail}
 use Rattle.command.specs.declared.insert.SpliceDetail.{SpliceDetail}
 use Rattle.command.specs.declared.insert.SpliceMode.{SpliceMode}
 use Rattle.command_measure.specs.Made.{timesFit}
 use Rattle.command.specs.Command.{Tags}
-use Rattle.c_section.specs.FlatCommand.{flatMode, wholeInsert, insertHead, flatInsertion, noCommand, flatCommand, flatComponent}
+use Rattle.c_section.specs.FlatCommand.{flatMode, activeInsert, insertHead, flatInsertion, noCommand, flatCommand, flatComponent}
 use Rattle.c_section.specs.declared.FlatTime.{FlatTime}
 use Rattle.c_section.specs.declared.commands.FlatCommand.{FlatCommand}
 use Rattle.c_section.specs.declared.commands.FlatInsert.{FlatInsert}
@@ -102,7 +102,7 @@ own-in f words e =
 
 -- its numbers are of their types if the words are within their widths
 own-typed : (c : SpliceCommand) → within commandWidths (commandWords (flatCommand c)) ≡ true → Typed c
-unfolding commandWidths commandWords flatCommand flatInsertion wholeInsert insertHead flatMode
+unfolding commandWidths commandWords flatCommand flatInsertion activeInsert insertHead flatMode
 own-typed SpliceCommand.SpliceNull h = tt
 own-typed (SpliceCommand.SpliceInsert x) h = go (x .«splice_event_id») (x .reserved) (x .«splice_detail») h
   where
@@ -263,14 +263,14 @@ given-count words h =
     go false false program listed e g = zero-one cc
 
 -- ---- its components, too, are those whose words they are
-own-component : (c : ComponentSplice) (words : List ℕ) → within componentWidths words ≡ true → same (componentWords (flatComponent c)) words ≡ true → componentFrom words ≡ c
+own-component : (c : InsertComponent) (words : List ℕ) → within componentWidths words ≡ true → same (componentWords (flatComponent c)) words ≡ true → componentFrom words ≡ c
 unfolding componentFrom componentWords componentWidths flatComponent
 own-component c words w e =
     let s : (i : ℕ) → i < 3 → word words i ≡ word (componentWords (flatComponent c)) i = same-at (componentWords (flatComponent c)) words e in
     let t : c .«component_tag» < 256 = rw (s 0 (omega arith)) at (within-at componentWidths words w 0 (omega arith)) in
     rw (s 0 (omega arith), s 1 (omega arith), s 2 (omega arith), mod-eq-of-lt t, time-back (c .«splice_time»))
 
-pub own-places : (cs : List ComponentSplice) (words : List ℕ) → eachPlace (within componentWidths) 3 (length cs) words ≡ true → same (placesWords (map flatComponent cs)) words ≡ true
+pub own-places : (cs : List InsertComponent) (words : List ℕ) → eachPlace (within componentWidths) 3 (length cs) words ≡ true → same (placesWords (map flatComponent cs)) words ≡ true
     → (placesOf componentFrom 3 (length cs) words ≡ cs) × (eachPlace ownComponent 3 (length cs) words ≡ true)
 unfolding eachPlace placesOf componentWords
 own-places [] words w e = (refl, refl)

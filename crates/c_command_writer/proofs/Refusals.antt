@@ -6,7 +6,7 @@ use native.Mathlib.Omega.{arith}
 use Rattle.command.specs.declared.SpliceCommand.{SpliceCommand}
 use Rattle.c_section.specs.FlatCommand.{flatCommand}
 use Rattle.command.specs.Command.{countIn}
-use Rattle.c_command_writer.specs.CommandGiven.{splicesWithin, ownSplices, wordsRefusal, commandRefusal}
+use Rattle.c_command_writer.specs.CommandGiven.{insertComponentsWithin, ownInsertComponents, wordsRefusal, commandRefusal}
 use Rattle.c_command_writer.specs.CommandWords.{commandWords, commandWidths, commandSeen}
 use Rattle.c_command_writer.specs.Words.{within, same, seenFirst}
 use Rattle.c_command_writer.proofs.Words.{refusal-small}
@@ -19,4 +19,4 @@ pub command-small : (c : SpliceCommand) (words components lent : List ℕ) → c
 unfolding commandRefusal wordsRefusal
 command-small c words components lent =
     seen-small (commandSeen words lent) _
-    (refusal-small (within commandWidths words && splicesWithin (countIn c) components) (same (commandWords (flatCommand c)) words && ownSplices (countIn c) components))
+    (refusal-small (within commandWidths words && insertComponentsWithin (countIn c) components) (same (commandWords (flatCommand c)) words && ownInsertComponents (countIn c) components))

@@ -33,11 +33,11 @@ within-shift width x = go (ltb x (2 ^ width)) refl
     go false e = ne-eqb (x / 2 ^ width) 0 (over (ltb-false x (2 ^ width) e))
 
 -- ---- a loop of tests: what is left says what the whole says
-module _ (whole left test next : Bool) (inv : left ≡ whole) (step : left ≡ test && next) where
-  pub turn : test ≡ true → next ≡ whole
+module _ (overall left test next : Bool) (inv : left ≡ overall) (step : left ≡ test && next) where
+  pub turn : test ≡ true → next ≡ overall
   turn e = sym (step ∙ rw e) ∙ inv
 
-  pub stop : test ≡ false → false ≡ whole
+  pub stop : test ≡ false → false ≡ overall
   stop e = sym (step ∙ rw e) ∙ inv
 
 pub and-unit : (b : Bool) → b ≡ b && true
@@ -211,11 +211,11 @@ later-nil (made []) = refl
 later-nil (made (x ∷ b)) = rw (leb·suc-zero (length b))
 later-nil (refused k) = refl
 
-module _ (whole m : Made) (n : ℕ) (target : List ℕ) (x : Written) (is : noLess n m ≡ whole) where
-  pub words-refused : 0 < n → n ≤ 36 → x ≡ answerOf m [] → (record { refusal = lower n x; length = 0 } ≡ flatWritten (answerOf whole target)) × (target ≡ laterOf whole target)
+module _ (overall m : Made) (n : ℕ) (target : List ℕ) (x : Written) (is : noLess n m ≡ overall) where
+  pub words-refused : 0 < n → n ≤ 36 → x ≡ answerOf m [] → (record { refusal = lower n x; length = 0 } ≡ flatWritten (answerOf overall target)) × (target ≡ laterOf overall target)
   words-refused h g e = rw (← is) (refused-words n m target x h g e, refused-target n m target h)
 
-  pub words-taken : (later : List ℕ) → n ≤ 0 → x ≡ answerOf m target → later ≡ laterOf m target → (flatWritten x ≡ flatWritten (answerOf whole target)) × (later ≡ laterOf whole target)
+  pub words-taken : (later : List ℕ) → n ≤ 0 → x ≡ answerOf m target → later ≡ laterOf m target → (flatWritten x ≡ flatWritten (answerOf overall target)) × (later ≡ laterOf overall target)
   words-taken later h e f =
-      let z : m ≡ whole = taken-words n m target (omega arith) ∙ is in
+      let z : m ≡ overall = taken-words n m target (omega arith) ∙ is in
       (ap flatWritten (e ∙ ap (λ (w : Made). answerOf w target) z), f ∙ ap (λ (w : Made). laterOf w target) z)

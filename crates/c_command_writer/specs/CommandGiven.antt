@@ -8,7 +8,7 @@ use Rattle.command.specs.Command.{array, countIn}
 use Rattle.command.specs.declared.Private.{Private}
 use Rattle.command.specs.declared.SpliceCommand.{SpliceCommand}
 use Rattle.command.specs.declared.SpliceCommand.the-variants as command
-use Rattle.command.specs.declared.components.ComponentSplice.{ComponentSplice}
+use Rattle.command.specs.declared.components.InsertComponent.{InsertComponent}
 use Rattle.command.specs.declared.insert.Break.{Break}
 use Rattle.command.specs.declared.insert.Break.the-variants.{Absent, Lasts}
 use Rattle.command.specs.declared.insert.InsertDetail.{InsertDetail}
@@ -32,7 +32,7 @@ use Rattle.names.specs.declared.flags.ReturnMode.{ReturnMode}
 use Rattle.table.specs.Bits.{pick}
 use Rattle.table.specs.Writing.{Made}
 use Rattle.table.specs.declared.View.{View}
-use Rattle.c_command_writer.specs.CommandWords.{commandWords, commandWidths, splicesIn, componentWords, componentWidths, commandSeen}
+use Rattle.c_command_writer.specs.CommandWords.{commandWords, commandWidths, insertComponentsIn, componentWords, componentWidths, commandSeen}
 use Rattle.c_command_writer.specs.Words.{word, within, same, placesOf, eachPlace, refusalOf, seenFirst, noLess}
 
 -- ---- the struct that words are
@@ -116,29 +116,29 @@ commandFrom c =
     (command.PrivateCommand (record { identifier = c .identifier % 2 ^ 32; «private_bytes» = viewFrom (c .«private_bytes») }))
     command.SpliceNull)))
 
-unfoldable pub componentFrom : List ℕ → ComponentSplice
+unfoldable pub componentFrom : List ℕ → InsertComponent
 componentFrom words = record { «component_tag» = word words 0 % 256; «splice_time» = timeFrom (record { kind = word words 1; ticks = word words 2 }) }
 
 -- "array places past a count are left out": they are blank
-unfoldable pub componentsFrom : ℕ → List ℕ → List ComponentSplice
-componentsFrom n words = array (placesOf componentFrom 3 n (splicesIn words))
+unfoldable pub componentsFrom : ℕ → List ℕ → List InsertComponent
+componentsFrom n words = array (placesOf componentFrom 3 n (insertComponentsIn words))
 
 -- ---- what is asked of the words
-unfoldable pub splicesWithin : ℕ → List ℕ → Bool
-splicesWithin n words = eachPlace (within componentWidths) 3 n (splicesIn words)
+unfoldable pub insertComponentsWithin : ℕ → List ℕ → Bool
+insertComponentsWithin n words = eachPlace (within componentWidths) 3 n (insertComponentsIn words)
 
 abbrev pub ownComponent : List ℕ → Bool
 ownComponent words = same (componentWords (flatComponent (componentFrom words))) words
 
-unfoldable pub ownSplices : ℕ → List ℕ → Bool
-ownSplices n words = eachPlace ownComponent 3 n (splicesIn words)
+unfoldable pub ownInsertComponents : ℕ → List ℕ → Bool
+ownInsertComponents n words = eachPlace ownComponent 3 n (insertComponentsIn words)
 
 -- the number of the words' own refusal, of a command that they make: 32 or 33
 unfoldable pub wordsRefusal : SpliceCommand → List ℕ → List ℕ → ℕ
 wordsRefusal c words components =
     refusalOf
-    (within commandWidths words && splicesWithin (countIn c) components)
-    (same (commandWords (flatCommand c)) words && ownSplices (countIn c) components)
+    (within commandWidths words && insertComponentsWithin (countIn c) components)
+    (same (commandWords (flatCommand c)) words && ownInsertComponents (countIn c) components)
 
 -- and 31 before them
 unfoldable pub commandRefusal : SpliceCommand → List ℕ → List ℕ → List ℕ → ℕ

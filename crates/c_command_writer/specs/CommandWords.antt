@@ -8,11 +8,11 @@ use lib.Dec.{eqb}
 use lib.ListN.{length, drop}
 use Rattle.command.specs.Command.{array, countIn}
 use Rattle.command.specs.declared.SpliceCommand.{SpliceCommand}
-use Rattle.command.specs.declared.components.ComponentSplice.{ComponentSplice}
+use Rattle.command.specs.declared.components.InsertComponent.{InsertComponent}
 use Rattle.command_measure.specs.Made.{commandMade}
 use Rattle.c_section.specs.FlatCommand.{flatCommand, flatComponent}
 use Rattle.c_section.specs.declared.commands.FlatCommand.{FlatCommand}
-use Rattle.c_section.specs.declared.components.FlatComponentSplice.{FlatComponentSplice}
+use Rattle.c_section.specs.declared.components.FlatInsertComponent.{FlatInsertComponent}
 use Rattle.table.specs.Bits.{pick}
 use Rattle.table.specs.Lent.{liesIn}
 use Rattle.table.specs.Writing.{Made, refused}
@@ -53,26 +53,26 @@ unfoldable pub commandWidths : List ℕ
 commandWidths = 64 ∷ 8 ∷ 32 ∷ 1 ∷ 7 ∷ 1 ∷ 1 ∷ 2 ∷ 33 ∷ 8 ∷ 1 ∷ 1 ∷ 33 ∷ 16 ∷ 8 ∷ 8 ∷ 2 ∷ 33 ∷ 32 ∷ 64 ∷ 64 ∷ []
 
 -- ---- struct scte35_insert_components: after refusal and count, which are not looked at, places of three words, as many as the command says
-abbrev pub splicesIn : List ℕ → List ℕ
-splicesIn words = drop 2 words
+abbrev pub insertComponentsIn : List ℕ → List ℕ
+insertComponentsIn words = drop 2 words
 
 -- component_tag; splice_time
-unfoldable pub componentWords : FlatComponentSplice → List ℕ
+unfoldable pub componentWords : FlatInsertComponent → List ℕ
 componentWords c = c .«component_tag» ∷ c .«splice_time» .kind ∷ c .«splice_time» .ticks ∷ []
 
 unfoldable pub componentWidths : List ℕ
 componentWidths = 8 ∷ 2 ∷ 33 ∷ []
 
-abbrev pub placesWords : List FlatComponentSplice → List ℕ
+abbrev pub placesWords : List FlatInsertComponent → List ℕ
 placesWords [] = []
 placesWords (c ∷ cs) = componentWords c ++ placesWords cs
 
 -- ---- what is answered
 -- the words are those of c and of its components, cs
-pub record CommandIs (words components : List ℕ) (c : SpliceCommand) (cs : List ComponentSplice) : Type 0 where
+pub record CommandIs (words components : List ℕ) (c : SpliceCommand) (cs : List InsertComponent) : Type 0 where
   pub own : same (commandWords (flatCommand c)) words ≡ true
   pub counts : length cs ≡ countIn c
-  pub places : same (placesWords (map flatComponent cs)) (splicesIn components) ≡ true
+  pub places : same (placesWords (map flatComponent cs)) (insertComponentsIn components) ≡ true
 
 -- how many places of components are looked at: those of an insert that is neither cancelled nor by program
 abbrev pub placesGiven : List ℕ → ℕ
@@ -84,7 +84,7 @@ commandSeen words lent = liesIn lent (record { at = word words 19; len = word wo
 
 -- refusal 32: "a number or count handed in exceeds its field"
 unfoldable pub commandFits : List ℕ → List ℕ → Bool
-commandFits words components = within commandWidths words && eachPlace (within componentWidths) 3 (placesGiven words) (splicesIn components)
+commandFits words components = within commandWidths words && eachPlace (within componentWidths) 3 (placesGiven words) (insertComponentsIn components)
 
 -- "31 to 36 are checked in order of number": 31 and 32 of the words, then 33 of words that are no value's. Those of a value are answered as its writer answers, which gives
 -- 31 and 32 itself, so that the last case needs no test. 36, a short target, is `answerOf`'s and `laterOf`'s.
@@ -92,5 +92,5 @@ pub data CommandAnswer (words components lent : List ℕ) : Made → Type 0 wher
   outside : commandSeen words lent ≡ false → CommandAnswer words components lent (refused 31)
   over : commandSeen words lent ≡ true → commandFits words components ≡ false → CommandAnswer words components lent (refused 32)
   nobodys : commandSeen words lent ≡ true → commandFits words components ≡ true
-      → ((c : SpliceCommand) (cs : List ComponentSplice) → CommandIs words components c cs → ⊥) → CommandAnswer words components lent (refused 33)
-  its : (c : SpliceCommand) (cs : List ComponentSplice) → CommandIs words components c cs → CommandAnswer words components lent (commandMade c (array cs) lent)
+      → ((c : SpliceCommand) (cs : List InsertComponent) → CommandIs words components c cs → ⊥) → CommandAnswer words components lent (refused 33)
+  its : (c : SpliceCommand) (cs : List InsertComponent) → CommandIs words components c cs → CommandAnswer words components lent (commandMade c (array cs) lent)

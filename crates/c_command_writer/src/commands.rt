@@ -14,12 +14,12 @@ use crate::FlatWritten;
 use crate::are_four_same;
 use crate::are_four_within;
 use crate::flat_written;
+use crate::insert_components::components_from;
+use crate::insert_components::insert_components_within;
+use crate::insert_components::own_insert_components;
+use crate::insert_components::time_from;
 use crate::is_within;
 use crate::lower_refusal;
-use crate::splices::components_from;
-use crate::splices::own_splices;
-use crate::splices::splices_within;
-use crate::splices::time_from;
 use crate::word_at;
 use crate::words_from;
 use c_section::FlatTime;
@@ -32,7 +32,7 @@ use c_section::commands::flat_command_read;
 use command::CommandRead;
 use command::Private;
 use command::SpliceCommand;
-use command::components::ComponentSplice;
+use command::components::InsertComponent;
 use command::components::MAX_COMPONENTS;
 use command::insert::Break;
 use command::insert::InsertDetail;
@@ -245,7 +245,7 @@ pub fn command_given(words: &[u64]) -> SpliceCommand
 }
 
 // Its components, as many as it has.
-pub fn components_given(c: SpliceCommand, words: &[u64]) -> [ComponentSplice; MAX_COMPONENTS]
+pub fn components_given(c: SpliceCommand, words: &[u64]) -> [InsertComponent; MAX_COMPONENTS]
     ensures { λ r. ⌜ r ≡ componentsFrom (countIn c) (now (words .entry)) ⌝ }
 {
     components_from(count_in_command(c) as usize, words)
@@ -355,13 +355,13 @@ fn words_refusal(c: SpliceCommand, words: &[u64], components: &[u64]) -> u64
     if !is_command_within(words) {
         return 32;
     }
-    if !splices_within(count, components) {
+    if !insert_components_within(count, components) {
         return 32;
     }
     if !is_flat_command(flat_command_read(CommandRead::Is(c)), words) {
         return 33;
     }
-    if !own_splices(count, components) {
+    if !own_insert_components(count, components) {
         return 33;
     }
     0

@@ -10,7 +10,7 @@ ghost use Rattle.c_command_writer.specs.Private.{lower};
 use bit_stores::Written;
 
 pub mod commands;
-pub mod splices;
+pub mod insert_components;
 
 // What a writer answers: how many bytes it wrote, or the number of its refusal.
 #[repr(C)]
@@ -93,7 +93,7 @@ pub fn are_within(widths: &[u64], words: &[u64]) -> bool
     true
 }
 
-// The same of four words, without a loop: their places are tested once.
+// Refusal 32 of four words, without a loop: their places are tested once.
 pub fn are_four_within(a: u64, b: u64, c: u64, d: u64, words: &[u64]) -> bool
     ensures { λ r. ⌜ r ≡ within (a ∷ b ∷ c ∷ d ∷ []) (now (words .entry)) ⌝ }
 {
@@ -127,7 +127,7 @@ pub fn are_same(own: &[u64], words: &[u64]) -> bool
     true
 }
 
-// The same of four words.
+// Refusal 33 of four words.
 pub fn are_four_same(a: u64, b: u64, c: u64, d: u64, words: &[u64]) -> bool
     ensures { λ r. ⌜ r ≡ same (a ∷ b ∷ c ∷ d ∷ []) (now (words .entry)) ⌝ }
 {

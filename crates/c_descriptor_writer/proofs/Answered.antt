@@ -12,18 +12,18 @@ use borrow.Author.Tests.{eqb-true, eqb-false, lt-ltb, le-leb}
 use Rattle.descriptor.specs.Plain as plain
 use Rattle.descriptor.specs.Plain.{privateBytes}
 use Rattle.descriptor.specs.Segmentation.{blankComponent, byProgram, countOf, lasting, unrestricted, writableDetail, ticks}
-use Rattle.descriptor.specs.Whole.{filled, ofSegmentation}
+use Rattle.descriptor.specs.Full.{filled, ofSegmentation}
 use Rattle.descriptor.specs.declared.Descriptor.{Descriptor}
 use Rattle.descriptor.specs.declared.plain.TimeDescriptor.{TimeDescriptor}
 use Rattle.descriptor.specs.declared.segmentation.DeliveryRestrictionFlags.{DeliveryRestrictionFlags}
-use Rattle.descriptor.specs.declared.segmentation.ModeComponent.{ModeComponent}
+use Rattle.descriptor.specs.declared.segmentation.SegmentationComponent.{SegmentationComponent}
 use Rattle.descriptor.specs.declared.segmentation.SegmentationDescriptor.{SegmentationDescriptor}
 use Rattle.descriptor.specs.declared.segmentation.DescriptorDetail.{DescriptorDetail}
 use Rattle.descriptor.specs.declared.segmentation.SegmentationDuration.{SegmentationDuration}
 use Rattle.descriptor.specs.declared.segmentation.SegmentationDetail.{SegmentationDetail}
 use Rattle.descriptor.specs.declared.segmentation.SegmentationMode.{SegmentationMode}
 use Rattle.descriptor.specs.declared.segmentation.SubSegments.{SubSegments}
-use Rattle.descriptor.specs.declared.whole.Beside.{Beside}
+use Rattle.descriptor.specs.declared.full.Beside.{Beside}
 use Rattle.descriptor_measure.specs.Writing.{countBeside, alone, writableReserved, payloadMade, tagOf, identifierOf, descriptorMade}
 use Rattle.descriptor_measure.specs.Private.{componentsFields, numbersFit}
 use Rattle.c_items.specs.FlatItem.{flatDescriptor, segmentationItem}
@@ -43,13 +43,13 @@ use Rattle.c_descriptor_writer.specs.ItemGiven.{segmentationIn, itemIn, 
 use Rattle.c_descriptor_writer.specs.ItemWords.{itemWords, itemWidths, placesIn, eidrIn, placeWidths, placesWithin, besideWithin, itemSeen, viewFits, placesGiven, itemFits, besideThere, DescriptorIs, DescriptorAnswer, outside, over, nobodys, its}
 use Rattle.c_descriptor_writer.proofs.Typed.{TypedMode, TypedSubs, TypedInsert}
 use Rattle.c_descriptor_writer.proofs.Own.{step-small, given-is, places-are, places-own, places-fit, bytes-are, bytes-own, filled-length}
-use Rattle.c_descriptor_writer.proofs.Told.{Told, make-told, framed-told, framed-31, framed-unseen, told-as, mode-count, writable-insert, insert-fit, insert-told, cancel-told}
+use Rattle.c_descriptor_writer.proofs.Told.{Told, make-told, enveloped-told, enveloped-31, enveloped-unseen, told-as, mode-count, writable-insert, insert-fit, insert-told, cancel-told}
 
 -- ---- the descriptor that words make, by its kind
 data Kind (k : ℕ) : Type 0 where
   dtmf : k ≡ 2 → Kind k
   cancel : k ≡ 3 → Kind k
-  whole : k ≡ 4 → Kind k
+  uncancelled : k ≡ 4 → Kind k
   time : k ≡ 5 → Kind k
   private : k ≡ 6 → Kind k
   other : eqb k 2 ≡ false → eqb k 3 ≡ false → eqb k 4 ≡ false → eqb k 5 ≡ false → eqb k 6 ≡ false → Kind k
@@ -62,7 +62,7 @@ either {A} k n f g = go (eqb k n) refl
     go false e = g e
 
 kind-of : (k : ℕ) → Kind k
-kind-of k = either k 2 dtmf (λ a. either k 3 cancel (λ b. either k 4 whole (λ c. either k 5 time (λ d. either k 6 private (λ e. other a b c d e)))))
+kind-of k = either k 2 dtmf (λ a. either k 3 cancel (λ b. either k 4 uncancelled (λ c. either k 5 time (λ d. either k 6 private (λ e. other a b c d e)))))
 
 -- an insert from words is of its types, whatever they are
 from-typed : (s : FlatSegmentation) (v : View) → TypedInsert (insertFrom s v)
@@ -160,13 +160,13 @@ module _ (words : List ℕ) where
         }
 
   module _ (e : getD words 6 0 ≡ 4) where
-    is-whole : descriptorGiven words ≡ Descriptor.Segmentation (record { «segmentation_event_id» = eventGiven; «descriptor_detail» = DescriptorDetail.Active insertGiven })
+    is-active : descriptorGiven words ≡ Descriptor.Segmentation (record { «segmentation_event_id» = eventGiven; «descriptor_detail» = DescriptorDetail.Active insertGiven })
     unfolding descriptorFrom itemIn segmentationIn
-    is-whole = rw e
+    is-active = rw e
 
-    whole-count : within itemWidths (drop 5 words) ≡ true → countOf (insertGiven .«segmentation_mode») ≡ placesGiven words
+    active-count : within itemWidths (drop 5 words) ≡ true → countOf (insertGiven .«segmentation_mode») ≡ placesGiven words
     unfolding insertFrom segmentationIn itemWidths
-    whole-count w = go (eqb (getD words 11 0) 1) refl
+    active-count w = go (eqb (getD words 11 0) 1) refl
       where
         go : (c : Bool) → eqb (getD words 11 0) 1 ≡ c → countOf (pick c SegmentationMode.Program (SegmentationMode.Component (getD words 18 0 % 256))) ≡ placesGiven words
         go true f = let z : getD words 11 0 ≡ 1 = eqb-true (getD words 11 0) 1 f in rw (e, z)
@@ -174,27 +174,27 @@ module _ (words : List ℕ) where
             let z : getD words 11 0 ≡ 0 = omega (arith, step-small words w 6 (lit< tt), eqb-false (getD words 11 0) 1 f) in
             rw (e, z, mod-eq-of-lt (step-small words w 13 (lit< tt)))
 
-    whole-ticks : within itemWidths (drop 5 words) ≡ true → ticks (insertGiven .«segmentation_duration») < 2 ^ 40
+    active-ticks : within itemWidths (drop 5 words) ≡ true → ticks (insertGiven .«segmentation_duration») < 2 ^ 40
     unfolding insertFrom segmentationIn itemWidths
-    whole-ticks w = go (eqb (getD words 12 0) 1)
+    active-ticks w = go (eqb (getD words 12 0) 1)
       where
         go : (c : Bool) → ticks (pick c (SegmentationDuration.Ticks (getD words 19 0)) SegmentationDuration.Absent) < 2 ^ 40
         go true = step-small words w 14 (lit< tt)
         go false = lit< tt
 
-    whole-facts : (id : List ℕ) (b : Beside) (lent : List ℕ) → length (b .components) ≡ 255 → length (b .eidr) ≡ 12
+    active-facts : (id : List ℕ) (b : Beside) (lent : List ℕ) → length (b .components) ≡ 255 → length (b .eidr) ≡ 12
         → Facts words id b lent (Descriptor.Segmentation (record { «segmentation_event_id» = eventGiven; «descriptor_detail» = DescriptorDetail.Active insertGiven }))
     unfolding payloadMade insertFrom
-    whole-facts id b lent many twelve =
+    active-facts id b lent many twelve =
         let i = insertGiven in
         let t = from-typed (segmentationIn words) viewGiven in
         let ev : eventGiven < 2 ^ 32 = mod-lt (getD words 9 0) (lit< tt) in
         record {
-          count = whole-count;
+          count = active-count;
           writable = writable-insert i t;
           fit = ltb (getD words 32 0) 256 && numbersFit i (take (countOf (i .«segmentation_mode»)) (b .components));
           told = rw e (insert-told eventGiven i id b lent many twelve ev t);
-          tight = λ w p. rw (e, insert-fit eventGiven i id b lent many twelve ev t (whole-ticks w) p) (sym (and-unit (ltb (getD words 32 0) 256)));
+          tight = λ w p. rw (e, insert-fit eventGiven i id b lent many twelve ev t (active-ticks w) p) (sym (and-unit (ltb (getD words 32 0) 256)));
         }
 
   module _ (e : getD words 6 0 ≡ 5) where
@@ -257,7 +257,7 @@ module _ (words : List ℕ) where
   few-given : Kind (getD words 6 0) → countBeside (descriptorGiven words) ≤ 255
   few-given (dtmf e) = rw (is-dtmf e) (lit≤ tt)
   few-given (cancel e) = rw (is-cancel e) (lit≤ tt)
-  few-given (whole e) = rw (is-whole e) (omega (arith, mode-count (insertGiven .«segmentation_mode») (from-typed (segmentationIn words) viewGiven .mode)))
+  few-given (uncancelled e) = rw (is-active e) (omega (arith, mode-count (insertGiven .«segmentation_mode») (from-typed (segmentationIn words) viewGiven .mode)))
   few-given (time e) = rw (is-time e) (lit≤ tt)
   few-given (private e) = rw (is-private e) (lit≤ tt)
   few-given (other h₂ h₃ h₄ h₅ h₆) = rw (is-avail h₂ h₃ h₄ h₅ h₆) (lit≤ tt)
@@ -265,7 +265,7 @@ module _ (words : List ℕ) where
   facts-given : (id : List ℕ) (b : Beside) (lent : List ℕ) → length (b .components) ≡ 255 → length (b .eidr) ≡ 12 → Kind (getD words 6 0) → Facts words id b lent (descriptorGiven words)
   facts-given id b lent many twelve (dtmf e) = rw (is-dtmf e) (dtmf-facts e id b lent)
   facts-given id b lent many twelve (cancel e) = rw (is-cancel e) (cancel-facts e id b lent)
-  facts-given id b lent many twelve (whole e) = rw (is-whole e) (whole-facts e id b lent many twelve)
+  facts-given id b lent many twelve (uncancelled e) = rw (is-active e) (active-facts e id b lent many twelve)
   facts-given id b lent many twelve (time e) = rw (is-time e) (time-facts e id b lent)
   facts-given id b lent many twelve (private e) = rw (is-private e) (private-facts e id b lent)
   facts-given id b lent many twelve (other h₂ h₃ h₄ h₅ h₆) = rw (is-avail h₂ h₃ h₄ h₅ h₆) (avail-facts h₂ h₃ h₄ h₅ h₆ id b lent)
@@ -295,7 +295,7 @@ module _ (words lent : List ℕ) where
   unfolding itemSeen itemWords flatDescriptor segmentationItem
   own-seen (dtmf e) o = rw e
   own-seen (cancel e) o = blank-seen _ (as-own _ (is-cancel words e) o) refl refl ∙ rw e
-  own-seen (whole e) o = rw e
+  own-seen (uncancelled e) o = rw e
   own-seen (time e) o = blank-seen _ (as-own _ (is-time words e) o) refl refl ∙ rw e
   own-seen (private e) o = rw e
   own-seen (other h₂ h₃ h₄ h₅ h₆) o = blank-seen _ (as-own _ (is-avail words h₂ h₃ h₄ h₅ h₆) o) refl refl ∙ rw (h₂, h₄, h₆)
@@ -317,7 +317,7 @@ module _ (words beside lent : List ℕ) where
   abbrev B : Beside
   B = besideFrom (countBeside D) beside
 
-  abbrev places-given : List ModeComponent
+  abbrev places-given : List SegmentationComponent
   places-given = placesOf placeFrom 2 (countBeside D) (placesIn beside)
 
   facts : Facts words I B lent D
@@ -354,15 +354,15 @@ module _ (words beside lent : List ℕ) where
     where
       go : (s : Bool) → itemSeen words lent ≡ s
           → noLess (seenFirst s (refusalOf all-within own)) (descriptorMade D I B lent) ≡ pick s (pick (itemFits words beside) (pick own (descriptorMade D I B lent) (refused 33)) (refused 32)) (refused 31)
-      go false s = framed-31 (tagOf D) (identifierOf D I) (facts .told)
+      go false s = enveloped-31 (tagOf D) (identifierOf D I) (facts .told)
       go true s =
-          framed-told (tagOf D) (identifierOf D I) (kindSeen words lent) (facts .fit) (payloadMade D I B lent) (facts .told) all-within own (viewFits words)
+          enveloped-told (tagOf D) (identifierOf D I) (kindSeen words lent) (facts .fit) (payloadMade D I B lent) (facts .told) all-within own (viewFits words)
           (λ w. let p = and-true (within itemWidths (drop 5 words)) _ w in facts .tight (p .0) (listed-fit (p .1)))
           ∙ ap₂ (λ (c k : Bool). pick k (pick c (pick own (descriptorMade D I B lent) (refused 33)) (refused 32)) (refused 31)) fits-so (seen-kind words lent s)
 
   pub unseen-made : ownItem D words ≡ true → itemSeen words lent ≡ false → descriptorMade D I B lent ≡ refused 31
   unfolding descriptorMade
-  unseen-made o s = framed-unseen (tagOf D) (identifierOf D I) (facts .told) (sym (own-seen words lent (kind-of (getD words 6 0)) o) ∙ s)
+  unseen-made o s = enveloped-unseen (tagOf D) (identifierOf D I) (facts .told) (sym (own-seen words lent (kind-of (getD words 6 0)) o) ∙ s)
 
   -- what fits, part by part
   parts-fit : itemFits words beside ≡ true
@@ -400,7 +400,7 @@ module _ (words beside lent : List ℕ) where
       let n : countBeside D ≡ length (is .listed) = ap countBeside e ∙ sym (is .count) in
       let cs : places-given ≡ is .listed = rw n (places-are (is .listed) (placesIn beside) (is .places) (rw n at (p .1))) in
       let eidr : placesOf byteFrom 1 12 (eidrIn beside) ≡ b .eidr = bytes-are 12 (b .eidr) (eidrIn beside) (is .twelve) (is .eidr) (p .2) in
-      (e, sym (is .identifies), ap₂ (λ (l : List ModeComponent) (s : List ℕ). record { components = l; eidr = s }) (ap filled cs ∙ sym (is .components)) eidr)
+      (e, sym (is .identifies), ap₂ (λ (l : List SegmentationComponent) (s : List ℕ). record { components = l; eidr = s }) (ap filled cs ∙ sym (is .components)) eidr)
 
   own-given : (d : Descriptor) (id : List ℕ) (b : Beside) → itemFits words beside ≡ true → DescriptorIs words beside d id b → own ≡ true
   unfolding ownItem

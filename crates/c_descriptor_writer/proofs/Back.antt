@@ -15,7 +15,7 @@ use Rattle.descriptor.specs.declared.segmentation.SegmentationDuration.{Segment
 use Rattle.descriptor.specs.declared.segmentation.SegmentationDetail.{SegmentationDetail}
 use Rattle.descriptor.specs.declared.segmentation.SegmentationMode.{SegmentationMode}
 use Rattle.descriptor.specs.declared.segmentation.SubSegments.{SubSegments}
-use Rattle.c_items.specs.FlatItem.{flatRestrictions, flatSubSegments, wholeSegmentation, segmentationHead, segmentationItem, flatDescriptor}
+use Rattle.c_items.specs.FlatItem.{flatRestrictions, flatSubSegments, activeSegmentation, segmentationHead, segmentationItem, flatDescriptor}
 use Rattle.c_items.specs.declared.descriptors.FlatItem.{FlatItem}
 use Rattle.names.specs.Flags.{restrictionsBits, restrictionsOf}
 use Rattle.names.specs.declared.flags.DeviceRestrictions.{DeviceRestrictions}
@@ -50,19 +50,19 @@ device-back DeviceRestrictions.RestrictGroup2 = refl
 device-back DeviceRestrictions.None = refl
 
 module _ (event : ℕ) (i : SegmentationDetail) (t : TypedInsert i) where
-  delivery-back : (d : DeliveryRestrictionFlags) → i .«delivery_restrictions» ≡ d → deliveryFrom (wholeSegmentation event i) ≡ d
-  unfolding wholeSegmentation flatRestrictions restrictionsFrom
+  delivery-back : (d : DeliveryRestrictionFlags) → i .«delivery_restrictions» ≡ d → deliveryFrom (activeSegmentation event i) ≡ d
+  unfolding activeSegmentation flatRestrictions restrictionsFrom
   delivery-back DeliveryRestrictionFlags.None e = rw (t .free-flag, e)
   delivery-back (DeliveryRestrictionFlags.DeliveryRestrictions d) e =
       rw (t .free-flag, e, flag-back (d .«web_delivery_allowed_flag»), flag-back (d .«no_regional_blackout_flag»), flag-back (d .«archive_allowed_flag»), device-back (d .«device_restrictions»))
 
-  mode-back : (m : SegmentationMode) → i .«segmentation_mode» ≡ m → TypedMode m → modeFrom (wholeSegmentation event i) ≡ m
-  unfolding wholeSegmentation
+  mode-back : (m : SegmentationMode) → i .«segmentation_mode» ≡ m → TypedMode m → modeFrom (activeSegmentation event i) ≡ m
+  unfolding activeSegmentation
   mode-back SegmentationMode.Program e h = rw (t .program-flag, e)
   mode-back (SegmentationMode.Component n) e h = rw (t .program-flag, e, mod-eq-of-lt h)
 
-  duration-back : (d : SegmentationDuration) → i .«segmentation_duration» ≡ d → durationFrom (wholeSegmentation event i) ≡ d
-  unfolding wholeSegmentation
+  duration-back : (d : SegmentationDuration) → i .«segmentation_duration» ≡ d → durationFrom (activeSegmentation event i) ≡ d
+  unfolding activeSegmentation
   duration-back SegmentationDuration.Absent e = rw (t .duration-flag, e)
   duration-back (SegmentationDuration.Ticks n) e = rw (t .duration-flag, e)
 
@@ -71,29 +71,29 @@ unfolding flatSubSegments
 subs-back SubSegments.Absent h = refl
 subs-back (SubSegments.Is x) h = rw (mod-eq-of-lt (h .0), mod-eq-of-lt (h .1))
 
-whole : (event : ℕ) (i : SegmentationDetail) (bytes : View) (restrictions : DeliveryRestrictionFlags) (mode : SegmentationMode) (duration : SegmentationDuration)
-    → deliveryFrom (wholeSegmentation event i) ≡ restrictions → modeFrom (wholeSegmentation event i) ≡ mode → durationFrom (wholeSegmentation event i) ≡ duration
-    → insertFrom (wholeSegmentation event i) bytes
+uncancelled : (event : ℕ) (i : SegmentationDetail) (bytes : View) (restrictions : DeliveryRestrictionFlags) (mode : SegmentationMode) (duration : SegmentationDuration)
+    → deliveryFrom (activeSegmentation event i) ≡ restrictions → modeFrom (activeSegmentation event i) ≡ mode → durationFrom (activeSegmentation event i) ≡ duration
+    → insertFrom (activeSegmentation event i) bytes
     ≡ record {
-      «program_segmentation_flag» = eqb (wholeSegmentation event i .«program_segmentation_flag») 1;
-      «segmentation_duration_flag» = eqb (wholeSegmentation event i .«segmentation_duration_flag») 1;
-      «delivery_not_restricted_flag» = eqb (wholeSegmentation event i .«delivery_not_restricted_flag») 1;
+      «program_segmentation_flag» = eqb (activeSegmentation event i .«program_segmentation_flag») 1;
+      «segmentation_duration_flag» = eqb (activeSegmentation event i .«segmentation_duration_flag») 1;
+      «delivery_not_restricted_flag» = eqb (activeSegmentation event i .«delivery_not_restricted_flag») 1;
       «delivery_restrictions» = restrictions;
       «segmentation_mode» = mode;
       «segmentation_duration» = duration;
-      «segmentation_upid» = insertFrom (wholeSegmentation event i) bytes .«segmentation_upid»;
-      «segmentation_type_id» = insertFrom (wholeSegmentation event i) bytes .«segmentation_type_id»;
-      «segment_num» = insertFrom (wholeSegmentation event i) bytes .«segment_num»;
-      «segments_expected» = insertFrom (wholeSegmentation event i) bytes .«segments_expected»;
-      «sub_segments» = insertFrom (wholeSegmentation event i) bytes .«sub_segments»;
+      «segmentation_upid» = insertFrom (activeSegmentation event i) bytes .«segmentation_upid»;
+      «segmentation_type_id» = insertFrom (activeSegmentation event i) bytes .«segmentation_type_id»;
+      «segment_num» = insertFrom (activeSegmentation event i) bytes .«segment_num»;
+      «segments_expected» = insertFrom (activeSegmentation event i) bytes .«segments_expected»;
+      «sub_segments» = insertFrom (activeSegmentation event i) bytes .«sub_segments»;
     }
 unfolding insertFrom
-whole event i bytes restrictions mode duration e f g = rw (e, f, g)
+uncancelled event i bytes restrictions mode duration e f g = rw (e, f, g)
 
-insert-back : (event : ℕ) (i : SegmentationDetail) → TypedInsert i → insertFrom (wholeSegmentation event i) (i .«segmentation_upid» .bytes) ≡ i
-unfolding insertFrom wholeSegmentation
+insert-back : (event : ℕ) (i : SegmentationDetail) → TypedInsert i → insertFrom (activeSegmentation event i) (i .«segmentation_upid» .bytes) ≡ i
+unfolding insertFrom activeSegmentation
 insert-back event i t =
-    whole event i (i .«segmentation_upid» .bytes) _ _ _ (delivery-back event i t (i .«delivery_restrictions») refl) (mode-back event i t (i .«segmentation_mode») refl (t .mode))
+    uncancelled event i (i .«segmentation_upid» .bytes) _ _ _ (delivery-back event i t (i .«delivery_restrictions») refl) (mode-back event i t (i .«segmentation_mode») refl (t .mode))
     (duration-back event i t (i .«segmentation_duration») refl)
     ∙ rw (
       flag-back (i .«program_segmentation_flag»),
@@ -108,9 +108,9 @@ insert-back event i t =
     )
 
 event-back : (event : ℕ) (i : SegmentationDetail) → event < 2 ^ 32
-    → Descriptor.Segmentation (record { «segmentation_event_id» = wholeSegmentation event i .«segmentation_event_id» % 2 ^ 32; «descriptor_detail» = DescriptorDetail.Active i })
+    → Descriptor.Segmentation (record { «segmentation_event_id» = activeSegmentation event i .«segmentation_event_id» % 2 ^ 32; «descriptor_detail» = DescriptorDetail.Active i })
     ≡ Descriptor.Segmentation (record { «segmentation_event_id» = event; «descriptor_detail» = DescriptorDetail.Active i })
-unfolding wholeSegmentation
+unfolding activeSegmentation
 event-back event i h = rw (mod-eq-of-lt h)
 
 detail-back : (event : ℕ) (d : DescriptorDetail) → event < 2 ^ 32 → TypedDetail d

@@ -10,16 +10,16 @@ use lib.ListN.{length, getD, drop, replicate, length-append, length-replicate}
 use lib.Seq.{getD-drop, drop-drop}
 use borrow.Author.Tests.{eqb-true, eq-eqb, ltb-true, lt-ltb}
 use Rattle.descriptor.specs.Segmentation.{agrees, blankComponent, byProgram, countOf, lasting, writableDetail, writableFront, frontOf}
-use Rattle.descriptor.specs.Whole.{filled, ofSegmentation}
+use Rattle.descriptor.specs.Full.{filled, ofSegmentation}
 use Rattle.descriptor.specs.declared.Descriptor.{Descriptor}
-use Rattle.descriptor.specs.declared.segmentation.ModeComponent.{ModeComponent}
+use Rattle.descriptor.specs.declared.segmentation.SegmentationComponent.{SegmentationComponent}
 use Rattle.descriptor.specs.declared.segmentation.SegmentationDescriptor.{SegmentationDescriptor}
 use Rattle.descriptor.specs.declared.segmentation.DescriptorDetail.{DescriptorDetail}
 use Rattle.descriptor.specs.declared.segmentation.SegmentationDetail.{SegmentationDetail}
 use Rattle.descriptor.specs.declared.segmentation.SegmentationMode.{SegmentationMode}
 use Rattle.descriptor.specs.declared.segmentation.SubSegments.{SubSegments}
 use Rattle.descriptor_measure.specs.Private.{componentsFields}
-use Rattle.c_items.specs.FlatItem.{flatSubSegments, wholeSegmentation, segmentationHead, segmentationItem, flatDescriptor}
+use Rattle.c_items.specs.FlatItem.{flatSubSegments, activeSegmentation, segmentationHead, segmentationItem, flatDescriptor}
 use Rattle.c_items.specs.declared.descriptors.FlatItem.{FlatItem}
 use Rattle.c_command_writer.specs.Words.{within, same, placesOf, eachPlace}
 use Rattle.table.proofs.Lists.{and-true, zero-one}
@@ -86,7 +86,7 @@ subs-typed SubSegments.Absent h g = tt
 subs-typed (SubSegments.Is x) h g = (h, g)
 
 insert-typed : (event : ℕ) (i : SegmentationDetail) → writableDetail (DescriptorDetail.Active i) ≡ true → Small (segmentationItem event (DescriptorDetail.Active i)) → (event < 2 ^ 32) × TypedInsert i
-unfolding itemWords itemWidths segmentationItem wholeSegmentation writableDetail writableFront
+unfolding itemWords itemWidths segmentationItem activeSegmentation writableDetail writableFront
 insert-typed event i f s =
     let g = and-true (writableFront (frontOf (DescriptorDetail.Active i))) _ f in
     let p = and-true (agrees (i .«program_segmentation_flag») (byProgram (i .«segmentation_mode»))) _ (g .0) in
@@ -124,7 +124,7 @@ pub given-is : (words : List ℕ) (d : Descriptor) → within itemWidths (drop 5
 given-is words d w is f = ap descriptorFrom (item-is words (flatDescriptor d) is) ∙ from-back d (typed d f (item-small words (flatDescriptor d) is w))
 
 -- ---- what stands beside it
-pub places-are : (cs : List ModeComponent) (words : List ℕ) → same (tagsAndOffsets cs) words ≡ true → eachPlace (within placeWidths) 2 (length cs) words ≡ true → placesOf placeFrom 2 (length cs) words ≡ cs
+pub places-are : (cs : List SegmentationComponent) (words : List ℕ) → same (tagsAndOffsets cs) words ≡ true → eachPlace (within placeWidths) 2 (length cs) words ≡ true → placesOf placeFrom 2 (length cs) words ≡ cs
 unfolding same within placeWidths eachPlace placesOf placeFrom
 places-are [] words s w = refl
 places-are (c ∷ cs) words s w =
@@ -171,6 +171,6 @@ places-fit (suc n) words w =
     rw (lt-ltb (getD words 0 0 % 256) 256 (mod-lt (getD words 0 0) (lit< tt)), ← word-next words 0, t .0) (places-fit n (drop 2 words) (v .1))
 
 -- ---- an array of components
-pub filled-length : (cs : List ModeComponent) → length cs ≤ 255 → length (filled cs) ≡ 255
+pub filled-length : (cs : List SegmentationComponent) → length cs ≤ 255 → length (filled cs) ≡ 255
 unfolding filled
 filled-length cs h = omega (arith, length-append cs (replicate (255 - length cs) blankComponent), length-replicate (255 - length cs) blankComponent)

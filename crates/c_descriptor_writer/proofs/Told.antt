@@ -8,18 +8,18 @@ use lib.Dec.{ltb, leb}
 use lib.ListN.{length, take}
 use borrow.Author.Tests.{ltb-true, ltb-false, lt-ltb}
 use Rattle.descriptor.specs.Segmentation.{agrees, byProgram, countOf, lasting, unrestricted, writableDetail, writableFront, ticks}
-use Rattle.descriptor.specs.declared.segmentation.ModeComponent.{ModeComponent}
+use Rattle.descriptor.specs.declared.segmentation.SegmentationComponent.{SegmentationComponent}
 use Rattle.descriptor.specs.declared.segmentation.SegmentationDescriptor.{SegmentationDescriptor}
 use Rattle.descriptor.specs.declared.segmentation.DescriptorDetail.{DescriptorDetail}
 use Rattle.descriptor.specs.declared.segmentation.SegmentationDuration.{SegmentationDuration}
 use Rattle.descriptor.specs.declared.segmentation.SegmentationDetail.{SegmentationDetail}
 use Rattle.descriptor.specs.declared.segmentation.SegmentationMode.{SegmentationMode}
 use Rattle.descriptor.specs.declared.segmentation.SubSegments.{SubSegments}
-use Rattle.descriptor.specs.declared.whole.Beside.{Beside}
+use Rattle.descriptor.specs.declared.full.Beside.{Beside}
 use Rattle.descriptor_measure.proofs.Making.{made-zero}
 use Rattle.descriptor_measure.proofs.Refusals as refusals
 use Rattle.descriptor_measure.specs.Private.{componentsFields, modeFields, durationFields, subFields, numbersFit}
-use Rattle.descriptor_measure.specs.Writing.{framed, framedMade, allZero, writableUpid, segmentationMade}
+use Rattle.descriptor_measure.specs.Writing.{enveloped, envelopedMade, allZero, writableUpid, segmentationMade}
 use Rattle.c_command_writer.specs.Words.{refusalOf, lowest, noLess}
 use Rattle.names.specs.Segmentation.{segmentationNumber}
 use Rattle.table.proofs.Lists.{zero-one}
@@ -49,55 +49,55 @@ refused-so : (m : Made) (n : ℕ) → n ≡ refusalIn m → 0 < n → m ≡ refu
 refused-so (made b) n e h = absurd (omega arith)
 refused-so (refused k) n e h = ap refused (sym e)
 
--- its frame, and the words' own refusal
-pub framed-told : (tag : ℕ) (id : List ℕ) (s fit : Bool) (m : Made) → Told s fit m → (fits own view : Bool) → (fits ≡ true → fit ≡ view)
-    → noLess (refusalOf fits own) (framedMade tag id m) ≡ pick s (pick (fits && view) (pick own (framedMade tag id m) (refused 33)) (refused 32)) (refused 31)
-unfolding noLess framedMade
-framed-told tag id s fit m unseen false own view t = refl
-framed-told tag id s fit m unseen true true view t = refl
-framed-told tag id s fit m unseen true false view t = refl
-framed-told tag id s fit m wide false own view t = refl
-framed-told tag id s fit m wide true true view t = rw (← t refl)
-framed-told tag id s fit m wide true false view t = rw (← t refl)
-framed-told tag id s fit m unwritable false own view t = refl
-framed-told tag id s fit m unwritable true true view t = rw (← t refl)
-framed-told tag id s fit m unwritable true false view t = rw (← t refl)
-framed-told tag id s fit m (done {b}) false own view t = go (leb (length b + 4) 254)
+-- its envelope, and the words' own refusal
+pub enveloped-told : (tag : ℕ) (id : List ℕ) (s fit : Bool) (m : Made) → Told s fit m → (fits own view : Bool) → (fits ≡ true → fit ≡ view)
+    → noLess (refusalOf fits own) (envelopedMade tag id m) ≡ pick s (pick (fits && view) (pick own (envelopedMade tag id m) (refused 33)) (refused 32)) (refused 31)
+unfolding noLess envelopedMade
+enveloped-told tag id s fit m unseen false own view t = refl
+enveloped-told tag id s fit m unseen true true view t = refl
+enveloped-told tag id s fit m unseen true false view t = refl
+enveloped-told tag id s fit m wide false own view t = refl
+enveloped-told tag id s fit m wide true true view t = rw (← t refl)
+enveloped-told tag id s fit m wide true false view t = rw (← t refl)
+enveloped-told tag id s fit m unwritable false own view t = refl
+enveloped-told tag id s fit m unwritable true true view t = rw (← t refl)
+enveloped-told tag id s fit m unwritable true false view t = rw (← t refl)
+enveloped-told tag id s fit m (done {b}) false own view t = go (leb (length b + 4) 254)
   where
-    go : (c : Bool) → refused (lowest 32 (pick c (made (framed tag id b)) (refused 34))) ≡ refused 32
+    go : (c : Bool) → refused (lowest 32 (pick c (made (enveloped tag id b)) (refused 34))) ≡ refused 32
     go true = refl
     go false = refl
-framed-told tag id s fit m (done {b}) true true view t = rw (← t refl)
-framed-told tag id s fit m (done {b}) true false view t = rw (← t refl) (go (leb (length b + 4) 254))
+enveloped-told tag id s fit m (done {b}) true true view t = rw (← t refl)
+enveloped-told tag id s fit m (done {b}) true false view t = rw (← t refl) (go (leb (length b + 4) 254))
   where
-    go : (c : Bool) → refused (lowest 33 (pick c (made (framed tag id b)) (refused 34))) ≡ refused 33
+    go : (c : Bool) → refused (lowest 33 (pick c (made (enveloped tag id b)) (refused 34))) ≡ refused 33
     go true = refl
     go false = refl
 
 -- whatever it says, 31 of the words comes first
-pub framed-31 : (tag : ℕ) (id : List ℕ) {s fit : Bool} {m : Made} → Told s fit m → noLess 31 (framedMade tag id m) ≡ refused 31
-unfolding noLess framedMade
-framed-31 tag id unseen = refl
-framed-31 tag id wide = refl
-framed-31 tag id unwritable = refl
-framed-31 tag id (done {b}) = go (leb (length b + 4) 254)
+pub enveloped-31 : (tag : ℕ) (id : List ℕ) {s fit : Bool} {m : Made} → Told s fit m → noLess 31 (envelopedMade tag id m) ≡ refused 31
+unfolding noLess envelopedMade
+enveloped-31 tag id unseen = refl
+enveloped-31 tag id wide = refl
+enveloped-31 tag id unwritable = refl
+enveloped-31 tag id (done {b}) = go (leb (length b + 4) 254)
   where
-    go : (c : Bool) → refused (lowest 31 (pick c (made (framed tag id b)) (refused 34))) ≡ refused 31
+    go : (c : Bool) → refused (lowest 31 (pick c (made (enveloped tag id b)) (refused 34))) ≡ refused 31
     go true = refl
     go false = refl
 
-pub framed-unseen : (tag : ℕ) (id : List ℕ) {s fit : Bool} {m : Made} → Told s fit m → s ≡ false → framedMade tag id m ≡ refused 31
-unfolding framedMade
-framed-unseen tag id unseen e = refl
-framed-unseen tag id wide e = zero-one cc
-framed-unseen tag id unwritable e = zero-one cc
-framed-unseen tag id done e = zero-one cc
+pub enveloped-unseen : (tag : ℕ) (id : List ℕ) {s fit : Bool} {m : Made} → Told s fit m → s ≡ false → envelopedMade tag id m ≡ refused 31
+unfolding envelopedMade
+enveloped-unseen tag id unseen e = refl
+enveloped-unseen tag id wide e = zero-one cc
+enveloped-unseen tag id unwritable e = zero-one cc
+enveloped-unseen tag id done e = zero-one cc
 
 pub told-as : {s t f g : Bool} {m : Made} → Told s f m → s ≡ t → f ≡ g → Told t g m
 told-as x e h = rw (e, h) at x
 
 -- ---- an insert of its types
-fits-mode : (m : SegmentationMode) (cs : List ModeComponent) → TypedMode m → writing.within (componentsFields cs) ≡ true → writing.within (modeFields m cs) ≡ true
+fits-mode : (m : SegmentationMode) (cs : List SegmentationComponent) → TypedMode m → writing.within (componentsFields cs) ≡ true → writing.within (modeFields m cs) ≡ true
 fits-mode SegmentationMode.Program cs h e = refl
 fits-mode (SegmentationMode.Component n) cs h e = rw (lt-ltb n 256 h, e)
 
@@ -137,11 +137,11 @@ module _ (event : ℕ) (i : SegmentationDetail) (id : List ℕ) (b : Beside) (le
   abbrev view : View
   view = i .«segmentation_upid» .bytes
 
-  abbrev listed : List ModeComponent
+  abbrev listed : List SegmentationComponent
   listed = take (countOf (i .«segmentation_mode»)) (b .components)
 
-  abbrev whole-made : Made
-  whole-made = segmentationMade x id b lent
+  abbrev active-made : Made
+  active-made = segmentationMade x id b lent
 
   pub insert-fit : ticks (i .«segmentation_duration») < 2 ^ 40 → writing.within (componentsFields listed) ≡ true → numbersFit i listed ≡ true
   unfolding numbersFit
@@ -160,27 +160,27 @@ module _ (event : ℕ) (i : SegmentationDetail) (id : List ℕ) (b : Beside) (le
 
   -- the tests in their order: the view, its length, the numbers, the identifier, the flags, the UPID
   module _ (e : leb (view .at + view .len) (length lent) ≡ true) (l : view .len ≤ 255) (n : numbersFit i listed ≡ true) where
-    upid-told : allZero id ≡ true → writableDetail (DescriptorDetail.Active i) ≡ true → (g : Bool) → writableUpid (i .«segmentation_upid») (b .eidr) lent ≡ g → Told true true whole-made
-    upid-told z f false g = rw (refused-so whole-made 33 (refusals.unwritable-upid event i id (b .components) (b .eidr) lent true (sym e) refl l many twelve ev (t .upid) true (sym n, few) refl true (sym z) refl true (sym f) refl false (sym g) refl) (omega arith)) unwritable
+    upid-told : allZero id ≡ true → writableDetail (DescriptorDetail.Active i) ≡ true → (g : Bool) → writableUpid (i .«segmentation_upid») (b .eidr) lent ≡ g → Told true true active-made
+    upid-told z f false g = rw (refused-so active-made 33 (refusals.unwritable-upid event i id (b .components) (b .eidr) lent true (sym e) refl l many twelve ev (t .upid) true (sym n, few) refl true (sym z) refl true (sym f) refl false (sym g) refl) (omega arith)) unwritable
     upid-told z f true g = rw (made-zero x id b lent (omega (arith, few)) (sym (refusals.no-refusal event i id (b .components) (b .eidr) lent true (sym e) refl l many twelve ev (t .upid) true (sym n, few) refl true (sym z) refl true (sym f) refl true (sym g) refl))) done
 
-    writable-told : (z : Bool) → allZero id ≡ z → Told true true whole-made
-    writable-told false z = rw (refused-so whole-made 33 (refusals.with-identifier event i id (b .components) (b .eidr) lent true (sym e) refl l many twelve ev (t .upid) true (sym n, few) refl false (sym z) refl) (omega arith)) unwritable
+    writable-told : (z : Bool) → allZero id ≡ z → Told true true active-made
+    writable-told false z = rw (refused-so active-made 33 (refusals.with-identifier event i id (b .components) (b .eidr) lent true (sym e) refl l many twelve ev (t .upid) true (sym n, few) refl false (sym z) refl) (omega arith)) unwritable
     writable-told true z = upid-told z (writable-insert i t) (writableUpid (i .«segmentation_upid») (b .eidr) lent) refl
 
-  pub insert-told : Told (leb (view .at + view .len) (length lent)) (ltb (view .len) 256 && numbersFit i listed) whole-made
+  pub insert-told : Told (leb (view .at + view .len) (length lent)) (ltb (view .len) 256 && numbersFit i listed) active-made
   insert-told = seen-told (leb (view .at + view .len) (length lent)) refl
     where
-      numbers-told : leb (view .at + view .len) (length lent) ≡ true → view .len ≤ 255 → (n : Bool) → numbersFit i listed ≡ n → Told true n whole-made
-      numbers-told e l false n = rw (refused-so whole-made 32 (refusals.numbers-over event i id (b .components) (b .eidr) lent true (sym e) refl l many twelve ev (t .upid) false (sym n, few) refl) (omega arith)) wide
+      numbers-told : leb (view .at + view .len) (length lent) ≡ true → view .len ≤ 255 → (n : Bool) → numbersFit i listed ≡ n → Told true n active-made
+      numbers-told e l false n = rw (refused-so active-made 32 (refusals.numbers-over event i id (b .components) (b .eidr) lent true (sym e) refl l many twelve ev (t .upid) false (sym n, few) refl) (omega arith)) wide
       numbers-told e l true n = writable-told e l n (allZero id) refl
 
-      length-told : leb (view .at + view .len) (length lent) ≡ true → (c : Bool) → ltb (view .len) 256 ≡ c → Told true (c && numbersFit i listed) whole-made
-      length-told e false c = rw (refused-so whole-made 32 (refusals.upid-long event i id (b .components) (b .eidr) lent true (sym e) refl (ltb-false (view .len) 256 c)) (omega arith)) wide
+      length-told : leb (view .at + view .len) (length lent) ≡ true → (c : Bool) → ltb (view .len) 256 ≡ c → Told true (c && numbersFit i listed) active-made
+      length-told e false c = rw (refused-so active-made 32 (refusals.upid-long event i id (b .components) (b .eidr) lent true (sym e) refl (ltb-false (view .len) 256 c)) (omega arith)) wide
       length-told e true c = numbers-told e (omega (arith, ltb-true (view .len) 256 c)) (numbersFit i listed) refl
 
-      seen-told : (s : Bool) → leb (view .at + view .len) (length lent) ≡ s → Told s (ltb (view .len) 256 && numbersFit i listed) whole-made
-      seen-told false e = rw (refused-so whole-made 31 (refusals.view-out event i id (b .components) (b .eidr) lent false (sym e) refl) (omega arith)) unseen
+      seen-told : (s : Bool) → leb (view .at + view .len) (length lent) ≡ s → Told s (ltb (view .len) 256 && numbersFit i listed) active-made
+      seen-told false e = rw (refused-so active-made 31 (refusals.view-out event i id (b .components) (b .eidr) lent false (sym e) refl) (omega arith)) unseen
       seen-told true e = length-told e (ltb (view .len) 256) refl
 
 module _ (event : ℕ) (id : List ℕ) (b : Beside) (lent : List ℕ) (ev : event < 2 ^ 32) where

@@ -6,7 +6,7 @@ use mathlib.Core.List.{List}
 use lib.Dec.{eqb}
 use lib.ListN.{drop}
 use Rattle.descriptor.specs.Segmentation.{deviceOf}
-use Rattle.descriptor.specs.Whole.{filled}
+use Rattle.descriptor.specs.Full.{filled}
 use Rattle.descriptor.specs.declared.Descriptor.{Descriptor}
 use Rattle.descriptor.specs.declared.Descriptor.the-variants.{Avail, Dtmf, Segmentation, Time, Reserved}
 use Rattle.descriptor.specs.declared.plain.AvailDescriptor.{AvailDescriptor}
@@ -14,7 +14,7 @@ use Rattle.descriptor.specs.declared.plain.DTMFDescriptor.{DTMFDescriptor}
 use Rattle.descriptor.specs.declared.plain.TimeDescriptor.{TimeDescriptor}
 use Rattle.descriptor.specs.declared.segmentation.DeliveryRestrictionFlags.{DeliveryRestrictionFlags}
 use Rattle.descriptor.specs.declared.segmentation.DeliveryRestrictions.{DeliveryRestrictions}
-use Rattle.descriptor.specs.declared.segmentation.ModeComponent.{ModeComponent}
+use Rattle.descriptor.specs.declared.segmentation.SegmentationComponent.{SegmentationComponent}
 use Rattle.descriptor.specs.declared.segmentation.SegmentationDescriptor.{SegmentationDescriptor}
 use Rattle.descriptor.specs.declared.segmentation.DescriptorDetail.{DescriptorDetail}
 use Rattle.descriptor.specs.declared.segmentation.SegmentationDuration.{SegmentationDuration}
@@ -23,7 +23,7 @@ use Rattle.descriptor.specs.declared.segmentation.SegmentationMode.{Segmentatio
 use Rattle.descriptor.specs.declared.segmentation.SegmentationUpid.{SegmentationUpid}
 use Rattle.descriptor.specs.declared.segmentation.SubSegment.{SubSegment}
 use Rattle.descriptor.specs.declared.segmentation.SubSegments.{SubSegments}
-use Rattle.descriptor.specs.declared.whole.Beside.{Beside}
+use Rattle.descriptor.specs.declared.full.Beside.{Beside}
 use Rattle.descriptor_measure.specs.Writing.{countBeside, descriptorMade}
 use Rattle.c_items.specs.FlatItem.{flatDescriptor}
 use Rattle.c_items.specs.declared.descriptors.FlatItem.{FlatItem}
@@ -157,14 +157,14 @@ unfoldable pub identifierFrom : List ℕ → List ℕ
 identifierFrom words = bigEndian 4 (word words 5)
 
 -- ---- what stands beside it
-unfoldable pub placeFrom : List ℕ → ModeComponent
+unfoldable pub placeFrom : List ℕ → SegmentationComponent
 placeFrom words = record { «component_tag» = word words 0 % 256; «pts_offset» = word words 1 }
 
 abbrev pub byteFrom : List ℕ → ℕ
 byteFrom words = word words 0 % 256
 
 -- places past the count are not looked at: they are blank
-unfoldable pub placesFrom : ℕ → List ℕ → List ModeComponent
+unfoldable pub placesFrom : ℕ → List ℕ → List SegmentationComponent
 placesFrom n words = filled (placesOf placeFrom 2 n (placesIn words))
 
 unfoldable pub eidrFrom : List ℕ → List ℕ

@@ -7,11 +7,11 @@ use mathlib.Core.Path.{_≡_}
 use lib.Dec.{eqb, ltb, leb}
 use lib.ListN.{length, drop, replicate}
 use Rattle.descriptor.specs.Segmentation.{writableDetail}
-use Rattle.descriptor.specs.Whole.{filled, ofSegmentation}
+use Rattle.descriptor.specs.Full.{filled, ofSegmentation}
 use Rattle.descriptor.specs.declared.Descriptor.{Descriptor}
-use Rattle.descriptor.specs.declared.segmentation.ModeComponent.{ModeComponent}
+use Rattle.descriptor.specs.declared.segmentation.SegmentationComponent.{SegmentationComponent}
 use Rattle.descriptor.specs.declared.segmentation.SegmentationDescriptor.{SegmentationDescriptor}
-use Rattle.descriptor.specs.declared.whole.Beside.{Beside}
+use Rattle.descriptor.specs.declared.full.Beside.{Beside}
 use Rattle.descriptor_measure.specs.Writing.{countBeside, descriptorMade}
 use Rattle.c_items.specs.FlatItem.{flatDescriptor}
 use Rattle.c_items.specs.declared.descriptors.FlatItem.{FlatItem}
@@ -60,7 +60,7 @@ unfoldable pub itemWidths : List ℕ
 itemWidths =
     32 ∷ 64 ∷ 32 ∷ 8 ∷ 32 ∷ 1 ∷ 1 ∷ 1 ∷ 1 ∷ 1 ∷ 1 ∷ 1 ∷ 2 ∷ 8 ∷ 40 ∷ 8 ∷ 8 ∷ 8 ∷ 8 ∷ 1 ∷ 8 ∷ 8 ∷ 48 ∷ 32 ∷ 16 ∷ 8 ∷ 64 ∷ 64 ∷ []
 
--- ---- struct scte35_item_components: after refusal, values and count, which are not looked at, places of two words, as many as the item says; behind
+-- ---- struct scte35_segmentation_components: after refusal, values and count, which are not looked at, places of two words, as many as the item says; behind
 -- all 255 of them the EIDR, a byte to a word
 abbrev pub placesIn : List ℕ → List ℕ
 placesIn words = drop 5 words
@@ -73,7 +73,7 @@ unfoldable pub placeWidths : List ℕ
 placeWidths = 8 ∷ 33 ∷ []
 
 -- the words of components, one after the other
-abbrev pub tagsAndOffsets : List ModeComponent → List ℕ
+abbrev pub tagsAndOffsets : List SegmentationComponent → List ℕ
 tagsAndOffsets [] = []
 tagsAndOffsets (c ∷ cs) = c .«component_tag» ∷ c .«pts_offset» ∷ tagsAndOffsets cs
 
@@ -116,7 +116,7 @@ pub record DescriptorIs (words beside : List ℕ) (d : Descriptor) (identifier :
   -- "a descriptor put without its components or EIDR" is no descriptor's
   pub there : besideThere (countBeside d) words beside ≡ true
   -- as many components as d counts, and blanks past them
-  pub listed : List ModeComponent
+  pub listed : List SegmentationComponent
   pub count : length listed ≡ countBeside d
   pub places : same (tagsAndOffsets listed) (placesIn beside) ≡ true
   pub components : b .components ≡ filled listed

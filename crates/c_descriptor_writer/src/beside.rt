@@ -9,10 +9,10 @@ use c_command_writer::are_four_within;
 use c_command_writer::are_within;
 use c_command_writer::word_at;
 use c_command_writer::words_from;
+use descriptor::full::Beside;
+use descriptor::full::blank_beside;
 use descriptor::segmentation::MAX_COMPONENTS;
-use descriptor::segmentation::ModeComponent;
-use descriptor::whole::Beside;
-use descriptor::whole::blank_beside;
+use descriptor::segmentation::SegmentationComponent;
 
 // Where the first component stands, and how many words each has; where each four bytes of the EIDR stand, and how many words all are.
 pub(crate) const COMPONENTS: usize = 5;
@@ -40,17 +40,17 @@ pub(crate) fn identifier_from(words: &[u64]) -> [u8; 4]
     ]
 }
 
-fn place_from(words: &[u64]) -> ModeComponent
+fn place_from(words: &[u64]) -> SegmentationComponent
     ensures { λ r. ⌜ r ≡ placeFrom (now (words .entry)) ⌝ }
 {
-    ModeComponent {
+    SegmentationComponent {
         component_tag: (word_at(words, 0) % 256) as u8,
         pts_offset: word_at(words, 1),
     }
 }
 
 // The first `count` components in their array, blank past them.
-fn places_from(count: usize, words: &[u64]) -> [ModeComponent; MAX_COMPONENTS]
+fn places_from(count: usize, words: &[u64]) -> [SegmentationComponent; MAX_COMPONENTS]
     requires { ⌜ count ≤ 255 ⌝ }
     ensures { λ r. ⌜ r ≡ placesFrom count (now (words .entry)) ⌝ }
 {

@@ -201,7 +201,7 @@ fn write_from_words(words: &[u64], beside: &[u64], lent: &[u8], target: &mut [u8
     flat_written(write_given(d, identifier, count, beside, lent, target))
 }
 
-// The same. Where there are fewer words than the struct has, they are filled up, so that the compiler tests the slice's length once and not for each word.
+// An item's descriptor, of its words. Where there are fewer words than the struct has, they are filled up, so that the compiler tests the slice's length once and not for each word.
 pub fn write_descriptor_words(
     words: &[u64],
     beside: &[u64],
@@ -212,8 +212,8 @@ pub fn write_descriptor_words(
     ensures bytes { λ _. ⌜ now (target .exit) ≡ laterOf (descriptorWordsMade (now (words .entry)) (now (beside .entry)) (now (lent .entry))) (now (target .entry)) ⌝ }
 {
     if words.len() < STEP_WORDS {
-        let whole = padded(words);
-        return write_from_words(&whole, beside, lent, target);
+        let enough = padded(words);
+        return write_from_words(&enough, beside, lent, target);
     }
     write_from_words(words, beside, lent, target)
 }

@@ -9,7 +9,7 @@ use Rattle.descriptor.specs.declared.Descriptor.{Descriptor}
 use Rattle.descriptor.specs.declared.Descriptor.the-variants.{Avail, Dtmf, Segmentation, Time, Reserved}
 use Rattle.descriptor.specs.declared.plain.TimeDescriptor.{TimeDescriptor}
 use Rattle.descriptor.specs.declared.segmentation.DeliveryRestrictionFlags.{DeliveryRestrictionFlags}
-use Rattle.descriptor.specs.declared.segmentation.ModeComponent.{ModeComponent}
+use Rattle.descriptor.specs.declared.segmentation.SegmentationComponent.{SegmentationComponent}
 use Rattle.descriptor.specs.declared.segmentation.DescriptorDetail.{DescriptorDetail}
 use Rattle.descriptor.specs.declared.segmentation.DescriptorDetail.the-variants.{Cancel, Active}
 use Rattle.descriptor.specs.declared.segmentation.SegmentationDetail.{SegmentationDetail}
@@ -25,7 +25,7 @@ use Rattle.table.specs.Lent.{noView}
 use Rattle.table.specs.Table.{flagNumber}
 use Rattle.c_items.specs.FlatUpid.{three}
 use Rattle.c_items.specs.declared.beside.FlatBeside.{FlatBeside}
-use Rattle.c_items.specs.declared.beside.FlatComponent.{FlatComponent}
+use Rattle.c_items.specs.declared.beside.FlatSegmentationComponent.{FlatSegmentationComponent}
 use Rattle.c_items.specs.declared.descriptors.FlatItem.{FlatItem}
 use Rattle.c_items.specs.declared.descriptors.FlatTimeDescriptor.{FlatTimeDescriptor}
 use Rattle.c_items.specs.declared.segmentations.FlatRestrictions.{FlatRestrictions}
@@ -50,8 +50,8 @@ flatSubSegments SubSegments.Absent = record { present = 0; «sub_segment_num» =
 flatSubSegments (SubSegments.Is x) =
     record { present = 1; «sub_segment_num» = x .«sub_segment_num»; «sub_segments_expected» = x .«sub_segments_expected» }
 
-unfoldable pub wholeSegmentation : ℕ → SegmentationDetail → FlatSegmentation
-wholeSegmentation event i =
+unfoldable pub activeSegmentation : ℕ → SegmentationDetail → FlatSegmentation
+activeSegmentation event i =
     record {
       «segmentation_event_id» = event;
       «segmentation_event_cancel_indicator» = 0;
@@ -108,7 +108,7 @@ itemWith kind avail preroll segmentation times tag bytes =
 
 unfoldable pub segmentationItem : ℕ → DescriptorDetail → FlatItem
 segmentationItem event Cancel = itemWith 3 0 0 (segmentationHead event 1) noTimes 0 (flatView noView)
-segmentationItem event (Active i) = itemWith 4 0 0 (wholeSegmentation event i) noTimes 0 (flatView (i .«segmentation_upid» .bytes))
+segmentationItem event (Active i) = itemWith 4 0 0 (activeSegmentation event i) noTimes 0 (flatView (i .«segmentation_upid» .bytes))
 
 unfoldable pub flatDescriptor : Descriptor → FlatItem
 flatDescriptor (Avail x) = itemWith 1 (x .«provider_avail_id») 0 (segmentationHead 0 0) noTimes 0 (flatView noView)
@@ -148,7 +148,7 @@ flatStep s =
     }
 
 -- ---- what stands beside an item
-unfoldable pub flatComponent : ModeComponent → FlatComponent
+unfoldable pub flatComponent : SegmentationComponent → FlatSegmentationComponent
 flatComponent c = record { «component_tag» = c .«component_tag»; «pts_offset» = c .«pts_offset» }
 
 unfoldable pub flatBeside : Reading → FlatBeside

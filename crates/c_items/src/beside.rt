@@ -8,11 +8,11 @@ use crate::steps::refusal_number;
 use crate::steps::refusal_values;
 use crate::upids::flat_eidr;
 use descriptor::segmentation::MAX_COMPONENTS;
-use descriptor::segmentation::ModeComponent;
+use descriptor::segmentation::SegmentationComponent;
 use descriptor_loop::reading::Reading;
 
 #[repr(C)]
-pub struct FlatComponent {
+pub struct FlatSegmentationComponent {
     pub component_tag: u64,
     pub pts_offset: u64,
 }
@@ -23,29 +23,31 @@ pub struct FlatBeside {
     pub refusal: u64,
     pub values: [u64; 3],
     pub count: u64,
-    pub components: [FlatComponent; 255],
+    pub components: [FlatSegmentationComponent; 255],
     pub eidr: [u64; 12],
 }
 
-fn flat_component(c: ModeComponent) -> FlatComponent
+fn flat_component(c: SegmentationComponent) -> FlatSegmentationComponent
     ensures { λ r. ⌜ r ≡ flatComponent c ⌝ }
 {
-    FlatComponent {
+    FlatSegmentationComponent {
         component_tag: c.component_tag as u64,
         pts_offset: c.pts_offset,
     }
 }
 
-fn no_components() -> [FlatComponent; MAX_COMPONENTS]
+fn no_components() -> [FlatSegmentationComponent; MAX_COMPONENTS]
     ensures { λ r. ⌜ r ≡ noComponents ⌝ }
 {
-    [FlatComponent {
+    [FlatSegmentationComponent {
         component_tag: 0,
         pts_offset: 0,
     }; MAX_COMPONENTS]
 }
 
-fn flat_components(cs: [ModeComponent; MAX_COMPONENTS]) -> [FlatComponent; MAX_COMPONENTS]
+fn flat_components(
+    cs: [SegmentationComponent; MAX_COMPONENTS],
+) -> [FlatSegmentationComponent; MAX_COMPONENTS]
     ensures { λ r. ⌜ r ≡ map flatComponent cs ⌝ }
 {
     let mut out = no_components();

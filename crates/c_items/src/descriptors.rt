@@ -4,8 +4,8 @@ ghost use Rattle.descriptor.specs.declared.Descriptor.the-variants.{Avail, Dtmf
 ghost use Rattle.descriptor.specs.declared.segmentation.DescriptorDetail.the-variants.{Cancel, Active};
 ghost use Rattle.c_items.specs.FlatItem.{flatTimeDescriptor, blankItem, segmentationItem, flatDescriptor, flatItem};
 use crate::segmentations::FlatSegmentation;
+use crate::segmentations::active_segmentation;
 use crate::segmentations::segmentation_head;
-use crate::segmentations::whole_segmentation;
 use c_section::FlatView;
 use c_section::flat_view;
 use descriptor::Descriptor;
@@ -97,7 +97,7 @@ fn insert_item(event: u64, i: SegmentationDetail) -> FlatItem
     let upid = i.segmentation_upid;
     let bytes = upid.bytes;
     let mut out = blank_item(4);
-    out.segmentation = whole_segmentation(event, i);
+    out.segmentation = active_segmentation(event, i);
     out.bytes = flat_view(bytes);
     out
 }

@@ -1,7 +1,7 @@
 // Segmentation descriptors.
 ghost use mathlib.Core.Path.{_≡_};
 ghost use Rattle.descriptor.specs.Segmentation.{countOf, ticks};
-ghost use Rattle.c_items.specs.FlatItem.{flatRestrictions, flatSubSegments, segmentationHead, wholeSegmentation};
+ghost use Rattle.c_items.specs.FlatItem.{flatRestrictions, flatSubSegments, segmentationHead, activeSegmentation};
 use c_section::flat_flag;
 use descriptor::segmentation::DeliveryRestrictionFlags;
 use descriptor::segmentation::SegmentationDetail;
@@ -120,8 +120,8 @@ pub(crate) fn segmentation_head(event: u64, cancel: u64) -> FlatSegmentation
     }
 }
 
-pub(crate) fn whole_segmentation(event: u64, i: SegmentationDetail) -> FlatSegmentation
-    ensures { λ r. ⌜ r ≡ wholeSegmentation event i ⌝ }
+pub(crate) fn active_segmentation(event: u64, i: SegmentationDetail) -> FlatSegmentation
+    ensures { λ r. ⌜ r ≡ activeSegmentation event i ⌝ }
 {
     let restrictions = i.delivery_restrictions;
     let mode = i.segmentation_mode;

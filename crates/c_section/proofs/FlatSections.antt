@@ -41,14 +41,14 @@ flat-of : (h : FlatHeader) (r : HeaderRead) (x : SpliceInfoHeader) → h ≡ fla
 unfolding flatHeaderRead
 flat-of h r x e f = e ∙ ap flatHeaderRead f
 
-module _ (s : List ℕ) (p : Frame) (whole : FrameRead.Whole p ≡ frameOf s) (h : FlatHeader) (eh : h ≡ flatHeaderRead (headerOf (take (length s - 3) (drop 3 s)))) where
+module _ (s : List ℕ) (p : Frame) (laid : FrameRead.Is p ≡ frameOf s) (h : FlatHeader) (eh : h ≡ flatHeaderRead (headerOf (take (length s - 3) (drop 3 s)))) where
   flat-with : (y : CommandRead) → y ≡ movedRead (commandRead s) → told h y p ≡ flatSectionRead (sectionOf s)
   flat-with y e =
-      let f = framed s p whole in
+      let f = framed s p laid in
       let there = header-there (drop 3 s) (omega (arith, length-drop 3 s, f .long)) in
       told-is h (there .0) y p (flat-of h (headerOf (drop 3 s)) (there .0) (eh ∙ ap flatHeaderRead (header-at s)) (there .1))
       ∙ ap flatSectionRead
-      (is-accepted s p (accepted (HeaderRead.Header (there .0)) y p) whole (section-is s p (there .0) y (there .1) e (f .place) ∙ ap (accepted (headerOf (drop 3 s)) (movedRead (commandRead s))) (sym (f .place))))
+      (is-accepted s p (accepted (HeaderRead.Header (there .0)) y p) laid (section-is s p (there .0) y (there .1) e (f .place) ∙ ap (accepted (headerOf (drop 3 s)) (movedRead (commandRead s))) (sym (f .place))))
 
   pub flat-is : (y : CommandRead) → y ≡ movedRead (commandOf (getD s 13 0) (take (14 + p .command .len - 14) (drop 14 s))) → told h y p ≡ flatSectionRead (sectionOf s)
-  flat-is y e = flat-with y (e ∙ ap movedRead (command-at s p (framed s p whole .place)))
+  flat-is y e = flat-with y (e ∙ ap movedRead (command-at s p (framed s p laid .place)))

@@ -8,7 +8,7 @@ use Rattle.command.specs.declared.CommandRead.{CommandRead}
 use Rattle.command.specs.declared.CommandRead.the-variants.{Is, UnknownType, Malformed}
 use Rattle.command.specs.declared.SpliceCommand.{SpliceCommand}
 use Rattle.command.specs.declared.SpliceCommand.the-variants as command
-use Rattle.command.specs.declared.components.ComponentSplice.{ComponentSplice}
+use Rattle.command.specs.declared.components.InsertComponent.{InsertComponent}
 use Rattle.command.specs.declared.insert.Break.{Break}
 use Rattle.command.specs.declared.insert.Break.the-variants.{Absent, Lasts}
 use Rattle.command.specs.declared.insert.InsertDetail.{InsertDetail}
@@ -26,8 +26,8 @@ use Rattle.c_section.specs.declared.commands.FlatBreak.{FlatBreak}
 use Rattle.c_section.specs.declared.commands.FlatCommand.{FlatCommand}
 use Rattle.c_section.specs.declared.commands.FlatInsert.{FlatInsert}
 use Rattle.c_section.specs.declared.commands.FlatMode.{FlatMode}
-use Rattle.c_section.specs.declared.components.FlatComponentSplice.{FlatComponentSplice}
-use Rattle.c_section.specs.declared.components.FlatSplices.{FlatSplices}
+use Rattle.c_section.specs.declared.components.FlatInsertComponent.{FlatInsertComponent}
+use Rattle.c_section.specs.declared.components.FlatInsertComponents.{FlatInsertComponents}
 
 -- ---- an insert: by program, at a time; or by as many components
 unfoldable pub flatMode : SpliceMode → FlatMode
@@ -39,8 +39,8 @@ flatBreak Absent = record { «duration_flag» = 0; «auto_return» = 0; duration
 flatBreak (Lasts d) = record { «duration_flag» = 1; «auto_return» = returnFlag (d .«return_mode»); duration = d .duration }
 
 -- with the event's id, whether it is cancelled, and the reserved bits
-unfoldable pub wholeInsert : ℕ → ℕ → ℕ → InsertDetail → FlatInsert
-wholeInsert event cancel reserved i =
+unfoldable pub activeInsert : ℕ → ℕ → ℕ → InsertDetail → FlatInsert
+activeInsert event cancel reserved i =
     record {
       «splice_event_id» = event;
       «splice_event_cancel_indicator» = cancel;
@@ -55,11 +55,11 @@ wholeInsert event cancel reserved i =
 
 -- without what follows the reserved bits
 unfoldable pub insertHead : ℕ → ℕ → ℕ → FlatInsert
-insertHead event cancel reserved = wholeInsert event cancel reserved (insertOf insert.Cancel)
+insertHead event cancel reserved = activeInsert event cancel reserved (insertOf insert.Cancel)
 
 abbrev pub flatDetail : ℕ → ℕ → SpliceDetail → FlatInsert
 flatDetail event reserved insert.Cancel = insertHead event 1 reserved
-flatDetail event reserved (insert.Insert i) = wholeInsert event 0 reserved i
+flatDetail event reserved (insert.Insert i) = activeInsert event 0 reserved i
 
 unfoldable pub flatInsertion : SpliceInsert → FlatInsert
 flatInsertion x = flatDetail (x .«splice_event_id») (x .reserved) (x .«splice_detail»)
@@ -92,13 +92,13 @@ flatCommandRead UnknownType = noCommand (numberOf UnknownType) 0
 flatCommandRead Malformed = noCommand (numberOf Malformed) 0
 
 -- ---- the components of an insert, in their array
-unfoldable pub flatComponent : ComponentSplice → FlatComponentSplice
+unfoldable pub flatComponent : InsertComponent → FlatInsertComponent
 flatComponent c = record { «component_tag» = c .«component_tag»; «splice_time» = flatTime (c .«splice_time») }
 
-unfoldable pub noComponents : List FlatComponentSplice
+unfoldable pub noComponents : List FlatInsertComponent
 noComponents = replicate 255 (record { «component_tag» = 0; «splice_time» = noTime })
 
-unfoldable pub flatSplices : CommandRead → List ComponentSplice → FlatSplices
-flatSplices (Is c) cs = record { refusal = 0; count = countIn c; components = map flatComponent cs }
-flatSplices UnknownType cs = record { refusal = numberOf UnknownType; count = 0; components = noComponents }
-flatSplices Malformed cs = record { refusal = numberOf Malformed; count = 0; components = noComponents }
+unfoldable pub flatInsertComponents : CommandRead → List InsertComponent → FlatInsertComponents
+flatInsertComponents (Is c) cs = record { refusal = 0; count = countIn c; components = map flatComponent cs }
+flatInsertComponents UnknownType cs = record { refusal = numberOf UnknownType; count = 0; components = noComponents }
+flatInsertComponents Malformed cs = record { refusal = numberOf Malformed; count = 0; components = noComponents }

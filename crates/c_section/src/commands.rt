@@ -1,6 +1,6 @@
 // A splice command.
 ghost use mathlib.Core.Path.{_≡_};
-ghost use Rattle.c_section.specs.FlatCommand.{flatMode, flatBreak, insertHead, wholeInsert, flatInsertion, noCommand, flatCommand, flatCommandRead};
+ghost use Rattle.c_section.specs.FlatCommand.{flatMode, flatBreak, insertHead, activeInsert, flatInsertion, noCommand, flatCommand, flatCommandRead};
 use crate::FlatTime;
 use crate::FlatView;
 use crate::flat_time;
@@ -111,8 +111,8 @@ fn insert_head(event: u64, cancel: u64, reserved: u64) -> FlatInsert
     }
 }
 
-fn whole_insert(event: u64, reserved: u64, i: InsertDetail) -> FlatInsert
-    ensures { λ r. ⌜ r ≡ wholeInsert event 0 reserved i ⌝ }
+fn active_insert(event: u64, reserved: u64, i: InsertDetail) -> FlatInsert
+    ensures { λ r. ⌜ r ≡ activeInsert event 0 reserved i ⌝ }
 {
     let network = i.network_indicator;
     let mode = i.splice_mode;
@@ -136,7 +136,7 @@ fn flat_insert(x: SpliceInsert) -> FlatInsert
     let detail = x.splice_detail;
     match detail {
         SpliceDetail::Cancel => insert_head(x.splice_event_id as u64, 1, x.reserved as u64),
-        SpliceDetail::Insert(i) => whole_insert(x.splice_event_id as u64, x.reserved as u64, i),
+        SpliceDetail::Insert(i) => active_insert(x.splice_event_id as u64, x.reserved as u64, i),
     }
 }
 

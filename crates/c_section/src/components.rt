@@ -1,48 +1,48 @@
 // The components of an insert.
 ghost use mathlib.Core.Path.{_≡_};
 ghost use mathlib.Core.List.{map};
-ghost use Rattle.c_section.specs.FlatCommand.{flatComponent, noComponents, flatSplices};
+ghost use Rattle.c_section.specs.FlatCommand.{flatComponent, noComponents, flatInsertComponents};
 use crate::FlatTime;
 use crate::commands::flat_command;
 use crate::flat_time;
 use command::CommandRead;
-use command::components::ComponentSplice;
+use command::components::InsertComponent;
 use command::components::MAX_COMPONENTS;
 
 #[repr(C)]
-pub struct FlatComponentSplice {
+pub struct FlatInsertComponent {
     pub component_tag: u64,
     pub splice_time: FlatTime,
 }
 
 // The components before the count, blank past it: a time that is not specified.
 #[repr(C)]
-pub struct FlatSplices {
+pub struct FlatInsertComponents {
     pub refusal: u64,
     pub count: u64,
-    pub components: [FlatComponentSplice; 255],
+    pub components: [FlatInsertComponent; 255],
 }
 
-fn flat_component(c: ComponentSplice) -> FlatComponentSplice
+fn flat_component(c: InsertComponent) -> FlatInsertComponent
     ensures { λ r. ⌜ r ≡ flatComponent c ⌝ }
 {
     let time = c.splice_time;
-    FlatComponentSplice {
+    FlatInsertComponent {
         component_tag: c.component_tag as u64,
         splice_time: flat_time(time),
     }
 }
 
-fn no_components() -> [FlatComponentSplice; MAX_COMPONENTS]
+fn no_components() -> [FlatInsertComponent; MAX_COMPONENTS]
     ensures { λ r. ⌜ r ≡ noComponents ⌝ }
 {
-    [FlatComponentSplice {
+    [FlatInsertComponent {
         component_tag: 0,
         splice_time: FlatTime { kind: 0, ticks: 0 },
     }; MAX_COMPONENTS]
 }
 
-fn flat_components(cs: [ComponentSplice; MAX_COMPONENTS]) -> [FlatComponentSplice; MAX_COMPONENTS]
+fn flat_components(cs: [InsertComponent; MAX_COMPONENTS]) -> [FlatInsertComponent; MAX_COMPONENTS]
     ensures { λ r. ⌜ r ≡ map flatComponent cs ⌝ }
 {
     let mut out = no_components();
@@ -56,26 +56,29 @@ fn flat_components(cs: [ComponentSplice; MAX_COMPONENTS]) -> [FlatComponentSplic
 }
 
 // Of the answer to an insert's payload, and its components.
-pub fn flat_splices(read: CommandRead, cs: [ComponentSplice; MAX_COMPONENTS]) -> FlatSplices
-    ensures { λ r. ⌜ r ≡ flatSplices read cs ⌝ }
+pub fn flat_insert_components(
+    read: CommandRead,
+    cs: [InsertComponent; MAX_COMPONENTS],
+) -> FlatInsertComponents
+    ensures { λ r. ⌜ r ≡ flatInsertComponents read cs ⌝ }
 {
     match read {
         CommandRead::Is(c) => {
             let told = flat_command(c);
             let insert = told.insert;
             let mode = insert.mode;
-            FlatSplices {
+            FlatInsertComponents {
                 refusal: 0,
                 count: mode.component_count,
                 components: flat_components(cs),
             }
         }
-        CommandRead::UnknownType => FlatSplices {
+        CommandRead::UnknownType => FlatInsertComponents {
             refusal: 10,
             count: 0,
             components: no_components(),
         },
-        CommandRead::Malformed => FlatSplices {
+        CommandRead::Malformed => FlatInsertComponents {
             refusal: 11,
             count: 0,
             components: no_components(),

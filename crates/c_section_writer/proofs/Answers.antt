@@ -10,7 +10,7 @@ use lib.ListN.{length, getD}
 use borrow.Author.Tests.{lt-ltb, ne-eqb}
 use Rattle.command.specs.Command.{array}
 use Rattle.command.specs.declared.SpliceCommand.{SpliceCommand}
-use Rattle.command.specs.declared.components.ComponentSplice.{ComponentSplice}
+use Rattle.command.specs.declared.components.InsertComponent.{InsertComponent}
 use Rattle.command_measure.proofs.Making.{flag-within}
 use Rattle.command_measure.specs.Made.{commandMade}
 use Rattle.canonical_form.specs.Descriptor.{canonicalLoop}
@@ -149,8 +149,8 @@ module _ (header words components lent loop : List ℕ) where
   abbrev given : SpliceCommand
   given = command.given words components lent
 
-  abbrev whole : Made
-  whole = sectionMade (headerFrom header) (command.whole words components lent) (typeOf given) loop
+  abbrev overall : Made
+  overall = sectionMade (headerFrom header) (command.overall words components lent) (typeOf given) loop
 
   abbrev fits : Bool
   fits = within headerWidths header && command.fits words components lent
@@ -158,21 +158,21 @@ module _ (header words components lent loop : List ℕ) where
   abbrev own : Bool
   own = same (headerWords (flatHeader (headerFrom header))) header && command.own words components lent
 
-  words-made : sectionWordsMade header words components lent loop ≡ noLess (seenFirst (commandSeen words lent) (refusalOf fits own)) whole
+  words-made : sectionWordsMade header words components lent loop ≡ noLess (seenFirst (commandSeen words lent) (refusalOf fits own)) overall
   unfolding sectionWordsMade headerRefusal commandRefusal wordsRefusal componentsFrom
-  words-made = ap (λ (n : ℕ). noLess n whole) (either-is (commandSeen words lent) (within headerWidths header) (same (headerWords (flatHeader (headerFrom header))) header) (command.fits words components lent) (command.own words components lent))
+  words-made = ap (λ (n : ℕ). noLess n overall) (either-is (commandSeen words lent) (within headerWidths header) (same (headerWords (flatHeader (headerFrom header))) header) (command.fits words components lent) (command.own words components lent))
 
-  words-seen : commandSeen words lent ≡ true → sectionWordsMade header words components lent loop ≡ noLess (refusalOf fits own) whole
+  words-seen : commandSeen words lent ≡ true → sectionWordsMade header words components lent loop ≡ noLess (refusalOf fits own) overall
   words-seen e = words-made ∙ rw e
 
   fits-are : sectionFits header words components ≡ fits
   unfolding sectionFits
   fits-are = ap (λ (b : Bool). within headerWidths header && b) (command.fits-are words components lent)
 
-  given-late : commandSeen words lent ≡ true → Late 32 whole × (fits ≡ true → Late 33 whole)
+  given-late : commandSeen words lent ≡ true → Late 32 overall × (fits ≡ true → Late 33 overall)
   given-late e =
       let l = command.given-late words components lent e in
-      let m = command.whole words components lent in (
+      let m = command.overall words components lent in (
         section-late (headerFrom header) m (typeOf given) loop (l .0),
         λ f. let a = and-true (within headerWidths header) (command.fits words components lent) f in section-fits (headerFrom header) m (typeOf given) loop (l .1 (a .1)) (header-fits header (a .0)),
       )
@@ -182,16 +182,16 @@ module _ (header words components lent loop : List ℕ) where
   answer = sectionWordsMade header words components lent loop
 
   pub made-outside : commandSeen words lent ≡ false → answer ≡ refused 31
-  made-outside e = words-made ∙ rw e (refused-31 whole (any-late (headerFrom header) (command.whole words components lent) (typeOf given) loop))
+  made-outside e = words-made ∙ rw e (refused-31 overall (any-late (headerFrom header) (command.overall words components lent) (typeOf given) loop))
 
   pub made-over : commandSeen words lent ≡ true → sectionFits header words components ≡ false → answer ≡ refused 32
-  made-over e f = words-seen e ∙ refused-32 fits own whole (sym fits-are ∙ f) (given-late e .0)
+  made-over e f = words-seen e ∙ refused-32 fits own overall (sym fits-are ∙ f) (given-late e .0)
 
   made-other : commandSeen words lent ≡ true → sectionFits header words components ≡ true → own ≡ false → answer ≡ refused 33
-  made-other e f g = words-seen e ∙ refused-33 fits own whole (sym fits-are ∙ f) g (given-late e .1 (sym fits-are ∙ f))
+  made-other e f g = words-seen e ∙ refused-33 fits own overall (sym fits-are ∙ f) g (given-late e .1 (sym fits-are ∙ f))
 
-  made-own : commandSeen words lent ≡ true → sectionFits header words components ≡ true → own ≡ true → answer ≡ whole
-  made-own e f g = words-seen e ∙ unrefused fits own whole (sym fits-are ∙ f) g
+  made-own : commandSeen words lent ≡ true → sectionFits header words components ≡ true → own ≡ true → answer ≡ overall
+  made-own e f g = words-seen e ∙ unrefused fits own overall (sym fits-are ∙ f) g
 
   -- ---- their own values
   given-are : own ≡ true → HeaderIs header (headerFrom header) × CommandIs words components given (command.listed words components lent)
@@ -200,19 +200,19 @@ module _ (header words components lent loop : List ℕ) where
       let a = and-true (same (headerWords (flatHeader (headerFrom header))) header) (command.own words components lent) e in
       (record { own = a .0; writable = algorithm-laws .is-writable (word header 3 % 256) }, command.given-is words components lent (a .1))
 
-  module _ (h : SpliceInfoHeader) (c : SpliceCommand) (cs : List ComponentSplice) (i : HeaderIs header h) (j : CommandIs words components c cs) where
+  module _ (h : SpliceInfoHeader) (c : SpliceCommand) (cs : List InsertComponent) (i : HeaderIs header h) (j : CommandIs words components c cs) where
     abbrev section : Made
     section = sectionMade h (commandMade c (array cs) lent) (typeOf c) loop
 
-    are-given : sectionFits header words components ≡ true → (section ≡ whole) × (own ≡ true)
+    are-given : sectionFits header words components ≡ true → (section ≡ overall) × (own ≡ true)
     unfolding headerWords flatHeader headed
     are-given f =
         let a = and-true (within headerWidths header) (command.fits words components lent) (sym fits-are ∙ f) in
         let g = command.is-given words components lent c cs j (command.fits-are words components lent ∙ a .1) in
         let e : headerFrom header ≡ headed h 0 0 = header-given header h i (a .0) in (
           sym (headless h (commandMade c (array cs) lent) (typeOf c) loop)
-              ∙ ap₂ (λ (d : SpliceCommand) (l : List ComponentSplice). sectionMade (headed h 0 0) (commandMade d (array l) lent) (typeOf d) loop) (sym (g .0)) (sym (g .1))
-              ∙ ap (λ (x : SpliceInfoHeader). sectionMade x (command.whole words components lent) (typeOf given) loop) (sym e),
+              ∙ ap₂ (λ (d : SpliceCommand) (l : List InsertComponent). sectionMade (headed h 0 0) (commandMade d (array l) lent) (typeOf d) loop) (sym (g .0)) (sym (g .1))
+              ∙ ap (λ (x : SpliceInfoHeader). sectionMade x (command.overall words components lent) (typeOf given) loop) (sym e),
           ap₂ (λ (a b : Bool). a && b) (ap (λ (x : SpliceInfoHeader). same (headerWords (flatHeader x)) header) e ∙ i .own) (g .2),
         )
 

@@ -6,7 +6,7 @@ use mathlib.Core.List.{List, [], _∷_}
 use mathlib.Core.Path.{_≡_}
 use Rattle.command.specs.Command.{array}
 use Rattle.command.specs.declared.SpliceCommand.{SpliceCommand}
-use Rattle.command.specs.declared.components.ComponentSplice.{ComponentSplice}
+use Rattle.command.specs.declared.components.InsertComponent.{InsertComponent}
 use Rattle.command_measure.specs.Made.{commandMade}
 use Rattle.c_section.specs.Flat.{flatHeader}
 use Rattle.c_section.specs.declared.headers.FlatHeader.{FlatHeader}
@@ -41,7 +41,7 @@ pub data SectionAnswer (header command components lent loop : List ℕ) : Made �
   outside : commandSeen command lent ≡ false → SectionAnswer header command components lent loop (refused 31)
   over : commandSeen command lent ≡ true → sectionFits header command components ≡ false → SectionAnswer header command components lent loop (refused 32)
   nobodys : commandSeen command lent ≡ true → sectionFits header command components ≡ true
-      → ((h : SpliceInfoHeader) (c : SpliceCommand) (cs : List ComponentSplice) → HeaderIs header h → CommandIs command components c cs → ⊥)
+      → ((h : SpliceInfoHeader) (c : SpliceCommand) (cs : List InsertComponent) → HeaderIs header h → CommandIs command components c cs → ⊥)
       → SectionAnswer header command components lent loop (refused 33)
-  its : (h : SpliceInfoHeader) (c : SpliceCommand) (cs : List ComponentSplice) → HeaderIs header h → CommandIs command components c cs
+  its : (h : SpliceInfoHeader) (c : SpliceCommand) (cs : List InsertComponent) → HeaderIs header h → CommandIs command components c cs
       → SectionAnswer header command components lent loop (sectionMade h (commandMade c (array cs) lent) (typeOf c) loop)

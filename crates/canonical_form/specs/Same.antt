@@ -9,7 +9,7 @@ use Rattle.table.specs.declared.View.{View}
 use Rattle.descriptor.specs.Views.{descriptorViews, withViews}
 use Rattle.descriptor.specs.declared.Descriptor.{Descriptor}
 use Rattle.descriptor.specs.declared.segmentation.SegmentationUpid.{SegmentationUpid}
-use Rattle.descriptor.specs.declared.whole.Beside.{Beside}
+use Rattle.descriptor.specs.declared.full.Beside.{Beside}
 use Rattle.descriptor_loop.specs.Items.{readingOf, Listed, itemsOf}
 use Rattle.descriptor_loop.specs.declared.Item.the-variants.{Is}
 use Rattle.command.specs.Command.{withView, countIn, componentsOf}

@@ -10,7 +10,7 @@ use Rattle.command.specs.Insert.{WithComponents}
 use Rattle.command.specs.Private.{componentRead, skimmedOf, breakRead, modedRead, activeRead, insertRead}
 use Rattle.command.specs.declared.components.Component.{Component}
 use Rattle.command.specs.declared.components.ComponentRead.{ComponentRead}
-use Rattle.command.specs.declared.components.ComponentSplice.{ComponentSplice}
+use Rattle.command.specs.declared.components.InsertComponent.{InsertComponent}
 use Rattle.command.specs.declared.components.Skimmed.{Skimmed}
 use Rattle.command.specs.declared.insert.ActiveRead.{ActiveRead}
 use Rattle.command.specs.declared.insert.Break.{Break}
@@ -22,7 +22,7 @@ use Rattle.command.specs.declared.insert.InsertRead.{InsertRead}
 use Rattle.command.specs.declared.insert.Moded.{Moded}
 use Rattle.command.specs.declared.insert.ModedRead.{ModedRead}
 use Rattle.command.specs.declared.insert.SpliceMode.{SpliceMode}
-use Rattle.command.proofs.Wholes.{Whole}
+use Rattle.command.proofs.Alignments.{Aligned}
 
 -- ---- the byte that starts with a bit, and its first bit
 byte-of : (n : ℕ) → n * 8 / 8 ≡ n
@@ -32,15 +32,15 @@ bit-of : (m : ℕ) → m % 8 ≡ 0 → m / 8 * 8 ≡ m
 bit-of m z = omega arith
 
 -- ---- a component
-pub component-got : (r : Answer ComponentSplice) (y : ComponentSplice) (n : ℕ) → r ≡ got y (n * 8) → ComponentRead.Got (record { component = y; next = n }) ≡ componentRead r
+pub component-got : (r : Answer InsertComponent) (y : InsertComponent) (n : ℕ) → r ≡ got y (n * 8) → ComponentRead.Got (record { component = y; next = n }) ≡ componentRead r
 unfolding componentRead
 component-got r y n e = rw (e, byte-of n)
 
-pub component-lacks : (r : Answer ComponentSplice) (x : Short) → r ≡ short (x .expected) (x .actual) → ComponentRead.Lacks x ≡ componentRead r
+pub component-lacks : (r : Answer InsertComponent) (x : Short) → r ≡ short (x .expected) (x .actual) → ComponentRead.Lacks x ≡ componentRead r
 unfolding componentRead
 component-lacks r x e = rw e
 
-pub got-component : (r : Answer ComponentSplice) (y : Component) → Whole r → ComponentRead.Got y ≡ componentRead r → r ≡ got (y .component) (y .next * 8)
+pub got-component : (r : Answer InsertComponent) (y : Component) → Aligned r → ComponentRead.Got y ≡ componentRead r → r ≡ got (y .component) (y .next * 8)
 unfolding componentRead
 got-component (got x m) y w f =
     let e : y .component ≡ x = cc in
@@ -48,33 +48,33 @@ got-component (got x m) y w f =
     rw (e, c, bit-of m (w x m refl))
 got-component (short e a) y w f = zero-one cc
 
-pub lacks-component : (r : Answer ComponentSplice) (x : Short) → ComponentRead.Lacks x ≡ componentRead r → r ≡ short (x .expected) (x .actual)
+pub lacks-component : (r : Answer InsertComponent) (x : Short) → ComponentRead.Lacks x ≡ componentRead r → r ≡ short (x .expected) (x .actual)
 unfolding componentRead
 lacks-component (got y m) x f = zero-one cc
 lacks-component (short e a) x f = cc
 
 -- ---- components that are skimmed
-pub skim-got : (r : Answer (List ComponentSplice)) (ys : List ComponentSplice) (n : ℕ) → r ≡ got ys (n * 8) → Skimmed.Got n ≡ skimmedOf r
+pub skim-got : (r : Answer (List InsertComponent)) (ys : List InsertComponent) (n : ℕ) → r ≡ got ys (n * 8) → Skimmed.Got n ≡ skimmedOf r
 unfolding skimmedOf
 skim-got r ys n e = rw (e, byte-of n)
 
-pub skim-lacks : (r : Answer (List ComponentSplice)) (x : Short) → r ≡ short (x .expected) (x .actual) → Skimmed.Lacks x ≡ skimmedOf r
+pub skim-lacks : (r : Answer (List InsertComponent)) (x : Short) → r ≡ short (x .expected) (x .actual) → Skimmed.Lacks x ≡ skimmedOf r
 unfolding skimmedOf
 skim-lacks r x e = rw e
 
 -- they were read, whichever they are
-pub record Skims (r : Answer (List ComponentSplice)) (n : ℕ) : Type 0 where
-  pub list : List ComponentSplice
+pub record Skims (r : Answer (List InsertComponent)) (n : ℕ) : Type 0 where
+  pub list : List InsertComponent
   pub is : r ≡ got list (n * 8)
 
-pub got-skim : (r : Answer (List ComponentSplice)) (n : ℕ) → Whole r → Skimmed.Got n ≡ skimmedOf r → Skims r n
+pub got-skim : (r : Answer (List InsertComponent)) (n : ℕ) → Aligned r → Skimmed.Got n ≡ skimmedOf r → Skims r n
 unfolding skimmedOf
 got-skim (got ys m) n w f =
     let e : n ≡ m / 8 = cc in
     record { list = ys; is = rw (e, bit-of m (w ys m refl)) }
 got-skim (short e a) n w f = zero-one cc
 
-pub lacks-skim : (r : Answer (List ComponentSplice)) (x : Short) → Skimmed.Lacks x ≡ skimmedOf r → r ≡ short (x .expected) (x .actual)
+pub lacks-skim : (r : Answer (List InsertComponent)) (x : Short) → Skimmed.Lacks x ≡ skimmedOf r → r ≡ short (x .expected) (x .actual)
 unfolding skimmedOf
 lacks-skim (got ys m) x f = zero-one cc
 lacks-skim (short e a) x f = cc
@@ -88,7 +88,7 @@ pub break-lacks : (r : Answer Break) (x : Short) → r ≡ short (x .expected) (
 unfolding breakRead
 break-lacks r x e = rw e
 
-pub got-break : (r : Answer Break) (y : Broken) → Whole r → BreakRead.Got y ≡ breakRead r → r ≡ got (y .duration) (y .next * 8)
+pub got-break : (r : Answer Break) (y : Broken) → Aligned r → BreakRead.Got y ≡ breakRead r → r ≡ got (y .duration) (y .next * 8)
 unfolding breakRead
 got-break (got x m) y w f =
     let e : y .duration ≡ x = cc in
@@ -102,7 +102,7 @@ lacks-break (got y m) x f = zero-one cc
 lacks-break (short e a) x f = cc
 
 -- ---- a mode, with whichever components
-pub mode-got : (r : Answer (WithComponents SpliceMode)) (y : SpliceMode) (cs : List ComponentSplice) (n : ℕ)
+pub mode-got : (r : Answer (WithComponents SpliceMode)) (y : SpliceMode) (cs : List InsertComponent) (n : ℕ)
     → r ≡ got (record { value = y; components = cs }) (n * 8) → ModedRead.Got (record { mode = y; next = n }) ≡ modedRead r
 unfolding modedRead
 mode-got r y cs n e = rw (e, byte-of n)
@@ -112,10 +112,10 @@ unfolding modedRead
 mode-lacks r x e = rw e
 
 pub record Modes (r : Answer (WithComponents SpliceMode)) (y : Moded) : Type 0 where
-  pub list : List ComponentSplice
+  pub list : List InsertComponent
   pub is : r ≡ got (record { value = y .mode; components = list }) (y .next * 8)
 
-pub got-mode : (r : Answer (WithComponents SpliceMode)) (y : Moded) → Whole r → ModedRead.Got y ≡ modedRead r → Modes r y
+pub got-mode : (r : Answer (WithComponents SpliceMode)) (y : Moded) → Aligned r → ModedRead.Got y ≡ modedRead r → Modes r y
 unfolding modedRead
 got-mode (got x m) y w f =
     let e : y .mode ≡ x .value = cc in
@@ -129,7 +129,7 @@ lacks-mode (got y m) x f = zero-one cc
 lacks-mode (short e a) x f = cc
 
 -- ---- what is not cancelled
-pub active-got : (r : Answer (WithComponents InsertDetail)) (y : InsertDetail) (cs : List ComponentSplice) (m : ℕ) → r ≡ got (record { value = y; components = cs }) m → ActiveRead.Got y ≡ activeRead r
+pub active-got : (r : Answer (WithComponents InsertDetail)) (y : InsertDetail) (cs : List InsertComponent) (m : ℕ) → r ≡ got (record { value = y; components = cs }) m → ActiveRead.Got y ≡ activeRead r
 unfolding activeRead
 active-got r y cs m e = rw e
 
@@ -138,7 +138,7 @@ unfolding activeRead
 active-lacks r x e = rw e
 
 pub record Actives (r : Answer (WithComponents InsertDetail)) (y : InsertDetail) : Type 0 where
-  pub list : List ComponentSplice
+  pub list : List InsertComponent
   pub end : ℕ
   pub is : r ≡ got (record { value = y; components = list }) end
 
@@ -155,7 +155,7 @@ lacks-active (got y m) x f = zero-one cc
 lacks-active (short e a) x f = cc
 
 -- ---- an insert
-pub insert-got : (r : Answer (WithComponents SpliceInsert)) (y : SpliceInsert) (cs : List ComponentSplice) (m : ℕ) → r ≡ got (record { value = y; components = cs }) m → InsertRead.Got y ≡ insertRead r
+pub insert-got : (r : Answer (WithComponents SpliceInsert)) (y : SpliceInsert) (cs : List InsertComponent) (m : ℕ) → r ≡ got (record { value = y; components = cs }) m → InsertRead.Got y ≡ insertRead r
 unfolding insertRead
 insert-got r y cs m e = rw e
 

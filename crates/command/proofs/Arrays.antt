@@ -7,12 +7,12 @@ use lib.ListN.{length, take, replicate, length-append}
 use lib.Seq.{take-at}
 use Rattle.command.specs.Command.{array}
 use Rattle.command.specs.Insert.{blank}
-use Rattle.command.specs.declared.components.ComponentSplice.{ComponentSplice}
+use Rattle.command.specs.declared.components.InsertComponent.{InsertComponent}
 
-pub array-take : (cs : List ComponentSplice) (n : ℕ) → length cs ≡ n → take n (array cs) ≡ cs
+pub array-take : (cs : List InsertComponent) (n : ℕ) → length cs ≡ n → take n (array cs) ≡ cs
 unfolding array
 array-take cs n e = take-at cs (replicate (255 - length cs) blank) n e
 
-pub array-there : (cs : List ComponentSplice) (n : ℕ) → length cs ≡ n → n ≤ length (array cs)
+pub array-there : (cs : List InsertComponent) (n : ℕ) → length cs ≡ n → n ≤ length (array cs)
 unfolding array
 array-there cs n e = omega (arith, length-append cs (replicate (255 - length cs) blank))

@@ -22,7 +22,7 @@ use Rattle.command.specs.declared.CommandRead.{CommandRead}
 use Rattle.command.specs.declared.SpliceCommand.{SpliceCommand}
 use Rattle.command.specs.declared.components.Component.{Component}
 use Rattle.command.specs.declared.components.ComponentRead.{ComponentRead}
-use Rattle.command.specs.declared.components.ComponentSplice.{ComponentSplice}
+use Rattle.command.specs.declared.components.InsertComponent.{InsertComponent}
 use Rattle.command.specs.declared.insert.InsertDetail.{InsertDetail}
 use Rattle.command.specs.declared.insert.SpliceInsert.{SpliceInsert}
 use Rattle.command.specs.declared.insert.SpliceDetail.{SpliceDetail}
@@ -46,17 +46,17 @@ drop-replicate zero n a = rw sub-zero
 drop-replicate (suc i) zero a = rw zero-sub
 drop-replicate (suc i) (suc n) a = rw suc-sub-suc (drop-replicate i n a)
 
-blank-sets : (cs : List ComponentSplice) → length cs ≤ 255 → sets (replicate 255 blank) 0 cs ≡ cs ++ replicate (255 - length cs) blank
+blank-sets : (cs : List InsertComponent) → length cs ≤ 255 → sets (replicate 255 blank) 0 cs ≡ cs ++ replicate (255 - length cs) blank
 blank-sets cs h =
     let e : 0 + length cs ≡ length cs = zero-add (length cs) in
     sets-eq cs (replicate 255 blank) 0 (omega (arith, length-replicate 255 blank)) ∙ rw (e, drop-replicate (length cs) 255 blank)
 
-start : (r : Answer (List ComponentSplice)) → ((cs : List ComponentSplice) (m : ℕ) → r ≡ got cs m → length cs ≤ 255) → filled (array []) 0 r ≡ array (listIn r)
+start : (r : Answer (List InsertComponent)) → ((cs : List InsertComponent) (m : ℕ) → r ≡ got cs m → length cs ≤ 255) → filled (array []) 0 r ≡ array (listIn r)
 unfolding filled array
 start (got cs m) h = blank-sets cs (h cs m refl)
 start (short e a) h = refl
 
-on : (bs : List ℕ) (out : List ComponentSplice) (i : ℕ) (y : ComponentSplice) (r : Answer (List ComponentSplice)) → filled out i (onward bs (λ ys. done (y ∷ ys)) r) ≡ filled (set out i y) (i + 1) r
+on : (bs : List ℕ) (out : List InsertComponent) (i : ℕ) (y : InsertComponent) (r : Answer (List InsertComponent)) → filled out i (onward bs (λ ys. done (y ∷ ys)) r) ≡ filled (set out i y) (i + 1) r
 unfolding filled
 on bs out i y (got ys m) = rw (add-one i)
 on bs out i y (short e a) = refl
@@ -65,18 +65,18 @@ module _ (s : List ℕ) (b : Bool) where
   pub fill-start : (n at : ℕ) → n ≤ 255 → filled (array []) 0 (parse (list n blank (component b)) (bitsOf s) at) ≡ array (listIn (parse (list n blank (component b)) (bitsOf s) at))
   fill-start n at h = start _ (λ cs m e. omega (arith, list-length n blank (component b) (bitsOf s) at cs m e))
 
-  pub fill-turn : (out : List ComponentSplice) (i n at : ℕ) (y : Component) → ComponentRead.Got y ≡ componentRead (parse (component b) (bitsOf s) (at * 8))
+  pub fill-turn : (out : List InsertComponent) (i n at : ℕ) (y : Component) → ComponentRead.Got y ≡ componentRead (parse (component b) (bitsOf s) (at * 8))
       → filled (set out i (y .component)) (i + 1) (parse (list n blank (component b)) (bitsOf s) (y .next * 8)) ≡ filled out i (parse (list (suc n) blank (component b)) (bitsOf s) (at * 8))
   fill-turn out i n at y e =
       sym (ap (filled out i) (list-turn n blank (component b) (bitsOf s) (at * 8) (y .component) (y .next * 8) (component-there s b at y e))
       ∙ on (bitsOf s) out i (y .component) (parse (list n blank (component b)) (bitsOf s) (y .next * 8)))
 
-  pub fill-lacks : (out : List ComponentSplice) (i n at : ℕ) (x : Short) → ComponentRead.Lacks x ≡ componentRead (parse (component b) (bitsOf s) at)
+  pub fill-lacks : (out : List InsertComponent) (i n at : ℕ) (x : Short) → ComponentRead.Lacks x ≡ componentRead (parse (component b) (bitsOf s) at)
       → array [] ≡ filled out i (parse (list (suc n) blank (component b)) (bitsOf s) at)
   unfolding filled
   fill-lacks out i n at x e = rw (list-short n blank (component b) (bitsOf s) at _ _ (lacks-component (parse (component b) (bitsOf s) at) x e))
 
-  pub fill-end : (out : List ComponentSplice) (i at : ℕ) → out ≡ filled out i (parse (list 0 blank (component b)) (bitsOf s) at)
+  pub fill-end : (out : List InsertComponent) (i at : ℕ) → out ≡ filled out i (parse (list 0 blank (component b)) (bitsOf s) at)
   unfolding filled
   fill-end out i at = rw (list-none blank (component b) (bitsOf s) at)
 
@@ -88,16 +88,16 @@ same-reading : {X : Type 0} (x y : X) (m n : ℕ) → got x m ≡ got y n → x 
 same-reading x y m n e = cc
 
 -- the components that a mode, and an insert, says there are; f n are the first n
-abbrev modeFor : SpliceMode → (ℕ → List ComponentSplice) → List ComponentSplice
+abbrev modeFor : SpliceMode → (ℕ → List InsertComponent) → List InsertComponent
 modeFor (SpliceMode.Program t) f = []
 modeFor (SpliceMode.Components n) f = f n
 
-abbrev pub detailFor : SpliceDetail → (ℕ → List ComponentSplice) → List ComponentSplice
+abbrev pub detailFor : SpliceDetail → (ℕ → List InsertComponent) → List InsertComponent
 detailFor SpliceDetail.Cancel f = []
 detailFor (SpliceDetail.Insert i) f = modeFor (i .«splice_mode») f
 
 -- the first n components from byte 7 on
-abbrev pub listed : List ℕ → Bool → ℕ → List ComponentSplice
+abbrev pub listed : List ℕ → Bool → ℕ → List InsertComponent
 listed s b n = listIn (parse (list n blank (component b)) (bitsOf s) 56)
 
 mode-keeps : (s : List ℕ) (p b : Bool) (m : Mode) (e : ℕ) → parse (moded p b) (bitsOf s) 48 ≡ got m e → m .components ≡ modeFor (m .value) (listed s b)
@@ -188,7 +188,7 @@ module _ (s : List ℕ) where
       go (got x m) p = ap array (detail-counts s b (x .value .«splice_detail») ∙ rw z (sym (insert-keeps s x m p)))
       go (short e a) p = ap array (none-listed s b)
 
-  pub all-components : (c : CommandRead) (n v : ℕ) (r : List ComponentSplice) → c ≡ commandOf 5 s → n ≡ countRead c → v ≡ field (bitsOf s) 43 1 % 2 ^ 64
+  pub all-components : (c : CommandRead) (n v : ℕ) (r : List InsertComponent) → c ≡ commandOf 5 s → n ≡ countRead c → v ≡ field (bitsOf s) 43 1 % 2 ^ 64
       → r ≡ array (listIn (parse (list n blank (component (eqb v 1))) (bitsOf s) 56)) → r ≡ componentsOf s
   all-components c n v r e f g h =
       h ∙ ap (λ (k : ℕ). array (listed s (eqb v 1) k)) (f ∙ ap countRead e)

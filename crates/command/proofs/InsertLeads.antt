@@ -30,7 +30,7 @@ use Rattle.command.specs.Insert.{
   activeOf,
   insert,
 }
-use Rattle.command.specs.declared.components.ComponentSplice.{ComponentSplice}
+use Rattle.command.specs.declared.components.InsertComponent.{InsertComponent}
 use Rattle.command.specs.declared.insert.Break.{Break}
 use Rattle.command.specs.declared.insert.InsertDetail.{InsertDetail}
 use Rattle.command.specs.declared.insert.SpliceInsert.{SpliceInsert}
@@ -43,10 +43,10 @@ abbrev pub breakBytes : Break → ℕ
 breakBytes Break.Absent = 0
 breakBytes (Break.Lasts d) = 5
 
-abbrev pub activeBytes : InsertDetail → List ComponentSplice → ℕ
+abbrev pub activeBytes : InsertDetail → List InsertComponent → ℕ
 activeBytes i cs = 1 + modeBytes (i .«splice_mode») cs + breakBytes (i .duration) + 4
 
-abbrev pub detailBytes : SpliceDetail → List ComponentSplice → ℕ
+abbrev pub detailBytes : SpliceDetail → List InsertComponent → ℕ
 detailBytes SpliceDetail.Cancel cs = 0
 detailBytes (SpliceDetail.Insert i) cs = activeBytes i cs
 
@@ -101,7 +101,7 @@ active-leads x at m e f =
     (moded-leads (x .value .«splice_mode») (x .components) b _ e f)
     (ending-leads x (b + k * 8) m)))))))
 
-insert-leads : (event kept : ℕ) (d : SpliceDetail) (cs : List ComponentSplice) (m : ℕ) → length cs ≡ count (insertOf d .«splice_mode») → eqb kept 127 ≡ true → unmixed cs ≡ true
+insert-leads : (event kept : ℕ) (d : SpliceDetail) (cs : List InsertComponent) (m : ℕ) → length cs ≡ count (insertOf d .«splice_mode») → eqb kept 127 ≡ true → unmixed cs ≡ true
     → (let x : WithComponents SpliceInsert = record { value = record { «splice_event_id» = event; reserved = kept; «splice_detail» = d }; components = cs } in
     Leads insert x x 0 ((5 + detailBytes d cs) * 8) m)
 unfolding insert

@@ -36,7 +36,7 @@ use Rattle.command.specs.Insert.{
   activeOf,
   insert,
 }
-use Rattle.command.specs.declared.components.ComponentSplice.{ComponentSplice}
+use Rattle.command.specs.declared.components.InsertComponent.{InsertComponent}
 use Rattle.command.specs.declared.insert.SpliceMode.{SpliceMode}
 
 -- ---- times and components
@@ -57,20 +57,20 @@ component-tells b at e =
     tells-in (timeUnless b) _ _ (at + 8) _ _ (time-unless-tells b (at + 8) (omega arith)) (λ a t g. ((g, refl), refl))
 
 -- all of them are immediate by the flag b, or timed
-abbrev pub Flagged : Bool → List ComponentSplice → Type 0
-Flagged b cs = Each (λ (c : ComponentSplice). immediate (c .«splice_time») ≡ b) cs
+abbrev pub Flagged : Bool → List InsertComponent → Type 0
+Flagged b cs = Each (λ (c : InsertComponent). immediate (c .«splice_time») ≡ b) cs
 
-flagged-alike : (b : Bool) (cs : List ComponentSplice) → Flagged b cs → alike b cs ≡ true
+flagged-alike : (b : Bool) (cs : List InsertComponent) → Flagged b cs → alike b cs ≡ true
 flagged-alike b [] h = refl
 flagged-alike true (c ∷ cs) h = rw (h .0) (flagged-alike true cs (h .1))
 flagged-alike false (c ∷ cs) h = rw (h .0) (flagged-alike false cs (h .1))
 
-flagged-unmixed : (b : Bool) (cs : List ComponentSplice) → Flagged b cs → unmixed cs ≡ true
+flagged-unmixed : (b : Bool) (cs : List InsertComponent) → Flagged b cs → unmixed cs ≡ true
 flagged-unmixed b [] h = refl
 flagged-unmixed b (c ∷ cs) h = ap (λ (i : Bool). alike i (c ∷ cs)) (h .0) ∙ flagged-alike b (c ∷ cs) h
 
 -- the flag is found again: with no component the canonical form has it clear
-flag-again : (b : Bool) (n : ℕ) (cs : List ComponentSplice) → pick b (ltb 0 n) true ≡ true → length cs ≡ n → Flagged b cs → ltb 0 n && immediate (getD cs 0 blank .«splice_time») ≡ b
+flag-again : (b : Bool) (n : ℕ) (cs : List InsertComponent) → pick b (ltb 0 n) true ≡ true → length cs ≡ n → Flagged b cs → ltb 0 n && immediate (getD cs 0 blank .«splice_time») ≡ b
 flag-again true zero cs q e h = zero-one cc
 flag-again false zero cs q e h = refl
 flag-again b (suc n) [] q e h = absurd (omega arith)

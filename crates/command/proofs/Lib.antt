@@ -1,5 +1,5 @@
 pub mod Arrays
-pub mod Wholes
+pub mod Alignments
 pub mod Answers
 pub mod Walking
 pub mod Payloads

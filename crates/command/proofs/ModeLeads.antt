@@ -17,15 +17,15 @@ use Rattle.table.proofs.Lists.{zero-one, and-true}
 use Rattle.table.proofs.Telling.{Each}
 use Rattle.command.specs.Writable.{alike, unmixed}
 use Rattle.command.specs.Insert.{WithComponents, immediate, timeUnless, component, blank, byProgram, count, allImmediate, moded}
-use Rattle.command.specs.declared.components.ComponentSplice.{ComponentSplice}
+use Rattle.command.specs.declared.components.InsertComponent.{InsertComponent}
 use Rattle.command.specs.declared.insert.SpliceMode.{SpliceMode}
 use Rattle.command.proofs.InsertTells.{Flagged}
 
 -- ---- the bytes
-abbrev pub componentBytes : ComponentSplice → ℕ
+abbrev pub componentBytes : InsertComponent → ℕ
 componentBytes c = 1 + timeSize (c .«splice_time»)
 
-abbrev pub modeBytes : SpliceMode → List ComponentSplice → ℕ
+abbrev pub modeBytes : SpliceMode → List InsertComponent → ℕ
 modeBytes (SpliceMode.Program t) cs = timeSize t
 modeBytes (SpliceMode.Components n) cs = 1 + total componentBytes cs
 
@@ -40,7 +40,7 @@ time-unless-leads Immediate at m = leads-done Immediate _ _ _ _ m refl (omega ar
 time-unless-leads Unspecified at m = time-leads Unspecified at m refl
 time-unless-leads (At t) at m = time-leads (At t) at m refl
 
-component-leads : (b : Bool) (c : ComponentSplice) → immediate (c .«splice_time») ≡ b → (at m : ℕ) → Leads (component b) c c at (at + componentBytes c * 8) m
+component-leads : (b : Bool) (c : InsertComponent) → immediate (c .«splice_time») ≡ b → (at m : ℕ) → Leads (component b) c c at (at + componentBytes c * 8) m
 unfolding component
 component-leads b c e at m =
     rw (← e)
@@ -49,7 +49,7 @@ component-leads b c e at m =
     (time-unless-leads (c .«splice_time») (at + 8) _)
     (leads-done c _ _ _ _ m refl (omega arith))))
 
-alike-flagged : (b : Bool) (cs : List ComponentSplice) → alike b cs ≡ true → Flagged b cs
+alike-flagged : (b : Bool) (cs : List InsertComponent) → alike b cs ≡ true → Flagged b cs
 alike-flagged b [] e = tt
 alike-flagged true (c ∷ cs) e = let a = and-true (immediate (c .«splice_time»)) _ e in (a .0, alike-flagged true cs (a .1))
 alike-flagged false (c ∷ cs) e = let a = and-true (not (immediate (c .«splice_time»))) _ e in (clear (immediate (c .«splice_time»)) (a .0), alike-flagged false cs (a .1))
@@ -58,26 +58,26 @@ alike-flagged false (c ∷ cs) e = let a = and-true (not (immediate (c .«splice
     clear true e = zero-one cc
     clear false e = refl
 
-list-leads : (b : Bool) (cs : List ComponentSplice) → Flagged b cs → (at m : ℕ) → Leads (list (length cs) blank (component b)) cs cs at (at + total componentBytes cs * 8) m
+list-leads : (b : Bool) (cs : List InsertComponent) → Flagged b cs → (at m : ℕ) → Leads (list (length cs) blank (component b)) cs cs at (at + total componentBytes cs * 8) m
 list-leads b cs h at m = rw (all cs) at (leads-list blank (component b) (λ c. componentBytes c * 8) cs (each cs h) at m)
   where
-    each : (cs : List ComponentSplice) → Flagged b cs → Each (λ c. (at m : ℕ) → Leads (component b) c c at (at + componentBytes c * 8) m) cs
+    each : (cs : List InsertComponent) → Flagged b cs → Each (λ c. (at m : ℕ) → Leads (component b) c c at (at + componentBytes c * 8) m) cs
     each [] h = tt
     each (c ∷ cs) h = (component-leads b c (h .0), each cs (h .1))
 
-    all : (cs : List ComponentSplice) → total (λ (c : ComponentSplice). componentBytes c * 8) cs ≡ total componentBytes cs * 8
+    all : (cs : List InsertComponent) → total (λ (c : InsertComponent). componentBytes c * 8) cs ≡ total componentBytes cs * 8
     all [] = refl
     all (c ∷ cs) = let z = all cs in omega arith
 
-components-lead : (b : Bool) (cs : List ComponentSplice) (at m : ℕ) → Flagged b cs → pick b (ltb 0 (length cs)) true ≡ true
+components-lead : (b : Bool) (cs : List InsertComponent) (at m : ℕ) → Flagged b cs → pick b (ltb 0 (length cs)) true ≡ true
     → (let x : WithComponents SpliceMode = record { value = SpliceMode.Components (length cs); components = cs } in
     Leads (moded false b) x x at (at + (1 + total componentBytes cs) * 8) m)
 unfolding moded
 components-lead b cs at m h e =
     let x : WithComponents SpliceMode = record { value = SpliceMode.Components (length cs); components = cs } in
-    let all : Table (List ComponentSplice) = list (length cs) blank (component b) in
-    let k : List ComponentSplice → Table (WithComponents SpliceMode) = λ ys. done (record { value = SpliceMode.Components (length cs); components = ys }) in
-    let q : WithComponents SpliceMode → List ComponentSplice = λ y. y .components in
+    let all : Table (List InsertComponent) = list (length cs) blank (component b) in
+    let k : List InsertComponent → Table (WithComponents SpliceMode) = λ ys. done (record { value = SpliceMode.Components (length cs); components = ys }) in
+    let q : WithComponents SpliceMode → List InsertComponent = λ y. y .components in
     let a = at + (1 + total componentBytes cs) * 8 in
     let z = at + 8 + total componentBytes cs * 8 in
     let f : z ≡ a = omega arith in
@@ -90,7 +90,7 @@ either true = refl
 either false = refl
 
 -- ---- the mode
-pub moded-leads : (k : SpliceMode) (cs : List ComponentSplice) (at m : ℕ) → length cs ≡ count k → unmixed cs ≡ true
+pub moded-leads : (k : SpliceMode) (cs : List InsertComponent) (at m : ℕ) → length cs ≡ count k → unmixed cs ≡ true
     → (let x : WithComponents SpliceMode = record { value = k; components = cs } in
     Leads (moded (byProgram k) (allImmediate x)) x x at (at + modeBytes k cs * 8) m)
 unfolding moded

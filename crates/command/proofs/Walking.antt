@@ -26,7 +26,7 @@ use Rattle.table.proofs.Steps.{takes-in, lacks-in, takes-number, lacks-number, 
 use Rattle.command.specs.Insert.{WithComponents, timeUnless, component, blank, moded, breakDuration, ending, active, activeOf, insert, modeOf}
 use Rattle.command.specs.Private.{componentRead, skimmedOf, breakRead, modedRead, activeRead, insertRead}
 use Rattle.command.specs.declared.components.ComponentRead.{ComponentRead}
-use Rattle.command.specs.declared.components.ComponentSplice.{ComponentSplice}
+use Rattle.command.specs.declared.components.InsertComponent.{InsertComponent}
 use Rattle.command.specs.declared.components.Component.{Component}
 use Rattle.command.specs.declared.components.Skimmed.{Skimmed}
 use Rattle.command.specs.declared.insert.ActiveRead.{ActiveRead}
@@ -40,7 +40,7 @@ use Rattle.command.specs.declared.insert.ModedRead.{ModedRead}
 use Rattle.command.specs.declared.insert.SpliceDetail.{SpliceDetail}
 use Rattle.command.specs.declared.insert.SpliceMode.{SpliceMode}
 use Rattle.command.proofs.Answers.{component-got, component-lacks, got-component, lacks-component, skim-got, skim-lacks, got-skim, lacks-skim, break-got, break-lacks, got-break, lacks-break, mode-got, mode-lacks, Modes, got-mode, lacks-mode, active-got, active-lacks, got-active, lacks-active, insert-got, insert-lacks}
-use Rattle.command.proofs.Wholes.{whole-time-unless, whole-component, whole-list, whole-mode, whole-break}
+use Rattle.command.proofs.Alignments.{aligned-time-unless, aligned-component, aligned-list, aligned-mode, aligned-break}
 
 -- a byte's first bit is where a byte begins
 begins : (i : ℕ) → i * 8 % 8 ≡ 0
@@ -70,7 +70,7 @@ timed : (s : List ℕ) (b : Bool) (i : ℕ) (t : Timed) → TimeRead.Got t ≡ t
 unfolding cursorAt
 timed s b i t e =
     let g = timed-got (parse (timeUnless b) (bitsOf s) (i * 8)) t e in
-    let w : place (t .next) % 8 ≡ 0 = whole-time-unless s b (i * 8) (begins i) _ _ (g .0) in
+    let w : place (t .next) % 8 ≡ 0 = aligned-time-unless s b (i * 8) (begins i) _ _ (g .0) in
     let d : place (t .next) / 8 ≡ t .next .byte = ap (λ (c : Cursor). c .byte) (g .1) in
     let z : place (t .next) ≡ t .next .byte * 8 = omega (arith, w, d) in
     g .0 ∙ ap (got (t .time)) z
@@ -98,7 +98,7 @@ module _ (s : List ℕ) (i : ℕ) (b : Bool) where
         ∙ takes-in (timeUnless b) _ _ (bitsOf s) _ _ _ (rw next-byte at (timed s b (i + 1) t e)))
 
 -- ---- components
-skim-on : (bs : List ℕ) (y : ComponentSplice) (r : Answer (List ComponentSplice)) → skimmedOf (onward bs (λ ys. done (y ∷ ys)) r) ≡ skimmedOf r
+skim-on : (bs : List ℕ) (y : InsertComponent) (r : Answer (List InsertComponent)) → skimmedOf (onward bs (λ ys. done (y ∷ ys)) r) ≡ skimmedOf r
 unfolding skimmedOf
 skim-on bs y (got ys m) = refl
 skim-on bs y (short e a) = refl
@@ -106,7 +106,7 @@ skim-on bs y (short e a) = refl
 module _ (s : List ℕ) (b : Bool) where
   -- a component that was read, and the byte after it
   pub component-there : (i : ℕ) (y : Component) → ComponentRead.Got y ≡ componentRead (parse (component b) (bitsOf s) (i * 8)) → parse (component b) (bitsOf s) (i * 8) ≡ got (y .component) (y .next * 8)
-  component-there i y e = got-component _ y (whole-component s b (i * 8) (begins i)) e
+  component-there i y e = got-component _ y (aligned-component s b (i * 8) (begins i)) e
 
   -- what is left gives what the whole gives
   pub turn : (n i : ℕ) (y : Component) → ComponentRead.Got y ≡ componentRead (parse (component b) (bitsOf s) (i * 8))
@@ -151,7 +151,7 @@ module _ (s : List ℕ) (i : ℕ) (b : Bool) where
         → ModedRead.Got (record { mode = SpliceMode.Components (getD s i 0); next = n }) ≡ modedRead (parse (moded false b) (bitsOf s) (i * 8))
     unfolding moded
     by-components n e =
-        let g = got-skim (parse (list (getD s i 0) blank (component b)) (bitsOf s) ((i + 1) * 8)) n (whole-list s b (getD s i 0) ((i + 1) * 8) (begins (i + 1))) e in
+        let g = got-skim (parse (list (getD s i 0) blank (component b)) (bitsOf s) ((i + 1) * 8)) n (aligned-list s b (getD s i 0) ((i + 1) * 8) (begins (i + 1))) e in
         mode-got _ _ (g .list) n (takes-number s (i * 8) 8 (getD s i 0) _ _ (omega arith) (sym (byte-field s i there byte))
         ∙ takes-in (list (getD s i 0) blank (component b)) _ _ (bitsOf s) _ _ _ (ap (λ (p : ℕ). parse (list (getD s i 0) blank (component b)) (bitsOf s) p) (sym (next-byte i)) ∙ g .is))
 
@@ -185,7 +185,7 @@ module _ (s : List ℕ) (i : ℕ) where
 -- one that was read, and the byte after it
 module _ (s : List ℕ) (i : ℕ) (room : i ≤ length s) (b : Bool) (d : Broken) (ed : BreakRead.Got d ≡ breakRead (parse (breakDuration b) (bitsOf s) (i * 8))) where
   break-there : parse (breakDuration b) (bitsOf s) (i * 8) ≡ got (d .duration) (d .next * 8)
-  break-there = got-break _ d (whole-break s b (i * 8) (begins i)) ed
+  break-there = got-break _ d (aligned-break s b (i * 8) (begins i)) ed
 
   pub break-within : d .next ≤ length s
   break-within =
@@ -279,7 +279,7 @@ module _ (s : List ℕ) (i : ℕ) where
 
     module _ (m : Moded) (em : ModedRead.Got m ≡ modedRead (parse (moded (eqb (f / 64 % 2) 1) (eqb (f / 16 % 2) 1)) (bitsOf s) ((i + 1) * 8))) where
       mode-there : Modes (parse (moded (eqb (f / 64 % 2) 1) (eqb (f / 16 % 2) 1)) (bitsOf s) ((i + 1) * 8)) m
-      mode-there = got-mode _ m (whole-mode s (eqb (f / 64 % 2) 1) (eqb (f / 16 % 2) 1) ((i + 1) * 8) (begins (i + 1))) em
+      mode-there = got-mode _ m (aligned-mode s (eqb (f / 64 % 2) 1) (eqb (f / 16 % 2) 1) ((i + 1) * 8) (begins (i + 1))) em
 
       pub mode-within : m .next ≤ length s
       mode-within =
@@ -287,7 +287,7 @@ module _ (s : List ℕ) (i : ℕ) where
           omega (arith, h, length-bits s)
 
       pub an-active : (r : ActiveRead)
-          → ((cs : List ComponentSplice) → r ≡ activeRead (parse (ending (eqb (f / 128) 1) (record { value = m .mode; components = cs }) (eqb (f / 32 % 2) 1)) (bitsOf s) (m .next * 8)))
+          → ((cs : List InsertComponent) → r ≡ activeRead (parse (ending (eqb (f / 128) 1) (record { value = m .mode; components = cs }) (eqb (f / 32 % 2) 1)) (bitsOf s) (m .next * 8)))
           → r ≡ activeRead (parse active (bitsOf s) (i * 8))
       an-active r er =
           er (mode-there .list) ∙ ap activeRead (sym (flags ∙ takes-in (moded (eqb (f / 64 % 2) 1) (eqb (f / 16 % 2) 1)) modeOf _ (bitsOf s) _ _ _ (mode-there .is)))

@@ -13,7 +13,7 @@ use Rattle.command.specs.Insert.{WithComponents, insert, insertOf, count
 use Rattle.command.specs.declared.CommandRead.{CommandRead}
 use Rattle.command.specs.declared.Private.{Private}
 use Rattle.command.specs.declared.SpliceCommand.{SpliceCommand}
-use Rattle.command.specs.declared.components.ComponentSplice.{ComponentSplice}
+use Rattle.command.specs.declared.components.InsertComponent.{InsertComponent}
 use Rattle.command.specs.declared.components.ListedCommand.{ListedCommand}
 use Rattle.command.specs.declared.insert.SpliceInsert.{SpliceInsert}
 use Rattle.command.specs.declared.insert.SpliceDetail.{SpliceDetail}
@@ -93,19 +93,19 @@ abbrev pub withView : (View → View) → SpliceCommand → SpliceCommand
 withView f c = ofPrivate (λ p. SpliceCommand.PrivateCommand (record { identifier = p .identifier; «private_bytes» = f (p .«private_bytes») })) c c
 
 -- ---- "arrays with a count, 255 components, blank .. past it"
-unfoldable pub array : List ComponentSplice → List ComponentSplice
+unfoldable pub array : List InsertComponent → List InsertComponent
 array cs = filledTo 255 blank cs
 
 -- each tag is a byte
-abbrev pub Tags : List ComponentSplice → Type 0
+abbrev pub Tags : List InsertComponent → Type 0
 Tags cs = AllBytes (map (λ c. c .«component_tag») cs)
 
 -- the components of an insert's payload, none where it is malformed
-abbrev pub componentsIn : Answer (WithComponents SpliceInsert) → List ComponentSplice
+abbrev pub componentsIn : Answer (WithComponents SpliceInsert) → List InsertComponent
 componentsIn (got x at) = x .components
 componentsIn (short expected actual) = []
 
-unfoldable pub componentsOf : List ℕ → List ComponentSplice
+unfoldable pub componentsOf : List ℕ → List InsertComponent
 componentsOf payload = array (componentsIn (parse insert (bitsOf payload) 0))
 
 -- an insert's payload as it is read, or its refusal, and the components beside it

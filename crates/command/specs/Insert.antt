@@ -13,7 +13,7 @@ use Rattle.names.specs.declared.flags.NetworkIndicator.{NetworkIndicator}
 use Rattle.names.specs.declared.flags.ReturnMode.{ReturnMode}
 use Rattle.table.specs.Bits.{pick}
 use Rattle.table.specs.Table.{Table, done, must, inside, uimsbf, flag, ones, list}
-use Rattle.command.specs.declared.components.ComponentSplice.{ComponentSplice}
+use Rattle.command.specs.declared.components.InsertComponent.{InsertComponent}
 use Rattle.command.specs.declared.insert.Break.{Break}
 use Rattle.command.specs.declared.insert.InsertDetail.{InsertDetail}
 use Rattle.command.specs.declared.insert.SpliceInsert.{SpliceInsert}
@@ -23,7 +23,7 @@ use Rattle.command.specs.declared.insert.SpliceMode.{SpliceMode}
 -- a reading whose components stand beside it, as many as its mode says
 pub record WithComponents (X : Type 0) : Type 0 where
   pub value : X
-  pub components : List ComponentSplice
+  pub components : List InsertComponent
 
 -- ---- splice times of an insert
 
@@ -32,14 +32,14 @@ unfoldable pub timeUnless : Bool → Table SpliceTime
 timeUnless immediate-flag = pick immediate-flag (done Immediate) spliceTime
 
 -- "each tag 8 and the same"
-unfoldable pub component : Bool → Table ComponentSplice
+unfoldable pub component : Bool → Table InsertComponent
 component immediate-flag =
     uimsbf 8 (λ c. c .«component_tag») λ component-tag.
     inside (timeUnless immediate-flag) (λ c. c .«splice_time») λ splice-time.
     done (record { «component_tag» = component-tag; «splice_time» = splice-time })
 
 -- "blank (all zero, time unspecified)"
-abbrev pub blank : ComponentSplice
+abbrev pub blank : InsertComponent
 blank = record { «component_tag» = 0; «splice_time» = Unspecified }
 
 -- ---- "Program: a splice_time unless immediate. Else count 8, each tag 8 and the same."

@@ -7,7 +7,7 @@ use lib.Seq.{sets}
 use Rattle.command.specs.Command.{array, countIn}
 use Rattle.command.specs.Insert.{WithComponents}
 use Rattle.command.specs.declared.CommandRead.{CommandRead}
-use Rattle.command.specs.declared.components.ComponentSplice.{ComponentSplice}
+use Rattle.command.specs.declared.components.InsertComponent.{InsertComponent}
 use Rattle.command.specs.declared.components.ComponentRead.{ComponentRead}
 use Rattle.command.specs.declared.components.Skimmed.{Skimmed}
 use Rattle.command.specs.declared.insert.ActiveRead.{ActiveRead}
@@ -19,11 +19,11 @@ use Rattle.command.specs.declared.insert.InsertRead.{InsertRead}
 use Rattle.command.specs.declared.insert.ModedRead.{ModedRead}
 use Rattle.command.specs.declared.insert.SpliceMode.{SpliceMode}
 
-unfoldable pub componentRead : Answer ComponentSplice → ComponentRead
+unfoldable pub componentRead : Answer InsertComponent → ComponentRead
 componentRead (got c at) = ComponentRead.Got (record { component = c; next = at / 8 })
 componentRead (short expected actual) = ComponentRead.Lacks (record { expected = expected; actual = actual })
 
-unfoldable pub skimmedOf : Answer (List ComponentSplice) → Skimmed
+unfoldable pub skimmedOf : Answer (List InsertComponent) → Skimmed
 skimmedOf (got cs at) = Skimmed.Got (at / 8)
 skimmedOf (short expected actual) = Skimmed.Lacks (record { expected = expected; actual = actual })
 
@@ -44,12 +44,12 @@ insertRead (got i at) = InsertRead.Got (i .value)
 insertRead (short expected actual) = InsertRead.Lacks (record { expected = expected; actual = actual })
 
 -- the list that was read, none where it was not
-abbrev pub listIn : Answer (List ComponentSplice) → List ComponentSplice
+abbrev pub listIn : Answer (List InsertComponent) → List InsertComponent
 listIn (got cs at) = cs
 listIn (short expected actual) = []
 
 -- components stored in an array from place i on; blank all of it where they are not read
-unfoldable pub filled : List ComponentSplice → ℕ → Answer (List ComponentSplice) → List ComponentSplice
+unfoldable pub filled : List InsertComponent → ℕ → Answer (List InsertComponent) → List InsertComponent
 filled places i (got cs at) = sets places i cs
 filled places i (short expected actual) = array []
 

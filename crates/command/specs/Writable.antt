@@ -6,16 +6,16 @@ use lib.Dec.{eqb}
 use lib.ListN.{getD}
 use Rattle.table.specs.Bits.{pick}
 use Rattle.command.specs.Insert.{WithComponents, immediate, blank}
-use Rattle.command.specs.declared.components.ComponentSplice.{ComponentSplice}
+use Rattle.command.specs.declared.components.InsertComponent.{InsertComponent}
 use Rattle.command.specs.declared.insert.SpliceInsert.{SpliceInsert}
 
 -- are all immediate, or all timed?
-abbrev pub alike : Bool → List ComponentSplice → Bool
+abbrev pub alike : Bool → List InsertComponent → Bool
 alike b [] = true
 alike b (c ∷ cs) = pick b (immediate (c .«splice_time»)) (not (immediate (c .«splice_time»))) && alike b cs
 
 -- as the first is
-abbrev pub unmixed : List ComponentSplice → Bool
+abbrev pub unmixed : List InsertComponent → Bool
 unmixed cs = alike (immediate (getD cs 0 blank .«splice_time»)) cs
 
 unfoldable pub writableInsert : WithComponents SpliceInsert → Bool

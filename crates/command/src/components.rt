@@ -22,7 +22,7 @@ use table::numbers::bits;
 // An insert has at most so many components.
 pub const MAX_COMPONENTS: usize = 255;
 
-pub struct ComponentSplice {
+pub struct InsertComponent {
     pub component_tag: u8,
     pub splice_time: SpliceTime,
 }
@@ -30,12 +30,12 @@ pub struct ComponentSplice {
 // A command as it was read, or its refusal, and its components: blank past their count.
 pub struct ListedCommand {
     pub read: CommandRead,
-    pub components: [ComponentSplice; MAX_COMPONENTS],
+    pub components: [InsertComponent; MAX_COMPONENTS],
 }
 
 // A component and the place of the byte after it.
 pub struct Component {
-    pub component: ComponentSplice,
+    pub component: InsertComponent,
     pub next: usize,
 }
 
@@ -65,7 +65,7 @@ pub(crate) fn read_component(s: &[u8], at: usize, immediate: bool) -> ComponentR
             let splice_time = t.time;
             let next = t.next;
             ComponentRead::Got(Component {
-                component: ComponentSplice {
+                component: InsertComponent {
                     component_tag,
                     splice_time,
                 },
@@ -95,17 +95,17 @@ pub(crate) fn skim(s: &[u8], first: usize, count: usize, immediate: bool) -> Ski
 }
 
 // No components: every place blank.
-pub fn blanks() -> [ComponentSplice; MAX_COMPONENTS]
+pub fn blanks() -> [InsertComponent; MAX_COMPONENTS]
     ensures { λ r. ⌜ r ≡ array [] ⌝ }
 {
-    [ComponentSplice {
+    [InsertComponent {
         component_tag: 0,
         splice_time: SpliceTime::Unspecified,
     }; MAX_COMPONENTS]
 }
 
 // `count` components in their array, blank past them.
-fn fill(s: &[u8], first: usize, count: usize, immediate: bool) -> [ComponentSplice; MAX_COMPONENTS]
+fn fill(s: &[u8], first: usize, count: usize, immediate: bool) -> [InsertComponent; MAX_COMPONENTS]
     requires { ⌜ count ≤ 255 ⌝ }
     ensures { λ r. ⌜ r ≡ array (listIn (parse (list count blank (component immediate)) (bitsOf (now (s .entry))) (first * 8))) ⌝ }
 {
@@ -155,7 +155,7 @@ fn count_of(read: CommandRead) -> u8
 }
 
 // The components of an insert's payload, blank past their count; none where the payload is malformed.
-fn list_components(payload: &[u8]) -> [ComponentSplice; MAX_COMPONENTS]
+fn list_components(payload: &[u8]) -> [InsertComponent; MAX_COMPONENTS]
     ensures { λ r. ⌜ r ≡ componentsOf (now (payload .entry)) ⌝ }
 {
     let count = count_of(read_other(5, payload));

@@ -7,7 +7,7 @@ ghost use lib.ListN.{length};
 ghost use Rattle.command.specs.Insert.{timeUnless, breakDuration, moded, ending, active, insert};
 ghost use Rattle.command.specs.Private.{breakRead, modedRead, activeRead, insertRead};
 ghost use Rattle.splice_time.specs.Time.{timeRead};
-ghost use Rattle.command.specs.declared.components.ComponentSplice.{ComponentSplice};
+ghost use Rattle.command.specs.declared.components.InsertComponent.{InsertComponent};
 ghost use Rattle.names.specs.declared.flags.NetworkIndicator.{NetworkIndicator};
 ghost use Rattle.names.specs.declared.flags.ReturnMode.{ReturnMode};
 ghost use Rattle.table.specs.Bits.{pick, bitsOf};
@@ -19,7 +19,7 @@ use names::flags::ReturnMode;
 use splice_time::SpliceTime;
 use splice_time::TimeRead;
 use splice_time::Timed;
-use splice_time::read_whole_time;
+use splice_time::read_aligned_time;
 use table::cursor::Cursor;
 use table::cursor::Short;
 use table::numbers::big_endian;
@@ -112,8 +112,8 @@ fn returning(automatic: bool) -> ReturnMode
 }
 
 // A splice_time() unless the splice is immediate, from a byte on.
-pub(crate) fn read_time_unless(s: &[u8], at: usize, immediate: bool) -> TimeRead
-    ensures { λ r. ⌜ r ≡ timeRead (parse (timeUnless immediate) (bitsOf (now (s .entry))) (at * 8)) ⌝ }
+pub(crate) fn read_time_unless(payload: &[u8], at: usize, immediate: bool) -> TimeRead
+    ensures { λ r. ⌜ r ≡ timeRead (parse (timeUnless immediate) (bitsOf (now (payload .entry))) (at * 8)) ⌝ }
 {
     if immediate {
         return TimeRead::Got(Timed {
@@ -121,14 +121,14 @@ pub(crate) fn read_time_unless(s: &[u8], at: usize, immediate: bool) -> TimeRead
             next: Cursor { byte: at, bit: 0 },
         });
     }
-    read_whole_time(s, at)
+    read_aligned_time(payload, at)
 }
 
-fn read_mode(s: &[u8], at: usize, program: bool, immediate: bool) -> ModedRead
-    ensures { λ r. ⌜ r ≡ modedRead (parse (moded program immediate) (bitsOf (now (s .entry))) (at * 8)) ⌝ }
+fn read_mode(payload: &[u8], at: usize, program: bool, immediate: bool) -> ModedRead
+    ensures { λ r. ⌜ r ≡ modedRead (parse (moded program immediate) (bitsOf (now (payload .entry))) (at * 8)) ⌝ }
 {
     if program {
-        return match read_time_unless(s, at, immediate) {
+        return match read_time_unless(payload, at, immediate) {
             TimeRead::Got(t) => {
                 let time = t.time;
                 let next = t.next;
@@ -140,14 +140,14 @@ fn read_mode(s: &[u8], at: usize, program: bool, immediate: bool) -> ModedRead
             TimeRead::Lacks(e) => ModedRead::Lacks(e),
         };
     }
-    if s.len() <= at {
+    if payload.len() <= at {
         return ModedRead::Lacks(Short {
             expected: 1,
             actual: 0,
         });
     }
-    let count = s[at];
-    match skim(s, at + 1, count as usize, immediate) {
+    let count = payload[at];
+    match skim(payload, at + 1, count as usize, immediate) {
         Skimmed::Got(next) => ModedRead::Got(Moded {
             mode: SpliceMode::Components(count),
             next,
@@ -156,38 +156,38 @@ fn read_mode(s: &[u8], at: usize, program: bool, immediate: bool) -> ModedRead
     }
 }
 
-fn read_lasting(s: &[u8], at: usize) -> BreakRead
-    ensures { λ r. ⌜ r ≡ breakRead (parse (breakDuration true) (bitsOf (now (s .entry))) (at * 8)) ⌝ }
+fn read_lasting(payload: &[u8], at: usize) -> BreakRead
+    ensures { λ r. ⌜ r ≡ breakRead (parse (breakDuration true) (bitsOf (now (payload .entry))) (at * 8)) ⌝ }
 {
-    if s.len() <= at {
+    if payload.len() <= at {
         return BreakRead::Lacks(Short {
             expected: 0,
             actual: 0,
         });
     }
-    let left = s.len() - at;
+    let left = payload.len() - at;
     if left < 5 {
         return BreakRead::Lacks(Short {
             expected: 4,
             actual: left - 1,
         });
     }
-    let first = wide(s[at]);
+    let first = wide(payload[at]);
     BreakRead::Got(Broken {
         duration: Break::Lasts(SpliceDuration {
             return_mode: returning(first / 128 == 1),
-            duration: time33(s, at),
+            duration: time33(payload, at),
         }),
         next: at + 5,
     })
 }
 
 // A break_duration() if it is flagged.
-fn read_break(s: &[u8], at: usize, flagged: bool) -> BreakRead
-    ensures { λ r. ⌜ r ≡ breakRead (parse (breakDuration flagged) (bitsOf (now (s .entry))) (at * 8)) ⌝ }
+fn read_break(payload: &[u8], at: usize, flagged: bool) -> BreakRead
+    ensures { λ r. ⌜ r ≡ breakRead (parse (breakDuration flagged) (bitsOf (now (payload .entry))) (at * 8)) ⌝ }
 {
     if flagged {
-        return read_lasting(s, at);
+        return read_lasting(payload, at);
     }
     BreakRead::Got(Broken {
         duration: Break::Absent,
@@ -196,17 +196,17 @@ fn read_break(s: &[u8], at: usize, flagged: bool) -> BreakRead
 }
 
 // From the duration on. The answer is the same whichever components stand beside the mode.
-fn read_ending(s: &[u8], at: usize, out: bool, mode: SpliceMode, flagged: bool) -> ActiveRead
-    requires { ⌜ at ≤ length (now s) ⌝ }
-    ensures { λ r. ⌜ ((cs : List ComponentSplice) → r ≡ activeRead (parse (ending out (record { value = mode; components = cs }) flagged) (bitsOf (now (s .entry))) (at * 8))) ⌝ }
+fn read_ending(payload: &[u8], at: usize, out: bool, mode: SpliceMode, flagged: bool) -> ActiveRead
+    requires { ⌜ at ≤ length (now payload) ⌝ }
+    ensures { λ r. ⌜ ((cs : List InsertComponent) → r ≡ activeRead (parse (ending out (record { value = mode; components = cs }) flagged) (bitsOf (now (payload .entry))) (at * 8))) ⌝ }
 {
-    let broken = match read_break(s, at, flagged) {
+    let broken = match read_break(payload, at, flagged) {
         BreakRead::Got(b) => b,
         BreakRead::Lacks(e) => return ActiveRead::Lacks(e),
     };
     let duration = broken.duration;
     let at = broken.next;
-    let left = s.len() - at;
+    let left = payload.len() - at;
     if left < 2 {
         return ActiveRead::Lacks(Short {
             expected: 2,
@@ -223,52 +223,52 @@ fn read_ending(s: &[u8], at: usize, out: bool, mode: SpliceMode, flagged: bool) 
         network_indicator: indicator(out),
         splice_mode: mode,
         duration,
-        unique_program_id: big_endian(s, at, 2) as u16,
-        avail_num: s[at + 2],
-        avails_expected: s[at + 3],
+        unique_program_id: big_endian(payload, at, 2) as u16,
+        avail_num: payload[at + 2],
+        avails_expected: payload[at + 3],
     })
 }
 
 // What is not cancelled, from a byte on.
-fn read_active(s: &[u8], at: usize) -> ActiveRead
-    ensures { λ r. ⌜ r ≡ activeRead (parse active (bitsOf (now (s .entry))) (at * 8)) ⌝ }
+fn read_active(payload: &[u8], at: usize) -> ActiveRead
+    ensures { λ r. ⌜ r ≡ activeRead (parse active (bitsOf (now (payload .entry))) (at * 8)) ⌝ }
 {
-    if s.len() <= at {
+    if payload.len() <= at {
         return ActiveRead::Lacks(Short {
             expected: 0,
             actual: 0,
         });
     }
-    let flags = wide(s[at]);
+    let flags = wide(payload[at]);
     let program = flags / 64 % 2 == 1;
     let immediate = flags / 16 % 2 == 1;
-    let moded = match read_mode(s, at + 1, program, immediate) {
+    let moded = match read_mode(payload, at + 1, program, immediate) {
         ModedRead::Got(m) => m,
         ModedRead::Lacks(e) => return ActiveRead::Lacks(e),
     };
     let mode = moded.mode;
     let next = moded.next;
-    read_ending(s, next, flags / 128 == 1, mode, flags / 32 % 2 == 1)
+    read_ending(payload, next, flags / 128 == 1, mode, flags / 32 % 2 == 1)
 }
 
 // The insert of a payload.
-pub fn read_insert(s: &[u8]) -> InsertRead
-    ensures { λ r. ⌜ r ≡ insertRead (parse insert (bitsOf (now (s .entry))) 0) ⌝ }
+pub fn read_insert(payload: &[u8]) -> InsertRead
+    ensures { λ r. ⌜ r ≡ insertRead (parse insert (bitsOf (now (payload .entry))) 0) ⌝ }
 {
-    if s.len() < 4 {
+    if payload.len() < 4 {
         return InsertRead::Lacks(Short {
             expected: 4,
-            actual: s.len(),
+            actual: payload.len(),
         });
     }
-    if s.len() < 5 {
+    if payload.len() < 5 {
         return InsertRead::Lacks(Short {
             expected: 0,
             actual: 0,
         });
     }
-    let splice_event_id = big_endian(s, 0, 4) as u32;
-    let flags = s[4];
+    let splice_event_id = big_endian(payload, 0, 4) as u32;
+    let flags = payload[4];
     let reserved = flags % 128;
     if 128 <= flags {
         return InsertRead::Got(SpliceInsert {
@@ -277,7 +277,7 @@ pub fn read_insert(s: &[u8]) -> InsertRead
             splice_detail: SpliceDetail::Cancel,
         });
     }
-    match read_active(s, 5) {
+    match read_active(payload, 5) {
         ActiveRead::Got(i) => InsertRead::Got(SpliceInsert {
             splice_event_id,
             reserved,

@@ -12,7 +12,7 @@ use crate::insert::SpliceInsert;
 use crate::insert::read_insert;
 use splice_time::SpliceTime;
 use splice_time::TimeRead;
-use splice_time::read_whole_time;
+use splice_time::read_aligned_time;
 use table::View;
 use table::numbers::big_endian;
 
@@ -39,19 +39,19 @@ pub enum CommandRead {
     Malformed,
 }
 
-fn read_empty(s: &[u8], command: SpliceCommand) -> CommandRead
-    ensures { λ r. ⌜ r ≡ empty command (now (s .entry)) ⌝ }
+fn read_empty(payload: &[u8], command: SpliceCommand) -> CommandRead
+    ensures { λ r. ⌜ r ≡ empty command (now (payload .entry)) ⌝ }
 {
-    if s.len() == 0 {
+    if payload.len() == 0 {
         return CommandRead::Is(command);
     }
     CommandRead::Malformed
 }
 
-fn read_time_signal(s: &[u8]) -> CommandRead
-    ensures { λ r. ⌜ r ≡ read SpliceCommand.TimeSignal (parse spliceTime (bitsOf (now (s .entry))) 0) ⌝ }
+fn read_time_signal(payload: &[u8]) -> CommandRead
+    ensures { λ r. ⌜ r ≡ read SpliceCommand.TimeSignal (parse spliceTime (bitsOf (now (payload .entry))) 0) ⌝ }
 {
-    match read_whole_time(s, 0) {
+    match read_aligned_time(payload, 0) {
         TimeRead::Got(t) => {
             let time = t.time;
             CommandRead::Is(SpliceCommand::TimeSignal(time))
@@ -60,26 +60,26 @@ fn read_time_signal(s: &[u8]) -> CommandRead
     }
 }
 
-fn read_private(s: &[u8]) -> CommandRead
-    ensures { λ r. ⌜ r ≡ read SpliceCommand.PrivateCommand (parse private (bitsOf (now (s .entry))) 0) ⌝ }
+fn read_private(payload: &[u8]) -> CommandRead
+    ensures { λ r. ⌜ r ≡ read SpliceCommand.PrivateCommand (parse private (bitsOf (now (payload .entry))) 0) ⌝ }
 {
-    if s.len() < 4 {
+    if payload.len() < 4 {
         return CommandRead::Malformed;
     }
-    let identifier = big_endian(s, 0, 4) as u32;
+    let identifier = big_endian(payload, 0, 4) as u32;
     CommandRead::Is(SpliceCommand::PrivateCommand(Private {
         identifier,
         private_bytes: View {
             at: 4,
-            len: s.len() - 4,
+            len: payload.len() - 4,
         },
     }))
 }
 
-fn read_splice_insert(s: &[u8]) -> CommandRead
-    ensures { λ r. ⌜ r ≡ read (λ x. SpliceCommand.SpliceInsert (x .value)) (parse insert (bitsOf (now (s .entry))) 0) ⌝ }
+fn read_splice_insert(payload: &[u8]) -> CommandRead
+    ensures { λ r. ⌜ r ≡ read (λ x. SpliceCommand.SpliceInsert (x .value)) (parse insert (bitsOf (now (payload .entry))) 0) ⌝ }
 {
-    match read_insert(s) {
+    match read_insert(payload) {
         InsertRead::Got(i) => return CommandRead::Is(SpliceCommand::SpliceInsert(i)),
         InsertRead::Lacks(_) => return CommandRead::Malformed,
     }
@@ -99,7 +99,7 @@ pub(crate) fn read_other(command_type: u8, payload: &[u8]) -> CommandRead
     }
 }
 
-// The same, with an answer of its own: one that `read_other` is handed stays in memory as a whole, and `read_command`'s is taken apart.
+// What `read_other` reads, with an answer of its own: one that it is handed stays in memory as a whole, and `read_command`'s is taken apart.
 fn read_apart(command_type: u8, payload: &[u8]) -> CommandRead
     requires { ⌜ Apart «command_type» ⌝ }
     ensures { λ r. ⌜ r ≡ commandOf «command_type» (now (payload .entry)) ⌝ }

@@ -8,7 +8,7 @@ use lib.Dec.{ltb, eqb}
 use lib.ListN.{length, getD}
 use borrow.Author.Tests.{ne-eqb, lt-ltb, not-true, not-false}
 use Rattle.command.specs.Insert.{WithComponents, timeUnless, component, blank, moded, breakDuration, ending, active, insert, modeOf, activeOf, autoReturn, breakTicks}
-use Rattle.command.specs.declared.components.ComponentSplice.{ComponentSplice}
+use Rattle.command.specs.declared.components.InsertComponent.{InsertComponent}
 use Rattle.command.specs.declared.insert.Break.{Break}
 use Rattle.command.specs.declared.insert.InsertDetail.{InsertDetail}
 use Rattle.command.specs.declared.insert.SpliceMode.{SpliceMode}
@@ -108,7 +108,7 @@ module _ (s : List ℕ) (i : ℕ) (p b : Bool) where
       asked true h = lt-ltb 0 (getD s i 0) h
       asked false h = refl
 
-      abbrev listed : Table (List ComponentSplice)
+      abbrev listed : Table (List InsertComponent)
       listed = list (getD s i 0) blank (component b)
 
       pub by-components : (r : Form) → 0 < getD s i 0 → Told listed s (i + 1) r → Told (moded p b) s i r

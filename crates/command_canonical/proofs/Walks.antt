@@ -14,7 +14,7 @@ use borrow.Author.Tests.{eq-eqb, ne-eqb, eqb-true, eqb-false}
 use Rattle.table.specs.Bits.{bitsOf, field}
 use Rattle.table.specs.Table.{Table, done, must, inside, number, bit, reserved, list, uimsbf, flag, ones, Answer, got, short, parse, canonical, takesAll, canonicalBy}
 use Rattle.table.proofs.Steps.{takes-number, takes-flag, takes-ones, reads-number, reads-flag, reads-ones, takes-in, reads-in, Reads, canonical-inside}
-use Rattle.command_canonical.specs.Private.{Stands, Fails, Told, whole}
+use Rattle.command_canonical.specs.Private.{Stands, Fails, Told, exact}
 use Rattle.command_canonical.specs.declared.Form.{Form}
 
 module _ {X : Type 0} (s : List ℕ) (at : ℕ) where
@@ -170,6 +170,6 @@ module _ {X : Type 0} (t : Table X) (s : List ℕ) where
       go (short a b) e = refl
 
   -- what a walk from the first byte on says of the whole
-  pub whole-is : (r : Form) → Told t s 0 r → whole r (length s) ≡ canonicalBy t s
-  whole-is (Form.Ends n) a = by-table n a
-  whole-is Form.Other f = not-by-table f
+  pub exact-is : (r : Form) → Told t s 0 r → exact r (length s) ≡ canonicalBy t s
+  exact-is (Form.Ends n) a = by-table n a
+  exact-is Form.Other f = not-by-table f

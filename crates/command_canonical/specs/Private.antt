@@ -24,6 +24,6 @@ Told t s at (Form.Ends end) = Stands t s (at * 8) (end * 8)
 Told t s at Form.Other = Fails t s (at * 8)
 
 -- are the fields all of n bytes?
-abbrev pub whole : Form → ℕ → Bool
-whole (Form.Ends end) n = eqb n end
-whole Form.Other n = false
+abbrev pub exact : Form → ℕ → Bool
+exact (Form.Ends end) n = eqb n end
+exact Form.Other n = false

@@ -2,7 +2,7 @@
 ghost use mathlib.Core.Path.{_≡_};
 ghost use lib.ListN.{length};
 ghost use Rattle.canonical_form.specs.Command.{canonicalCommand};
-ghost use Rattle.command_canonical.specs.Private.{Told, whole};
+ghost use Rattle.command_canonical.specs.Private.{Told, exact};
 ghost use Rattle.command.specs.Insert.{timeUnless, component, blank, moded, breakDuration, active, insert};
 ghost use Rattle.splice_time.specs.Time.{spliceTime};
 ghost use Rattle.table.specs.Table.{list, canonicalBy};
@@ -14,8 +14,8 @@ enum Form {
 }
 
 // Are the fields all of the payload, with no spare byte behind them?
-fn is_whole(s: &[u8], form: Form) -> bool
-    ensures { λ r. ⌜ r ≡ whole form (length (now (s .entry))) ⌝ }
+fn is_exact(s: &[u8], form: Form) -> bool
+    ensures { λ r. ⌜ r ≡ exact form (length (now (s .entry))) ⌝ }
 {
     match form {
         Form::Ends(end) => s.len() == end,
@@ -47,7 +47,7 @@ fn pass_time(s: &[u8], at: usize) -> Form
 fn is_canonical_time(s: &[u8]) -> bool
     ensures { λ r. ⌜ r ≡ canonicalBy spliceTime (now (s .entry)) ⌝ }
 {
-    is_whole(s, pass_time(s, 0))
+    is_exact(s, pass_time(s, 0))
 }
 
 // ---- splice_insert()
@@ -162,7 +162,7 @@ fn is_canonical_insert(s: &[u8]) -> bool
     if s[4] != 0x7F {
         return false;
     }
-    is_whole(s, pass_active(s))
+    is_exact(s, pass_active(s))
 }
 
 // ---- a command, by its type

@@ -18,7 +18,7 @@ use Rattle.command.specs.Insert as insert
 use Rattle.command.specs.Insert.{WithComponents, immediate, blank, byProgram, programTime, count, lasting, outOfNetwork, insertOf}
 use Rattle.command.specs.declared.Private.{Private}
 use Rattle.command.specs.declared.SpliceCommand.{SpliceCommand}
-use Rattle.command.specs.declared.components.ComponentSplice.{ComponentSplice}
+use Rattle.command.specs.declared.components.InsertComponent.{InsertComponent}
 use Rattle.command.specs.declared.insert.Break.{Break}
 use Rattle.command.specs.declared.insert.InsertDetail.{InsertDetail}
 use Rattle.command.specs.declared.insert.SpliceInsert.{SpliceInsert}
@@ -140,18 +140,18 @@ measured-time t =
     ∙ ap₂ (λ (a b : Bool). measured a b (timeBytes false t)) (within-time t) (timed-not t))
 
 -- ---- components
-plain-list : (b : Bool) (cs : List ComponentSplice) → Plain (listFields b cs)
+plain-list : (b : Bool) (cs : List InsertComponent) → Plain (listFields b cs)
 plain-list b [] = tt
 plain-list b (c ∷ cs) = plain-append (unlessFields b (c .«splice_time»)) (listFields b cs) (plain-unless b (c .«splice_time»)) (plain-list b cs)
 
-past-list : (b : Bool) (cs : List ComponentSplice) (at : ℕ) → past (listFields b cs) at ≡ at + surveyed b cs .bytes * 8
+past-list : (b : Bool) (cs : List InsertComponent) (at : ℕ) → past (listFields b cs) at ≡ at + surveyed b cs .bytes * 8
 unfolding surveyed adding
 past-list b [] at = omega arith
 past-list b (c ∷ cs) at =
     past-append (unlessFields b (c .«splice_time»)) (listFields b cs) (at + 8)
     ∙ past-list b cs (past (unlessFields b (c .«splice_time»)) (at + 8)) ∙ omega (arith, past-unless b (c .«splice_time») (at + 8))
 
-within-list : (b : Bool) (cs : List ComponentSplice) → Tags cs → timesFit cs ≡ true → within (listFields b cs) ≡ true
+within-list : (b : Bool) (cs : List InsertComponent) → Tags cs → timesFit cs ≡ true → within (listFields b cs) ≡ true
 within-list b [] h e = refl
 within-list b (c ∷ cs) h e =
     let a = and-true (ltb (ticks (c .«splice_time»)) (2 ^ 33)) (timesFit cs) e in
@@ -159,7 +159,7 @@ within-list b (c ∷ cs) h e =
     (within-append (unlessFields b (c .«splice_time»)) (listFields b cs) ∙ rw (within-timed b (c .«splice_time») (a .0)) (within-list b cs (h .1) (a .1)))
 
 -- ---- the mode, the duration
-plain-mode : (b : Bool) (k : SpliceMode) (cs : List ComponentSplice) → Plain (modeFields b k cs)
+plain-mode : (b : Bool) (k : SpliceMode) (cs : List InsertComponent) → Plain (modeFields b k cs)
 plain-mode b (SpliceMode.Program t) cs = plain-unless b t
 plain-mode b (SpliceMode.Components n) cs = plain-list b cs
 
@@ -179,7 +179,7 @@ past-break : (d : Break) (at : ℕ) → past (breakFields d) at ≡ at + breakBy
 past-break Break.Absent at = omega arith
 past-break (Break.Lasts d) at = omega arith
 
-module _ (i : InsertDetail) (cs : List ComponentSplice) where
+module _ (i : InsertDetail) (cs : List InsertComponent) where
   past-mode : (k : SpliceMode) (b : Bool) (at : ℕ) → b ≡ insert.allImmediate (record { value = k; components = cs }) → past (modeFields b k cs) at ≡ at + modeBytes k (surveyed b cs .bytes) * 8
   past-mode (SpliceMode.Program t) b at e = ap (λ (x : Bool). past (unlessFields x t) at) e ∙ past-unless (immediate t) t at
   past-mode (SpliceMode.Components n) b at e = past-list b cs (at + 8) ∙ omega arith
@@ -216,10 +216,10 @@ module _ (i : InsertDetail) (cs : List ComponentSplice) where
       (within-append (breakFields (i .duration)) t ∙ ap₂ (λ (u v : Bool). u && v) (within-break (i .duration)) w ∙ and-one (ltb (insert.breakTicks (i .duration)) (2 ^ 33))))
 
 -- ---- are all as the first is?
-alike-first : (i : InsertDetail) (cs : List ComponentSplice) → length cs ≡ count (i .«splice_mode») → alike (immediateIn i cs) cs ≡ unmixed cs
+alike-first : (i : InsertDetail) (cs : List InsertComponent) → length cs ≡ count (i .«splice_mode») → alike (immediateIn i cs) cs ≡ unmixed cs
 alike-first i cs e = go (i .«splice_mode») cs e
   where
-    go : (k : SpliceMode) (cs : List ComponentSplice) → length cs ≡ count k → alike (insert.allImmediate (record { value = k; components = cs })) cs ≡ unmixed cs
+    go : (k : SpliceMode) (cs : List InsertComponent) → length cs ≡ count k → alike (insert.allImmediate (record { value = k; components = cs })) cs ≡ unmixed cs
     go k [] e = refl
     go (SpliceMode.Program t) (c ∷ cs) e = absurd (omega arith)
     go (SpliceMode.Components n) (c ∷ cs) e = ap (λ (b : Bool). alike (b && immediate (c .«splice_time»)) (c ∷ cs)) (lt-ltb 0 n (omega arith))
@@ -241,7 +241,7 @@ measured-cancel event kept h =
     ∙ measured-make (writableInsert x) [] (insertFields x) 5 refl refl
     ∙ ap₂ (λ (a b : Bool). measured a b 5) w (and-one (eqb kept 127)))
 
-module _ (event kept : ℕ) (i : InsertDetail) (cs : List ComponentSplice) (counts : length cs ≡ count (i .«splice_mode»)) where
+module _ (event kept : ℕ) (i : InsertDetail) (cs : List InsertComponent) (counts : length cs ≡ count (i .«splice_mode»)) where
   pub measured-active : event < 2 ^ 32 → count (i .«splice_mode») < 256 → i .«unique_program_id» < 2 ^ 16 → i .«avail_num» < 256 → i .«avails_expected» < 256 → Tags cs
       → (let x : WithComponents SpliceInsert = record { value = record { «splice_event_id» = event; reserved = kept; «splice_detail» = SpliceDetail.Insert i }; components = cs } in
       activeMeasured kept (i .«splice_mode») (i .duration) (surveyed (immediateIn i cs) cs) ≡ measuredOf (insertMade x))
@@ -269,13 +269,13 @@ getD-any [] i d e h = absurd (omega arith)
 getD-any (a ∷ l) zero d e h = refl
 getD-any (a ∷ l) (suc i) d e h = getD-any l i d e (omega arith)
 
-pub listed-now : (k : SpliceMode) (n : ℕ) (places : List ComponentSplice) → k ≡ SpliceMode.Components n
+pub listed-now : (k : SpliceMode) (n : ℕ) (places : List InsertComponent) → k ≡ SpliceMode.Components n
     → ltb 0 n && immediate (getD places 0 blank .«splice_time») ≡ insert.allImmediate (record { value = k; components = take (count k) places })
 listed-now k n places e = rw e (go n)
   where
     go : (n : ℕ) → ltb 0 n && immediate (getD places 0 blank .«splice_time») ≡ insert.allImmediate (record { value = SpliceMode.Components n; components = take n places })
     go zero = refl
-    go (suc n) = ap (λ (c : ComponentSplice). ltb 0 (suc n) && immediate (c .«splice_time»)) (sym (getD-take (suc n) places 0 blank (omega arith)))
+    go (suc n) = ap (λ (c : InsertComponent). ltb 0 (suc n) && immediate (c .«splice_time»)) (sym (getD-take (suc n) places 0 blank (omega arith)))
 
 -- no blank component is immediate
 blanks-timed : (n m : ℕ) → ltb 0 n && immediate (getD (take n (replicate m blank)) 0 blank .«splice_time») ≡ false
@@ -330,7 +330,7 @@ measured-parts r m e = rw e (refl, refl)
 pub countable : (c d : SpliceCommand) → c ≡ d → countIn d ≤ 255 → countIn c ≤ 255
 countable c d e h = rw e h
 
-pub insert-cancelled : (i : SpliceInsert) (places : List ComponentSplice) → i .«splice_detail» ≡ SpliceDetail.Cancel → i .«splice_event_id» < 2 ^ 32
+pub insert-cancelled : (i : SpliceInsert) (places : List InsertComponent) → i .«splice_detail» ≡ SpliceDetail.Cancel → i .«splice_event_id» < 2 ^ 32
     → measured (ltb (i .reserved) 128) (eqb (i .reserved) 127) 5 ≡ measuredOf (insertMade (counted i places))
 insert-cancelled i places e h = go (i .«splice_event_id») (i .reserved) (i .«splice_detail») e h
   where
@@ -338,7 +338,7 @@ insert-cancelled i places e h = go (i .«splice_event_id») (i .reserved) (i .«
         → measured (ltb kept 128) (eqb kept 127) 5 ≡ measuredOf (insertMade (counted (record { «splice_event_id» = event; reserved = kept; «splice_detail» = d }) places))
     go event kept d e h = rw e (measured-cancel event kept h)
 
-module _ (i : SpliceInsert) (x : InsertDetail) (places : List ComponentSplice) (is : i .«splice_detail» ≡ SpliceDetail.Insert x) (there : count (x .«splice_mode») ≤ length places) where
+module _ (i : SpliceInsert) (x : InsertDetail) (places : List InsertComponent) (is : i .«splice_detail» ≡ SpliceDetail.Insert x) (there : count (x .«splice_mode») ≤ length places) where
   pub insert-active : i .«splice_event_id» < 2 ^ 32 → count (x .«splice_mode») < 256 → x .«unique_program_id» < 2 ^ 16 → x .«avail_num» < 256 → x .«avails_expected» < 256
       → (let cs = take (count (x .«splice_mode»)) places in
       Tags cs → activeMeasured (i .reserved) (x .«splice_mode») (x .duration) (surveyed (immediateIn x cs) cs) ≡ measuredOf (insertMade (counted i places)))
@@ -359,9 +359,9 @@ blanks-active i x is n ev p a e =
     ∙ insert-active i x (array []) is (omega (arith, blank-length)) ev (omega arith) p a e (s .1)
 
 -- ---- an insert that counts no component is the same with any array, and so is a command that is no insert
-pub none-counted : (i : SpliceInsert) (p q : List ComponentSplice) → count (insertOf (i .«splice_detail») .«splice_mode») ≡ 0 → counted i p ≡ counted i q
+pub none-counted : (i : SpliceInsert) (p q : List InsertComponent) → count (insertOf (i .«splice_detail») .«splice_mode») ≡ 0 → counted i p ≡ counted i q
 none-counted i p q e =
-    let c : List ComponentSplice → ℕ → WithComponents SpliceInsert = λ l n. record { value = i; components = take n l } in
+    let c : List InsertComponent → ℕ → WithComponents SpliceInsert = λ l n. record { value = i; components = take n l } in
     ap (c p) e ∙ sym (ap (c q) e)
 
 pub cancel-none : (d : SpliceDetail) → d ≡ SpliceDetail.Cancel → count (insertOf d .«splice_mode») ≡ 0
@@ -373,7 +373,7 @@ program-none d x t e k = rw e (ap count k)
 no-insert : OneOf (0 ∷ 2 ∷ 3 ∷ 4 ∷ []) 1 → ⊥
 no-insert o = ⊎-elim (λ e. omega (arith, e)) (λ p. ⊎-elim (λ e. omega (arith, e)) (λ q. ⊎-elim (λ e. omega (arith, e)) (λ e. omega (arith, e)) q) p) o
 
-pub made-without-components : (c : SpliceCommand) (p q : List ComponentSplice) (lent : List ℕ) → OneOf (0 ∷ 2 ∷ 3 ∷ 4 ∷ []) (tagOf the-type c) → commandMade c p lent ≡ commandMade c q lent
+pub made-without-components : (c : SpliceCommand) (p q : List InsertComponent) (lent : List ℕ) → OneOf (0 ∷ 2 ∷ 3 ∷ 4 ∷ []) (tagOf the-type c) → commandMade c p lent ≡ commandMade c q lent
 unfolding commandMade
 made-without-components SpliceCommand.SpliceNull p q lent o = refl
 made-without-components (SpliceCommand.SpliceInsert i) p q lent o = absurd (no-insert o)
@@ -381,7 +381,7 @@ made-without-components (SpliceCommand.TimeSignal t) p q lent o = refl
 made-without-components SpliceCommand.BandwidthReservation p q lent o = refl
 made-without-components (SpliceCommand.PrivateCommand x) p q lent o = refl
 
-module _ (c : SpliceCommand) (places : List ComponentSplice) (lent : List ℕ) where
+module _ (c : SpliceCommand) (places : List InsertComponent) (lent : List ℕ) where
   pub insert-is : (i : SpliceInsert) → c ≡ SpliceCommand.SpliceInsert i → insertMade (counted i places) ≡ commandMade c places lent
   unfolding commandMade
   insert-is i e = rw e
@@ -406,16 +406,16 @@ module _ (c : SpliceCommand) (places : List ComponentSplice) (lent : List ℕ) w
   command-private p e = rw e
 
 -- ---- whole bytes
-pub time-whole : (t : SpliceTime) → (n : ℕ) × (length (ink (timeFields t)) ≡ n * 8)
-time-whole Immediate = (1, refl)
-time-whole Unspecified = (1, refl)
-time-whole (At t) = (5, refl)
+pub time-aligned : (t : SpliceTime) → (n : ℕ) × (length (ink (timeFields t)) ≡ n * 8)
+time-aligned Immediate = (1, refl)
+time-aligned Unspecified = (1, refl)
+time-aligned (At t) = (5, refl)
 
-pub insert-whole : (event kept : ℕ) (d : SpliceDetail) (cs : List ComponentSplice)
+pub insert-aligned : (event kept : ℕ) (d : SpliceDetail) (cs : List InsertComponent)
     → (let x : WithComponents SpliceInsert = record { value = record { «splice_event_id» = event; reserved = kept; «splice_detail» = d }; components = cs } in
     (n : ℕ) × (length (ink (insertFields x)) ≡ n * 8))
-insert-whole event kept SpliceDetail.Cancel cs = (5, refl)
-insert-whole event kept (SpliceDetail.Insert i) cs =
+insert-aligned event kept SpliceDetail.Cancel cs = (5, refl)
+insert-aligned event kept (SpliceDetail.Insert i) cs =
     let x : WithComponents SpliceInsert = record { value = record { «splice_event_id» = event; reserved = kept; «splice_detail» = SpliceDetail.Insert i }; components = cs } in
     let n = 10 + modeBytes (i .«splice_mode») (surveyed (immediateIn i cs) cs .bytes) + breakBytes (i .duration) in
     (n, sym (zero-add (length (ink (insertFields x)))) ∙ print-length [] (insertFields x) 0 (plain-seen [] (insertFields x) (plain-active i cs)) ∙ past-active i cs 40 ∙ omega arith)
@@ -425,7 +425,7 @@ pub time-made : (t : SpliceTime) (lent : List ℕ) → make spliceTime (notImmed
 time-made t lent =
     ap (makeOf (notImmediate t) lent) (time-fields t 0) ∙ make-plain (notImmediate t) lent (timeFields t) (plain-unless false t) ∙ sym (ap (makeOf (notImmediate t) []) (time-fields t 0))
 
-pub insert-made-of : (event kept : ℕ) (d : SpliceDetail) (cs : List ComponentSplice) (lent : List ℕ) → length cs ≡ count (insertOf d .«splice_mode»)
+pub insert-made-of : (event kept : ℕ) (d : SpliceDetail) (cs : List InsertComponent) (lent : List ℕ) → length cs ≡ count (insertOf d .«splice_mode»)
     → (let x : WithComponents SpliceInsert = record { value = record { «splice_event_id» = event; reserved = kept; «splice_detail» = d }; components = cs } in
     make insert.insert (writableInsert x) lent x ≡ make insert.insert (writableInsert x) [] x)
 insert-made-of event kept d cs lent e =

@@ -10,7 +10,7 @@ use lib.Seq.{drop-cons}
 use Rattle.command.specs.Command.{Tags}
 use Rattle.command.specs.Writable.{alike}
 use Rattle.command.specs.Insert.{immediate, blank}
-use Rattle.command.specs.declared.components.ComponentSplice.{ComponentSplice}
+use Rattle.command.specs.declared.components.InsertComponent.{InsertComponent}
 use Rattle.splice_time.specs.Time.{ticks}
 use Rattle.splice_time.specs.declared.SpliceTime.{SpliceTime}
 use Rattle.splice_time.specs.declared.SpliceTime.the-variants.{Immediate, Unspecified, At}
@@ -41,11 +41,11 @@ survey-blanks (suc n) (suc m) h =
     ap (λ (k : ℕ). record { fits = true; alike = true; bytes = k }) z in
     (y ∙ ap (adding false (blank .«splice_time»)) (r .0), (omega arith, r .1))
 
-pub surveyed-at : (b : Bool) (cs : List ComponentSplice) (i : ℕ) (d : ComponentSplice) → i < length cs → adding b (getD cs i d .«splice_time») (surveyed b (drop (suc i) cs)) ≡ surveyed b (drop i cs)
+pub surveyed-at : (b : Bool) (cs : List InsertComponent) (i : ℕ) (d : InsertComponent) → i < length cs → adding b (getD cs i d .«splice_time») (surveyed b (drop (suc i) cs)) ≡ surveyed b (drop i cs)
 unfolding surveyed
 surveyed-at b cs i d h = sym (ap (surveyed b) (drop-cons cs i d h))
 
-pub tags-at : (cs : List ComponentSplice) (i : ℕ) (d : ComponentSplice) → i < length cs → getD cs i d .«component_tag» < 256 → Tags (drop (suc i) cs) → Tags (drop i cs)
+pub tags-at : (cs : List InsertComponent) (i : ℕ) (d : InsertComponent) → i < length cs → getD cs i d .«component_tag» < 256 → Tags (drop (suc i) cs) → Tags (drop i cs)
 tags-at cs i d h t k = rw (drop-cons cs i d h) (t, k)
 
 bytes-most : (b : Bool) (t : SpliceTime) → timeBytes b t ≤ 5
@@ -54,17 +54,17 @@ bytes-most false Immediate = omega arith
 bytes-most false Unspecified = omega arith
 bytes-most false (At t) = omega arith
 
-pub survey-bytes : (b : Bool) (cs : List ComponentSplice) → surveyed b cs .bytes ≤ length cs * 6
+pub survey-bytes : (b : Bool) (cs : List InsertComponent) → surveyed b cs .bytes ≤ length cs * 6
 unfolding surveyed adding
 survey-bytes b [] = omega arith
 survey-bytes b (c ∷ cs) = omega (arith, survey-bytes b cs, bytes-most b (c .«splice_time»))
 
-pub survey-fits : (b : Bool) (cs : List ComponentSplice) → surveyed b cs .fits ≡ timesFit cs
+pub survey-fits : (b : Bool) (cs : List InsertComponent) → surveyed b cs .fits ≡ timesFit cs
 unfolding surveyed adding
 survey-fits b [] = refl
 survey-fits b (c ∷ cs) = ap (λ (f : Bool). ltb (ticks (c .«splice_time»)) (2 ^ 33) && f) (survey-fits b cs)
 
-pub survey-alike : (b : Bool) (cs : List ComponentSplice) → surveyed b cs .alike ≡ alike b cs
+pub survey-alike : (b : Bool) (cs : List InsertComponent) → surveyed b cs .alike ≡ alike b cs
 unfolding surveyed adding
 survey-alike b [] = refl
 survey-alike b (c ∷ cs) = ap (λ (f : Bool). pick b (immediate (c .«splice_time»)) (not (immediate (c .«splice_time»))) && f) (survey-alike b cs)

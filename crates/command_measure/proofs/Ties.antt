@@ -5,7 +5,7 @@ use mathlib.Core.List.{List, [], _∷_, _++_, append-assoc}
 use mathlib.Core.Path.{_≡_, refl, ap, ap₂, sym, _∙_}
 use lib.ListN.{length, getD, drop}
 use Rattle.command.specs.Insert.{WithComponents, timeUnless, component, blank, byProgram, count, allImmediate, moded, lasting, breakDuration, outOfNetwork, modeOf, ending, active, cancelled, insertOf, activeOf, insert}
-use Rattle.command.specs.declared.components.ComponentSplice.{ComponentSplice}
+use Rattle.command.specs.declared.components.InsertComponent.{InsertComponent}
 use Rattle.command.specs.declared.insert.Break.{Break}
 use Rattle.command.specs.declared.insert.InsertDetail.{InsertDetail}
 use Rattle.command.specs.declared.insert.SpliceInsert.{SpliceInsert}
@@ -50,12 +50,12 @@ unless-fields false t at = time-fields t at
 last-in : {X Y : Type 0} (t : Table Y) (q : X → Y) (f : Y → X) (x : X) (at : ℕ) → walk (inside t q (λ y. done (f y))) x at .fields ≡ walk t (q x) at .fields
 last-in t q f x at = fields-in x at t q (λ y. done (f y)) ∙ append-nil (walk t (q x) at .fields)
 
-component-fields : (b : Bool) (c : ComponentSplice) (at : ℕ) → walk (component b) c at .fields ≡ componentFields b c
+component-fields : (b : Bool) (c : InsertComponent) (at : ℕ) → walk (component b) c at .fields ≡ componentFields b c
 unfolding component
 component-fields b c at =
     fields-number c at 8 _ _ ∙ ap (λ (fs : List Field). bits 8 (c .«component_tag») ∷ fs) (last-in (timeUnless b) _ _ c (at + 8) ∙ unless-fields b (c .«splice_time») (at + 8))
 
-list-fields : (b : Bool) (cs : List ComponentSplice) (at : ℕ) → walk (list (length cs) blank (component b)) cs at .fields ≡ listFields b cs
+list-fields : (b : Bool) (cs : List InsertComponent) (at : ℕ) → walk (list (length cs) blank (component b)) cs at .fields ≡ listFields b cs
 unfolding list
 list-fields b [] at = refl
 list-fields b (c ∷ cs) at =
@@ -63,7 +63,7 @@ list-fields b (c ∷ cs) at =
     ∙ ap₂ (λ (fs gs : List Field). fs ++ gs) (component-fields b c at)
     (last-in (list (length cs) blank (component b)) (drop 1) _ (c ∷ cs) (past (walk (component b) c at .fields) at) ∙ list-fields b cs (past (walk (component b) c at .fields) at))
 
-moded-fields : (b : Bool) (k : SpliceMode) (cs : List ComponentSplice) (at : ℕ) → length cs ≡ count k
+moded-fields : (b : Bool) (k : SpliceMode) (cs : List InsertComponent) (at : ℕ) → length cs ≡ count k
     → (let x : WithComponents SpliceMode = record { value = k; components = cs } in
     walk (moded (byProgram k) b) x at .fields ≡ modeFields b k cs)
 unfolding moded
@@ -108,7 +108,7 @@ active-fields x at e =
     ∙ ap₂ (λ (fs gs : List Field). fs ++ gs) (moded-fields b (i .«splice_mode») (x .components) a e)
     (ending-fields (outOfNetwork (i .«network_indicator»)) (walk m (modeOf x) a .value) x (past (walk m (modeOf x) a .fields) a)))))))
 
-pub insert-fields : (event kept : ℕ) (d : SpliceDetail) (cs : List ComponentSplice) → length cs ≡ count (insertOf d .«splice_mode»)
+pub insert-fields : (event kept : ℕ) (d : SpliceDetail) (cs : List InsertComponent) → length cs ≡ count (insertOf d .«splice_mode»)
     → (let x : WithComponents SpliceInsert = record { value = record { «splice_event_id» = event; reserved = kept; «splice_detail» = d }; components = cs } in
     walk insert x 0 .fields ≡ insertFields x)
 unfolding insert number bit

@@ -5,7 +5,7 @@ use mathlib.Core.List.{List, [], _∷_, _++_}
 use lib.ListN.{take}
 use Rattle.command.specs.Insert.{WithComponents, byProgram, count, allImmediate, lasting, autoReturn, outOfNetwork, cancelled}
 use Rattle.command.specs.declared.Private.{Private}
-use Rattle.command.specs.declared.components.ComponentSplice.{ComponentSplice}
+use Rattle.command.specs.declared.components.InsertComponent.{InsertComponent}
 use Rattle.command.specs.declared.insert.Break.{Break}
 use Rattle.command.specs.declared.insert.InsertDetail.{InsertDetail}
 use Rattle.command.specs.declared.insert.SpliceInsert.{SpliceInsert}
@@ -29,14 +29,14 @@ timeFields t = pick (specified t) (bits 1 1 ∷ bits 6 63 ∷ bits 33 (ticks t) 
 abbrev pub unlessFields : Bool → SpliceTime → List Field
 unlessFields b t = pick b [] (timeFields t)
 
-abbrev pub componentFields : Bool → ComponentSplice → List Field
+abbrev pub componentFields : Bool → InsertComponent → List Field
 componentFields b c = bits 8 (c .«component_tag») ∷ unlessFields b (c .«splice_time»)
 
-abbrev pub listFields : Bool → List ComponentSplice → List Field
+abbrev pub listFields : Bool → List InsertComponent → List Field
 listFields b [] = []
 listFields b (c ∷ cs) = componentFields b c ++ listFields b cs
 
-abbrev pub modeFields : Bool → SpliceMode → List ComponentSplice → List Field
+abbrev pub modeFields : Bool → SpliceMode → List InsertComponent → List Field
 modeFields b (SpliceMode.Program t) cs = unlessFields b t
 modeFields b (SpliceMode.Components n) cs = bits 8 n ∷ listFields b cs
 
@@ -53,7 +53,7 @@ tailFields id avail expected = bits 16 id ∷ bits 8 avail ∷ bits 8 expected �
 abbrev pub endFields : InsertDetail → List Field
 endFields i = breakFields (i .duration) ++ tailFields (i .«unique_program_id») (i .«avail_num») (i .«avails_expected»)
 
-abbrev pub immediateIn : InsertDetail → List ComponentSplice → Bool
+abbrev pub immediateIn : InsertDetail → List InsertComponent → Bool
 immediateIn i cs = allImmediate (record { value = i .«splice_mode»; components = cs })
 
 abbrev pub flagFields : Bool → Bool → Bool → Bool → List Field
@@ -63,13 +63,13 @@ abbrev pub insertFlags : InsertDetail → Bool → List Field
 insertFlags i now = flagFields (outOfNetwork (i .«network_indicator»)) (byProgram (i .«splice_mode»)) (lasting (i .duration)) now
 
 -- the components of an array, as many as the mode says
-abbrev pub placesOf : InsertDetail → List ComponentSplice → List ComponentSplice
+abbrev pub placesOf : InsertDetail → List InsertComponent → List InsertComponent
 placesOf i places = take (count (i .«splice_mode»)) places
 
-abbrev pub activeFields : InsertDetail → List ComponentSplice → List Field
+abbrev pub activeFields : InsertDetail → List InsertComponent → List Field
 activeFields i cs = insertFlags i (immediateIn i cs) ++ (modeFields (immediateIn i cs) (i .«splice_mode») cs ++ endFields i)
 
-abbrev pub detailFields : SpliceDetail → List ComponentSplice → List Field
+abbrev pub detailFields : SpliceDetail → List InsertComponent → List Field
 detailFields SpliceDetail.Cancel cs = []
 detailFields (SpliceDetail.Insert i) cs = activeFields i cs
 

@@ -5,7 +5,7 @@ use mathlib.Core.List.{List, [], _∷_}
 use lib.Dec.{ltb, eqb}
 use Rattle.command.specs.Insert as insert
 use Rattle.command.specs.Insert.{immediate, programTime}
-use Rattle.command.specs.declared.components.ComponentSplice.{ComponentSplice}
+use Rattle.command.specs.declared.components.InsertComponent.{InsertComponent}
 use Rattle.command.specs.declared.insert.Break.{Break}
 use Rattle.command.specs.declared.insert.SpliceMode.{SpliceMode}
 use Rattle.splice_time.specs.Time.{specified, ticks}
@@ -26,7 +26,7 @@ adding b t s = record {
   bytes = 1 + timeBytes b t + s .bytes;
 }
 
-unfoldable pub surveyed : Bool → List ComponentSplice → Survey
+unfoldable pub surveyed : Bool → List InsertComponent → Survey
 surveyed b [] = record { fits = true; alike = true; bytes = 0 }
 surveyed b (c ∷ cs) = adding b (c .«splice_time») (surveyed b cs)
 

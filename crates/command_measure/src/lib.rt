@@ -11,7 +11,7 @@ use crate::measure::measure_insert_without_components;
 use crate::measure::measure_time;
 use command::Private;
 use command::SpliceCommand;
-use command::components::ComponentSplice;
+use command::components::InsertComponent;
 use command::components::MAX_COMPONENTS;
 use table::lent::lies_in;
 
@@ -68,7 +68,7 @@ pub fn measure_without_components(command: SpliceCommand, lent: &[u8]) -> Measur
 // Which refusal a command has, 31 to 33, and how many bytes its payload has.
 pub fn measure_command(
     command: SpliceCommand,
-    components: [ComponentSplice; MAX_COMPONENTS],
+    components: [InsertComponent; MAX_COMPONENTS],
     lent: &[u8],
 ) -> Measured
     ensures { λ r. ⌜ (r ≡ measuredOf (commandMade command components (now (lent .entry)))) × (countIn command ≤ 255) ⌝ }

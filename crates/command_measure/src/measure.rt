@@ -14,7 +14,7 @@ ghost use Rattle.splice_time.specs.Time.{spliceTime, ticks, notImmediate};
 ghost use Rattle.table.specs.Bits.{pick};
 ghost use Rattle.table.specs.Writing.{make};
 use crate::Measured;
-use command::components::ComponentSplice;
+use command::components::InsertComponent;
 use command::components::MAX_COMPONENTS;
 use command::insert::Break;
 use command::insert::InsertDetail;
@@ -113,7 +113,7 @@ fn agrees(time: SpliceTime, at_once: bool) -> bool
 }
 
 // With one component more before them.
-fn add_component(s: Survey, at_once: bool, component: ComponentSplice) -> Survey
+fn add_component(s: Survey, at_once: bool, component: InsertComponent) -> Survey
     requires { ⌜ s .bytes ≤ 1530 ⌝ }
     ensures { λ r. ⌜ (r ≡ adding «at_once» (component .«splice_time») s) × (component .«component_tag» < 256) ⌝ }
 {
@@ -132,7 +132,7 @@ fn add_component(s: Survey, at_once: bool, component: ComponentSplice) -> Survey
 }
 
 // The first `count` components, from the last of them on.
-fn look(components: [ComponentSplice; MAX_COMPONENTS], count: usize, at_once: bool) -> Survey
+fn look(components: [InsertComponent; MAX_COMPONENTS], count: usize, at_once: bool) -> Survey
     requires { ⌜ count ≤ 255 ⌝ }
     ensures { λ r. ⌜ (r ≡ surveyed «at_once» (take count components)) × Tags (take count components) ⌝ }
 {
@@ -151,7 +151,7 @@ fn look(components: [ComponentSplice; MAX_COMPONENTS], count: usize, at_once: bo
 }
 
 // Is an insert by n components immediate as a whole? Its first component says so.
-pub fn are_immediate(n: u8, components: [ComponentSplice; MAX_COMPONENTS]) -> bool
+pub fn are_immediate(n: u8, components: [InsertComponent; MAX_COMPONENTS]) -> bool
     ensures { λ r. ⌜ r ≡ ltb 0 n && immediate (getD components 0 blank .«splice_time») ⌝ }
 {
     if n == 0 {
@@ -254,7 +254,7 @@ pub(crate) fn measure_insert_without_components(i: SpliceInsert) -> Measured
 }
 
 // An insert with its components: only one by components looks at them.
-pub fn measure_insert(i: SpliceInsert, components: [ComponentSplice; MAX_COMPONENTS]) -> Measured
+pub fn measure_insert(i: SpliceInsert, components: [InsertComponent; MAX_COMPONENTS]) -> Measured
     ensures { λ r. ⌜ (r ≡ measuredOf (insertMade (counted i components))) × (insert.count (insert.insertOf (i .«splice_detail») .«splice_mode») ≤ 255) ⌝ }
 {
     let reserved = i.reserved;

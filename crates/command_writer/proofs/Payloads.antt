@@ -14,7 +14,7 @@ use Rattle.command.specs.Writable.{writableInsert}
 use Rattle.command.specs.Insert.{WithComponents, count, insertOf, insert}
 use Rattle.command.specs.declared.Private.{Private}
 use Rattle.command.specs.declared.SpliceCommand.{SpliceCommand}
-use Rattle.command.specs.declared.components.ComponentSplice.{ComponentSplice}
+use Rattle.command.specs.declared.components.InsertComponent.{InsertComponent}
 use Rattle.command.specs.declared.insert.SpliceInsert.{SpliceInsert}
 use Rattle.command.specs.declared.insert.SpliceDetail.{SpliceDetail}
 use Rattle.splice_time.specs.Time.{spliceTime, notImmediate}
@@ -42,12 +42,12 @@ use Rattle.command_measure.specs.Fields.{ink, timeFields, insertFields, private
 use Rattle.command_measure.specs.Made.{counted, timesFit, insertMade, commandMade, measuredOf}
 use Rattle.command_measure.specs.declared.Measured.{Measured}
 use Rattle.command_writer.specs.Private.{hasRoom, answerMeasured}
-use Rattle.command_measure.proofs.Making.{measured-parts, time-whole, insert-whole, private-fields}
+use Rattle.command_measure.proofs.Making.{measured-parts, time-aligned, insert-aligned, private-fields}
 use Rattle.command_measure.proofs.Ties.{time-fields, insert-fields}
 
 pub record Payload (m : Made) (p : List ℕ) : Type 0 where
   pub bytes : bytesIn m ≡ bytesOf p
-  pub whole : length p ≡ length (bytesIn m) * 8
+  pub aligned : length p ≡ length (bytesIn m) * 8
   pub is : m ≡ made (bytesIn m)
 
 payload-same : (m : Made) (p q : List ℕ) → p ≡ q → Payload m p → Payload m q
@@ -60,7 +60,7 @@ pick-payload : (s w f : Bool) (p : List ℕ) (n : ℕ) → length p ≡ n * 8
     → refusalIn (pick s (pick w (pick f (made (bytesOf p)) (refused 33)) (refused 32)) (refused 31)) ≡ 0
     → Payload (pick s (pick w (pick f (made (bytesOf p)) (refused 33)) (refused 32)) (refused 31)) p
 unfolding bytesIn
-pick-payload true true true p n e z = record { bytes = refl; whole = omega (arith, length-bytesN (length p / 8) p); is = refl }
+pick-payload true true true p n e z = record { bytes = refl; aligned = omega (arith, length-bytesN (length p / 8) p); is = refl }
 pick-payload true true false p n e z = absurd (omega arith)
 pick-payload true false f p n e z = absurd (omega arith)
 pick-payload false w f p n e z = absurd (omega arith)
@@ -72,17 +72,17 @@ late-payload : (t : Bool) (m : Made) (p : List ℕ) → (refusalIn m ≡ 0 → P
 late-payload true m p h z = h z
 late-payload false m p h z = absurd (omega arith)
 
-insert-payload : (event kept : ℕ) (d : SpliceDetail) (cs : List ComponentSplice) → length cs ≡ count (insertOf d .«splice_mode»)
+insert-payload : (event kept : ℕ) (d : SpliceDetail) (cs : List InsertComponent) → length cs ≡ count (insertOf d .«splice_mode»)
     → (let x : WithComponents SpliceInsert = record { value = record { «splice_event_id» = event; reserved = kept; «splice_detail» = d }; components = cs } in
     refusalIn (insertMade x) ≡ 0 → Payload (insertMade x) (ink (insertFields x)))
 unfolding insertMade
 insert-payload event kept d cs e z =
     let x : WithComponents SpliceInsert = record { value = record { «splice_event_id» = event; reserved = kept; «splice_detail» = d }; components = cs } in
     let f = insert-fields event kept d cs e in
-    let w = insert-whole event kept d cs in
+    let w = insert-aligned event kept d cs in
     late-payload (timesFit cs) (makeOf (writableInsert x) [] (walk insert x 0 .fields)) (ink (insertFields x)) (rw f (make-payload (writableInsert x) [] (insertFields x) (w .0) (w .1))) z
 
-pub counted-payload : (i : SpliceInsert) (places : List ComponentSplice) → length places ≡ 255 → count (insertOf (i .«splice_detail») .«splice_mode») ≤ 255 → refusalIn (insertMade (counted i places)) ≡ 0
+pub counted-payload : (i : SpliceInsert) (places : List InsertComponent) → length places ≡ 255 → count (insertOf (i .«splice_detail») .«splice_mode») ≤ 255 → refusalIn (insertMade (counted i places)) ≡ 0
     → Payload (insertMade (counted i places)) (ink (insertFields (counted i places)))
 counted-payload i places n l z =
     let k = count (insertOf (i .«splice_detail») .«splice_mode») in
@@ -114,7 +114,7 @@ private-payload p lent z = rw (private-fields p lent) (go (leb (at + n) (length 
         length-append (bitsOfNum 32 (p .identifier)) (bitsOf v ++ []) ∙ omega (arith, length-append (bitsOf v) [], length-bits v) in
         payload-same (makeOf true lent fs) (print (contents lent fs)) (privateInk p lent) w (make-payload true lent fs (4 + length v) l z)
 
-module _ (c : SpliceCommand) (places : List ComponentSplice) (lent : List ℕ) where
+module _ (c : SpliceCommand) (places : List InsertComponent) (lent : List ℕ) where
   pub command-insert-payload : (i : SpliceInsert) → c ≡ SpliceCommand.SpliceInsert i → length places ≡ 255 → count (insertOf (i .«splice_detail») .«splice_mode») ≤ 255 → refusalIn (commandMade c places lent) ≡ 0
       → Payload (commandMade c places lent) (ink (insertFields (counted i places)))
   unfolding commandMade
@@ -122,7 +122,7 @@ module _ (c : SpliceCommand) (places : List ComponentSplice) (lent : List ℕ) w
 
   pub command-time-payload : (t : SpliceTime) → c ≡ SpliceCommand.TimeSignal t → refusalIn (commandMade c places lent) ≡ 0 → Payload (commandMade c places lent) (ink (timeFields t))
   unfolding commandMade
-  command-time-payload t e z = rw e (rw (time-fields t 0) (make-payload (notImmediate t) [] (timeFields t) (time-whole t .0) (time-whole t .1) (rw (e, time-fields t 0) at z)))
+  command-time-payload t e z = rw e (rw (time-fields t 0) (make-payload (notImmediate t) [] (timeFields t) (time-aligned t .0) (time-aligned t .1) (rw (e, time-fields t 0) at z)))
 
   pub command-private-payload : (p : Private) → c ≡ SpliceCommand.PrivateCommand p → refusalIn (commandMade c places lent) ≡ 0 → Payload (commandMade c places lent) (privateInk p lent)
   unfolding commandMade
@@ -139,12 +139,12 @@ module _ (c : SpliceCommand) (places : List ComponentSplice) (lent : List ℕ) w
 -- ---- in a target
 module _ (out : List ℕ) (at : ℕ) (m : Made) (p : List ℕ) (made-of : Payload m p) (room : at + length (bytesIn m) ≤ length out) where
   pub store-room : Fits out (record { byte = at; bit = 0 }) p
-  store-room = omega (arith, place-is (record { byte = at; bit = 0 }), made-of .whole)
+  store-room = omega (arith, place-is (record { byte = at; bit = 0 }), made-of .aligned)
 
-  pub store-whole : AllBytes out → AllBits p → (later : List ℕ) (d : Cursor) → Pens out (record { byte = at; bit = 0 }) p later d → later ≡ stored out at (bytesIn m)
-  store-whole a k later d q =
+  pub store-all : AllBytes out → AllBits p → (later : List ℕ) (d : Cursor) → Pens out (record { byte = at; bit = 0 }) p later d → later ≡ stored out at (bytesIn m)
+  store-all a k later d q =
       let z : place (record { byte = at; bit = 0 }) ≡ at * 8 = place-is (record { byte = at; bit = 0 }) ∙ omega arith in
-      let e : p ≡ bitsOf (bytesIn m) = sym (ap bitsOf (made-of .bytes) ∙ bits-bytes (length (bytesIn m)) p k (made-of .whole)) in
+      let e : p ≡ bitsOf (bytesIn m) = sym (ap bitsOf (made-of .bytes) ∙ bits-bytes (length (bytesIn m)) p k (made-of .aligned)) in
       let b : AllBytes (bytesIn m) = rw (made-of .bytes) (all-bytesN (length p / 8) p k) in
       q .bytes ∙ ap₂ (λ (n : ℕ) (l : List ℕ). penned out n l) z e ∙ penned-stored out at (bytesIn m) a b room
 
@@ -210,7 +210,7 @@ pub other-made : (m n : Made) (t u : List ℕ) (r : Written) → m ≡ n → (r 
 other-made m n t u r e h = rw (← e) h
 
 -- a command that is not refused is made
-pub command-made : (c : SpliceCommand) (places : List ComponentSplice) (lent : List ℕ) → length places ≡ 255 → countIn c ≤ 255 → refusalIn (commandMade c places lent) ≡ 0
+pub command-made : (c : SpliceCommand) (places : List InsertComponent) (lent : List ℕ) → length places ≡ 255 → countIn c ≤ 255 → refusalIn (commandMade c places lent) ≡ 0
     → commandMade c places lent ≡ made (bytesIn (commandMade c places lent))
 unfolding commandMade bytesIn
 command-made SpliceCommand.SpliceNull places lent n k z = refl

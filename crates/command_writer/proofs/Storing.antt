@@ -8,7 +8,7 @@ use native.Mathlib.Omega.{arith}
 use lib.ListN.{length, take, getD, length-append}
 use lib.Seq.{take-suc}
 use Rattle.command.specs.Insert.{immediate, count, outOfNetwork}
-use Rattle.command.specs.declared.components.ComponentSplice.{ComponentSplice}
+use Rattle.command.specs.declared.components.InsertComponent.{InsertComponent}
 use Rattle.command.specs.declared.insert.Break.{Break}
 use Rattle.command.specs.declared.insert.InsertDetail.{InsertDetail}
 use Rattle.command.specs.declared.insert.SpliceInsert.{SpliceInsert}
@@ -68,28 +68,28 @@ module _ (t : List ℕ) (c : Cursor) (u : List ℕ) (d : Cursor) where
   time-at x k e p = rw e (pens-all (timeFields (At k)) 40 _ (print-beside 7 33 127 k []) p)
 
   -- ---- a component
-  pub component-now : (b : Bool) (x : ComponentSplice) (y : ℕ) → b ≡ true → y ≡ x .«component_tag» → Pens t c (bitsOfNum 8 y) u d → Pens t c (ink (componentFields b x)) u d
+  pub component-now : (b : Bool) (x : InsertComponent) (y : ℕ) → b ≡ true → y ≡ x .«component_tag» → Pens t c (bitsOfNum 8 y) u d → Pens t c (ink (componentFields b x)) u d
   component-now b x y e h p = rw e (pens-end 8 (x .«component_tag») y h p)
 
-  pub component-timed : (b : Bool) (x : ComponentSplice) (y : ℕ) → b ≡ false → y ≡ x .«component_tag» → Fits t c (ink (componentFields b x)) → Pens t c (bitsOfNum 8 y) u d
+  pub component-timed : (b : Bool) (x : InsertComponent) (y : ℕ) → b ≡ false → y ≡ x .«component_tag» → Fits t c (ink (componentFields b x)) → Pens t c (bitsOfNum 8 y) u d
       → Goes t c (ink (componentFields b x)) u d (ink (timeFields (x .«splice_time»)))
   component-timed b x y e h f p =
       let g : Fits t c (ink (componentFields false x)) = rw e at f in
       rw e (pens-next 8 (x .«component_tag») y (timeFields (x .«splice_time»)) h g p)
 
   -- one component more
-  pub component-more : (b : Bool) (cs : List ComponentSplice) (i : ℕ) (k : ComponentSplice) (v : List ℕ) (z : Cursor) → i < length cs → Fits t c (ink (listFields b (take (i + 1) cs)))
+  pub component-more : (b : Bool) (cs : List InsertComponent) (i : ℕ) (k : InsertComponent) (v : List ℕ) (z : Cursor) → i < length cs → Fits t c (ink (listFields b (take (i + 1) cs)))
       → Pens t c (ink (listFields b (take i cs))) u d → (Fits u d (ink (componentFields b (getD cs i k)))) × (Pens u d (ink (componentFields b (getD cs i k))) v z → Pens t c (ink (listFields b (take (i + 1) cs))) v z)
   component-more b cs i k v z h f p =
       let e : listFields b (take (i + 1) cs) ≡ listFields b (take i cs) ++ componentFields b (getD cs i k) =
       ap (λ (n : ℕ). listFields b (take n cs)) (add-one i) ∙ ap (listFields b) (take-suc cs i k h) ∙ snoc (take i cs) (getD cs i k) in
       let g = pens-fields (listFields b (take i cs)) (componentFields b (getD cs i k)) (rw e at f) p in
-      (g .room, λ q. rw e (g .whole v z q))
+      (g .room, λ q. rw e (g .both v z q))
     where
       assoc : (fs gs hs : List Field) → fs ++ gs ++ hs ≡ fs ++ (gs ++ hs)
       assoc fs gs hs = append-assoc fs gs hs
 
-      snoc : (l : List ComponentSplice) (x : ComponentSplice) → listFields b (l ++ (x ∷ [])) ≡ listFields b l ++ componentFields b x
+      snoc : (l : List InsertComponent) (x : InsertComponent) → listFields b (l ++ (x ∷ [])) ≡ listFields b l ++ componentFields b x
       snoc [] x = append-nil (componentFields b x)
       snoc (y ∷ l) x = ap (λ (fs : List Field). componentFields b y ++ fs) (snoc l x) ∙ sym (assoc (componentFields b y) (listFields b l) (componentFields b x))
 
@@ -174,10 +174,10 @@ pub tail-fits : (t : List ℕ) (c : Cursor) (x : Break) (fs : List Field) → x 
 tail-fits t c x fs e h = rw e at h
 
 -- there is room for fewer components
-pub fits-fewer : (t : List ℕ) (c : Cursor) (b : Bool) (cs : List ComponentSplice) (i : ℕ) → Fits t c (ink (listFields b cs)) → Fits t c (ink (listFields b (take i cs)))
+pub fits-fewer : (t : List ℕ) (c : Cursor) (b : Bool) (cs : List InsertComponent) (i : ℕ) → Fits t c (ink (listFields b cs)) → Fits t c (ink (listFields b (take i cs)))
 fits-fewer t c b cs i h = omega (arith, go cs i)
   where
-    go : (cs : List ComponentSplice) (i : ℕ) → length (ink (listFields b (take i cs))) ≤ length (ink (listFields b cs))
+    go : (cs : List InsertComponent) (i : ℕ) → length (ink (listFields b (take i cs))) ≤ length (ink (listFields b cs))
     go cs zero = omega arith
     go [] (suc i) = omega arith
     go (c ∷ cs) (suc i) = omega (
@@ -190,7 +190,7 @@ fits-fewer t c b cs i h = omega (arith, go cs i)
     )
 
 -- ---- what the mode and the cancel bit decide
-module _ (b : Bool) (k : SpliceMode) (cs : List ComponentSplice) where
+module _ (b : Bool) (k : SpliceMode) (cs : List InsertComponent) where
   pub mode-now : (x : SpliceTime) → k ≡ SpliceMode.Program x → b ≡ true → modeFields b k cs ≡ []
   mode-now x e h = rw (e, h)
 
@@ -200,7 +200,7 @@ module _ (b : Bool) (k : SpliceMode) (cs : List ComponentSplice) where
   pub mode-list : (n : ℕ) → k ≡ SpliceMode.Components n → modeFields b k cs ≡ bits 8 n ∷ listFields b cs
   mode-list n e = rw e
 
-pub cancel-fields : (i : SpliceInsert) (places : List ComponentSplice) → i .«splice_detail» ≡ SpliceDetail.Cancel
+pub cancel-fields : (i : SpliceInsert) (places : List InsertComponent) → i .«splice_detail» ≡ SpliceDetail.Cancel
     → insertFields (counted i places) ≡ bits 32 (i .«splice_event_id») ∷ bits 1 1 ∷ bits 7 (i .reserved) ∷ []
 cancel-fields i places e = go (i .«splice_event_id») (i .reserved) (i .«splice_detail») e
   where
@@ -208,7 +208,7 @@ cancel-fields i places e = go (i .«splice_event_id») (i .reserved) (i .«splic
         → insertFields (counted (record { «splice_event_id» = event; reserved = kept; «splice_detail» = d }) places) ≡ bits 32 event ∷ bits 1 1 ∷ bits 7 kept ∷ []
     go event kept d e = rw e
 
-pub active-insert : (i : SpliceInsert) (x : InsertDetail) (places : List ComponentSplice) → i .«splice_detail» ≡ SpliceDetail.Insert x
+pub active-insert : (i : SpliceInsert) (x : InsertDetail) (places : List InsertComponent) → i .«splice_detail» ≡ SpliceDetail.Insert x
     → insertFields (counted i places) ≡ bits 32 (i .«splice_event_id») ∷ bits 1 0 ∷ bits 7 (i .reserved) ∷ activeFields x (placesOf x places)
 active-insert i x places e = go (i .«splice_event_id») (i .reserved) (i .«splice_detail») e
   where
@@ -217,7 +217,7 @@ active-insert i x places e = go (i .«splice_event_id») (i .reserved) (i .«spl
     go event kept d e = rw e
 
 -- that counts no component
-pub none-active : (x : InsertDetail) (places : List ComponentSplice) → count (x .«splice_mode») ≡ 0 → activeFields x (placesOf x places) ≡ activeFields x []
+pub none-active : (x : InsertDetail) (places : List InsertComponent) → count (x .«splice_mode») ≡ 0 → activeFields x (placesOf x places) ≡ activeFields x []
 none-active x places e = ap (λ (n : ℕ). activeFields x (take n places)) e
 
 pub none-now : (x : InsertDetail) → x .«splice_mode» ≡ SpliceMode.Components 0 → immediateIn x [] ≡ false
@@ -234,7 +234,7 @@ pub goes-bits : (t : List ℕ) (c : Cursor) (b r u : List ℕ) (d : Cursor) (m :
 goes-bits t c b r u d m e g = rw (← e) g
 
 -- the event of an insert that is not cancelled, and what stands behind it
-pub after-event : (t : List ℕ) (c : Cursor) (u : List ℕ) (d : Cursor) (i : SpliceInsert) (x : InsertDetail) (places : List ComponentSplice) (y : ℕ) → i .«splice_detail» ≡ SpliceDetail.Insert x
+pub after-event : (t : List ℕ) (c : Cursor) (u : List ℕ) (d : Cursor) (i : SpliceInsert) (x : InsertDetail) (places : List InsertComponent) (y : ℕ) → i .«splice_detail» ≡ SpliceDetail.Insert x
     → y ≡ i .«splice_event_id» * 256 + i .reserved % 128 → Fits t c (ink (insertFields (counted i places))) → Pens t c (bitsOfNum 40 y) u d
     → (let more = activeFields x (placesOf x places) in
     Goes t c (ink (bits 32 (i .«splice_event_id») ∷ bits 1 0 ∷ bits 7 (i .reserved) ∷ more)) u d (ink more))

@@ -11,7 +11,7 @@ use Rattle.command.specs.Insert.{WithComponents, count, insertOf, insert}
 use Rattle.command.specs.declared.CommandRead.{CommandRead}
 use Rattle.command.specs.declared.Private.{Private}
 use Rattle.command.specs.declared.SpliceCommand.{SpliceCommand}
-use Rattle.command.specs.declared.components.ComponentSplice.{ComponentSplice}
+use Rattle.command.specs.declared.components.InsertComponent.{InsertComponent}
 use Rattle.command.specs.declared.insert.SpliceInsert.{SpliceInsert}
 use Rattle.command.proofs.InsertLeads.{Counted}
 use Rattle.command.proofs.InsertTrips.{insert-write-read, insert-read-write}
@@ -28,16 +28,16 @@ use Rattle.command_measure.proofs.Making.{time-made, insert-made-of}
 
 -- ---- written, then read
 -- null and bandwidth reservation are written as nothing, which reads as them
-pub null-command-write-read : (places : List ComponentSplice) (lent : List ℕ) → (commandMade SpliceCommand.SpliceNull places lent ≡ made []) × (commandOf 0x00 [] ≡ CommandRead.Is SpliceCommand.SpliceNull)
+pub null-command-write-read : (places : List InsertComponent) (lent : List ℕ) → (commandMade SpliceCommand.SpliceNull places lent ≡ made []) × (commandOf 0x00 [] ≡ CommandRead.Is SpliceCommand.SpliceNull)
 unfolding commandMade commandOf
 null-command-write-read places lent = (refl, refl)
 
-pub bandwidth-command-write-read : (places : List ComponentSplice) (lent : List ℕ)
+pub bandwidth-command-write-read : (places : List InsertComponent) (lent : List ℕ)
     → (commandMade SpliceCommand.BandwidthReservation places lent ≡ made []) × (commandOf 0x07 [] ≡ CommandRead.Is SpliceCommand.BandwidthReservation)
 unfolding commandMade commandOf
 bandwidth-command-write-read places lent = (refl, refl)
 
-pub time-command-write-read : (t : SpliceTime) (places : List ComponentSplice) (lent b : List ℕ) → commandMade (SpliceCommand.TimeSignal t) places lent ≡ made b
+pub time-command-write-read : (t : SpliceTime) (places : List InsertComponent) (lent b : List ℕ) → commandMade (SpliceCommand.TimeSignal t) places lent ≡ made b
     → commandOf 0x06 b ≡ CommandRead.Is (SpliceCommand.TimeSignal t)
 unfolding commandMade commandOf
 time-command-write-read t places lent b e =
@@ -45,7 +45,7 @@ time-command-write-read t places lent b e =
     ap (read SpliceCommand.TimeSignal) (rw (append-nil b) at (i .0))
 
 -- its view is then of the payload, and holds the same bytes
-pub private-command-write-read : (p : Private) (places : List ComponentSplice) (lent b : List ℕ) → AllBytes lent → commandMade (SpliceCommand.PrivateCommand p) places lent ≡ made b
+pub private-command-write-read : (p : Private) (places : List InsertComponent) (lent b : List ℕ) → AllBytes lent → commandMade (SpliceCommand.PrivateCommand p) places lent ≡ made b
     → (commandOf 0xff b ≡ CommandRead.Is (SpliceCommand.PrivateCommand (moved p))) × Same private b (moved p) lent p
 unfolding commandMade commandOf
 private-command-write-read p places lent b a e =
@@ -62,7 +62,7 @@ insert-made x b e = go (timesFit (x .components)) refl e
     go false h e = zero-one cc
 
 -- it reads as that insert, with its components, as many as there are places for
-pub insert-command-write-read : (i : SpliceInsert) (places : List ComponentSplice) (lent b : List ℕ) → Counted (counted i places) → commandMade (SpliceCommand.SpliceInsert i) places lent ≡ made b
+pub insert-command-write-read : (i : SpliceInsert) (places : List InsertComponent) (lent b : List ℕ) → Counted (counted i places) → commandMade (SpliceCommand.SpliceInsert i) places lent ≡ made b
     → (commandOf 0x05 b ≡ CommandRead.Is (SpliceCommand.SpliceInsert i)) × (parse insert (bitsOf b) 0 ≡ got (counted i places) (length b * 8))
 unfolding commandMade commandOf
 insert-command-write-read i places lent b h e =
@@ -71,12 +71,12 @@ insert-command-write-read i places lent b h e =
     (ap (read (λ (x : WithComponents SpliceInsert). SpliceCommand.SpliceInsert (x .value))) p, p)
 
 -- ---- read, then written: what is written of the reading of canonical bytes without a spare one is those bytes
-pub time-command-read-write : (t : SpliceTime) (places : List ComponentSplice) (s : List ℕ) → AllBytes s → parse spliceTime (bitsOf s) 0 ≡ got t (length s * 8) → canonical spliceTime (bitsOf s) 0 ≡ true
+pub time-command-read-write : (t : SpliceTime) (places : List InsertComponent) (s : List ℕ) → AllBytes s → parse spliceTime (bitsOf s) 0 ≡ got t (length s * 8) → canonical spliceTime (bitsOf s) 0 ≡ true
     → commandMade (SpliceCommand.TimeSignal t) places s ≡ made s
 unfolding commandMade
 time-command-read-write t places s a e c = sym (time-made t s) ∙ time-read-write s t a e c
 
-pub private-command-read-write : (p : Private) (places : List ComponentSplice) (s : List ℕ) → AllBytes s → parse private (bitsOf s) 0 ≡ got p (length s * 8) → canonical private (bitsOf s) 0 ≡ true
+pub private-command-read-write : (p : Private) (places : List InsertComponent) (s : List ℕ) → AllBytes s → parse private (bitsOf s) 0 ≡ got p (length s * 8) → canonical private (bitsOf s) 0 ≡ true
     → commandMade (SpliceCommand.PrivateCommand p) places s ≡ made s
 unfolding commandMade
 private-command-read-write p places s a e c = private-read-write s p a e c

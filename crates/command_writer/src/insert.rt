@@ -15,7 +15,7 @@ ghost use Rattle.table.specs.Bits.{AllBytes};
 ghost use Rattle.table.proofs.Steppings.{Settled};
 use crate::time::store_time;
 use bit_stores::put_bits;
-use command::components::ComponentSplice;
+use command::components::InsertComponent;
 use command::components::MAX_COMPONENTS;
 use command::components::blanks;
 use command::insert::Break;
@@ -31,7 +31,7 @@ use table::cursor::Cursor;
 use table::numbers::flag_number;
 use table::numbers::wide;
 
-fn store_component(out: &mut [u8], c: Cursor, component: ComponentSplice, at_once: bool) -> Cursor
+fn store_component(out: &mut [u8], c: Cursor, component: InsertComponent, at_once: bool) -> Cursor
     requires { ⌜ Fits (now out) c (ink (componentFields «at_once» component)) ⌝ }
     ensures { λ r. ⌜ Pens (now (out .entry)) c (ink (componentFields «at_once» component)) (now (out .exit)) r ⌝ }
 {
@@ -48,7 +48,7 @@ fn store_component(out: &mut [u8], c: Cursor, component: ComponentSplice, at_onc
 fn store_components(
     out: &mut [u8],
     c: Cursor,
-    components: [ComponentSplice; MAX_COMPONENTS],
+    components: [InsertComponent; MAX_COMPONENTS],
     count: usize,
     at_once: bool,
 ) -> Cursor
@@ -164,7 +164,7 @@ fn store_listed(
     c: Cursor,
     insert: InsertDetail,
     n: u8,
-    components: [ComponentSplice; MAX_COMPONENTS],
+    components: [InsertComponent; MAX_COMPONENTS],
 ) -> Cursor
     requires { ⌜ (insert .«splice_mode» ≡ SpliceMode.Components n) × Fits (now out) c (ink (activeFields insert (placesOf insert components))) ⌝ }
     ensures { λ r. ⌜ Pens (now (out .entry)) c (ink (activeFields insert (placesOf insert components))) (now (out .exit)) r ⌝ }
@@ -245,7 +245,7 @@ pub(crate) fn store_insert(
     out: &mut [u8],
     c: Cursor,
     i: SpliceInsert,
-    components: [ComponentSplice; MAX_COMPONENTS],
+    components: [InsertComponent; MAX_COMPONENTS],
 ) -> Cursor
     requires { ⌜ Fits (now out) c (ink (insertFields (counted i components))) ⌝ }
     ensures { λ r. ⌜ Pens (now (out .entry)) c (ink (insertFields (counted i components))) (now (out .exit)) r ⌝ }

@@ -20,7 +20,7 @@ use bit_stores::put_bits;
 use bit_stores::put_run;
 use command::Private;
 use command::SpliceCommand;
-use command::components::ComponentSplice;
+use command::components::InsertComponent;
 use command::components::MAX_COMPONENTS;
 use command::insert::SpliceInsert;
 use command_measure::Measured;
@@ -126,7 +126,7 @@ fn put_insert(
     out: &mut [u8],
     at: usize,
     i: SpliceInsert,
-    components: [ComponentSplice; MAX_COMPONENTS],
+    components: [InsertComponent; MAX_COMPONENTS],
 )
     ensures { λ _. ⌜ now (out .exit) ≡ stored (now (out .entry)) at (bytesIn (insertMade (counted i components))) ⌝ }
 {
@@ -140,7 +140,7 @@ pub fn put_command(
     out: &mut [u8],
     at: usize,
     command: SpliceCommand,
-    components: [ComponentSplice; MAX_COMPONENTS],
+    components: [InsertComponent; MAX_COMPONENTS],
     lent: &[u8],
 )
     ensures { λ _. ⌜ now (out .exit) ≡ stored (now (out .entry)) at (bytesIn (commandMade command components (now (lent .entry)))) ⌝ }
@@ -154,7 +154,7 @@ pub fn put_command(
 // Of an insert, the payload from the first byte on.
 fn write_insert(
     i: SpliceInsert,
-    components: [ComponentSplice; MAX_COMPONENTS],
+    components: [InsertComponent; MAX_COMPONENTS],
     target: &mut [u8],
 ) -> Written
     ensures answer { λ r. ⌜ r ≡ answerOf (insertMade (counted i components)) (now (target .entry)) ⌝ }
@@ -173,7 +173,7 @@ fn write_insert(
 // The payload from the target's first byte on, or a refusal: 31, 32, 33 or 36.
 pub fn write_command(
     command: SpliceCommand,
-    components: [ComponentSplice; MAX_COMPONENTS],
+    components: [InsertComponent; MAX_COMPONENTS],
     lent: &[u8],
     target: &mut [u8],
 ) -> Written

@@ -131,10 +131,10 @@ crc-unique m (a ∷ b ∷ c ∷ d ∷ x ∷ xs) l h e = absurd (omega arith)
 
 pub crc-last : (s : List ℕ) (n : ℕ) → length s ≡ n + 4 → ((k : ℕ) → getD s k 0 < 256) → crcOf s ≡ 0 → s ≡ take n s ++ crcBytesOf (take n s)
 crc-last s n l h e =
-    let whole : take n s ++ drop n s ≡ s = take-append-drop n s in
-    sym whole
+    let overall : take n s ++ drop n s ≡ s = take-append-drop n s in
+    sym overall
     ∙ ap (λ (x : List ℕ). take n s ++ x)
-    (crc-unique (take n s) (drop n s) (simp length-drop (omega arith)) (λ k. rw getD-drop (h (n + k))) (ap crcOf whole ∙ e))
+    (crc-unique (take n s) (drop n s) (simp length-drop (omega arith)) (λ k. rw getD-drop (h (n + k))) (ap crcOf overall ∙ e))
 
 pub crc-bytes : (m : List ℕ) (k : ℕ) → getD (crcBytesOf m) k 0 < 256
 crc-bytes m = let c : ℕ = crcOf m in four-are-bytes (c / 2 ^ 24 % 256) (c / 2 ^ 16 % 256) (c / 2 ^ 8 % 256) (c / 2 ^ 0 % 256) (omega arith) (omega arith) (omega arith) (omega arith)

@@ -1,4 +1,4 @@
--- A line's reading without places, and lists of attributes in another order. These are definitions for the theorems; no contract cites them.
+-- A line's reading without places, and lists of attributes in another order. For the theorems; no contract cites them.
 use Prim.Native.Nat.{ℕ}
 use mathlib.Core.Bool.{false, _&&_}
 use mathlib.Core.List.{List, _∷_}

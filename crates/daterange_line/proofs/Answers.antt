@@ -93,9 +93,9 @@ module _ (line target : List ℕ) (f : Found) (h : Held line f) where
       let x = short-answer (made (sectionOf (h .list))) target (sectionOf (h .list)) refl (omega (arith, count)) in
       (ap (told (h .list)) (x .0) ∙ sym (answered .0), x .1 ∙ sym (answered .1))
 
-  pub whole-read : (later : List ℕ) → (end - from) / 2 ≤ length target → later ≡ stored target 0 (octets (take (end - from) (drop from line)))
+  pub enough-read : (later : List ℕ) → (end - from) / 2 ≤ length target → later ≡ stored target 0 (octets (take (end - from) (drop from line)))
       → (Is (record { id = f .id; date = f .date; cue = f .cue; len = (end - from) / 2 }) ≡ readOf line target) × (later ≡ readLater line target)
-  whole-read later l e =
+  enough-read later l e =
       let x = wrote-answer (made (sectionOf (h .list))) target (sectionOf (h .list)) refl (omega (arith, count)) in
       let y : told (h .list) (Written.Wrote ((end - from) / 2)) ≡ told (h .list) (Written.Wrote (length (sectionOf (h .list)))) = ap (λ (n : ℕ). told (h .list) (Written.Wrote n)) (sym count) in
       let z : Is (record { id = f .id; date = f .date; cue = f .cue; len = (end - from) / 2 }) ≡ told (h .list) (Written.Wrote ((end - from) / 2)) = rw (← h .found) in

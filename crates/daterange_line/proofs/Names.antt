@@ -16,7 +16,7 @@ use Rattle.attribute_list.specs.Cutting.{same, cutOf, endOf}
 use Rattle.daterange_line.specs.Reading.{named, repeats}
 use Rattle.daterange_line.specs.Private.{earlier}
 use Rattle.attribute_list.specs.declared.cutting.Cut.the-variants.{Is}
-use Rattle.attribute_list.proofs.Wholes.{Exact, cut-exact, isQuoted, sized}
+use Rattle.attribute_list.proofs.Completes.{Exact, cut-exact, isQuoted, sized}
 use Rattle.daterange_line.proofs.Searches.{earlier-end}
 
 -- the text of attributes that each have a comma behind them

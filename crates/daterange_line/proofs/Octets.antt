@@ -98,5 +98,5 @@ module _ (s : List ℕ) (i : ℕ) (h : i * 2 + 1 < length s) where
       let z : 0 + length b ≡ i = omega arith in
       rw (octets-more, ← e) (rw z at (stored-behind t 0 v b (omega arith)))
 
-pub octets-whole : (s : List ℕ) (i : ℕ) → length s % 2 ≡ 0 → length s / 2 ≤ i → octets (take (i * 2) s) ≡ octets s
-octets-whole s i e h = ap octets (take-all (i * 2) s (omega arith))
+pub octets-all : (s : List ℕ) (i : ℕ) → length s % 2 ≡ 0 → length s / 2 ≤ i → octets (take (i * 2) s) ≡ octets s
+octets-all s i e h = ap octets (take-all (i * 2) s (omega arith))

@@ -26,7 +26,7 @@ use Rattle.daterange_line.specs.declared.looking.Found.{Found}
 use Rattle.daterange_line.specs.declared.looking.Turn.the-variants.{Bad, Done, More}
 use Rattle.daterange_line.specs.declared.looking.Look.{Look}
 use Rattle.daterange_line.specs.declared.looking.Look.the-variants as look
-use Rattle.attribute_list.proofs.Wholes.{Whole, Sound, cut-sound}
+use Rattle.attribute_list.proofs.Completes.{Complete, Sound, cut-sound}
 use Rattle.attribute_list.proofs.Lists.{comma}
 use Rattle.daterange_line.proofs.Names.{followed, followed-length, followed-more, Before, earlier-is, repeatsAfter}
 
@@ -147,7 +147,7 @@ one-listed m seen a f at p e (some l) x =
     one-more (named (a .name) seen) (fitting a) m g p (repeatsAfter (seen ++ (a ∷ [])) l) (all fitting l) (ended (gathered g p l)) x
     ∙ ap (λ (i : ℕ). pick (repeatsAfter seen (a ∷ l) || not (all fitting (a ∷ l))) (look.Refused 52) (ended (gathered g i l))) e
 
-value-view : (at n : ℕ) (q : Bool) (k : ℕ) (s : List ℕ) → Whole s n q k → _≡_ {A = View} (record { at = at + valueFrom n q; len = k }) (viewAt at (attributeIn s n q k))
+value-view : (at n : ℕ) (q : Bool) (k : ℕ) (s : List ℕ) → Complete s n q k → _≡_ {A = View} (record { at = at + valueFrom n q; len = k }) (viewAt at (attributeIn s n q k))
 value-view at n true k s w = rw (w .named, w .valued)
 value-view at n false k s w = rw (w .named, w .valued)
 
@@ -157,7 +157,7 @@ all-more p [] a h e = rw e
 all-more p (b ∷ l) a h e = let both = and-true (p b) (all p l) h in rw (both .0, all-more p l a (both .1) e)
 
 -- an attribute more stands before the next one
-before-more : (line : List ℕ) (at : ℕ) (seen : List Attribute) (n : ℕ) (q : Bool) (k : ℕ) → Whole (drop at line) n q k → Before line 17 at seen
+before-more : (line : List ℕ) (at : ℕ) (seen : List Attribute) (n : ℕ) (q : Bool) (k : ℕ) → Complete (drop at line) n q k → Before line 17 at seen
     → eqb (length (drop (endOf n q k) (drop at line))) 0 ≡ false → Before line 17 (at + (endOf n q k + 1)) (seen ++ (attributeIn (drop at line) n q k ∷ []))
 before-more line at seen n q k w b z =
     let s = drop at line in

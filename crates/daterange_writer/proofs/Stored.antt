@@ -88,10 +88,10 @@ module _ (t id date word section : List ℕ) where
       let p = pieces id date word (hexOf section) in
       short-answer (made p) t p refl (omega (arith, pieces-size id date word section, leb-false (35 + length id + length date + length word + length section * 2) (length t) e))
 
-  pub store-whole : (later : List ℕ) → leb (35 + length id + length date + length word + length section * 2) (length t) ≡ true → later ≡ stored t 0 (pieces id date word (hexOf section))
+  pub store-all : (later : List ℕ) → leb (35 + length id + length date + length word + length section * 2) (length t) ≡ true → later ≡ stored t 0 (pieces id date word (hexOf section))
       → (Written.Wrote (35 + length id + length date + length word + length section * 2) ≡ answerOf (made (pieces id date word (hexOf section))) t)
       × (later ≡ laterOf (made (pieces id date word (hexOf section))) t)
-  store-whole later e f =
+  store-all later e f =
       let p = pieces id date word (hexOf section) in
       let x = wrote-answer (made p) t p refl (omega (arith, pieces-size id date word section, leb-true (35 + length id + length date + length word + length section * 2) (length t) e)) in
       (ap Written.Wrote (sym (pieces-size id date word section)) ∙ x .0, f ∙ x .1)

@@ -26,7 +26,7 @@ use Rattle.descriptor.specs.Segmentation.{
   mode,
   duration,
   writtenUpid,
-  Fore,
+  ListedFront,
   parts,
   front,
   back,
@@ -38,16 +38,16 @@ use Rattle.descriptor.specs.Segmentation.{
 }
 use Rattle.descriptor.specs.Private.{filling}
 use Rattle.descriptor.specs.Descriptor.{descriptorOf}
-use Rattle.descriptor.specs.Whole.{filled, blankBeside, besideIn, besideOf, besideRead, identifierRead, wholeOf}
+use Rattle.descriptor.specs.Full.{filled, blankBeside, besideIn, besideOf, besideRead, identifierRead, fullOf}
 use Rattle.descriptor.specs.declared.DescriptorRead.{DescriptorRead}
 use Rattle.descriptor.specs.declared.back.Back.{Back}
 use Rattle.descriptor.specs.declared.front.Component.{Component}
 use Rattle.descriptor.specs.declared.front.Front.{Front}
-use Rattle.descriptor.specs.declared.segmentation.ModeComponent.{ModeComponent}
+use Rattle.descriptor.specs.declared.segmentation.SegmentationComponent.{SegmentationComponent}
 use Rattle.descriptor.specs.declared.segmentation.DescriptorDetail.the-variants.{Cancel, Active}
 use Rattle.descriptor.specs.declared.segmentation.SegmentationMode.{SegmentationMode}
 use Rattle.descriptor.specs.declared.segmentation.SegmentationUpid.{SegmentationUpid}
-use Rattle.descriptor.specs.declared.whole.Beside.{Beside}
+use Rattle.descriptor.specs.declared.full.Beside.{Beside}
 
 -- ---- where the components lie
 reads-ones : {X : Type 0} (s : List ℕ) (at w : ℕ) (t : Table X) (y : X) (m : ℕ) → parse (ones w t) (bitsOf s) at ≡ got y m → parse t (bitsOf s) (at + w) ≡ got y m
@@ -69,7 +69,7 @@ restrictions-at s false x m e =
     ap end (reads-number s 46 2 _ _ x m e₃ .1)
 
 -- the components of a mode: none, or a list from bit 56 on
-abbrev Listed : List ℕ → SegmentationMode → List ModeComponent → Type 0
+abbrev Listed : List ℕ → SegmentationMode → List SegmentationComponent → Type 0
 Listed s SegmentationMode.Program cs = cs ≡ []
 Listed s (SegmentationMode.Component n) cs = (m : ℕ) × (parse (list n blankComponent component) (bitsOf s) 56 ≡ got cs m) × (n < 256) × (56 ≤ length s * 8)
 
@@ -86,11 +86,11 @@ mode-listed s false x m e =
     let i = reads-in (list (field (bitsOf s) 48 8) blankComponent component) _ _ (bitsOf s) 56 x m e₁ in
     rw (← (ap modeIn (i .back))) (i .seam, i .front, field-lt s 48 8, e₀)
 
-abbrev modeOf : Answer Fore → Moded
+abbrev modeOf : Answer ListedFront → Moded
 modeOf (got x m) = record { mode = x .front .«segmentation_mode»; components = x .components }
 modeOf (short e a) = record { mode = SegmentationMode.Program; components = [] }
 
-parts-listed : (s : List ℕ) (p l f : Bool) (x : Fore) (m : ℕ) → parse (parts p l f) (bitsOf s) 43 ≡ got x m → Listed s (x .front .«segmentation_mode») (x .components)
+parts-listed : (s : List ℕ) (p l f : Bool) (x : ListedFront) (m : ℕ) → parse (parts p l f) (bitsOf s) 43 ≡ got x m → Listed s (x .front .«segmentation_mode») (x .components)
 unfolding parts
 parts-listed s p l f x m e =
     let i = reads-in (deliveryRestrictions f) _ _ (bitsOf s) 43 x m e in
@@ -101,7 +101,7 @@ parts-listed s p l f x m e =
     let g : parse (mode p) (bitsOf s) 48 ≡ got (j .inner) (j .seam) = rw (restrictions-at s f (i .inner) (i .seam) (i .front)) (j .front) in
     subst (λ (y : Moded). Listed s (y .mode) (y .components)) (sym z) (mode-listed s p (j .inner) (j .seam) g)
 
-front-listed : (s : List ℕ) (x : Fore) (m : ℕ) → parse front (bitsOf s) 40 ≡ got x m → Listed s (x .front .«segmentation_mode») (x .components)
+front-listed : (s : List ℕ) (x : ListedFront) (m : ℕ) → parse front (bitsOf s) 40 ≡ got x m → Listed s (x .front .«segmentation_mode») (x .components)
 unfolding front
 front-listed s x m e =
     let e₁ = reads-flag s 40 _ _ x m e .1 in
@@ -109,7 +109,7 @@ front-listed s x m e =
     let e₃ = reads-flag s 42 _ _ x m e₂ .1 in
     parts-listed s _ _ _ x m e₃
 
-module _ (s : List ℕ) (f : Front) (cs : List ModeComponent) (m : ℕ) (e : parse front (bitsOf s) 40 ≡ got (record { front = f; components = cs }) m) where
+module _ (s : List ℕ) (f : Front) (cs : List SegmentationComponent) (m : ℕ) (e : parse front (bitsOf s) 40 ≡ got (record { front = f; components = cs }) m) where
   there-as : (k : SegmentationMode) → f .«segmentation_mode» ≡ k → Listed s k cs
   there-as k is = subst (λ (k : SegmentationMode). Listed s k cs) is (front-listed s (record { front = f; components = cs }) m e)
 
@@ -122,7 +122,7 @@ pub eidr-as : (s : List ℕ) {u v : SegmentationUpid} → u ≡ v → eidrOf (v 
 eidr-as s e = rw e
 
 -- ---- an array that is filled
-list-length : (n : ℕ) (bs : List ℕ) (at : ℕ) (cs : List ModeComponent) (m : ℕ) → parse (list n blankComponent component) bs at ≡ got cs m → length cs ≡ n
+list-length : (n : ℕ) (bs : List ℕ) (at : ℕ) (cs : List SegmentationComponent) (m : ℕ) → parse (list n blankComponent component) bs at ≡ got cs m → length cs ≡ n
 unfolding list
 list-length zero bs at cs m e = let z : cs ≡ [] = cc in ap length z
 list-length (suc n) bs at cs m e =
@@ -131,39 +131,39 @@ list-length (suc n) bs at cs m e =
     let z : cs ≡ i .inner ∷ j .inner = cc (j .back) in
     ap length z ∙ ap suc (list-length n bs (i .seam) (j .inner) (j .seam) (j .front))
 
-drop-replicate : (i n : ℕ) (a : ModeComponent) → drop i (replicate n a) ≡ replicate (n - i) a
+drop-replicate : (i n : ℕ) (a : SegmentationComponent) → drop i (replicate n a) ≡ replicate (n - i) a
 drop-replicate zero n a = rw sub-zero
 drop-replicate (suc i) zero a = rw zero-sub
 drop-replicate (suc i) (suc n) a = rw suc-sub-suc (drop-replicate i n a)
 
-sets-front : (n : ℕ) (a : ModeComponent) (xs : List ModeComponent) → length xs ≤ n → sets (replicate n a) 0 xs ≡ xs ++ replicate (n - length xs) a
+sets-front : (n : ℕ) (a : SegmentationComponent) (xs : List SegmentationComponent) → length xs ≤ n → sets (replicate n a) 0 xs ≡ xs ++ replicate (n - length xs) a
 sets-front n a xs h =
     let e : 0 + length xs ≡ length xs = zero-add (length xs) in
     let f : 0 + length xs ≤ length (replicate n a) = omega (arith, length-replicate n a) in
     sets-eq xs (replicate n a) 0 f ∙ rw (e, drop-replicate)
 
-pub filled-is : (n : ℕ) (bs : List ℕ) (at : ℕ) (cs : List ModeComponent) (m : ℕ) → n ≤ 255 → parse (list n blankComponent component) bs at ≡ got cs m
+pub filled-is : (n : ℕ) (bs : List ℕ) (at : ℕ) (cs : List SegmentationComponent) (m : ℕ) → n ≤ 255 → parse (list n blankComponent component) bs at ≡ got cs m
     → filling (filled []) 0 (parse (list n blankComponent component) bs at) ≡ filled cs
 unfolding filling filled
 filled-is n bs at cs m h e = rw e (sets-front 255 blankComponent cs (omega (arith, list-length n bs at cs m e)))
 
 -- ---- the loop that fills: what is left gives what the whole gives
-abbrev pub fillingFrom : List ℕ → List ModeComponent → ℕ → ℕ → ℕ → List ModeComponent
+abbrev pub fillingFrom : List ℕ → List SegmentationComponent → ℕ → ℕ → ℕ → List SegmentationComponent
 fillingFrom s out i n c = filling out i (parse (list n blankComponent component) (bitsOf s) (c * 8))
 
-pub fill-start : (s : List ℕ) (n c : ℕ) (out : List ModeComponent) → out ≡ filled [] → (length out ≡ 255) × (fillingFrom s out 0 (n - 0) c ≡ fillingFrom s (filled []) 0 n c)
+pub fill-start : (s : List ℕ) (n c : ℕ) (out : List SegmentationComponent) → out ≡ filled [] → (length out ≡ 255) × (fillingFrom s out 0 (n - 0) c ≡ fillingFrom s (filled []) 0 n c)
 unfolding filled
 fill-start s n c out e =
     let z : n - 0 ≡ n = omega arith in
     (ap length e ∙ length-replicate 255 blankComponent, rw (e, z))
 
-filling-onward : (bs : List ℕ) (out : List ModeComponent) (i : ℕ) (y : ModeComponent) (r : Answer (List ModeComponent))
+filling-onward : (bs : List ℕ) (out : List SegmentationComponent) (i : ℕ) (y : SegmentationComponent) (r : Answer (List SegmentationComponent))
     → filling out i (onward bs (λ ys. done (y ∷ ys)) r) ≡ filling (set out i y) (suc i) r
 unfolding filling
 filling-onward bs out i y (got xs m) = refl
 filling-onward bs out i y (short e a) = refl
 
-module _ (s : List ℕ) (n from : ℕ) (out : List ModeComponent) (i c : ℕ) (inv : fillingFrom s out i (n - i) c ≡ fillingFrom s (filled []) 0 n from) where
+module _ (s : List ℕ) (n from : ℕ) (out : List SegmentationComponent) (i c : ℕ) (inv : fillingFrom s out i (n - i) c ≡ fillingFrom s (filled []) 0 n from) where
   pub fill-end : n ≤ i → out ≡ fillingFrom s (filled []) 0 n from
   unfolding filling
   fill-end h =
@@ -215,7 +215,7 @@ module _ (s : List ℕ) where
       beside-no-front x a e =
           nothing (record { expected = x; actual = a }) (takes-in head _ _ (bitsOf s) 0 h 40 eh ∙ rw off (lacks-in front _ _ (bitsOf s) 40 x a e))
 
-      module _ (f : Front) (cs : List ModeComponent) (j : ℕ) (ef : parse front (bitsOf s) 40 ≡ got (record { front = f; components = cs }) j) where
+      module _ (f : Front) (cs : List SegmentationComponent) (j : ℕ) (ef : parse front (bitsOf s) 40 ≡ got (record { front = f; components = cs }) j) where
         pub beside-no-back : (x : Short) → parse back (bitsOf s) j ≡ short (x .expected) (x .actual) → blankBeside ≡ besideOf s
         unfolding segmentation
         beside-no-back x e =
@@ -227,7 +227,7 @@ module _ (s : List ℕ) where
 
         module _ (b : Back) (m : ℕ) (eb : parse back (bitsOf s) j ≡ got b m) (held : List ℕ)
             (eheld : held ≡ eidrOf (f .«segmentation_upid» .«upid_type») (viewed s (f .«segmentation_upid» .bytes))) where
-          beside : (all : List ModeComponent) → all ≡ filled cs → record { components = all; eidr = held } ≡ besideOf s
+          beside : (all : List SegmentationComponent) → all ≡ filled cs → record { components = all; eidr = held } ≡ besideOf s
           unfolding segmentation besideOf besideIn
           beside all e =
               let g : parse segmentation (bitsOf s) 0 ≡ got (record {
@@ -240,17 +240,17 @@ module _ (s : List ℕ) where
               ∙ takes-in back _ _ (bitsOf s) j b m eb) in
               rw (g, ← eheld, e)
 
-          pub beside-program : f .«segmentation_mode» ≡ SegmentationMode.Program → (all : List ModeComponent) → all ≡ filled [] → record { components = all; eidr = held } ≡ besideOf s
+          pub beside-program : f .«segmentation_mode» ≡ SegmentationMode.Program → (all : List SegmentationComponent) → all ≡ filled [] → record { components = all; eidr = held } ≡ besideOf s
           beside-program e all eall = beside all (eall ∙ sym (ap filled (there-as s f cs j ef SegmentationMode.Program e)))
 
-          pub beside-components : (n : ℕ) → f .«segmentation_mode» ≡ SegmentationMode.Component n → (all : List ModeComponent)
+          pub beside-components : (n : ℕ) → f .«segmentation_mode» ≡ SegmentationMode.Component n → (all : List SegmentationComponent)
               → all ≡ filling (filled []) 0 (parse (list n blankComponent component) (bitsOf s) 56) → record { components = all; eidr = held } ≡ besideOf s
           beside-components n e all eall =
               let t : (m : ℕ) × (parse (list n blankComponent component) (bitsOf s) 56 ≡ got cs m) × (n < 256) × (56 ≤ length s * 8) = there-as s f cs j ef (SegmentationMode.Component n) e in
               beside all (eall ∙ filled-is n (bitsOf s) 56 _ (t .0) (omega arith) (t .1))
 
 -- ---- beside any descriptor
-pub whole-is : (tag : ℕ) (id s : List ℕ) (r : DescriptorRead) → r ≡ descriptorOf tag id s → (i : List ℕ) → i ≡ identifierRead r id → (b : Beside) → b ≡ besideRead r s
-    → record { read = r; identifier = i; beside = b } ≡ wholeOf tag id s
-unfolding wholeOf
-whole-is tag id s r e i ei b eb = rw (← e, ei, eb)
+pub full-is : (tag : ℕ) (id s : List ℕ) (r : DescriptorRead) → r ≡ descriptorOf tag id s → (i : List ℕ) → i ≡ identifierRead r id → (b : Beside) → b ≡ besideRead r s
+    → record { read = r; identifier = i; beside = b } ≡ fullOf tag id s
+unfolding fullOf
+full-is tag id s r e i ei b eb = rw (← e, ei, eb)

@@ -23,7 +23,7 @@ use Rattle.descriptor.specs.Segmentation.{
   durationSize,
   fieldsBefore,
   writtenUpid,
-  Fore,
+  ListedFront,
   parts,
   front,
   Head,
@@ -31,7 +31,7 @@ use Rattle.descriptor.specs.Segmentation.{
   blankFront,
 }
 use Rattle.descriptor.specs.declared.segmentation.DeliveryRestrictionFlags.{DeliveryRestrictionFlags}
-use Rattle.descriptor.specs.declared.segmentation.ModeComponent.{ModeComponent}
+use Rattle.descriptor.specs.declared.segmentation.SegmentationComponent.{SegmentationComponent}
 use Rattle.descriptor.specs.declared.segmentation.SegmentationDuration.{SegmentationDuration}
 use Rattle.descriptor.specs.declared.segmentation.SegmentationMode.{SegmentationMode}
 use Rattle.descriptor.specs.declared.segmentation.SegmentationUpid.{SegmentationUpid}
@@ -39,7 +39,7 @@ use Rattle.descriptor.specs.declared.segmentation.SegmentationUpid.{Segm
 module _ (s : List ℕ) where
   -- ---- how many bits each field before it takes
 
-  component-ends : (at : ℕ) (y : ModeComponent) (m : ℕ) → parse component (bitsOf s) at ≡ got y m → m ≡ at + 48
+  component-ends : (at : ℕ) (y : SegmentationComponent) (m : ℕ) → parse component (bitsOf s) at ≡ got y m → m ≡ at + 48
   unfolding component
   component-ends at y m e =
       let e₁ = reads-number s at 8 _ _ y m e .1 in
@@ -48,7 +48,7 @@ module _ (s : List ℕ) where
       let z : at + 8 + 7 + 33 ≡ m = cc e₃ in
       omega arith
 
-  components-end : (n at : ℕ) (ys : List ModeComponent) (m : ℕ) → parse (list n blankComponent component) (bitsOf s) at ≡ got ys m → m ≡ at + n * 48
+  components-end : (n at : ℕ) (ys : List SegmentationComponent) (m : ℕ) → parse (list n blankComponent component) (bitsOf s) at ≡ got ys m → m ≡ at + n * 48
   unfolding list
   components-end zero at ys m e = let z : at ≡ m = cc in omega arith
   components-end (suc n) at ys m e =
@@ -108,7 +108,7 @@ module _ (s : List ℕ) where
 -- ---- the UPID
 
 -- the place of its type, of what is read up to it
-abbrev pub place : Fore → ℕ
+abbrev pub place : ListedFront → ℕ
 place f = 6 + (modeSize (f .front .«segmentation_mode») + durationSize (f .front .«segmentation_duration»))
 
 -- its type and its length stand there, and its bytes behind them
@@ -144,11 +144,11 @@ module _ (s : List ℕ) (bytes : (k : ℕ) → getD s k 0 < 256) where
       let f : field (bitsOf s) (4 * 8 + 0) 1 ≡ getD s 4 0 / 2 ^ 7 % 2 ^ 1 = field-in s 4 (omega (arith, i .0)) (bytes 4) 0 1 7 refl in
       (omega (arith, i .0), sym f ∙ eqb-true _ _ c)
 
-  abbrev readIn : Answer Fore → Fore
+  abbrev readIn : Answer ListedFront → ListedFront
   readIn (got x m) = x
   readIn (short e a) = record { front = blankFront; components = [] }
 
-  pub record Placed (f : Fore) : Type 0 where
+  pub record Placed (f : ListedFront) : Type 0 where
     pub is : f .front .«segmentation_upid» ≡ upidIn s (place f)
     pub there : place f + 2 + getD s (place f + 1) 0 ≤ length s
     pub before : place f ≡ 6 + fieldsBefore (getD s 5 0) (getD s 6 0)
@@ -176,7 +176,7 @@ module _ (s : List ℕ) (bytes : (k : ℕ) → getD s k 0 < 256) where
       let z : y ≡ SegmentationDuration.Absent = cc in
       rw z
 
-  parts-told : (p l g : Bool) → eqb (getD s 5 0 / 128 % 2) 1 ≡ p → eqb (getD s 5 0 / 64 % 2) 1 ≡ l → (x : Fore) (m : ℕ) → parse (parts p l g) (bitsOf s) 43 ≡ got x m → Placed x
+  parts-told : (p l g : Bool) → eqb (getD s 5 0 / 128 % 2) 1 ≡ p → eqb (getD s 5 0 / 64 % 2) 1 ≡ l → (x : ListedFront) (m : ℕ) → parse (parts p l g) (bitsOf s) 43 ≡ got x m → Placed x
   unfolding parts
   parts-told p l g ep el x m e =
       let i = reads-in (deliveryRestrictions g) _ _ (bitsOf s) 43 x m e in
@@ -191,7 +191,7 @@ module _ (s : List ℕ) (bytes : (k : ℕ) → getD s k 0 < 256) where
       let t = upid-at q (k .seam) at (w .inner) (w .seam) (w .front) in
       rw (← ap readIn (w .back)) (record { is = t .0; there = t .1; before = rw (ep, el) (omega (arith, sized, lasts)) })
 
-  pub front-told : (x : Fore) (m : ℕ) → parse front (bitsOf s) 40 ≡ got x m → Placed x
+  pub front-told : (x : ListedFront) (m : ℕ) → parse front (bitsOf s) 40 ≡ got x m → Placed x
   unfolding front
   front-told x m e =
       let i = reads-flag s 40 _ _ x m e in

@@ -37,7 +37,7 @@ use Rattle.descriptor.specs.Descriptor.{
   descriptorOf,
 }
 use Rattle.descriptor.specs.Plain.{avail, dtmf, time}
-use Rattle.descriptor.specs.Segmentation.{Fore, blankUpid, deliveryRestrictions, mode, duration, writtenUpid, parts, front, back, head}
+use Rattle.descriptor.specs.Segmentation.{ListedFront, blankUpid, deliveryRestrictions, mode, duration, writtenUpid, parts, front, back, head}
 use Rattle.descriptor.specs.Views.{withoutView, upidViews, refusalViews}
 use Rattle.descriptor.specs.Private.{readViews}
 use Rattle.descriptor.specs.declared.Descriptor.the-variants.{Avail, Dtmf, Time}
@@ -79,12 +79,12 @@ upid-inside s at u m e =
     rw z (omega (arith, j .0))
 
 -- the UPID in a reading
-abbrev written : Answer Fore → SegmentationUpid
+abbrev written : Answer ListedFront → SegmentationUpid
 written (got x m) = x .front .«segmentation_upid»
 written (short e a) = blankUpid
 
 -- the parts that were read, one after the other
-parts-inside : (s : List ℕ) (p l f : Bool) (at : ℕ) (x : Fore) (m : ℕ) → parse (parts p l f) (bitsOf s) at ≡ got x m → Inside s (x .front .«segmentation_upid» .bytes)
+parts-inside : (s : List ℕ) (p l f : Bool) (at : ℕ) (x : ListedFront) (m : ℕ) → parse (parts p l f) (bitsOf s) at ≡ got x m → Inside s (x .front .«segmentation_upid» .bytes)
 unfolding parts
 parts-inside s p l f at x m e =
     let i = reads-in (deliveryRestrictions f) _ _ (bitsOf s) at x m e in
@@ -94,7 +94,7 @@ parts-inside s p l f at x m e =
     let z : x .front .«segmentation_upid» ≡ w .inner = sym (ap written (w .back)) in
     rw z (upid-inside s (k .seam) (w .inner) (w .seam) (w .front))
 
-pub front-inside : (s : List ℕ) (at : ℕ) (x : Fore) (m : ℕ) → parse front (bitsOf s) at ≡ got x m → Inside s (x .front .«segmentation_upid» .bytes)
+pub front-inside : (s : List ℕ) (at : ℕ) (x : ListedFront) (m : ℕ) → parse front (bitsOf s) at ≡ got x m → Inside s (x .front .«segmentation_upid» .bytes)
 unfolding front
 front-inside s at x m e =
     let e₁ = reads-flag s at _ _ x m e .1 in

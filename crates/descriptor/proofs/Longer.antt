@@ -19,7 +19,7 @@ use Rattle.upid.specs.declared.Refusal.the-variants.{NotEnoughData}
 use Rattle.upid.specs.declared.UpidRead.{UpidRead}
 use Rattle.descriptor.specs.Descriptor.{_andThen_, atLeast, availOf, dtmfOf, timeOf, reportedUpid, ifFine, inserted, insertOf, segmentationOf, cuei, isCuei, descriptorOf}
 use Rattle.descriptor.specs.Plain.{avail, dtmf, time}
-use Rattle.descriptor.specs.Segmentation.{deliveryRestrictions, component, blankComponent, mode, duration, writtenUpid, Fore, parts, front, subSegment, subSegments, back, Head, head, insertFrom}
+use Rattle.descriptor.specs.Segmentation.{deliveryRestrictions, component, blankComponent, mode, duration, writtenUpid, ListedFront, parts, front, subSegment, subSegments, back, Head, head, insertFrom}
 use Rattle.descriptor.specs.declared.Descriptor.{Descriptor}
 use Rattle.descriptor.specs.declared.Descriptor.the-variants.{Avail, Dtmf, Segmentation, Time}
 use Rattle.descriptor.specs.declared.DescriptorRead.{DescriptorRead}
@@ -159,14 +159,14 @@ module _ (s more : List ℕ) (x : SegmentationDescriptor) (closed : Closed (x .�
   fine-then event f at (UpidRead.Fine upid-type) e = back-then event f (reportedUpid upid-type (f .«segmentation_upid» .bytes)) at e
   fine-then event f at (UpidRead.Refused r) e = zero-one cc
 
-  abbrev verdict : Fore → UpidRead
+  abbrev verdict : ListedFront → UpidRead
   verdict f = checkOf (f .front .«segmentation_upid» .«upid_type») (viewed s (f .front .«segmentation_upid» .bytes))
 
   front-then : (event at : ℕ) → Reads (insertOf s event at) → Reads (insertOf (s ++ more) event at)
   unfolding insertOf
   front-then event at e = go (parse front (bitsOf s) at) refl e
     where
-      go : (r : Answer Fore) → parse front (bitsOf s) at ≡ r
+      go : (r : Answer ListedFront) → parse front (bitsOf s) at ≡ r
           → Reads (r andThen λ f m. ifFine (verdict f) (f .front .«segmentation_upid» .bytes) λ u. parse back (bitsOf s) m andThen λ b n. inserted event (f .front) u b)
           → Reads (insertOf (s ++ more) event at)
       go (got f m) i e = rw (tolerates front blind-front s more at f m i, viewed-on s more (f .front .«segmentation_upid» .bytes) (front-inside s at f m i)) (fine-then event (f .front) m (verdict f) e)

@@ -17,7 +17,7 @@ use Rattle.table.proofs.Steps.{onward, takes-in, lacks-in, takes-number, lacks-
 use Rattle.descriptor.specs.Segmentation.{deviceOf, deliveryRestrictions, component, blankComponent, mode, duration, writtenUpid}
 use Rattle.descriptor.specs.Private.{restrictionsIn, lackedOf}
 use Rattle.descriptor.specs.declared.segmentation.DeliveryRestrictionFlags.{DeliveryRestrictionFlags}
-use Rattle.descriptor.specs.declared.segmentation.ModeComponent.{ModeComponent}
+use Rattle.descriptor.specs.declared.segmentation.SegmentationComponent.{SegmentationComponent}
 use Rattle.descriptor.specs.declared.segmentation.SegmentationDuration.{SegmentationDuration}
 use Rattle.descriptor.specs.declared.segmentation.SegmentationMode.{SegmentationMode}
 
@@ -80,7 +80,7 @@ lacked-more n e f = rw (ne-eqb n 0 e, ne-eqb n 1 f)
 pub lacked-as : {X : Type 0} (x : Short) (n : ℕ) → x ≡ lackedOf n → (r : Answer X) → r ≡ short (lackedOf n .expected) (lackedOf n .actual) → r ≡ short (x .expected) (x .actual)
 lacked-as x n e r h = rw e h
 
-abbrev lacks-as : Short → Answer ModeComponent
+abbrev lacks-as : Short → Answer SegmentationComponent
 lacks-as x = short (x .expected) (x .actual)
 
 -- ---- a component
@@ -114,12 +114,12 @@ module _ (s : List ℕ) (i : ℕ) where
 
 -- ---- components, one after the other
 pub components-there : (s : List ℕ) (n i : ℕ) → i + n * 6 ≤ length s
-    → (cs : List ModeComponent) × (parse (list n blankComponent component) (bitsOf s) (i * 8) ≡ got cs ((i + n * 6) * 8))
+    → (cs : List SegmentationComponent) × (parse (list n blankComponent component) (bitsOf s) (i * 8) ≡ got cs ((i + n * 6) * 8))
 components-there s zero i h =
     let z : i * 8 ≡ (i + 0 * 6) * 8 = omega arith in
     ([], list-none blankComponent component (bitsOf s) (i * 8) ∙ ap (got []) z)
 components-there s (suc n) i h =
-    let c : ModeComponent = record { «component_tag» = field (bitsOf s) (i * 8) 8; «pts_offset» = field (bitsOf s) ((i + 1) * 8 + 7) 33 } in
+    let c : SegmentationComponent = record { «component_tag» = field (bitsOf s) (i * 8) 8; «pts_offset» = field (bitsOf s) ((i + 1) * 8 + 7) 33 } in
     let r = components-there s n (i + 6) (omega arith) in
     let z : (i + 6 + n * 6) * 8 ≡ (i + suc n * 6) * 8 = omega arith in (
       c ∷ r .0,
@@ -128,7 +128,7 @@ components-there s (suc n) i h =
           ∙ ap (got (c ∷ r .0)) z,
     )
 
-abbrev lacks-list : ℕ → Answer (List ModeComponent)
+abbrev lacks-list : ℕ → Answer (List SegmentationComponent)
 lacks-list n = short (lackedOf n .expected) (lackedOf n .actual)
 
 pub components-lack : (s : List ℕ) (n i : ℕ) → i ≤ length s → length s - i < n * 6
@@ -151,7 +151,7 @@ components-lack s (suc n) i k h = go (ltb (length s - i) 6) refl (components-lac
         ∙ ap lacks-list z
 
 -- with the bytes that they take worked out
-pub as-counted : (i n k : ℕ) → k ≡ n → (cs : List ModeComponent) (r : Answer (List ModeComponent)) → r ≡ got cs ((i + n * 6) * 8) → r ≡ got cs ((i + k * 6) * 8)
+pub as-counted : (i n k : ℕ) → k ≡ n → (cs : List SegmentationComponent) (r : Answer (List SegmentationComponent)) → r ≡ got cs ((i + n * 6) * 8) → r ≡ got cs ((i + k * 6) * 8)
 as-counted i n k e cs r h = rw e h
 
 -- ---- the mode
@@ -180,7 +180,7 @@ module _ (s : List ℕ) (i : ℕ) (b : Bool) where
           counting ∙ takes-number s (i * 8) 8 n _ _ (omega arith) en
           ∙ lacks-in (list n blankComponent component) _ _ (bitsOf s) (i * 8 + 8) x a (ap (parse (list n blankComponent component) (bitsOf s)) next ∙ e)
 
-      pub by-components : (cs : List ModeComponent) (m : ℕ) → parse (list n blankComponent component) (bitsOf s) ((i + 1) * 8) ≡ got cs m
+      pub by-components : (cs : List SegmentationComponent) (m : ℕ) → parse (list n blankComponent component) (bitsOf s) ((i + 1) * 8) ≡ got cs m
           → parse (mode b) (bitsOf s) (i * 8) ≡ got (record { mode = SegmentationMode.Component n; components = cs }) m
       unfolding mode
       by-components cs m e =

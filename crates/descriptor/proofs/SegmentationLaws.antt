@@ -27,7 +27,7 @@ use Rattle.descriptor.specs.Segmentation.{
   duration,
   durationSize,
   writtenUpid,
-  Fore,
+  ListedFront,
   parts,
   front,
   subBytes,
@@ -51,7 +51,7 @@ use Rattle.descriptor.specs.Segmentation.{
 use Rattle.descriptor.specs.declared.back.Back.{Back}
 use Rattle.descriptor.specs.declared.front.Front.{Front}
 use Rattle.descriptor.specs.declared.segmentation.DeliveryRestrictionFlags.{DeliveryRestrictionFlags}
-use Rattle.descriptor.specs.declared.segmentation.ModeComponent.{ModeComponent}
+use Rattle.descriptor.specs.declared.segmentation.SegmentationComponent.{SegmentationComponent}
 use Rattle.descriptor.specs.declared.segmentation.SegmentationDescriptor.{SegmentationDescriptor}
 use Rattle.descriptor.specs.declared.segmentation.DescriptorDetail.{DescriptorDetail}
 use Rattle.descriptor.specs.declared.segmentation.DescriptorDetail.the-variants.{Cancel, Active}
@@ -81,7 +81,7 @@ delivery-leads (DeliveryRestrictionFlags.DeliveryRestrictions r) at m =
     (leads-number 2 _ _ _ _ (at + 1 + 1 + 1) _ m
     (leads-done (DeliveryRestrictionFlags.DeliveryRestrictions r) _ _ _ _ m (rw (device-back (r .«device_restrictions»))) (omega arith)))))
 
-component-leads : (x : ModeComponent) (at m : ℕ) → Leads component x x at (at + 48) m
+component-leads : (x : SegmentationComponent) (at m : ℕ) → Leads component x x at (at + 48) m
 unfolding component
 component-leads x at m =
     leads-number 8 _ _ _ _ at _ m
@@ -89,18 +89,18 @@ component-leads x at m =
     (leads-number 33 _ _ _ _ (at + 8 + 7) _ m
     (leads-done x _ _ _ _ m refl (omega arith))))
 
-components-lead : (cs : List ModeComponent) (at m : ℕ) → Leads (list (length cs) blankComponent component) cs cs at (at + length cs * 48) m
+components-lead : (cs : List SegmentationComponent) (at m : ℕ) → Leads (list (length cs) blankComponent component) cs cs at (at + length cs * 48) m
 components-lead cs at m = rw (all cs) at (leads-list blankComponent component (λ y. 48) cs (each cs) at m)
   where
-    each : (cs : List ModeComponent) → Each (λ y. (at m : ℕ) → Leads component y y at (at + 48) m) cs
+    each : (cs : List SegmentationComponent) → Each (λ y. (at m : ℕ) → Leads component y y at (at + 48) m) cs
     each [] = tt
     each (c ∷ cs) = (component-leads c, each cs)
 
-    all : (cs : List ModeComponent) → total (λ (y : ModeComponent). 48) cs ≡ length cs * 48
+    all : (cs : List SegmentationComponent) → total (λ (y : SegmentationComponent). 48) cs ≡ length cs * 48
     all [] = refl
     all (c ∷ cs) = let z = all cs in omega arith
 
-mode-leads : (k : SegmentationMode) (cs : List ModeComponent) (at m : ℕ) → length cs ≡ countOf k
+mode-leads : (k : SegmentationMode) (cs : List SegmentationComponent) (at m : ℕ) → length cs ≡ countOf k
     → Leads (mode (byProgram k)) (record { mode = k; components = cs }) (record { mode = k; components = cs }) at (at + modeSize k * 8) m
 unfolding mode
 mode-leads SegmentationMode.Program [] at m e = leads-done (record { mode = SegmentationMode.Program; components = [] }) _ _ _ _ m refl (omega arith)
@@ -176,7 +176,7 @@ frontMoved f = record {
 abbrev pub frontBytes : Front → ℕ
 frontBytes f = upidPlace f + f .«segmentation_upid» .bytes .len
 
-module _ (x : Fore) (m : ℕ) (fits : length (x .components) ≡ countOf (x .front .«segmentation_mode»)) where
+module _ (x : ListedFront) (m : ℕ) (fits : length (x .components) ≡ countOf (x .front .«segmentation_mode»)) where
   -- with flags that agree with their parts
   parts-lead : (p l f : Bool) → p ≡ byProgram (x .front .«segmentation_mode») → l ≡ lasting (x .front .«segmentation_duration») → f ≡ unrestricted (x .front .«delivery_restrictions»)
       → Leads (parts (byProgram (x .front .«segmentation_mode»)) (lasting (x .front .«segmentation_duration»)) (unrestricted (x .front .«delivery_restrictions»))) x (record {
@@ -237,7 +237,7 @@ detailBytes (Active i) = frontBytes (frontOf (Active i)) + (3 + subBytes (i .«s
 abbrev pub Counted : Segmentation → Type 0
 Counted x = length (x .components) ≡ countOf (frontOf (x .descriptor .«descriptor_detail») .«segmentation_mode»)
 
-segmentation-leads : (event : ℕ) (d : DescriptorDetail) (cs : List ModeComponent) (m : ℕ) → length cs ≡ countOf (frontOf d .«segmentation_mode») → writableDetail d ≡ true → m ≡ 0
+segmentation-leads : (event : ℕ) (d : DescriptorDetail) (cs : List SegmentationComponent) (m : ℕ) → length cs ≡ countOf (frontOf d .«segmentation_mode») → writableDetail d ≡ true → m ≡ 0
     → (let x : Segmentation = record { descriptor = record { «segmentation_event_id» = event; «descriptor_detail» = d }; components = cs } in
     Leads segmentation x (segmentationMoved x) 0 (detailBytes d * 8) m)
 unfolding segmentation writableDetail
@@ -246,7 +246,7 @@ segmentation-leads event Cancel [] m h f e =
 segmentation-leads event Cancel (c ∷ cs) m h f e = absurd (omega arith)
 segmentation-leads event (Active i) cs m h f e =
     let a = and-true (writableFront (frontOf (Active i))) _ f in
-    let x : Fore = record { front = frontOf (Active i); components = cs } in
+    let x : ListedFront = record { front = frontOf (Active i); components = cs } in
     leads-in head _ _ _ _ (record { event = event; cancel = false }) 0 40 _ m (head-leads _ _)
     (leads-in front _ _ _ _ (record { front = frontMoved (frontOf (Active i)); components = cs }) 40 (frontBytes (frontOf (Active i)) * 8) _ m
     (front-lead x _ h (a .0))

@@ -20,7 +20,7 @@ use Rattle.upid.specs.declared.Refusal.{Refusal}
 use Rattle.upid.specs.declared.UpidRead.{UpidRead}
 use Rattle.upid.proofs.Theorems.{view-of-24-lies-inside}
 use Rattle.descriptor.specs.Descriptor.{movedRefusal, reportedUpid, ifFine, inserted, insertOf, segmentationOf, _andThen_}
-use Rattle.descriptor.specs.Segmentation.{Moded, Fore, Head, deliveryRestrictions, mode, duration, writtenUpid, parts, front, back, head}
+use Rattle.descriptor.specs.Segmentation.{Moded, ListedFront, Head, deliveryRestrictions, mode, duration, writtenUpid, parts, front, back, head}
 use Rattle.descriptor.specs.Private.{lacking, restrictionsIn, upidAnswer, upidChecked}
 use Rattle.descriptor.specs.declared.Descriptor.the-variants.{Segmentation}
 use Rattle.descriptor.specs.declared.DescriptorRead.{DescriptorRead}
@@ -28,7 +28,7 @@ use Rattle.descriptor.specs.declared.DescriptorRead.the-variants.{Is, Re
 use Rattle.descriptor.specs.declared.back.Back.{Back}
 use Rattle.descriptor.specs.declared.front.Front.{Front}
 use Rattle.descriptor.specs.declared.segmentation.DeliveryRestrictionFlags.{DeliveryRestrictionFlags}
-use Rattle.descriptor.specs.declared.segmentation.ModeComponent.{ModeComponent}
+use Rattle.descriptor.specs.declared.segmentation.SegmentationComponent.{SegmentationComponent}
 use Rattle.descriptor.specs.declared.segmentation.DescriptorDetail.the-variants.{Cancel}
 use Rattle.descriptor.specs.declared.segmentation.SegmentationDuration.{SegmentationDuration}
 use Rattle.descriptor.specs.declared.segmentation.SegmentationMode.{SegmentationMode}
@@ -107,7 +107,7 @@ module _ (s : List ℕ) (i : ℕ) (there : i < length s) (byte : getD s i 0 < 25
           ∙ takes-in writtenUpid _ _ (bitsOf s) k u l e)
 
 -- what is read ends within the payload
-pub front-inside : (s : List ℕ) (i n : ℕ) (x : Fore) → parse front (bitsOf s) (i * 8) ≡ got x (n * 8) → n ≤ length s
+pub front-inside : (s : List ℕ) (i n : ℕ) (x : ListedFront) → parse front (bitsOf s) (i * 8) ≡ got x (n * 8) → n ≤ length s
 unfolding front
 front-inside s i n x e =
     let h = reads-flag s (i * 8) _ _ x (n * 8) e .0 in
@@ -158,7 +158,7 @@ module _ (s : List ℕ) (event at : ℕ) where
   unfolding insertOf lacking
   no-front x e = rw e
 
-  module _ (f : Front) (cs : List ModeComponent) (j : ℕ) (ef : parse front (bitsOf s) at ≡ got (record { front = f; components = cs }) j) where
+  module _ (f : Front) (cs : List SegmentationComponent) (j : ℕ) (ef : parse front (bitsOf s) at ≡ got (record { front = f; components = cs }) j) where
     abbrev after : SegmentationUpid → DescriptorRead
     after upid = parse back (bitsOf s) j andThen λ b at. inserted event f upid b
 

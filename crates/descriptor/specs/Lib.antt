@@ -1,6 +1,6 @@
 pub mod Plain
 pub mod Segmentation
 pub mod Descriptor
-pub mod Whole
+pub mod Full
 pub mod Views
 pub mod Private

@@ -14,9 +14,9 @@ use Rattle.upid.specs.Upid.{checkOf}
 use Rattle.upid.specs.declared.Refusal.the-variants.{NotEnoughData}
 use Rattle.upid.specs.declared.UpidRead.{UpidRead}
 use Rattle.descriptor.specs.Descriptor.{movedRefusal, reportedUpid}
-use Rattle.descriptor.specs.Segmentation.{deviceOf, Moded, Fore, Head}
+use Rattle.descriptor.specs.Segmentation.{deviceOf, Moded, ListedFront, Head}
 use Rattle.descriptor.specs.Views.{descriptorViews, refusalViews}
-use Rattle.descriptor.specs.Whole.{filled}
+use Rattle.descriptor.specs.Full.{filled}
 use Rattle.descriptor.specs.declared.DescriptorRead.{DescriptorRead}
 use Rattle.descriptor.specs.declared.DescriptorRead.the-variants.{Is, Refused}
 use Rattle.descriptor.specs.declared.back.Back.{Back}
@@ -33,7 +33,7 @@ use Rattle.descriptor.specs.declared.front.WrittenRead.{WrittenRead}
 use Rattle.descriptor.specs.declared.octet.Octet.{Octet}
 use Rattle.descriptor.specs.declared.segmentation.DeliveryRestrictionFlags.{DeliveryRestrictionFlags}
 use Rattle.descriptor.specs.declared.segmentation.HeadRead.{HeadRead}
-use Rattle.descriptor.specs.declared.segmentation.ModeComponent.{ModeComponent}
+use Rattle.descriptor.specs.declared.segmentation.SegmentationComponent.{SegmentationComponent}
 use Rattle.descriptor.specs.declared.segmentation.SegmentationDuration.{SegmentationDuration}
 use Rattle.descriptor.specs.declared.segmentation.SegmentationUpid.{SegmentationUpid}
 use Rattle.descriptor.specs.declared.segmentation.SubSegments.{SubSegments}
@@ -68,17 +68,17 @@ lackedOf n =
 
 -- ---- readers of parts that start and end with a byte: what each answer says of the table's reading
 
-abbrev pub componentRead : ComponentRead → Answer ModeComponent → Type 0
+abbrev pub componentRead : ComponentRead → Answer SegmentationComponent → Type 0
 componentRead (ComponentRead.Got x) r = r ≡ got (x .component) (x .next * 8)
 componentRead (ComponentRead.Lacks e) r = r ≡ short (e .expected) (e .actual)
 
 -- the components are not kept
-abbrev pub componentsPassed : ComponentsPassed → Answer (List ModeComponent) → Type 0
-componentsPassed (ComponentsPassed.Got next) r = (cs : List ModeComponent) × (r ≡ got cs (next * 8))
+abbrev pub componentsPassed : ComponentsPassed → Answer (List SegmentationComponent) → Type 0
+componentsPassed (ComponentsPassed.Got next) r = (cs : List SegmentationComponent) × (r ≡ got cs (next * 8))
 componentsPassed (ComponentsPassed.Lacks e) r = r ≡ short (e .expected) (e .actual)
 
 abbrev pub modeRead : ModeRead → Answer Moded → Type 0
-modeRead (ModeRead.Got x) r = (cs : List ModeComponent) × (r ≡ got (record { mode = x .mode; components = cs }) (x .next * 8))
+modeRead (ModeRead.Got x) r = (cs : List SegmentationComponent) × (r ≡ got (record { mode = x .mode; components = cs }) (x .next * 8))
 modeRead (ModeRead.Lacks e) r = r ≡ short (e .expected) (e .actual)
 
 abbrev pub durationRead : DurationRead → Answer SegmentationDuration → Type 0
@@ -89,14 +89,14 @@ abbrev pub upidRead : WrittenRead → Answer SegmentationUpid → Type 0
 upidRead (WrittenRead.Got x) r = r ≡ got (x .upid) (x .next * 8)
 upidRead (WrittenRead.Lacks e) r = r ≡ short (e .expected) (e .actual)
 
-abbrev pub frontRead : FrontRead → Answer Fore → Type 0
-frontRead (FrontRead.Got x) r = (cs : List ModeComponent) × (r ≡ got (record { front = x .front; components = cs }) (x .next * 8))
+abbrev pub frontRead : FrontRead → Answer ListedFront → Type 0
+frontRead (FrontRead.Got x) r = (cs : List SegmentationComponent) × (r ≡ got (record { front = x .front; components = cs }) (x .next * 8))
 frontRead (FrontRead.Lacks e) r = r ≡ short (e .expected) (e .actual)
 
 -- of the same reading the mode and the UPID alone
-abbrev pub modeAndUpidRead : ModeAndUpidRead → Answer Fore → Type 0
+abbrev pub modeAndUpidRead : ModeAndUpidRead → Answer ListedFront → Type 0
 modeAndUpidRead (ModeAndUpidRead.Got x) r =
-    (f : Front) × (cs : List ModeComponent) × (r ≡ got (record { front = f; components = cs }) (x .next * 8)) × (f .«segmentation_mode» ≡ x .mode) × (f .«segmentation_upid» ≡ x .upid)
+    (f : Front) × (cs : List SegmentationComponent) × (r ≡ got (record { front = f; components = cs }) (x .next * 8)) × (f .«segmentation_mode» ≡ x .mode) × (f .«segmentation_upid» ≡ x .upid)
 modeAndUpidRead ModeAndUpidRead.Lacks r = (expected : ℕ) × (actual : ℕ) × (r ≡ short expected actual)
 
 abbrev pub headRead : HeadRead → Answer Head → Type 0
@@ -121,7 +121,7 @@ unfoldable pub upidChecked : List ℕ → SegmentationUpid → UpidChecked
 upidChecked s u = upidAnswer (checkOf (u .«upid_type») (viewed s (u .bytes))) (u .bytes)
 
 -- components stored in an array from place i on; the blank array where they are not all there
-unfoldable pub filling : List ModeComponent → ℕ → Answer (List ModeComponent) → List ModeComponent
+unfoldable pub filling : List SegmentationComponent → ℕ → Answer (List SegmentationComponent) → List SegmentationComponent
 filling out i (got cs at) = sets out i cs
 filling out i (short expected actual) = filled []
 

@@ -13,7 +13,7 @@ use Rattle.descriptor.specs.declared.back.Back.{Back}
 use Rattle.descriptor.specs.declared.front.Front.{Front}
 use Rattle.descriptor.specs.declared.segmentation.DeliveryRestrictionFlags.{DeliveryRestrictionFlags}
 use Rattle.descriptor.specs.declared.segmentation.DeliveryRestrictions.{DeliveryRestrictions}
-use Rattle.descriptor.specs.declared.segmentation.ModeComponent.{ModeComponent}
+use Rattle.descriptor.specs.declared.segmentation.SegmentationComponent.{SegmentationComponent}
 use Rattle.descriptor.specs.declared.segmentation.SegmentationDescriptor.{SegmentationDescriptor}
 use Rattle.descriptor.specs.declared.segmentation.DescriptorDetail.{DescriptorDetail}
 use Rattle.descriptor.specs.declared.segmentation.DescriptorDetail.the-variants.{Cancel, Active}
@@ -67,14 +67,14 @@ deliveryRestrictions not-restricted =
 
 -- ---- "if not program: count 8, each tag 8, reserved 7, offset 33"
 
-unfoldable pub component : Table ModeComponent
+unfoldable pub component : Table SegmentationComponent
 component =
     uimsbf 8 (λ x. x .«component_tag») λ component-tag.
     ones 7 (
     uimsbf 33 (λ x. x .«pts_offset») λ pts-offset.
     done (record { «component_tag» = component-tag; «pts_offset» = pts-offset }))
 
-abbrev pub blankComponent : ModeComponent
+abbrev pub blankComponent : SegmentationComponent
 blankComponent = record { «component_tag» = 0; «pts_offset» = 0 }
 
 abbrev pub byProgram : SegmentationMode → Bool
@@ -88,7 +88,7 @@ countOf (Component n) = n
 -- the mode, and the components that stand beside it
 pub record Moded : Type 0 where
   pub mode : SegmentationMode
-  pub components : List ModeComponent
+  pub components : List SegmentationComponent
 
 unfoldable pub mode : Bool → Table Moded
 mode program-segmentation =
@@ -139,11 +139,11 @@ writtenUpid =
 
 -- ---- "program 1, duration 1, not-restricted 1", and all up to the UPID
 
-pub record Fore : Type 0 where
+pub record ListedFront : Type 0 where
   pub front : Front
-  pub components : List ModeComponent
+  pub components : List SegmentationComponent
 
-unfoldable pub parts : Bool → Bool → Bool → Table Fore
+unfoldable pub parts : Bool → Bool → Bool → Table ListedFront
 parts program lasting free =
     inside (deliveryRestrictions free) (λ x. x .front .«delivery_restrictions») λ restrictions.
     inside (mode program) (λ x. record { mode = x .front .«segmentation_mode»; components = x .components }) λ moded.
@@ -163,7 +163,7 @@ parts program lasting free =
     })
 
 -- Each flag is written as its part says, so that every number handed in is looked at. Where a flag says otherwise, that is refusal 33 (`writableDetail`).
-unfoldable pub front : Table Fore
+unfoldable pub front : Table ListedFront
 front =
     flag (λ x. byProgram (x .front .«segmentation_mode»)) λ program-segmentation.
     flag (λ x. lasting (x .front .«segmentation_duration»)) λ segmentation-duration.
@@ -222,7 +222,7 @@ head =
 
 pub record Segmentation : Type 0 where
   pub descriptor : SegmentationDescriptor
-  pub components : List ModeComponent
+  pub components : List SegmentationComponent
 
 abbrev pub insertFrom : Front → SegmentationUpid → Back → SegmentationDetail
 insertFrom f upid b = record {
@@ -296,7 +296,7 @@ detailCount d = countOf (frontOf d .«segmentation_mode»)
 abbrev pub componentCount : SegmentationDescriptor → ℕ
 componentCount x = detailCount (x .«descriptor_detail»)
 
--- the same with another UPID
+-- a detail with another UPID
 abbrev pub withUpid : SegmentationDetail → SegmentationUpid → SegmentationDetail
 withUpid i upid = record {
   «program_segmentation_flag» = i .«program_segmentation_flag»;

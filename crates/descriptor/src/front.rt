@@ -9,7 +9,7 @@ ghost use Rattle.table.specs.Table.{list, parse};
 use crate::octet::number40;
 use crate::segmentation::DeliveryRestrictionFlags;
 use crate::segmentation::DeliveryRestrictions;
-use crate::segmentation::ModeComponent;
+use crate::segmentation::SegmentationComponent;
 use crate::segmentation::SegmentationDuration;
 use crate::segmentation::SegmentationMode;
 use crate::segmentation::SegmentationUpid;
@@ -22,7 +22,7 @@ use table::numbers::time33;
 
 // Each part with the byte after it.
 pub(crate) struct Component {
-    pub component: ModeComponent,
+    pub component: SegmentationComponent,
     pub next: usize,
 }
 
@@ -156,7 +156,7 @@ pub(crate) fn read_component(s: &[u8], at: usize) -> ComponentRead
         return ComponentRead::Lacks(lacked(left));
     }
     ComponentRead::Got(Component {
-        component: ModeComponent {
+        component: SegmentationComponent {
             component_tag: s[at],
             pts_offset: time33(s, at + 1),
         },
@@ -164,7 +164,7 @@ pub(crate) fn read_component(s: &[u8], at: usize) -> ComponentRead
     })
 }
 
-// Past n components, of six bytes each; where they are not all there, the first of them that is not whole lacks something.
+// Past n components, of six bytes each; where they are not all there, the first of them that is not complete lacks something.
 fn pass_components(s: &[u8], at: usize, n: u8) -> ComponentsPassed
     requires { ⌜ at ≤ length (now s) ⌝ }
     ensures { λ r. ⌜ componentsPassed r (parse (list n blankComponent component) (bitsOf (now (s .entry))) (at * 8)) ⌝ }

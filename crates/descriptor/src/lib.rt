@@ -15,10 +15,10 @@ use upid::Refusal;
 
 mod back;
 mod front;
+pub mod full;
 mod octet;
 pub mod plain;
 pub mod segmentation;
-pub mod whole;
 
 // A descriptor. The identifier of a reserved one stands beside it.
 pub enum Descriptor {

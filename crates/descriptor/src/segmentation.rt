@@ -46,7 +46,7 @@ pub enum SegmentationMode {
 // A segmentation descriptor has at most so many components.
 pub const MAX_COMPONENTS: usize = 255;
 
-pub struct ModeComponent {
+pub struct SegmentationComponent {
     pub component_tag: u8,
     pub pts_offset: u64,
 }

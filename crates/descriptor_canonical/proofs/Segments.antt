@@ -13,9 +13,9 @@ use Rattle.table.specs.Table.{Table, done, inside, list, uimsbf, Answer, got, s
 use Rattle.table.proofs.Fields.{byte-field, field-in}
 use Rattle.table.proofs.Lists.{zero-one, and-true}
 use Rattle.upid.specs.Upid.{checkOf}
-use Rattle.descriptor.specs.Segmentation.{deliveryRestrictions, component, blankComponent, Moded, mode, duration, writtenUpid, Fore, parts, front, subSegment, subSegments, back, Head, head, blankUpid, Segmentation, segmentation}
+use Rattle.descriptor.specs.Segmentation.{deliveryRestrictions, component, blankComponent, Moded, mode, duration, writtenUpid, ListedFront, parts, front, subSegment, subSegments, back, Head, head, blankUpid, Segmentation, segmentation}
 use Rattle.descriptor.specs.declared.segmentation.DeliveryRestrictionFlags.{DeliveryRestrictionFlags}
-use Rattle.descriptor.specs.declared.segmentation.ModeComponent.{ModeComponent}
+use Rattle.descriptor.specs.declared.segmentation.SegmentationComponent.{SegmentationComponent}
 use Rattle.descriptor.specs.declared.segmentation.SegmentationDuration.{SegmentationDuration}
 use Rattle.descriptor.specs.declared.segmentation.SegmentationUpid.{SegmentationUpid}
 use Rattle.descriptor.specs.declared.segmentation.SubSegments.{SubSegments}
@@ -127,11 +127,11 @@ module _ (s : List ℕ) where
           ap (λ (a : Bool). a && eqb k 0) (none-read k (take n (drop at s)) z)
       go false e = and-tt (accepts (checkOf k (take n (drop at s))))
 
-  module _ (byte : (k : ℕ) → getD s k 0 < 256) (G : Fore → ℕ → Bool) where
+  module _ (byte : (k : ℕ) → getD s k 0 < 256) (G : ListedFront → ℕ → Bool) where
     byte-at : (p q : ℕ) → p ≡ q * 8 → q < length s → field (bitsOf s) p 8 ≡ getD s q 0
     byte-at p q e h = ap (λ (i : ℕ). field (bitsOf s) i 8) e ∙ byte-field s q h (byte q)
 
-    upid-through : (at : ℕ) (q : Fore → SegmentationUpid) (k : SegmentationUpid → Table Fore)
+    upid-through : (at : ℕ) (q : ListedFront → SegmentationUpid) (k : SegmentationUpid → Table ListedFront)
         → ((u : SegmentationUpid) (m : ℕ) → through (k u) (bitsOf s) (m * 8) G ≡ endsAt (length s) m && canonicalUpid s u)
         → through (inside writtenUpid q k) (bitsOf s) (at * 8) G ≡ upidAt s at
     unfolding writtenUpid upidAt
@@ -168,7 +168,7 @@ module _ (s : List ℕ) where
     unfolding upidAt
     upid-there at e = leb-true (at + 5) (length s) (and-true (leb (at + 5) (length s)) _ e .0)
 
-    duration-through : (at : ℕ) (b : Bool) (q : Fore → SegmentationDuration) (k : SegmentationDuration → Table Fore)
+    duration-through : (at : ℕ) (b : Bool) (q : ListedFront → SegmentationDuration) (k : SegmentationDuration → Table ListedFront)
         → ((d : SegmentationDuration) (m : ℕ) → through (k d) (bitsOf s) (m * 8) G ≡ upidAt s m)
         → through (inside (duration b) q k) (bitsOf s) (at * 8) G ≡ upidAt s (at + pick b 5 0)
     unfolding duration
@@ -186,14 +186,14 @@ module _ (s : List ℕ) where
         through-in (duration false) q k (bitsOf s) (at * 8) G ∙ rest SegmentationDuration.Absent at ∙ ap (upidAt s) z
 
     -- ---- components
-    component-through : (at : ℕ) (h : ModeComponent → ℕ → Bool) (x : Bool) → (at + 6 ≤ length s → (y : ModeComponent) → h y ((at + 6) * 8) ≡ x)
+    component-through : (at : ℕ) (h : SegmentationComponent → ℕ → Bool) (x : Bool) → (at + 6 ≤ length s → (y : SegmentationComponent) → h y ((at + 6) * 8) ≡ x)
         → through component (bitsOf s) (at * 8) h ≡ leb (at + 6) (length s) && (eqb (getD s (at + 1) 0 / 2) 127 && x)
     unfolding component
     component-through at h x rest =
         let n : ℕ = length s * 8 in
         let p : ℕ = at * 8 in
         let o : ℕ = field (bitsOf s) (p + 8) 7 in
-        let c : ModeComponent = record { «component_tag» = field (bitsOf s) p 8; «pts_offset» = field (bitsOf s) (p + 8 + 7) 33 } in
+        let c : SegmentationComponent = record { «component_tag» = field (bitsOf s) p 8; «pts_offset» = field (bitsOf s) (p + 8 + 7) 33 } in
         let z : p + 8 + 7 + 33 ≡ (at + 6) * 8 = omega arith in
         through-number s p _ 8 _ _
         ∙ under (leb (p + 8) n) (through-ones s (p + 8) _ 7 _ ∙ under (leb (p + 8 + 7) n) (under (eqb o 127) (through-number s (p + 8 + 7) _ 33 _ _)))
@@ -212,7 +212,7 @@ module _ (s : List ℕ) where
         swap false o true x h = let e : false ≡ true = h refl in zero-one cc
         swap false o false x h = refl
 
-    list-through : (c at : ℕ) (f : List ModeComponent → ℕ → Bool) (g : ℕ → Bool) → ((cs : List ModeComponent) (m : ℕ) → f cs (m * 8) ≡ g m) → at ≤ length s
+    list-through : (c at : ℕ) (f : List SegmentationComponent → ℕ → Bool) (g : ℕ → Bool) → ((cs : List SegmentationComponent) (m : ℕ) → f cs (m * 8) ≡ g m) → at ≤ length s
         → through (list c blankComponent component) (bitsOf s) (at * 8) f ≡ leb (at + c * 6) (length s) && (componentsOnes c s at && g (at + c * 6))
     unfolding componentsOnes
     list-through zero at f g same h =
@@ -237,7 +237,7 @@ module _ (s : List ℕ) where
         turn false o false c g h = refl
 
     -- ---- the mode
-    mode-through : (b : Bool) (q : Fore → Moded) (k : Moded → Table Fore) (lasting : ℕ) → 6 ≤ length s
+    mode-through : (b : Bool) (q : ListedFront → Moded) (k : Moded → Table ListedFront) (lasting : ℕ) → 6 ≤ length s
         → ((x : Moded) (m : ℕ) → through (k x) (bitsOf s) (m * 8) G ≡ upidAt s (m + lasting))
         → through (inside (mode b) q k) (bitsOf s) 48 G ≡ pick b (upidAt s (6 + lasting)) (componentsAt s lasting)
     unfolding mode componentsAt
@@ -256,7 +256,7 @@ module _ (s : List ℕ) where
         ∙ ap test (byte-at 48 6 refl (omega (arith, l))))
 
     -- ---- the restrictions
-    delivery-through : (b : Bool) (q : Fore → DeliveryRestrictionFlags) (k : DeliveryRestrictionFlags → Table Fore) (x : Bool)
+    delivery-through : (b : Bool) (q : ListedFront → DeliveryRestrictionFlags) (k : DeliveryRestrictionFlags → Table ListedFront) (x : Bool)
         → (6 ≤ length s → (r : DeliveryRestrictionFlags) → through (k r) (bitsOf s) 48 G ≡ x)
         → through (inside (deliveryRestrictions b) q k) (bitsOf s) 43 G ≡ leb 6 (length s) && (pick b (eqb (field (bitsOf s) 43 5) 31) true && x)
     unfolding deliveryRestrictions
@@ -278,7 +278,7 @@ module _ (s : List ℕ) where
         ∙ guarded (leb 6 (length s)) _ _ (λ e. rest (leb-true 6 (length s) e) _)
 
     -- ---- from the flags to the end
-    module _ (ends : (x : Fore) (m : ℕ) → G x (m * 8) ≡ endsAt (length s) m && canonicalUpid s (x .front .«segmentation_upid»)) where
+    module _ (ends : (x : ListedFront) (m : ℕ) → G x (m * 8) ≡ endsAt (length s) m && canonicalUpid s (x .front .«segmentation_upid»)) where
       parts-through : (p l f : Bool)
           → through (parts p l f) (bitsOf s) 43 G
           ≡ leb 6 (length s) && (pick f (eqb (field (bitsOf s) 43 5) 31) true && pick p (upidAt s (6 + pick l 5 0)) (componentsAt s (pick l 5 0)))
@@ -320,12 +320,12 @@ module _ (s : List ℕ) where
 
 -- ---- the whole
 module _ (s : List ℕ) (byte : (k : ℕ) → getD s k 0 < 256) where
-  abbrev whole : Segmentation → ℕ → Bool
-  whole x m = eqb m (length s * 8) && canonicalUpid s (upidIn (x .descriptor))
+  abbrev overall : Segmentation → ℕ → Bool
+  overall x m = eqb m (length s * 8) && canonicalUpid s (upidIn (x .descriptor))
 
-  by-whole : canonicalSegmentation s ≡ through segmentation (bitsOf s) 0 whole
+  by-overall : canonicalSegmentation s ≡ through segmentation (bitsOf s) 0 overall
   unfolding canonicalSegmentation canonicalBy
-  by-whole = go (parse segmentation (bitsOf s) 0) (canonical segmentation (bitsOf s) 0)
+  by-overall = go (parse segmentation (bitsOf s) 0) (canonical segmentation (bitsOf s) 0)
     where
       turn : (a c u : Bool) → (a && c) && u ≡ c && (a && u)
       turn true true u = refl
@@ -333,7 +333,7 @@ module _ (s : List ℕ) (byte : (k : ℕ) → getD s k 0 < 256) where
       turn false true u = refl
       turn false false u = refl
 
-      go : (r : Answer Segmentation) (c : Bool) → (takesAll r s && c) && upidCanonical s r ≡ joined whole r c
+      go : (r : Answer Segmentation) (c : Bool) → (takesAll r s && c) && upidCanonical s r ≡ joined overall r c
       go (got x m) c = turn (eqb m (length s * 8)) c (canonicalUpid s (upidIn (x .descriptor)))
       go (short e a) c = refl
 
@@ -362,11 +362,11 @@ module _ (s : List ℕ) (byte : (k : ℕ) → getD s k 0 < 256) where
   pub segmentation-by : canonicalSegmentation s ≡ segmentationFits s
   unfolding segmentation segmentationFits
   segmentation-by =
-      by-whole
-      ∙ through-in head _ _ (bitsOf s) 0 whole
+      by-overall
+      ∙ through-in head _ _ (bitsOf s) 0 overall
       ∙ head-through _ (λ c. pick c (eqb (length s) 5) (insertFits s)) (λ h.
-      through-pick (h .cancel) _ _ (bitsOf s) 40 whole
+      through-pick (h .cancel) _ _ (bitsOf s) 40 overall
       ∙ ap₂ (pick (h .cancel))
       (ap (λ (u : Bool). eqb 40 (length s * 8) && u) none-fits ∙ and-tt (eqb 40 (length s * 8)) ∙ eqb-bytes 40 5 (length s) refl)
-      (through-in front _ _ (bitsOf s) 40 whole
-      ∙ front-through s byte _ (λ x m. through-in back _ _ (bitsOf s) (m * 8) whole ∙ back-at s m _ (canonicalUpid s (x .front .«segmentation_upid»)) (λ b i. refl))))
+      (through-in front _ _ (bitsOf s) 40 overall
+      ∙ front-through s byte _ (λ x m. through-in back _ _ (bitsOf s) (m * 8) overall ∙ back-at s m _ (canonicalUpid s (x .front .«segmentation_upid»)) (λ b i. refl))))

@@ -167,7 +167,7 @@ module _ (tag : ℕ) (id s : List ℕ) where
     unfolding canonicalPayload
     is-other a b c d = rw (e, ne-eqb tag 0 a, ne-eqb tag 1 b, ne-eqb tag 2 c, ne-eqb tag 3 d) (sym (private-by s))
 
--- ---- the frame
+-- ---- the envelope
 four : (s : List ℕ) → 6 ≤ length s → getD s 2 0 ∷ getD s 3 0 ∷ getD s 4 0 ∷ getD s 5 0 ∷ [] ≡ take 4 (drop 2 s)
 four [] h = absurd (omega arith)
 four (a ∷ []) h = absurd (omega arith)
@@ -178,24 +178,24 @@ four (a ∷ (b ∷ (c ∷ (d ∷ (e ∷ []))))) h = absurd (omega arith)
 four (a ∷ (b ∷ (c ∷ (d ∷ (e ∷ (f ∷ s)))))) h = refl
 
 module _ (s : List ℕ) where
-  pub frame-short : length s < 6 → false ≡ canonicalDescriptor s
+  pub envelope-short : length s < 6 → false ≡ canonicalDescriptor s
   unfolding canonicalDescriptor
-  frame-short h = rw (lt-leb 6 (length s) h)
+  envelope-short h = rw (lt-leb 6 (length s) h)
 
   module _ (there : 6 ≤ length s) (n : ℕ) (en : n ≡ getD s 1 0) where
-    pub frame-other : (n + 2 ≡ length s → ⊥) → false ≡ canonicalDescriptor s
+    pub envelope-other : (n + 2 ≡ length s → ⊥) → false ≡ canonicalDescriptor s
     unfolding canonicalDescriptor
-    frame-other e = rw (le-leb 6 (length s) there, ← en, ne-eqb (n + 2) (length s) e)
+    envelope-other e = rw (le-leb 6 (length s) there, ← en, ne-eqb (n + 2) (length s) e)
 
     module _ (e : n + 2 ≡ length s) where
-      pub frame-long : 254 < n → false ≡ canonicalDescriptor s
+      pub envelope-long : 254 < n → false ≡ canonicalDescriptor s
       unfolding canonicalDescriptor
-      frame-long h = rw (le-leb 6 (length s) there, ← en, eq-eqb (n + 2) (length s) e, lt-leb n 254 h)
+      envelope-long h = rw (le-leb 6 (length s) there, ← en, eq-eqb (n + 2) (length s) e, lt-leb n 254 h)
 
-      pub frame-is : n ≤ 254 → (a : Bool)
+      pub envelope-is : n ≤ 254 → (a : Bool)
           → a ≡ canonicalPayload (getD s 0 0) (getD s 2 0 ∷ getD s 3 0 ∷ getD s 4 0 ∷ getD s 5 0 ∷ []) (take (length s - 6) (drop 6 s)) → a ≡ canonicalDescriptor s
       unfolding canonicalDescriptor
-      frame-is h a ea =
+      envelope-is h a ea =
           let m : ℕ = length s - 6 in
           let all : take m (drop 6 s) ≡ drop 6 s = take-all m (drop 6 s) (omega (arith, length-drop 6 s)) in
           let p : a ≡ canonicalPayload (getD s 0 0) (take 4 (drop 2 s)) (drop 6 s) =

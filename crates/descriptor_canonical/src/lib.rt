@@ -28,40 +28,40 @@ fn is_canonical_payload(tag: u8, identifier: [u8; 4], payload: &[u8]) -> bool
 }
 
 // Whether these are the bytes of one canonical descriptor.
-pub fn is_canonical_descriptor(s: &[u8]) -> bool
-    ensures { λ r. ⌜ r ≡ canonicalDescriptor (now (s .entry)) ⌝ }
+pub fn is_canonical_descriptor(descriptor: &[u8]) -> bool
+    ensures { λ r. ⌜ r ≡ canonicalDescriptor (now (descriptor .entry)) ⌝ }
 {
-    let end = s.len();
+    let end = descriptor.len();
     if end < 6 {
         return false;
     }
-    let len = size(s[1]);
+    let len = size(descriptor[1]);
     if len + 2 != end {
         return false;
     }
     if MAX_DESCRIPTOR < len {
         return false;
     }
-    let identifier = [s[2], s[3], s[4], s[5]];
-    is_canonical_payload(s[0], identifier, &s[6..end])
+    let identifier = [descriptor[2], descriptor[3], descriptor[4], descriptor[5]];
+    is_canonical_payload(descriptor[0], identifier, &descriptor[6..end])
 }
 
 // Whether these are the bytes of canonical descriptors, one after the other.
-pub fn is_canonical_loop(s: &[u8]) -> bool
-    ensures { λ r. ⌜ r ≡ canonicalLoop (now (s .entry)) ⌝ }
+pub fn is_canonical_loop(descriptors: &[u8]) -> bool
+    ensures { λ r. ⌜ r ≡ canonicalLoop (now (descriptors .entry)) ⌝ }
 {
     let mut at: usize = 0;
-    while at < s.len() {
-        let left = s.len() - at;
+    while at < descriptors.len() {
+        let left = descriptors.len() - at;
         if left < 6 {
             return false;
         }
-        let taken = size(s[at + 1]) + 2;
+        let taken = size(descriptors[at + 1]) + 2;
         if left < taken {
             return false;
         }
         let next = at + taken;
-        if !is_canonical_descriptor(&s[at..next]) {
+        if !is_canonical_descriptor(&descriptors[at..next]) {
             return false;
         }
         at = next;

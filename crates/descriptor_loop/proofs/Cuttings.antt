@@ -15,7 +15,7 @@ use Rattle.table.specs.Lent.{viewed}
 use Rattle.table.specs.declared.View.{View}
 use Rattle.upid.proofs.Laws.{by-cases}
 use Rattle.upid.specs.Cover as all
-use Rattle.descriptor_loop.specs.Cover.{Ends, few, over, full, Whole, joined, ByItems, none, rest, item, runOf, Follow, done, follows, lies, times}
+use Rattle.descriptor_loop.specs.Cover.{Ends, few, over, full, Complete, joined, ByItems, none, rest, item, runOf, Follow, done, follows, lies, times}
 use Rattle.descriptor_loop.specs.Items.{Listed, stepOf, listed}
 use Rattle.descriptor_loop.specs.Place.{viewsOf}
 use Rattle.descriptor_loop.proofs.Lists.{Walked, stop, step, at-end}
@@ -36,15 +36,15 @@ front p q s t l e = sym (take-append-seam p s) ∙ rw (e, l) (take-append-seam q
 back : (p q s t : List ℕ) → length p ≡ length q → p ++ s ≡ q ++ t → s ≡ t
 back p q s t l e = sym (drop-append-seam p s) ∙ rw (e, l) (drop-append-seam q t)
 
-length-whole : {p : List ℕ} {n : ℕ} (w : Whole p n) → length p ≡ length (w .body) + 2
-length-whole w = omega (arith, ap length (w .is))
+length-complete : {p : List ℕ} {n : ℕ} (w : Complete p n) → length p ≡ length (w .body) + 2
+length-complete w = omega (arith, ap length (w .is))
 
 -- a piece, and what follows it, byte by byte
-opened : {p : List ℕ} {n : ℕ} (w : Whole p n) (s : List ℕ) → p ++ s ≡ w .tag ∷ (length (w .body) ∷ (w .body ++ s))
+opened : {p : List ℕ} {n : ℕ} (w : Complete p n) (s : List ℕ) → p ++ s ≡ w .tag ∷ (length (w .body) ∷ (w .body ++ s))
 opened w s = ap (λ (l : List ℕ). l ++ s) (w .is)
 
-same-length : {p q : List ℕ} {n m : ℕ} (v : Whole p n) (w : Whole q m) (s t : List ℕ) → p ++ s ≡ q ++ t → length p ≡ length q
-same-length v w s t e = omega (arith, length-whole v, length-whole w, head-of (tail-of (sym (opened v s) ∙ e ∙ opened w t)))
+same-length : {p q : List ℕ} {n m : ℕ} (v : Complete p n) (w : Complete q m) (s t : List ℕ) → p ++ s ≡ q ++ t → length p ≡ length q
+same-length v w s t e = omega (arith, length-complete v, length-complete w, head-of (tail-of (sym (opened v s) ∙ e ∙ opened w t)))
 
 -- no ending rule applies where a whole item stands
 clash : (tag : ℕ) (body s : List ℕ) → length body ≤ 254 → 6 ≤ length body + 2 + length s → Ends (tag ∷ (length body ∷ (body ++ s))) → ⊥
@@ -52,8 +52,8 @@ clash tag body s h six (few a b) = omega (arith, length-append body s)
 clash tag body s h six (over a b) = omega (arith, length-append body s)
 clash tag body s h six (full a b) = omega arith
 
-no-ending : {r p : List ℕ} (s : List ℕ) → Ends r → Whole p (length s) → r ≡ p ++ s → ⊥
-no-ending s x w e = clash (w .tag) (w .body) s (w .short) (omega (arith, length-whole w, w .left)) (subst Ends (e ∙ opened w s) x)
+no-ending : {r p : List ℕ} (s : List ℕ) → Ends r → Complete p (length s) → r ≡ p ++ s → ⊥
+no-ending s x w e = clash (w .tag) (w .body) s (w .short) (omega (arith, length-complete w, w .left)) (subst Ends (e ∙ opened w s) x)
 
 some : {r : List ℕ} → Ends r → 1 ≤ length r
 some (few a b) = a
@@ -105,18 +105,18 @@ two s at h =
     let e : at + 2 ≡ suc (suc at) = omega arith in
     rw (drop-cons s at 0 h1, drop-cons s (suc at) 0 h2, add-one, e)
 
-stands-whole : {loop : List ℕ} {offset L : ℕ} → Stands loop offset L → (after : ℕ) → after ≡ length loop - (offset + (L + 2)) → Whole (take (L + 2) (drop offset loop)) after
-stands-whole {loop} {offset} {L} s after h =
+stands-complete : {loop : List ℕ} {offset L : ℕ} → Stands loop offset L → (after : ℕ) → after ≡ length loop - (offset + (L + 2)) → Complete (take (L + 2) (drop offset loop)) after
+stands-complete {loop} {offset} {L} s after h =
     let body : List ℕ = take L (drop (offset + 2) loop) in
     let size : length body ≡ L = omega (arith, length-take L (drop (offset + 2) loop), length-drop (offset + 2) loop, s .there) in
-    let whole : length (take (L + 2) (drop offset loop)) ≡ L + 2 = omega (arith, length-take (L + 2) (drop offset loop), length-drop offset loop, s .there) in
+    let overall : length (take (L + 2) (drop offset loop)) ≡ L + 2 = omega (arith, length-take (L + 2) (drop offset loop), length-drop offset loop, s .there) in
     let n : L + 2 ≡ suc (suc L) = omega arith in
     record {
       tag = getD loop offset 0;
       body = body;
       is = rw (n, two loop offset (omega (arith, s .six)), size, ← (s .is));
       short = omega (arith, size, s .right);
-      left = omega (arith, whole, h, s .six, s .there);
+      left = omega (arith, overall, h, s .six, s .there);
     }
 
 pub by-items-walk : {loop : List ℕ} {offset : ℕ} {xs : List Listed} → Walked loop offset xs → ByItems (map (runOf loop) xs)
@@ -127,7 +127,7 @@ by-items-walk {loop} (step {offset = offset} inside e (ends x) w) =
 by-items-walk {loop} (step {offset = offset} {xs = xs} inside e (goes L s) w) =
     let n : offset + (L + 2) - offset ≡ L + 2 = omega arith in
     let after : length (joined (map (runOf loop) xs)) ≡ length loop - (offset + (L + 2)) = ap length (joined-walk w) ∙ length-drop (offset + (L + 2)) loop in
-    rw (e, n) (item (stands-whole s (length (joined (map (runOf loop) xs))) after) (by-items-walk w))
+    rw (e, n) (item (stands-complete s (length (joined (map (runOf loop) xs))) after) (by-items-walk w))
 
 pub follow-walk : {loop : List ℕ} {offset : ℕ} {xs : List Listed} → Walked loop offset xs → Follow offset (length loop) xs
 follow-walk stop = done

@@ -1,5 +1,5 @@
 pub mod Places
-pub mod Wholes
+pub mod Completes
 pub mod Steps
 pub mod Readings
 pub mod Lists

@@ -9,10 +9,10 @@ use Rattle.upid.specs.Upid as upid
 use Rattle.descriptor.specs.Descriptor.{descriptorOf, isCuei, availOf, dtmfOf, segmentationOf, insertOf, inserted, reservedOf}
 use Rattle.descriptor.specs.Plain.{avail, dtmf, privateBytes}
 use Rattle.descriptor.specs.Segmentation.{blankComponent, deliveryRestrictions, component, mode, duration, writtenUpid, parts, front, subSegments, back, head, segmentation}
-use Rattle.descriptor.specs.Whole.{filled, besideIn, besideOf}
+use Rattle.descriptor.specs.Full.{filled, besideIn, besideOf}
 use Rattle.descriptor.specs.declared.Descriptor.{Descriptor}
 use Rattle.descriptor.specs.declared.Descriptor.the-variants.{Avail, Dtmf, Reserved}
-use Rattle.descriptor_loop.specs.Items.{numberOf, valuesOf, readAt, wholeAt, stepOf, readingOf, Listed, itemsFrom, itemsOf}
+use Rattle.descriptor_loop.specs.Items.{numberOf, valuesOf, readAt, completeAt, stepOf, readingOf, Listed, itemsFrom, itemsOf}
 use Rattle.descriptor_loop.specs.Place.{viewOf}
 use Rattle.descriptor_loop.specs.declared.Item.{Item}
 use Rattle.descriptor_loop.specs.declared.Item.the-variants.{End, Refused, Is}
@@ -70,7 +70,7 @@ pub data Hold : List Row → Type 0 where
   more : {r : Row} {rs : List Row} → map (told (r .loop)) (itemsOf (r .loop)) ≡ r .items → Hold rs → Hold (r ∷ rs)
 
 pub rows-hold : Hold rows
-unfolding rows itemsOf itemsFrom stepOf wholeAt readAt numberOf valuesOf upid.numberOf upid.valuesOf descriptorOf isCuei availOf dtmfOf reservedOf avail dtmf privateBytes number reserved part remaining viewed
+unfolding rows itemsOf itemsFrom stepOf completeAt readAt numberOf valuesOf upid.numberOf upid.valuesOf descriptorOf isCuei availOf dtmfOf reservedOf avail dtmf privateBytes number reserved part remaining viewed
 rows-hold = more refl (more refl (more refl (more refl (more refl (more refl (more refl (more refl none)))))))
 
 -- ---- beside a segmentation descriptor: its one component, tag 5 and offset 7, then blanks; and the 12 bytes of its EIDR
@@ -80,5 +80,5 @@ pub row-beside : readingOf (0x02 ∷ 0x22 ∷ C (0 ∷ 0 ∷ 0 ∷ 0x2A ∷ 0x7F
       components = record { «component_tag» = 5; «pts_offset» = 7 } ∷ replicate 254 blankComponent;
       eidr = 1 ∷ 2 ∷ 3 ∷ 4 ∷ 5 ∷ 6 ∷ 7 ∷ 8 ∷ 9 ∷ 10 ∷ 11 ∷ 12 ∷ [];
     }
-unfolding readingOf stepOf wholeAt readAt descriptorOf isCuei segmentationOf insertOf inserted head front parts deliveryRestrictions mode component duration writtenUpid back subSegments segmentation number bit reserved part remaining list viewed upid.checkOf upid.readOf upid.plainOf upid.lengthOf upid.isText upid.reportedOf besideOf besideIn filled upid.eidrOf
+unfolding readingOf stepOf completeAt readAt descriptorOf isCuei segmentationOf insertOf inserted head front parts deliveryRestrictions mode component duration writtenUpid back subSegments segmentation number bit reserved part remaining list viewed upid.checkOf upid.readOf upid.plainOf upid.lengthOf upid.isText upid.reportedOf besideOf besideIn filled upid.eidrOf
 row-beside = refl

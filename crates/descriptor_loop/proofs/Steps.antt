@@ -1,5 +1,5 @@
 -- Laws of one step.
---     step-long .. step-whole    the definition, clause by clause
+--     step-long .. step-complete    the definition, clause by clause
 --     clause                     each step is by one of the clauses
 --     turn                       a step inside a loop ends it by an ending rule, or goes past an item that stands there whole
 use Prim.Native.Nat.{ℕ, _+_, _-_, _≤_, _<_}
@@ -17,7 +17,7 @@ use Rattle.descriptor.specs.declared.DescriptorRead.{DescriptorRead}
 use Rattle.descriptor.specs.declared.DescriptorRead.the-variants as read
 use Rattle.descriptor.proofs.Insides.{read-inside}
 use Rattle.descriptor_loop.specs.Cover.{Ends, few, over, full, TakesRest}
-use Rattle.descriptor_loop.specs.Items.{short, withoutIdentifier, itemAt, readAt, wholeAt, stepOf, unlessEnd, Listed}
+use Rattle.descriptor_loop.specs.Items.{short, withoutIdentifier, itemAt, readAt, completeAt, stepOf, unlessEnd, Listed}
 use Rattle.table.specs.Lent.{shifted}
 use Rattle.descriptor_loop.specs.Place.{viewsOf}
 use Rattle.descriptor_loop.specs.declared.Item.the-variants.{End, Refused, Is}
@@ -57,9 +57,9 @@ module _ (loop : List ℕ) (offset : ℕ) where
             unfolding stepOf
             step-small h = rw (le-ltb _ _ fits, lt-leb _ _ inside, le-ltb _ _ six, ← is, le-ltb _ _ there, le-ltb _ _ right, lt-ltb _ _ h)
 
-            pub step-whole : 4 ≤ L → stepOf loop offset ≡ wholeAt loop offset L
+            pub step-complete : 4 ≤ L → stepOf loop offset ≡ completeAt loop offset L
             unfolding stepOf
-            step-whole h = rw (le-ltb _ _ fits, lt-leb _ _ inside, le-ltb _ _ six, ← is, le-ltb _ _ there, le-ltb _ _ right, le-ltb _ _ h)
+            step-complete h = rw (le-ltb _ _ fits, lt-leb _ _ inside, le-ltb _ _ six, ← is, le-ltb _ _ there, le-ltb _ _ right, le-ltb _ _ h)
 
 -- ---- each step is by one of these clauses
 
@@ -76,7 +76,7 @@ pub data Clause (loop : List ℕ) (offset : ℕ) : Step → Type 0 where
   ended : length loop ≤ offset → Clause loop offset (withoutIdentifier End (length loop))
   last : (r : ItemRefusal) → viewsOf (Refused r) ≡ [] → Ends (drop offset loop) → Clause loop offset (withoutIdentifier (Refused r) (length loop))
   small : (L : ℕ) → Stands loop offset L → Clause loop offset (withoutIdentifier (short 6 (L + 2)) (offset + (L + 2)))
-  entire : (L : ℕ) → Stands loop offset L → 4 ≤ L → Clause loop offset (wholeAt loop offset L)
+  entire : (L : ℕ) → Stands loop offset L → 4 ≤ L → Clause loop offset (completeAt loop offset L)
 
 module _ (loop : List ℕ) (offset : ℕ) where
   left-is : length (drop offset loop) ≡ length loop - offset
@@ -96,7 +96,7 @@ module _ (loop : List ℕ) (offset : ℕ) where
         let s : Stands loop offset L = record { fits = fits; is = is; six = omega arith; there = omega arith; right = right } in
         by-cases L 4
         (λ h. rw (step-small loop offset fits inside L is six there right h) (small L s))
-        (λ h. rw (step-whole loop offset fits inside L is six there right h) (entire L s h)))
+        (λ h. rw (step-complete loop offset fits inside L is six there right h) (entire L s h)))
 
     heads : (L : ℕ) → L ≡ getD loop (offset + 1) 0 → Clause loop offset (stepOf loop offset)
     heads L is =
@@ -133,7 +133,7 @@ no-end base (read.Refused r) xs = refl
 
 module _ (loop : List ℕ) (offset : ℕ) (fits : length loop ≤ 4076) (inside : offset < length loop) where
   turn-by : {s : Step} → Clause loop offset s → Turn loop offset (s .next)
-  unfolding wholeAt
+  unfolding completeAt
   turn-by (long h) = absurd (omega arith)
   turn-by (ended h) = absurd (omega arith)
   turn-by (last r v e) = ends e
@@ -141,7 +141,7 @@ module _ (loop : List ℕ) (offset : ℕ) (fits : length loop ≤ 4076) (inside 
   turn-by (entire L s h) = goes L s
 
   goes-on-by : {s : Step} → Clause loop offset s → (xs : List Listed) → unlessEnd (s .item) xs ≡ xs
-  unfolding wholeAt
+  unfolding completeAt
   goes-on-by (long h) xs = refl
   goes-on-by (ended h) xs = absurd (omega arith)
   goes-on-by (last r v e) xs = refl
@@ -194,7 +194,7 @@ module _ {loop : List ℕ} {offset : ℕ} where
       (all-into (λ v i. (omega arith, omega (arith, size, i))) (read-inside (getD loop offset 0) (take 4 (drop (offset + 2) loop)) payload)))
 
   pub views-between : {s : Step} → Clause loop offset s → All (Between offset (s .next)) (viewsOf (s .item))
-  unfolding wholeAt
+  unfolding completeAt
   views-between (long h) = none
   views-between (ended h) = none
   views-between (last r v e) = rw v none

@@ -9,7 +9,7 @@ use borrow.Author.Tests.{lt-ltb}
 use Rattle.upid.proofs.Laws.{by-cases}
 use Rattle.upid.specs.Cover.{All}
 use Rattle.upid.specs.declared.Refusal.the-variants.{InputTooLong}
-use Rattle.descriptor.specs.Whole.{wholeOf}
+use Rattle.descriptor.specs.Full.{fullOf}
 use Rattle.descriptor_loop.specs.Private.{Run}
 use Rattle.descriptor_loop.specs.Cover.{Ends, Cutting, TakesRest, Covered, times}
 use Rattle.descriptor_loop.specs.Items.{withoutIdentifier, stepOf, readingOf, Listed, itemsOf, countOf}
@@ -70,10 +70,10 @@ too-long-before-ended = steps.step-long
 
 -- Where an item with an identifier stands (4 ≤ L ≤ 254, and it fits), its full reading is the whole descriptor that its tag, identifier and payload
 -- make: the same item with its views moved by the payload's place, the same identifier, and the same components and EIDR beside it.
-pub a-reading-is-the-whole-descriptor : (loop : List ℕ) (offset L : ℕ) → length loop ≤ 4076 → L ≡ getD loop (offset + 1) 0 → offset + (L + 2) ≤ length loop → 4 ≤ L → L ≤ 254
-    → readingOf loop offset ≡ placed (offset + 6) (offset + (L + 2)) (wholeOf (getD loop offset 0) (take 4 (drop (offset + 2) loop)) (take (L - 4) (drop (offset + 6) loop)))
-a-reading-is-the-whole-descriptor loop offset L fits is there h right =
-    readings.reading-whole loop offset L (record { fits = fits; is = is; six = omega arith; there = there; right = right }) h
+pub a-reading-is-the-full-descriptor : (loop : List ℕ) (offset L : ℕ) → length loop ≤ 4076 → L ≡ getD loop (offset + 1) 0 → offset + (L + 2) ≤ length loop → 4 ≤ L → L ≤ 254
+    → readingOf loop offset ≡ placed (offset + 6) (offset + (L + 2)) (fullOf (getD loop offset 0) (take 4 (drop (offset + 2) loop)) (take (L - 4) (drop (offset + 6) loop)))
+a-reading-is-the-full-descriptor loop offset L fits is there h right =
+    readings.reading-full loop offset L (record { fits = fits; is = is; six = omega arith; there = there; right = right }) h
 
 -- ---- for programs over a loop
 

@@ -20,8 +20,8 @@ pub data Ends : List ℕ → Type 0 where
   over : {rest : List ℕ} → 6 ≤ length rest → length rest < getD rest 1 0 + 2 → Ends rest
   full : {rest : List ℕ} → getD rest 1 0 + 2 ≤ length rest → 254 < getD rest 1 0 → Ends rest
 
--- A piece that is a whole item, with so many bytes after it: a tag, a length L of at most 254, and L bytes; it starts where at least 6 bytes are left.
-pub record Whole (piece : List ℕ) (after : ℕ) : Type 0 where
+-- A piece that is a complete item, with so many bytes after it: a tag, a length L of at most 254, and L bytes; it starts where at least 6 bytes are left.
+pub record Complete (piece : List ℕ) (after : ℕ) : Type 0 where
   pub tag : ℕ
   pub body : List ℕ
   pub is : piece ≡ tag ∷ (length body ∷ body)
@@ -32,11 +32,11 @@ unfoldable pub joined : List (List ℕ) → List ℕ
 joined [] = []
 joined (p ∷ ps) = p ++ joined ps
 
--- Every piece is a whole item, but a last one may be what an ending rule leaves.
+-- Every piece is a complete item, but a last one may be what an ending rule leaves.
 pub data ByItems : List (List ℕ) → Type 0 where
   none : ByItems []
   rest : {r : List ℕ} → Ends r → ByItems (r ∷ [])
-  item : {p : List ℕ} {ps : List (List ℕ)} → Whole p (length (joined ps)) → ByItems ps → ByItems (p ∷ ps)
+  item : {p : List ℕ} {ps : List (List ℕ)} → Complete p (length (joined ps)) → ByItems ps → ByItems (p ∷ ps)
 
 -- A cutting of a loop: pieces by these rules whose join is the loop.
 pub record Cutting (loop : List ℕ) (pieces : List (List ℕ)) : Type 0 where

@@ -7,10 +7,10 @@ use Rattle.table.specs.Bits.{pick}
 use Rattle.upid.specs.Upid as upid
 use Rattle.upid.specs.declared.Refusal.the-variants.{InputTooLong, NotEnoughData}
 use Rattle.descriptor.specs.Descriptor.{movedRefusal, descriptorOf}
-use Rattle.descriptor.specs.Whole.{blankBeside, besideRead, identifierRead}
+use Rattle.descriptor.specs.Full.{blankBeside, besideRead, identifierRead}
 use Rattle.descriptor.specs.declared.DescriptorRead.{DescriptorRead}
 use Rattle.descriptor.specs.declared.DescriptorRead.the-variants as read
-use Rattle.descriptor.specs.declared.whole.Beside.{Beside}
+use Rattle.descriptor.specs.declared.full.Beside.{Beside}
 use Rattle.descriptor_loop.specs.Place.{movedDescriptor}
 use Rattle.descriptor_loop.specs.declared.Item.{Item}
 use Rattle.descriptor_loop.specs.declared.Item.the-variants.{End, Refused, Is}
@@ -49,8 +49,8 @@ itemAt base (read.Refused r) = Refused (Other (movedRefusal base r))
 unfoldable pub readAt : List ℕ → ℕ → ℕ → DescriptorRead
 readAt loop offset L = descriptorOf (getD loop offset 0) (take 4 (drop (offset + 2) loop)) (take (L - 4) (drop (offset + 6) loop))
 
-unfoldable pub wholeAt : List ℕ → ℕ → ℕ → Step
-wholeAt loop offset L =
+unfoldable pub completeAt : List ℕ → ℕ → ℕ → Step
+completeAt loop offset L =
     record {
       item = itemAt (offset + 6) (readAt loop offset L);
       identifier = identifierRead (readAt loop offset L) (take 4 (drop (offset + 2) loop));
@@ -74,7 +74,7 @@ stepOf loop offset =
     -- "L from 0 to 3: 21 (6, L + 2); the next item follows after L + 2 bytes"
     (pick (ltb L 4) (withoutIdentifier (short 6 (L + 2)) (offset + (L + 2)))
     -- "Else tag, L, identifier of 4", and the payload
-    (wholeAt loop offset L))))))
+    (completeAt loop offset L))))))
 
 -- ---- the full reading of an item: "arrays stand beside enums, not in them"
 

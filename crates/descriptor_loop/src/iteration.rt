@@ -2,7 +2,7 @@
 ghost use mathlib.Core.Path.{_≡_};
 ghost use Prim.Native.Nat.{_+_, _≤_, _<_};
 ghost use lib.ListN.{length};
-ghost use Rattle.descriptor_loop.specs.Items.{withoutIdentifier, short, wholeAt, stepOf, countOf};
+ghost use Rattle.descriptor_loop.specs.Items.{withoutIdentifier, short, completeAt, stepOf, countOf};
 use crate::Item;
 use crate::ItemRefusal;
 use crate::MAX_DESCRIPTOR;
@@ -35,20 +35,20 @@ fn lacks(expected: usize, actual: usize) -> Item
 }
 
 // An item of `len` bytes after its head, of which four are the identifier.
-fn whole(bytes: &[u8], offset: usize, len: usize) -> Step
-    requires { ⌜ (4 ≤ len) × (offset + (len + 2) ≤ length (now bytes)) × (length (now bytes) ≤ 4076) ⌝ }
-    ensures { λ r. ⌜ r ≡ wholeAt (now (bytes .entry)) offset len ⌝ }
+fn read_complete(descriptors: &[u8], offset: usize, len: usize) -> Step
+    requires { ⌜ (4 ≤ len) × (offset + (len + 2) ≤ length (now descriptors)) × (length (now descriptors) ≤ 4076) ⌝ }
+    ensures { λ r. ⌜ r ≡ completeAt (now (descriptors .entry)) offset len ⌝ }
 {
-    let tag = bytes[offset];
+    let tag = descriptors[offset];
     let id = [
-        bytes[offset + 2],
-        bytes[offset + 3],
-        bytes[offset + 4],
-        bytes[offset + 5],
+        descriptors[offset + 2],
+        descriptors[offset + 3],
+        descriptors[offset + 4],
+        descriptors[offset + 5],
     ];
     let start = offset + 6;
     let next = offset + (len + 2);
-    match read_descriptor(tag, id, &bytes[start..next]) {
+    match read_descriptor(tag, id, &descriptors[start..next]) {
         DescriptorRead::Refused(r) => {
             let refusal = ItemRefusal::Other(move_refusal(r, start));
             return plain(Item::Refused(refusal), next);
@@ -73,13 +73,13 @@ fn whole(bytes: &[u8], offset: usize, len: usize) -> Step
 }
 
 // An item of which at least six bytes are there, by its length.
-fn by_length(bytes: &[u8], offset: usize) -> Step
-    requires { ⌜ (offset + 6 ≤ length (now bytes)) × (length (now bytes) ≤ 4076) ⌝ }
-    ensures { λ r. ⌜ r ≡ stepOf (now (bytes .entry)) offset ⌝ }
+fn by_length(descriptors: &[u8], offset: usize) -> Step
+    requires { ⌜ (offset + 6 ≤ length (now descriptors)) × (length (now descriptors) ≤ 4076) ⌝ }
+    ensures { λ r. ⌜ r ≡ stepOf (now (descriptors .entry)) offset ⌝ }
 {
-    let end = bytes.len();
+    let end = descriptors.len();
     let left = end - offset;
-    let len = size(bytes[offset + 1]);
+    let len = size(descriptors[offset + 1]);
     if left < len + 2 {
         return plain(lacks(len + 2, 0), end);
     }
@@ -89,14 +89,14 @@ fn by_length(bytes: &[u8], offset: usize) -> Step
     if len < 4 {
         return plain(lacks(6, len + 2), offset + (len + 2));
     }
-    whole(bytes, offset, len)
+    read_complete(descriptors, offset, len)
 }
 
 // The item at an offset of a loop, and where the next one starts.
-pub fn step(bytes: &[u8], offset: usize) -> Step
-    ensures { λ r. ⌜ r ≡ stepOf (now (bytes .entry)) offset ⌝ }
+pub fn step(descriptors: &[u8], offset: usize) -> Step
+    ensures { λ r. ⌜ r ≡ stepOf (now (descriptors .entry)) offset ⌝ }
 {
-    let end = bytes.len();
+    let end = descriptors.len();
     if MAX_LOOP < end {
         return plain(
             Item::Refused(ItemRefusal::Other(Refusal::InputTooLong)),
@@ -109,7 +109,7 @@ pub fn step(bytes: &[u8], offset: usize) -> Step
     if end - offset < 6 {
         return plain(lacks(2, 0), end);
     }
-    by_length(bytes, offset)
+    by_length(descriptors, offset)
 }
 
 // How many items a loop has, or refusal 2.
@@ -119,16 +119,16 @@ pub enum Counted {
 }
 
 // The items of a loop, counted step by step.
-pub fn count_items(bytes: &[u8]) -> Counted
-    ensures { λ r. ⌜ r ≡ countOf (now (bytes .entry)) ⌝ }
+pub fn count_items(descriptors: &[u8]) -> Counted
+    ensures { λ r. ⌜ r ≡ countOf (now (descriptors .entry)) ⌝ }
 {
-    if MAX_LOOP < bytes.len() {
+    if MAX_LOOP < descriptors.len() {
         return Counted::Refused(ItemRefusal::Other(Refusal::InputTooLong));
     }
     let mut count: usize = 0;
     let mut offset: usize = 0;
-    while offset < bytes.len() {
-        let s = step(bytes, offset);
+    while offset < descriptors.len() {
+        let s = step(descriptors, offset);
         offset = s.next;
         count += 1;
     }

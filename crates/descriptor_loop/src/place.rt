@@ -206,9 +206,9 @@ pub fn view_of(item: Item) -> View
 }
 
 // The bytes of an item's identifier (its DTMF characters, its UPID, its private bytes) or of the text that it is refused for, as a part of the lent loop.
-pub fn bytes_of(lent: &[u8], item: Item) -> &[u8]
-    ensures { λ r. ⌜ now r ≡ viewed (now (lent .entry)) (viewOf item) ⌝ }
+pub fn bytes_of(descriptors: &[u8], item: Item) -> &[u8]
+    ensures { λ r. ⌜ now r ≡ viewed (now (descriptors .entry)) (viewOf item) ⌝ }
 {
     let v = view_of(item);
-    view(lent, v)
+    view(descriptors, v)
 }

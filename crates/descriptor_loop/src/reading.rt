@@ -5,9 +5,9 @@ use crate::Item;
 use crate::Step;
 use crate::iteration::step;
 use descriptor::DescriptorRead;
-use descriptor::whole::Beside;
-use descriptor::whole::beside_of;
-use descriptor::whole::blank_beside;
+use descriptor::full::Beside;
+use descriptor::full::beside_of;
+use descriptor::full::blank_beside;
 
 // A step, and what stands beside its item: blank beside all but a segmentation descriptor.
 pub struct Reading {
@@ -16,10 +16,10 @@ pub struct Reading {
 }
 
 // The item at an offset of a loop, with all that stands beside it.
-pub fn read_item(bytes: &[u8], offset: usize) -> Reading
-    ensures { λ r. ⌜ r ≡ readingOf (now (bytes .entry)) offset ⌝ }
+pub fn read_item(descriptors: &[u8], offset: usize) -> Reading
+    ensures { λ r. ⌜ r ≡ readingOf (now (descriptors .entry)) offset ⌝ }
 {
-    let read = step(bytes, offset);
+    let read = step(descriptors, offset);
     let item = read.item;
     let next = read.next;
     match item {
@@ -35,7 +35,7 @@ pub fn read_item(bytes: &[u8], offset: usize) -> Reading
             let start = offset + 6;
             Reading {
                 step: read,
-                beside: beside_of(DescriptorRead::Is(d), &bytes[start..next]),
+                beside: beside_of(DescriptorRead::Is(d), &descriptors[start..next]),
             }
         }
     }

@@ -23,7 +23,7 @@ use Rattle.descriptor.specs.Segmentation.{
   mode,
   duration,
   writtenUpid,
-  Fore,
+  ListedFront,
   parts,
   front,
   subSegments,
@@ -40,7 +40,7 @@ use Rattle.descriptor.specs.Segmentation.{
   unrestricted,
 }
 use Rattle.descriptor.specs.declared.segmentation.DeliveryRestrictionFlags.{DeliveryRestrictionFlags}
-use Rattle.descriptor.specs.declared.segmentation.ModeComponent.{ModeComponent}
+use Rattle.descriptor.specs.declared.segmentation.SegmentationComponent.{SegmentationComponent}
 use Rattle.descriptor.specs.declared.segmentation.DescriptorDetail.{DescriptorDetail}
 use Rattle.descriptor.specs.declared.segmentation.DescriptorDetail.the-variants.{Cancel, Active}
 use Rattle.descriptor.specs.declared.segmentation.SegmentationDuration.{SegmentationDuration}
@@ -62,18 +62,18 @@ unfolding deliveryRestrictions number bit reserved
 delivery-fields DeliveryRestrictionFlags.None at = refl
 delivery-fields (DeliveryRestrictionFlags.DeliveryRestrictions r) at = refl
 
-component-fields : (x : ModeComponent) (at : ℕ) → walk component x at .fields ≡ componentFields x
+component-fields : (x : SegmentationComponent) (at : ℕ) → walk component x at .fields ≡ componentFields x
 unfolding component number reserved
 component-fields x at = refl
 
-list-fields : (cs : List ModeComponent) (at : ℕ) → walk (list (length cs) blankComponent component) cs at .fields ≡ componentsFields cs
+list-fields : (cs : List SegmentationComponent) (at : ℕ) → walk (list (length cs) blankComponent component) cs at .fields ≡ componentsFields cs
 unfolding list
 list-fields [] at = refl
 list-fields (c ∷ cs) at =
     in-fields component (λ ys. getD ys 0 blankComponent) _ (c ∷ cs) at (componentFields c) (componentsFields cs) (component-fields c at)
     (in-fields (list (length cs) blankComponent component) (drop 1) _ (c ∷ cs) _ (componentsFields cs) [] (list-fields cs _) refl ∙ append-nil (componentsFields cs))
 
-mode-fields : (k : SegmentationMode) (cs : List ModeComponent) (at : ℕ) → length cs ≡ countOf k
+mode-fields : (k : SegmentationMode) (cs : List SegmentationComponent) (at : ℕ) → length cs ≡ countOf k
     → walk (mode (byProgram k)) (record { mode = k; components = cs }) at .fields ≡ modeFields k cs
 unfolding mode number
 mode-fields SegmentationMode.Program cs at e = refl
@@ -105,23 +105,23 @@ flag-fields p k x at fs e = ap (λ (b : Bool). bits 1 (flagNumber (p x)) ∷ wal
     again true = refl
     again false = refl
 
-module _ (i : SegmentationDetail) (upid : SegmentationUpid) (cs : List ModeComponent) (fits : length cs ≡ countOf (i .«segmentation_mode»)) where
-  abbrev fore : Fore
-  fore = record { front = frontOf (Active (withUpid i upid)); components = cs }
+module _ (i : SegmentationDetail) (upid : SegmentationUpid) (cs : List SegmentationComponent) (fits : length cs ≡ countOf (i .«segmentation_mode»)) where
+  abbrev listed : ListedFront
+  listed = record { front = frontOf (Active (withUpid i upid)); components = cs }
 
-  parts-fields : (at : ℕ) → walk (parts (byProgram (i .«segmentation_mode»)) (lasting (i .«segmentation_duration»)) (unrestricted (i .«delivery_restrictions»))) fore at .fields
+  parts-fields : (at : ℕ) → walk (parts (byProgram (i .«segmentation_mode»)) (lasting (i .«segmentation_duration»)) (unrestricted (i .«delivery_restrictions»))) listed at .fields
       ≡ deliveryFields (i .«delivery_restrictions»)
       ++ (modeFields (i .«segmentation_mode») cs
       ++ (durationFields (i .«segmentation_duration»)
       ++ (upidFields upid ++ [])))
   unfolding parts
   parts-fields at =
-      in-fields (deliveryRestrictions (unrestricted (i .«delivery_restrictions»))) _ _ fore at _ _ (delivery-fields (i .«delivery_restrictions») at)
-      (in-fields (mode (byProgram (i .«segmentation_mode»))) _ _ fore _ _ _ (mode-fields (i .«segmentation_mode») cs _ fits)
-      (in-fields (duration (lasting (i .«segmentation_duration»))) _ _ fore _ _ _ (duration-fields (i .«segmentation_duration») _)
-      (in-fields writtenUpid _ _ fore _ _ _ (upid-fields upid _) refl)))
+      in-fields (deliveryRestrictions (unrestricted (i .«delivery_restrictions»))) _ _ listed at _ _ (delivery-fields (i .«delivery_restrictions») at)
+      (in-fields (mode (byProgram (i .«segmentation_mode»))) _ _ listed _ _ _ (mode-fields (i .«segmentation_mode») cs _ fits)
+      (in-fields (duration (lasting (i .«segmentation_duration»))) _ _ listed _ _ _ (duration-fields (i .«segmentation_duration») _)
+      (in-fields writtenUpid _ _ listed _ _ _ (upid-fields upid _) refl)))
 
-  front-fields : (at : ℕ) → walk front fore at .fields
+  front-fields : (at : ℕ) → walk front listed at .fields
       ≡ flagFields (byProgram (i .«segmentation_mode»)) (lasting (i .«segmentation_duration»)) (unrestricted (i .«delivery_restrictions»))
       ++ (deliveryFields (i .«delivery_restrictions»)
       ++ (modeFields (i .«segmentation_mode») cs
@@ -129,9 +129,9 @@ module _ (i : SegmentationDetail) (upid : SegmentationUpid) (cs : List ModeCompo
       ++ (upidFields upid ++ []))))
   unfolding front
   front-fields at =
-      flag-fields _ _ fore at _
-      (flag-fields _ _ fore (at + 1) _
-      (flag-fields _ _ fore (at + 1 + 1) _
+      flag-fields _ _ listed at _
+      (flag-fields _ _ listed (at + 1) _
+      (flag-fields _ _ listed (at + 1 + 1) _
       (parts-fields (at + 1 + 1 + 1))))
 
   back-fields : (at : ℕ) → walk back (backOf (Active (withUpid i upid))) at .fields ≡ backFields i
@@ -155,18 +155,18 @@ module _ (i : SegmentationDetail) (upid : SegmentationUpid) (cs : List ModeCompo
       ∙ simp (append-assoc, append-nil))
 
 -- the fields before the UPID's
-abbrev pub foreFields : ℕ → SegmentationDetail → List ModeComponent → List Field
-foreFields event i cs =
+abbrev pub frontFields : ℕ → SegmentationDetail → List SegmentationComponent → List Field
+frontFields event i cs =
     headFields event false
     ++ (flagFields (byProgram (i .«segmentation_mode»)) (lasting (i .«segmentation_duration»)) (unrestricted (i .«delivery_restrictions»))
     ++ (deliveryFields (i .«delivery_restrictions») ++ (modeFields (i .«segmentation_mode») cs ++ durationFields (i .«segmentation_duration»))))
 
-pub insert-fields : (event : ℕ) (i : SegmentationDetail) (upid : SegmentationUpid) (cs : List ModeComponent) → length cs ≡ countOf (i .«segmentation_mode»)
+pub insert-fields : (event : ℕ) (i : SegmentationDetail) (upid : SegmentationUpid) (cs : List SegmentationComponent) → length cs ≡ countOf (i .«segmentation_mode»)
     → (let x : Segmentation = record { descriptor = record { «segmentation_event_id» = event; «descriptor_detail» = Active (withUpid i upid) }; components = cs } in
-    walk segmentation x 0 .fields ≡ foreFields event i cs ++ (upidFields upid ++ backFields i))
+    walk segmentation x 0 .fields ≡ frontFields event i cs ++ (upidFields upid ++ backFields i))
 insert-fields event i upid cs e = all-fields i upid cs e event ∙ simp append-assoc
 
-pub fields-are : (event : ℕ) (d : DescriptorDetail) (cs : List ModeComponent) → length cs ≡ countOf (frontOf d .«segmentation_mode»)
+pub fields-are : (event : ℕ) (d : DescriptorDetail) (cs : List SegmentationComponent) → length cs ≡ countOf (frontOf d .«segmentation_mode»)
     → (let x : Segmentation = record { descriptor = record { «segmentation_event_id» = event; «descriptor_detail» = writtenDetail d }; components = cs } in
     walk segmentation x 0 .fields ≡ segmentFields event d cs)
 unfolding segmentation segmentFields head number bit reserved

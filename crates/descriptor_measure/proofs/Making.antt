@@ -17,14 +17,14 @@ use Rattle.table.proofs.Lists.{zero-one, and-true}
 use Rattle.table.proofs.Structure.{Wrote, wrote, write-size}
 use Rattle.table.proofs.Walks.{print-length}
 use Rattle.descriptor.specs.Segmentation.{componentCount, countOf, writableDetail, writableFront, frontOf, segmentation}
-use Rattle.descriptor.specs.declared.segmentation.ModeComponent.{ModeComponent}
+use Rattle.descriptor.specs.declared.segmentation.SegmentationComponent.{SegmentationComponent}
 use Rattle.descriptor.specs.declared.segmentation.SegmentationDescriptor.{SegmentationDescriptor}
 use Rattle.descriptor.specs.declared.segmentation.DescriptorDetail.{DescriptorDetail}
 use Rattle.descriptor.specs.declared.segmentation.DescriptorDetail.the-variants.{Cancel, Active}
 use Rattle.descriptor.specs.declared.segmentation.SegmentationDuration.{SegmentationDuration}
 use Rattle.descriptor.specs.declared.segmentation.SegmentationMode.{SegmentationMode}
 use Rattle.descriptor.specs.declared.segmentation.SegmentationUpid.{SegmentationUpid}
-use Rattle.descriptor.specs.declared.whole.Beside.{Beside}
+use Rattle.descriptor.specs.declared.full.Beside.{Beside}
 use Rattle.descriptor.proofs.SegmentationLaws.{detailBytes, segmentation-ends, segmentationStructure}
 use Rattle.descriptor_measure.specs.Private.{segmentFields, payloadSize}
 use Rattle.descriptor_measure.specs.Writing.{allZero, writableUpid, writableSegment, segmentationMade, upidIn, upidSource, written, writtenDetail}
@@ -74,7 +74,7 @@ module _ (x : SegmentationDescriptor) (id : List ℕ) (beside : Beside) (lent : 
   abbrev source : List ℕ
   source = upidSource (upidIn x) (beside .eidr) lent
 
-  abbrev cs : List ModeComponent
+  abbrev cs : List SegmentationComponent
   cs = take (componentCount x) (beside .components)
 
   pub counted : length cs ≡ componentCount x

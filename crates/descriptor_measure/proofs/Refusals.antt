@@ -15,9 +15,9 @@ use Rattle.table.specs.Table.{flagNumber}
 use Rattle.table.specs.Writing.{Field, bits, run, rest, walk, seen, within, contents, print, Made, made, refused, makeOf, make, refusalIn}
 use Rattle.table.proofs.Lists.{and-assoc}
 use Rattle.descriptor.specs.Segmentation.{componentCount, blankUpid, byProgram, countOf, writableDetail, frontOf, lasting, segmentation, unrestricted}
-use Rattle.descriptor.specs.Whole.{filled}
+use Rattle.descriptor.specs.Full.{filled}
 use Rattle.descriptor.specs.declared.segmentation.DeliveryRestrictionFlags.{DeliveryRestrictionFlags}
-use Rattle.descriptor.specs.declared.segmentation.ModeComponent.{ModeComponent}
+use Rattle.descriptor.specs.declared.segmentation.SegmentationComponent.{SegmentationComponent}
 use Rattle.descriptor.specs.declared.segmentation.SegmentationDescriptor.{SegmentationDescriptor}
 use Rattle.descriptor.specs.declared.segmentation.DescriptorDetail.{DescriptorDetail}
 use Rattle.descriptor.specs.declared.segmentation.DescriptorDetail.the-variants.{Cancel, Active}
@@ -50,11 +50,11 @@ module _ (l : List ℕ) where
   seen-delivery DeliveryRestrictionFlags.None = refl
   seen-delivery (DeliveryRestrictionFlags.DeliveryRestrictions r) = refl
 
-  seen-components : (cs : List ModeComponent) → seen l (componentsFields cs) ≡ true
+  seen-components : (cs : List SegmentationComponent) → seen l (componentsFields cs) ≡ true
   seen-components [] = refl
   seen-components (c ∷ cs) = seen-components cs
 
-  seen-mode : (k : SegmentationMode) (cs : List ModeComponent) → seen l (modeFields k cs) ≡ true
+  seen-mode : (k : SegmentationMode) (cs : List SegmentationComponent) → seen l (modeFields k cs) ≡ true
   seen-mode SegmentationMode.Program cs = refl
   seen-mode (SegmentationMode.Component n) cs = seen-components cs
 
@@ -109,7 +109,7 @@ numbered writable l fs e = rw e (go (within fs) writable)
     go true false = refl
     go false f = refl
 
-module _ (event : ℕ) (i : SegmentationDetail) (id : List ℕ) (cs : List ModeComponent) (eidr lent : List ℕ) where
+module _ (event : ℕ) (i : SegmentationDetail) (id : List ℕ) (cs : List SegmentationComponent) (eidr lent : List ℕ) where
   abbrev u : SegmentationUpid
   u = i .«segmentation_upid»
 
@@ -131,7 +131,7 @@ module _ (event : ℕ) (i : SegmentationDetail) (id : List ℕ) (cs : List ModeC
 
       module _ (h : u .bytes .len ≤ 255) (many : length cs ≡ 255) (twelve : length eidr ≡ 12) (ev : event < 2 ^ 32) (upid-type : u .«upid_type» < 256) (n : Bool)
           (en : (n ≡ numbersFit i (take (countOf (i .«segmentation_mode»)) cs)) × (countOf (i .«segmentation_mode») < 256)) where
-        abbrev listed : List ModeComponent
+        abbrev listed : List SegmentationComponent
         listed = take (countOf (i .«segmentation_mode»)) cs
 
         abbrev source : List ℕ
@@ -208,28 +208,28 @@ module _ (event : ℕ) (i : SegmentationDetail) (id : List ℕ) (cs : List ModeC
 
 -- ---- a number that holds for all components, or for all that fit
 module _ (x : SegmentationDescriptor) (id eidr lent : List ℕ) (n : ℕ) where
-  abbrev So : List ModeComponent → Type 0
+  abbrev So : List SegmentationComponent → Type 0
   So cs = n ≡ refusalIn (segmentationMade x id (record { components = cs; eidr = eidr }) lent)
 
-  pub refused-all : ((cs : List ModeComponent) → So cs) → RefusedSo x id eidr lent n
+  pub refused-all : ((cs : List SegmentationComponent) → So cs) → RefusedSo x id eidr lent n
   refused-all h = record { no-components = h (filled []); others = λ cs l f. h cs }
 
-  pub refused-fit : componentCount x < 256 → ((cs : List ModeComponent) → length cs ≡ 255 → ModeFits x cs → So cs) → RefusedSo x id eidr lent n
+  pub refused-fit : componentCount x < 256 → ((cs : List SegmentationComponent) → length cs ≡ 255 → ModeFits x cs → So cs) → RefusedSo x id eidr lent n
   refused-fit few h = record { no-components = h (filled []) blanks-length (blanks-fit (frontOf (x .«descriptor_detail») .«segmentation_mode») few); others = h }
 
   pub refused-insert : (i : SegmentationDetail) → x .«descriptor_detail» ≡ Active i
       → RefusedSo (record { «segmentation_event_id» = x .«segmentation_event_id»; «descriptor_detail» = Active i }) id eidr lent n → RefusedSo x id eidr lent n
   refused-insert i is s = subst (λ (d : DescriptorDetail). RefusedSo (record { «segmentation_event_id» = x .«segmentation_event_id»; «descriptor_detail» = d }) id eidr lent n) (sym is) s
 
-pub cancel-fits : (x : SegmentationDescriptor) (cs : List ModeComponent) → x .«descriptor_detail» ≡ Cancel → ModeFits x cs
+pub cancel-fits : (x : SegmentationDescriptor) (cs : List SegmentationComponent) → x .«descriptor_detail» ≡ Cancel → ModeFits x cs
 cancel-fits x cs is = rw is
 
-pub insert-fits : (x : SegmentationDescriptor) (i : SegmentationDetail) (cs : List ModeComponent) → x .«descriptor_detail» ≡ Active i → (m : Bool)
+pub insert-fits : (x : SegmentationDescriptor) (i : SegmentationDetail) (cs : List SegmentationComponent) → x .«descriptor_detail» ≡ Active i → (m : Bool)
     → m ≡ within (modeFields (i .«segmentation_mode») (take (countOf (i .«segmentation_mode»)) cs)) → not m ≡ false → ModeFits x cs
 insert-fits x i cs is m em v = rw is (sym em ∙ not-false m v)
 
 -- ---- a cancelled one
-module _ (x : SegmentationDescriptor) (id : List ℕ) (cs : List ModeComponent) (eidr lent : List ℕ) (is : x .«descriptor_detail» ≡ Cancel) (ev : x .«segmentation_event_id» < 2 ^ 32) where
+module _ (x : SegmentationDescriptor) (id : List ℕ) (cs : List SegmentationComponent) (eidr lent : List ℕ) (is : x .«descriptor_detail» ≡ Cancel) (ev : x .«segmentation_event_id» < 2 ^ 32) where
   abbrev y : SegmentationDescriptor
   y = record { «segmentation_event_id» = x .«segmentation_event_id»; «descriptor_detail» = Cancel }
 
@@ -262,7 +262,7 @@ module _ (x : SegmentationDescriptor) (id : List ℕ) (cs : List ModeComponent) 
       cancel-writable v = made-cancel 0 (rw (← ez, not-false z t, ← (upid-none blankUpid eidr lent (λ e. omega arith) w ew v refl)))
 
 -- ---- one that is not
-pub insert-so : (x : SegmentationDescriptor) (i : SegmentationDetail) (id : List ℕ) (cs : List ModeComponent) (eidr lent : List ℕ) (r : ℕ) → x .«descriptor_detail» ≡ Active i
+pub insert-so : (x : SegmentationDescriptor) (i : SegmentationDetail) (id : List ℕ) (cs : List SegmentationComponent) (eidr lent : List ℕ) (r : ℕ) → x .«descriptor_detail» ≡ Active i
     → r ≡ refusalIn (segmentationMade (record { «segmentation_event_id» = x .«segmentation_event_id»; «descriptor_detail» = Active i }) id (record { components = cs; eidr = eidr }) lent)
     → r ≡ refusalIn (segmentationMade x id (record { components = cs; eidr = eidr }) lent)
 insert-so x i id cs eidr lent r is e =

@@ -18,8 +18,8 @@ use Rattle.upid.specs.Upid.{checkOf}
 use Rattle.upid.specs.declared.UpidRead.{UpidRead}
 use Rattle.descriptor.specs.Descriptor.{isCuei}
 use Rattle.descriptor.specs.Segmentation.{agrees, blankComponent, byProgram, countOf, lasting, unrestricted, writableFront, writableDetail}
-use Rattle.descriptor.specs.Whole.{filled}
-use Rattle.descriptor.specs.declared.segmentation.ModeComponent.{ModeComponent}
+use Rattle.descriptor.specs.Full.{filled}
+use Rattle.descriptor.specs.declared.segmentation.SegmentationComponent.{SegmentationComponent}
 use Rattle.descriptor.specs.declared.segmentation.DescriptorDetail.the-variants.{Active}
 use Rattle.descriptor.specs.declared.segmentation.SegmentationDuration.{SegmentationDuration}
 use Rattle.descriptor.specs.declared.segmentation.SegmentationDetail.{SegmentationDetail}
@@ -99,11 +99,11 @@ and-tt false = refl
 pub duration-byte : (d : SegmentationDuration) (t : ℕ) → d ≡ SegmentationDuration.Ticks t → ltb t (2 ^ 40) ≡ within (durationFields d)
 duration-byte d t e = rw e (and-tt (ltb t (2 ^ 40)))
 
-pub mode-byte : (k : SegmentationMode) (n : ℕ) (cs : List ModeComponent) (r : Bool) → k ≡ SegmentationMode.Component n → n < 256 → r ≡ within (componentsFields (take n cs))
+pub mode-byte : (k : SegmentationMode) (n : ℕ) (cs : List SegmentationComponent) (r : Bool) → k ≡ SegmentationMode.Component n → n < 256 → r ≡ within (componentsFields (take n cs))
     → (r ≡ within (modeFields k (take (countOf k) cs))) × (countOf k < 256)
 mode-byte k n cs r e h er = rw e (rw (lt-ltb n 256 h) er, h)
 
-pub mode-none : (k : SegmentationMode) (cs : List ModeComponent) → k ≡ SegmentationMode.Program → (true ≡ within (modeFields k (take (countOf k) cs))) × (countOf k < 256)
+pub mode-none : (k : SegmentationMode) (cs : List SegmentationComponent) → k ≡ SegmentationMode.Program → (true ≡ within (modeFields k (take (countOf k) cs))) × (countOf k < 256)
 mode-none k cs e = rw e (refl, (let z : 0 < 256 = omega arith in z))
 
 -- a count alone
@@ -133,8 +133,8 @@ unfolding filled
 blanks-length = length-replicate 255 blankComponent
 
 -- ---- components: likewise
-module _ (cs : List ModeComponent) (i : ℕ) (inv : within (componentsFields (drop i cs)) ≡ within (componentsFields cs)) (h : i < length cs)
-    (m : ModeComponent) (is : getD cs i blankComponent ≡ m) (tag : m .«component_tag» < 256) where
+module _ (cs : List SegmentationComponent) (i : ℕ) (inv : within (componentsFields (drop i cs)) ≡ within (componentsFields cs)) (h : i < length cs)
+    (m : SegmentationComponent) (is : getD cs i blankComponent ≡ m) (tag : m .«component_tag» < 256) where
   part-next : within (componentsFields (drop i cs)) ≡ ltb (m .«pts_offset») (2 ^ 33) && within (componentsFields (drop (i + 1) cs))
   part-next = rw (add-one i, drop-cons cs i blankComponent h, is, lt-ltb (m .«component_tag») 256 tag)
 
@@ -150,11 +150,11 @@ drop-none zero (x ∷ l) h = absurd (omega arith)
 drop-none (suc i) [] h = refl
 drop-none (suc i) (x ∷ l) h = drop-none i l (omega arith)
 
-pub parts-end : (cs : List ModeComponent) (n i : ℕ) → within (componentsFields (drop i (take n cs))) ≡ within (componentsFields (take n cs)) → n ≤ i
+pub parts-end : (cs : List SegmentationComponent) (n i : ℕ) → within (componentsFields (drop i (take n cs))) ≡ within (componentsFields (take n cs)) → n ≤ i
     → true ≡ within (componentsFields (take n cs))
 parts-end cs n i inv h =
     let d : drop i (take n cs) ≡ [] = drop-none i (take n cs) (omega (arith, length-take n cs)) in
-    sym (ap (λ (l : List ModeComponent). within (componentsFields l)) d) ∙ inv
+    sym (ap (λ (l : List SegmentationComponent). within (componentsFields l)) d) ∙ inv
 
 -- ---- flags and type id
 module _ (i : SegmentationDetail) (p a : Bool) (ep : p ≡ byProgram (i .«segmentation_mode»)) (ea : a ≡ agrees (i .«program_segmentation_flag») p) where
@@ -223,13 +223,13 @@ module _ (u : SegmentationUpid) (eidr lent : List ℕ) where
               rw (ne-eqb (u .«upid_type») 10 ne, ← ez, not-false z t, ne-eqb (u .«upid_type») 0 k, ne-eqb (u .bytes .len) 0 l, ne-eqb (u .«upid_type») 5 f, ← ep, ← ew, ← er)
 
 -- ---- the numbers of an insert: those of components that fit change nothing
-pub numbers-with : (i : SegmentationDetail) (cs : List ModeComponent) (n : Bool) → within (modeFields (i .«segmentation_mode») cs) ≡ true
+pub numbers-with : (i : SegmentationDetail) (cs : List SegmentationComponent) (n : Bool) → within (modeFields (i .«segmentation_mode») cs) ≡ true
     → (n ≡ numbersFit i []) × (countOf (i .«segmentation_mode») < 256) → (n ≡ numbersFit i cs) × (countOf (i .«segmentation_mode») < 256)
 unfolding numbersFit
 numbers-with i cs n f e =
     (e .0 ∙ ap (λ (b : Bool). b && (within (durationFields (i .«segmentation_duration»)) && within (backFields i))) (none-fits (i .«segmentation_mode») (e .1) ∙ sym f), e .1)
 
-module _ (i : SegmentationDetail) (cs : List ModeComponent) (m : Bool) (em : m ≡ within (modeFields (i .«segmentation_mode») cs)) where
+module _ (i : SegmentationDetail) (cs : List SegmentationComponent) (m : Bool) (em : m ≡ within (modeFields (i .«segmentation_mode») cs)) where
   pub no-mode-fit : not m ≡ true → false ≡ numbersFit i cs
   unfolding numbersFit
   no-mode-fit t = rw (← em, not-true m t)

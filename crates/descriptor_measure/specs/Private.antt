@@ -10,9 +10,9 @@ use Rattle.names.specs.Segmentation.{segmentationNumber}
 use Rattle.table.specs.Table.{flagNumber}
 use Rattle.table.specs.Writing.{Field, bits, run, rest, within, refusalIn}
 use Rattle.descriptor.specs.Segmentation.{componentCount, byProgram, lasting, unrestricted, subBytes, frontOf, modeSize, durationSize}
-use Rattle.descriptor.specs.Whole.{filled}
+use Rattle.descriptor.specs.Full.{filled}
 use Rattle.descriptor.specs.declared.segmentation.DeliveryRestrictionFlags.{DeliveryRestrictionFlags}
-use Rattle.descriptor.specs.declared.segmentation.ModeComponent.{ModeComponent}
+use Rattle.descriptor.specs.declared.segmentation.SegmentationComponent.{SegmentationComponent}
 use Rattle.descriptor.specs.declared.segmentation.SegmentationDescriptor.{SegmentationDescriptor}
 use Rattle.descriptor.specs.declared.segmentation.DescriptorDetail.{DescriptorDetail}
 use Rattle.descriptor.specs.declared.segmentation.DescriptorDetail.the-variants.{Cancel, Active}
@@ -38,14 +38,14 @@ deliveryFields (DeliveryRestrictionFlags.DeliveryRestrictions r) =
     ∷ (bits 2 (restrictionsBits (r .«device_restrictions»))
     ∷ [])))
 
-abbrev pub componentFields : ModeComponent → List Field
+abbrev pub componentFields : SegmentationComponent → List Field
 componentFields c = bits 8 (c .«component_tag») ∷ (bits 7 127 ∷ (bits 33 (c .«pts_offset») ∷ []))
 
-abbrev pub componentsFields : List ModeComponent → List Field
+abbrev pub componentsFields : List SegmentationComponent → List Field
 componentsFields [] = []
 componentsFields (c ∷ cs) = componentFields c ++ componentsFields cs
 
-abbrev pub modeFields : SegmentationMode → List ModeComponent → List Field
+abbrev pub modeFields : SegmentationMode → List SegmentationComponent → List Field
 modeFields SegmentationMode.Program cs = []
 modeFields (SegmentationMode.Component n) cs = bits 8 n ∷ componentsFields cs
 
@@ -65,7 +65,7 @@ backFields i =
     bits 8 (segmentationNumber (i .«segmentation_type_id»)) ∷ (bits 8 (i .«segment_num») ∷ (bits 8 (i .«segments_expected») ∷ subFields (i .«sub_segments»)))
 
 -- the fields after the head, of the components cs
-abbrev pub insertFields : SegmentationDetail → List ModeComponent → List Field
+abbrev pub insertFields : SegmentationDetail → List SegmentationComponent → List Field
 insertFields i cs =
     flagFields (byProgram (i .«segmentation_mode»)) (lasting (i .«segmentation_duration»)) (unrestricted (i .«delivery_restrictions»))
     ++ (deliveryFields (i .«delivery_restrictions»)
@@ -74,12 +74,12 @@ insertFields i cs =
     ++ (upidFields (writtenUpid (i .«segmentation_upid»))
     ++ backFields i))))
 
-unfoldable pub segmentFields : ℕ → DescriptorDetail → List ModeComponent → List Field
+unfoldable pub segmentFields : ℕ → DescriptorDetail → List SegmentationComponent → List Field
 segmentFields event Cancel cs = headFields event true
 segmentFields event (Active i) cs = headFields event false ++ insertFields i cs
 
 -- refusal 32: the numbers of an insert but its UPID's, of the components cs
-unfoldable pub numbersFit : SegmentationDetail → List ModeComponent → Bool
+unfoldable pub numbersFit : SegmentationDetail → List SegmentationComponent → Bool
 numbersFit i cs = within (modeFields (i .«segmentation_mode») cs) && (within (durationFields (i .«segmentation_duration»)) && within (backFields i))
 
 -- ---- the bytes of a payload
@@ -93,12 +93,12 @@ payloadSize (Active i) =
 -- ---- refusals
 
 -- the count of a segmentation descriptor and that many components within their fields
-abbrev pub ModeFits : SegmentationDescriptor → List ModeComponent → Type 0
+abbrev pub ModeFits : SegmentationDescriptor → List SegmentationComponent → Type 0
 ModeFits x components =
     within (modeFields (frontOf (x .«descriptor_detail») .«segmentation_mode») (take (componentCount x) components)) ≡ true
 
 -- n is the number of the first refusal, or 0: of blank components, and of any others that fit
 pub record RefusedSo (x : SegmentationDescriptor) (identifier eidr lent : List ℕ) (n : ℕ) : Type 0 where
   pub no-components : n ≡ refusalIn (segmentationMade x identifier (record { components = filled []; eidr = eidr }) lent)
-  pub others : (components : List ModeComponent) → length components ≡ 255 → ModeFits x components
+  pub others : (components : List SegmentationComponent) → length components ≡ 255 → ModeFits x components
       → n ≡ refusalIn (segmentationMade x identifier (record { components = components; eidr = eidr }) lent)

@@ -18,24 +18,24 @@ use Rattle.descriptor.specs.Plain.{avail, dtmf, time, privateBytes}
 use Rattle.descriptor.specs.Segmentation as table
 use Rattle.descriptor.specs.Segmentation.{componentCount, agrees, detailUpid, writableDetail, segmentation}
 use Rattle.descriptor.specs.Views.{withUpids}
-use Rattle.descriptor.specs.Whole.{ofReserved, ofSegmentation}
+use Rattle.descriptor.specs.Full.{ofReserved, ofSegmentation}
 use Rattle.descriptor.specs.declared.Descriptor.{Descriptor}
 use Rattle.descriptor.specs.declared.Descriptor.the-variants.{Avail, Dtmf, Segmentation, Time, Reserved}
-use Rattle.descriptor.specs.declared.segmentation.ModeComponent.{ModeComponent}
+use Rattle.descriptor.specs.declared.segmentation.SegmentationComponent.{SegmentationComponent}
 use Rattle.descriptor.specs.declared.segmentation.SegmentationDescriptor.{SegmentationDescriptor}
 use Rattle.descriptor.specs.declared.segmentation.DescriptorDetail.{DescriptorDetail}
 use Rattle.descriptor.specs.declared.segmentation.SegmentationUpid.{SegmentationUpid}
-use Rattle.descriptor.specs.declared.whole.Beside.{Beside}
+use Rattle.descriptor.specs.declared.full.Beside.{Beside}
 
--- ---- the frame: "tag, L, identifier of 4", and the payload
+-- ---- the envelope: "tag, L, identifier of 4", and the payload
 
-unfoldable pub framed : ℕ → List ℕ → List ℕ → List ℕ
-framed tag identifier payload = tag ∷ ((length payload + 4) ∷ (identifier ++ payload))
+unfoldable pub enveloped : ℕ → List ℕ → List ℕ → List ℕ
+enveloped tag identifier payload = tag ∷ ((length payload + 4) ∷ (identifier ++ payload))
 
 -- refusal 34: "descriptor length over 254"
-unfoldable pub framedMade : ℕ → List ℕ → Made → Made
-framedMade tag identifier (refused n) = refused n
-framedMade tag identifier (made payload) = pick (leb (length payload + 4) 254) (made (framed tag identifier payload)) (refused 34)
+unfoldable pub envelopedMade : ℕ → List ℕ → Made → Made
+envelopedMade tag identifier (refused n) = refused n
+envelopedMade tag identifier (made payload) = pick (leb (length payload + 4) 254) (made (enveloped tag identifier payload)) (refused 34)
 
 -- ---- refusal 33: "a part that kind, cancel bit or mode leaves out, unless equal to the blank that readers leave there"
 
@@ -90,7 +90,7 @@ abbrev pub writtenDetail : DescriptorDetail → DescriptorDetail
 writtenDetail d = withUpids writtenUpid d
 
 -- the components up to the count; "array places past a count" are not looked at
-abbrev pub written : SegmentationDescriptor → List ModeComponent → table.Segmentation
+abbrev pub written : SegmentationDescriptor → List SegmentationComponent → table.Segmentation
 written x components = record {
   descriptor = record { «segmentation_event_id» = x .«segmentation_event_id»; «descriptor_detail» = writtenDetail (x .«descriptor_detail») };
   components = take (componentCount x) components;
@@ -134,7 +134,7 @@ identifierOf d identifier = ofReserved identifier cuei d
 
 -- Refusals 31 to 34. 36, a short target, is `answerOf`'s and `laterOf`'s.
 unfoldable pub descriptorMade : Descriptor → List ℕ → Beside → List ℕ → Made
-descriptorMade d identifier beside lent = framedMade (tagOf d) (identifierOf d identifier) (payloadMade d identifier beside lent)
+descriptorMade d identifier beside lent = envelopedMade (tagOf d) (identifierOf d identifier) (payloadMade d identifier beside lent)
 
 -- how many components stand beside a descriptor
 abbrev pub countBeside : Descriptor → ℕ

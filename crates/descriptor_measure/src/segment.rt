@@ -4,7 +4,7 @@ ghost use Prim.Native.Nat.{_<_};
 ghost use mathlib.Core.List.{[]};
 ghost use lib.ListN.{take};
 ghost use Rattle.descriptor.specs.Segmentation.{componentCount, agrees, byProgram, countOf, writableDetail, lasting, unrestricted, subBytes, modeSize, durationSize};
-ghost use Rattle.descriptor.specs.Whole.{filled};
+ghost use Rattle.descriptor.specs.Full.{filled};
 ghost use Rattle.descriptor.specs.declared.segmentation.DescriptorDetail.the-variants.{Active};
 ghost use Rattle.table.specs.Writing.{within, refusalIn};
 ghost use Rattle.descriptor_measure.specs.Private.{componentsFields, modeFields, durationFields, subFields, numbersFit};
@@ -15,7 +15,7 @@ use crate::upids::is_writable_upid;
 use descriptor::segmentation::DeliveryRestrictionFlags;
 use descriptor::segmentation::DescriptorDetail;
 use descriptor::segmentation::MAX_COMPONENTS;
-use descriptor::segmentation::ModeComponent;
+use descriptor::segmentation::SegmentationComponent;
 use descriptor::segmentation::SegmentationDescriptor;
 use descriptor::segmentation::SegmentationDetail;
 use descriptor::segmentation::SegmentationDuration;
@@ -83,7 +83,7 @@ fn is_writable_insert(i: SegmentationDetail) -> bool
 // ---- refusal 32. A number whose type is as wide as its field always fits.
 
 // The first n components. Places past them are not looked at.
-fn components_fit(components: [ModeComponent; MAX_COMPONENTS], n: usize) -> bool
+fn components_fit(components: [SegmentationComponent; MAX_COMPONENTS], n: usize) -> bool
     requires { ⌜ n < 256 ⌝ }
     ensures { λ r. ⌜ r ≡ within (componentsFields (take n components)) ⌝ }
 {
@@ -98,7 +98,7 @@ fn components_fit(components: [ModeComponent; MAX_COMPONENTS], n: usize) -> bool
     true
 }
 
-fn mode_fits(mode: SegmentationMode, components: [ModeComponent; MAX_COMPONENTS]) -> bool
+fn mode_fits(mode: SegmentationMode, components: [SegmentationComponent; MAX_COMPONENTS]) -> bool
     ensures { λ r. ⌜ (r ≡ within (modeFields mode (take (countOf mode) components))) × (countOf mode < 256) ⌝ }
 {
     match mode {
@@ -234,7 +234,7 @@ pub fn refusal_with_no_components(
 pub fn refusal_of_segmentation(
     x: SegmentationDescriptor,
     identifier: [u8; 4],
-    components: [ModeComponent; MAX_COMPONENTS],
+    components: [SegmentationComponent; MAX_COMPONENTS],
     eidr: [u8; 12],
     lent: &[u8],
 ) -> u8

@@ -26,21 +26,21 @@ use Rattle.descriptor.specs.Views.{withoutView, detailViews, descriptorViews, w
 use Rattle.descriptor.specs.declared.Descriptor.{Descriptor}
 use Rattle.descriptor.specs.declared.Descriptor.the-variants.{Avail, Dtmf, Segmentation, Time, Reserved}
 use Rattle.descriptor.specs.declared.plain.DTMFDescriptor.{DTMFDescriptor}
-use Rattle.descriptor.specs.declared.segmentation.ModeComponent.{ModeComponent}
+use Rattle.descriptor.specs.declared.segmentation.SegmentationComponent.{SegmentationComponent}
 use Rattle.descriptor.specs.declared.segmentation.SegmentationDescriptor.{SegmentationDescriptor}
 use Rattle.descriptor.specs.declared.segmentation.DescriptorDetail.{DescriptorDetail}
 use Rattle.descriptor.specs.declared.segmentation.DescriptorDetail.the-variants.{Cancel, Active}
 use Rattle.descriptor.specs.declared.segmentation.SegmentationDetail.{SegmentationDetail}
 use Rattle.descriptor.specs.declared.segmentation.SegmentationUpid.{SegmentationUpid}
-use Rattle.descriptor.specs.declared.whole.Beside.{Beside}
+use Rattle.descriptor.specs.declared.full.Beside.{Beside}
 use Rattle.descriptor_measure.specs.Private.{upidFields}
 use Rattle.canonical_form.specs.Same.{SameReading, withoutPlaces, bytesOfViews, placelessUpid}
-use Rattle.descriptor_measure.specs.Writing.{countBeside, framedMade, allZero, alone, writableReserved, accepts, writableUpid, writableSegment, segmentationMade, payloadMade, descriptorMade, tagOf, identifierOf, upidIn, upidSource, writtenDetail, writtenType, writtenUpid}
+use Rattle.descriptor_measure.specs.Writing.{countBeside, envelopedMade, allZero, alone, writableReserved, accepts, writableUpid, writableSegment, segmentationMade, payloadMade, descriptorMade, tagOf, identifierOf, upidIn, upidSource, writtenDetail, writtenType, writtenUpid}
 use Rattle.descriptor_measure.proofs.Fields.{insert-fields}
 use Rattle.descriptor_measure.proofs.Making.{all-writable, by-table, counted, zero-view}
 use Rattle.descriptor_round_trips.specs.Making.{viewIn}
 use Rattle.descriptor_round_trips.proofs.PlainLaws.{viewed-at}
-use Rattle.descriptor_round_trips.proofs.PlainTrips.{unframed}
+use Rattle.descriptor_round_trips.proofs.PlainTrips.{unenveloped}
 use Rattle.descriptor_round_trips.proofs.Remade.{same-make, withUpid, insert-makes, insert-seen}
 use Rattle.descriptor_round_trips.proofs.SegmentBack.{viewed-length, viewed-none}
 
@@ -122,7 +122,7 @@ module _ (s r : List ℕ) (w : View) (p : List ℕ) where
       (laws.wrote writable s (walk privateBytes v 0 .fields) p e .fit)
 
 -- what is made of a segmentation descriptor, with its EIDR and its components up to the count
-abbrev segmentMade : SegmentationDescriptor → List ℕ → List ℕ → List ModeComponent → List ℕ → Made
+abbrev segmentMade : SegmentationDescriptor → List ℕ → List ℕ → List SegmentationComponent → List ℕ → Made
 segmentMade x id eidr cs lent =
     pick (leb (upidIn x .bytes .at + upidIn x .bytes .len) (length lent))
     (pick (leb (upidIn x .bytes .len) 255)
@@ -156,7 +156,7 @@ module _ (s r : List ℕ) (w : View) (p id : List ℕ) (b : Beside) where
       abbrev v : SegmentationUpid
       v = record { «upid_type» = i .«segmentation_upid» .«upid_type»; bytes = w }
 
-      abbrev cs : List ModeComponent
+      abbrev cs : List SegmentationComponent
       cs = take (countOf (i .«segmentation_mode»)) (b .components)
 
       type-alike : writtenType u ≡ writtenType v
@@ -235,7 +235,7 @@ module _ (lent id : List ℕ) (b c : Beside) (eidrs : b .eidr ≡ c .eidr) where
   unfolding payloadMade
   payload-beside (Avail x) h = ap (λ (e : List ℕ). make avail (alone id e) lent x) eidrs
   payload-beside (Dtmf x) h = ap (λ (e : List ℕ). make dtmf (alone id e) lent x) eidrs
-  payload-beside (Segmentation x) h = segment-is x id b lent ∙ ap₂ (λ (e : List ℕ) (cs : List ModeComponent). segmentMade x id e cs lent) eidrs h ∙ sym (segment-is x id c lent)
+  payload-beside (Segmentation x) h = segment-is x id b lent ∙ ap₂ (λ (e : List ℕ) (cs : List SegmentationComponent). segmentMade x id e cs lent) eidrs h ∙ sym (segment-is x id c lent)
   payload-beside (Time x) h = ap (λ (e : List ℕ). make time (alone id e) lent x) eidrs
   payload-beside (Reserved tag own) h = ap (λ (e : List ℕ). make privateBytes (writableReserved tag id e) lent own) eidrs
 
@@ -261,8 +261,8 @@ identifier-of w (Time x) id = refl
 identifier-of w (Reserved tag own) id = refl
 
 -- descriptors of equal values have one tag and one identifier
-pub same-frame : (d e : Descriptor) (id : List ℕ) → withoutPlaces d ≡ withoutPlaces e → (tagOf d ≡ tagOf e) × (identifierOf d id ≡ identifierOf e id)
-same-frame d e id h =
+pub same-envelope : (d e : Descriptor) (id : List ℕ) → withoutPlaces d ≡ withoutPlaces e → (tagOf d ≡ tagOf e) × (identifierOf d id ≡ identifierOf e id)
+same-envelope d e id h =
     let k = views-differ d e h in
     (sym (tag-of (viewIn e) d) ∙ ap tagOf k, sym (identifier-of (viewIn e) d id) ∙ ap (λ (f : Descriptor). identifierOf f id) k)
 
@@ -279,10 +279,10 @@ module _ (s r id : List ℕ) (b c : Beside) (eidrs : b .eidr ≡ c .eidr) (d e :
   pub alike-made : (t : List ℕ) → descriptorMade d id b s ≡ made t → descriptorMade e id c r ≡ made t
   unfolding descriptorMade
   alike-made t m =
-      let u = unframed (tagOf d) (identifierOf d id) (payloadMade d id b s) t m in
-      let f = same-frame d e id values in
-      ap₂ (λ (k : ℕ) (i : List ℕ). framedMade k i (payloadMade e id c r)) (sym (f .0)) (sym (f .1))
-      ∙ ap (framedMade (tagOf d) (identifierOf d id)) (alike-payload (u .0) (u .1) ∙ sym (u .1)) ∙ m
+      let u = unenveloped (tagOf d) (identifierOf d id) (payloadMade d id b s) t m in
+      let f = same-envelope d e id values in
+      ap₂ (λ (k : ℕ) (i : List ℕ). envelopedMade k i (payloadMade e id c r)) (sym (f .0)) (sym (f .1))
+      ∙ ap (envelopedMade (tagOf d) (identifierOf d id)) (alike-payload (u .0) (u .1) ∙ sym (u .1)) ∙ m
 
 -- ---- equal readings, of both of which something is written
 
@@ -341,7 +341,7 @@ module _ (s p id : List ℕ) (b : Beside) where
 pub made-told : (s t id : List ℕ) (b : Beside) (d : Descriptor) → countBeside d ≤ length (b .components) → descriptorMade d id b s ≡ made t → (viewIn d .at + viewIn d .len ≤ length s) × NoneTold d
 unfolding descriptorMade
 made-told s t id b d places e =
-    let u = unframed (tagOf d) (identifierOf d id) (payloadMade d id b s) t e in
+    let u = unenveloped (tagOf d) (identifierOf d id) (payloadMade d id b s) t e in
     payload-told s (u .0) id b d places (u .1)
 
 first : List (List ℕ) → List ℕ

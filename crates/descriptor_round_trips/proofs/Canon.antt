@@ -1,4 +1,4 @@
--- A canonical descriptor as a whole: its frame; and the payload that is written of an avail, DTMF, time or reserved one is canonical.
+-- A canonical descriptor as a whole: its envelope; and the payload that is written of an avail, DTMF, time or reserved one is canonical.
 use Prim.Native.Nat.{ℕ, suc, _+_, _≤_}
 use mathlib.Core.Bool.{Bool, true, _&&_}
 use mathlib.Core.List.{List, [], _∷_, _++_}
@@ -18,18 +18,18 @@ use Rattle.descriptor.specs.declared.Descriptor.the-variants.{Avail, Dtmf, Time
 use Rattle.descriptor.specs.declared.plain.AvailDescriptor.{AvailDescriptor}
 use Rattle.descriptor.specs.declared.plain.DTMFDescriptor.{DTMFDescriptor}
 use Rattle.descriptor.specs.declared.plain.TimeDescriptor.{TimeDescriptor}
-use Rattle.descriptor.specs.declared.whole.Beside.{Beside}
+use Rattle.descriptor.specs.declared.full.Beside.{Beside}
 use Rattle.descriptor.proofs.Structures.{availStructure, dtmfStructure, timeStructure, privateStructure}
 use Rattle.canonical_form.specs.Descriptor.{canonicalSegmentation, canonicalPayload, canonicalDescriptor}
-use Rattle.descriptor_measure.specs.Writing.{cuei, framed, alone, writableReserved, payloadMade}
+use Rattle.descriptor_measure.specs.Writing.{cuei, enveloped, alone, writableReserved, payloadMade}
 use Rattle.table.specs.Table.{canonicalBy}
 use Rattle.descriptor_round_trips.proofs.PlainLaws.{table-write-read}
 use Rattle.descriptor_round_trips.proofs.PlainTrips.{foreign, writable-tag}
 
--- a canonical payload in its frame
-pub framed-canonical : (tag : ℕ) (id p : List ℕ) → length id ≡ 4 → length p + 4 ≤ 254 → canonicalPayload tag id p ≡ true → canonicalDescriptor (framed tag id p) ≡ true
-unfolding canonicalDescriptor framed
-framed-canonical tag id p four fits c =
+-- a canonical payload in its envelope
+pub enveloped-canonical : (tag : ℕ) (id p : List ℕ) → length id ≡ 4 → length p + 4 ≤ 254 → canonicalPayload tag id p ≡ true → canonicalDescriptor (enveloped tag id p) ≡ true
+unfolding canonicalDescriptor enveloped
+enveloped-canonical tag id p four fits c =
     let n : length (id ++ p) ≡ length p + 4 = length-append id p ∙ omega arith in
     let t : take 4 (id ++ p) ≡ id = take-at id p 4 four in
     let d : drop 4 (id ++ p) ≡ p = drop-at id p 4 four in
@@ -37,11 +37,11 @@ framed-canonical tag id p four fits c =
     let b : eqb (length p + 4 + 2) (suc (suc (length (id ++ p)))) ≡ true = eq-eqb (length p + 4 + 2) (suc (suc (length (id ++ p)))) (omega arith) in
     rw (t, d, le-leb (length p + 4) 254 fits, c) (ap₂ (λ (x y : Bool). x && y) a (ap (λ (x : Bool). x && true) b))
 
--- a canonical descriptor is a canonical payload in its frame
-pub canonical-framed : (s : List ℕ) → canonicalDescriptor s ≡ true
-    → (s ≡ framed (getD s 0 0) (take 4 (drop 2 s)) (drop 6 s)) × (length (drop 6 s) + 4 ≤ 254) × (canonicalPayload (getD s 0 0) (take 4 (drop 2 s)) (drop 6 s) ≡ true)
-unfolding canonicalDescriptor framed
-canonical-framed s e =
+-- a canonical descriptor is a canonical payload in its envelope
+pub canonical-enveloped : (s : List ℕ) → canonicalDescriptor s ≡ true
+    → (s ≡ enveloped (getD s 0 0) (take 4 (drop 2 s)) (drop 6 s)) × (length (drop 6 s) + 4 ≤ 254) × (canonicalPayload (getD s 0 0) (take 4 (drop 2 s)) (drop 6 s) ≡ true)
+unfolding canonicalDescriptor enveloped
+canonical-enveloped s e =
     let i = and-true (leb 6 (length s)) _ e in
     let j = and-true (eqb (getD s 1 0 + 2) (length s)) _ (i .1) in
     let k = and-true (leb (getD s 1 0) 254) _ (j .1) in

@@ -8,7 +8,7 @@ pub mod SegmentTrips
 pub mod SegmentBack
 pub mod SegmentCanon
 pub mod Alike
-pub mod Wholes
+pub mod FullTrips
 pub mod Payloads
 pub mod MadeSo
 pub mod Theorems

@@ -22,7 +22,7 @@ use Rattle.descriptor.specs.Plain.{avail, dtmf, time, privateBytes}
 use Rattle.descriptor.specs.Segmentation.{byProgram, countOf, frontOf, head, lasting, segmentation, subSegment, ticks, unrestricted}
 use Rattle.descriptor.specs.declared.Descriptor.{Descriptor}
 use Rattle.descriptor.specs.declared.Descriptor.the-variants.{Avail, Dtmf, Segmentation, Time, Reserved}
-use Rattle.descriptor.specs.declared.segmentation.ModeComponent.{ModeComponent}
+use Rattle.descriptor.specs.declared.segmentation.SegmentationComponent.{SegmentationComponent}
 use Rattle.descriptor.specs.declared.segmentation.SegmentationDescriptor.{SegmentationDescriptor}
 use Rattle.descriptor.specs.declared.segmentation.DescriptorDetail.{DescriptorDetail}
 use Rattle.descriptor.specs.declared.segmentation.DescriptorDetail.the-variants.{Cancel, Active}
@@ -31,10 +31,10 @@ use Rattle.descriptor.specs.declared.segmentation.SegmentationDetail.{Segmentat
 use Rattle.descriptor.specs.declared.segmentation.SegmentationMode.{SegmentationMode}
 use Rattle.descriptor.specs.declared.segmentation.SegmentationUpid.{SegmentationUpid}
 use Rattle.descriptor.specs.declared.segmentation.SubSegments.{SubSegments}
-use Rattle.descriptor.specs.declared.whole.Beside.{Beside}
-use Rattle.descriptor_measure.specs.Writing.{countBeside, framed, framedMade, alone, writableReserved, writableSegment, segmentationMade, payloadMade, descriptorMade, tagOf, identifierOf, upidSource, written, writtenType, writtenUpid}
+use Rattle.descriptor.specs.declared.full.Beside.{Beside}
+use Rattle.descriptor_measure.specs.Writing.{countBeside, enveloped, envelopedMade, alone, writableReserved, writableSegment, segmentationMade, payloadMade, descriptorMade, tagOf, identifierOf, upidSource, written, writtenType, writtenUpid}
 use Rattle.descriptor_measure.specs.Private.{deliveryFields, componentsFields, modeFields, durationFields, upidFields, subFields, backFields}
-use Rattle.descriptor_measure.proofs.Fields.{foreFields, insert-fields}
+use Rattle.descriptor_measure.proofs.Fields.{frontFields, insert-fields}
 use Rattle.descriptor_measure.proofs.Making as making
 use Rattle.descriptor_measure.proofs.Refusals.{within-append, flag-within, within-delivery, upid-seen}
 use Rattle.descriptor_round_trips.specs.Making.{viewIn, fit, componentNumbers, numbersOf, Payload, DescriptorMakes, outside, over, nobodys, long, its}
@@ -66,11 +66,11 @@ upid-within u = go (leb (u .bytes .len) 255) (eqb (u .«upid_type») 10) (eqb (u
 
 -- ---- the numbers of an insert
 
-components-fit : (cs : List ModeComponent) → within (componentsFields cs) ≡ fit (componentNumbers cs)
+components-fit : (cs : List SegmentationComponent) → within (componentsFields cs) ≡ fit (componentNumbers cs)
 components-fit [] = refl
 components-fit (c ∷ cs) = ap (λ (b : Bool). ltb (c .«component_tag») (2 ^ 8) && (ltb (c .«pts_offset») (2 ^ 33) && b)) (components-fit cs)
 
-mode-fits : (k : SegmentationMode) (places : List ModeComponent) → within (modeFields k (take (countOf k) places)) ≡ ltb (countOf k) (2 ^ 8) && fit (componentNumbers (take (countOf k) places))
+mode-fits : (k : SegmentationMode) (places : List SegmentationComponent) → within (modeFields k (take (countOf k) places)) ≡ ltb (countOf k) (2 ^ 8) && fit (componentNumbers (take (countOf k) places))
 mode-fits SegmentationMode.Program places = refl
 mode-fits (SegmentationMode.Component n) places = ap (λ (b : Bool). ltb n (2 ^ 8) && b) (components-fit (take n places))
 
@@ -82,13 +82,13 @@ sub-fits : (s : SubSegments) → within (subFields s) ≡ ltb (subSegment s .«s
 sub-fits SubSegments.Absent = refl
 sub-fits (SubSegments.Is x) = refl
 
-module _ (event : ℕ) (i : SegmentationDetail) (places : List ModeComponent) where
-  abbrev counts : List ModeComponent
+module _ (event : ℕ) (i : SegmentationDetail) (places : List SegmentationComponent) where
+  abbrev counts : List SegmentationComponent
   counts = take (countOf (i .«segmentation_mode»)) places
 
-  fore-fits : within (foreFields event i counts)
+  front-fits : within (frontFields event i counts)
       ≡ ltb event (2 ^ 32) && ((ltb (countOf (i .«segmentation_mode»)) (2 ^ 8) && fit (componentNumbers counts)) && ltb (ticks (i .«segmentation_duration»)) (2 ^ 40))
-  fore-fits =
+  front-fits =
       let m = modeFields (i .«segmentation_mode») counts in
       let t = durationFields (i .«segmentation_duration») in
       let d = deliveryFields (i .«delivery_restrictions») in
@@ -103,8 +103,8 @@ module _ (event : ℕ) (i : SegmentationDetail) (places : List ModeComponent) wh
   numbers-fit =
       let u = i .«segmentation_upid» in
       let n = ltb (segmentationNumber (i .«segmentation_type_id»)) (2 ^ 8) in
-      within-append (foreFields event i counts) (upidFields u ++ backFields i)
-      ∙ ap₂ (λ (a b : Bool). a && b) fore-fits
+      within-append (frontFields event i counts) (upidFields u ++ backFields i)
+      ∙ ap₂ (λ (a b : Bool). a && b) front-fits
       (ap (λ (b : Bool). ltb (u .«upid_type») (2 ^ 8) && (ltb (u .bytes .len) (2 ^ 8) && (n && (ltb (i .«segment_num») (2 ^ 8) && (ltb (i .«segments_expected») (2 ^ 8) && b))))) (sub-fits (i .«sub_segments»)))
       ∙ turned (ltb event (2 ^ 32)) (ltb (countOf (i .«segmentation_mode»)) (2 ^ 8)) (fit (componentNumbers counts)) (ltb (ticks (i .«segmentation_duration»)) (2 ^ 40))
       (ltb (u .«upid_type») (2 ^ 8)) (ltb (u .bytes .len) (2 ^ 8)) n (ltb (i .«segment_num») (2 ^ 8)) (ltb (i .«segments_expected») (2 ^ 8))
@@ -148,7 +148,7 @@ module _ (id : List ℕ) (beside : Beside) (lent : List ℕ) (twelve : length (b
     abbrev u : SegmentationUpid
     u = i .«segmentation_upid»
 
-    abbrev cs : List ModeComponent
+    abbrev cs : List SegmentationComponent
     cs = take (countOf (i .«segmentation_mode»)) (beside .components)
 
     abbrev source : List ℕ
@@ -161,14 +161,14 @@ module _ (id : List ℕ) (beside : Beside) (lent : List ℕ) (twelve : length (b
     abbrev inks : List Field
     inks = withUpid event i cs (writtenUpid (i .«segmentation_upid»))
 
-    within-parts : (w : SegmentationUpid) → within (withUpid event i cs w) ≡ within (foreFields event i cs) && (within (upidFields w) && within (backFields i))
-    within-parts w = within-append (foreFields event i cs) _ ∙ ap (λ (b : Bool). within (foreFields event i cs) && b) (within-append (upidFields w) (backFields i))
+    within-parts : (w : SegmentationUpid) → within (withUpid event i cs w) ≡ within (frontFields event i cs) && (within (upidFields w) && within (backFields i))
+    within-parts w = within-append (frontFields event i cs) _ ∙ ap (λ (b : Bool). within (frontFields event i cs) && b) (within-append (upidFields w) (backFields i))
 
     all-within : leb (u .bytes .len) 255 && within inks ≡ within given
     all-within =
         ap (λ (b : Bool). leb (u .bytes .len) 255 && b) (within-parts (writtenUpid u))
-        ∙ turned (leb (u .bytes .len) 255) (within (foreFields event i cs)) (within (upidFields (writtenUpid u))) (within (backFields i))
-        ∙ ap (λ (b : Bool). within (foreFields event i cs) && (b && within (backFields i))) (upid-within u)
+        ∙ turned (leb (u .bytes .len) 255) (within (frontFields event i cs)) (within (upidFields (writtenUpid u))) (within (backFields i))
+        ∙ ap (λ (b : Bool). within (frontFields event i cs) && (b && within (backFields i))) (upid-within u)
         ∙ sym (within-parts u)
       where
         turned : (l f w b : Bool) → l && (f && (w && b)) ≡ f && ((l && w) && b)
@@ -248,28 +248,28 @@ module _ (d : Descriptor) (id : List ℕ) (beside : Beside) (lent : List ℕ) (h
   only s = written-if-read d id beside lent (leb-true (viewIn d .at + viewIn d .len) (length lent) s)
 
   pub what-is-made : DescriptorMakes d id beside lent (descriptorMade d id beside lent)
-  unfolding descriptorMade framedMade
+  unfolding descriptorMade envelopedMade
   what-is-made = go sees fits (told .writable) (told .bytes) refl refl (told .is)
     where
       go : (a b writable : Bool) (q : List ℕ) → sees ≡ a → fits ≡ b → payloadMade d id beside lent ≡ checked a b writable q
-          → DescriptorMakes d id beside lent (framedMade (tagOf d) (identifierOf d id) (payloadMade d id beside lent))
+          → DescriptorMakes d id beside lent (envelopedMade (tagOf d) (identifierOf d id) (payloadMade d id beside lent))
       go false b writable q s w e = rw e (outside s)
       go true false writable q s w e = rw e (over s w)
       go true true false q s w e = rw e (nobodys s w (λ tag own p r. let z : refused 33 ≡ made p = sym e ∙ only s tag own p r .0 in zero-one cc))
       go true true true q s w e = rw e (sized (leb (length q + 4) 254) refl)
         where
-          sized : (l : Bool) → leb (length q + 4) 254 ≡ l → DescriptorMakes d id beside lent (pick l (made (framed (tagOf d) (identifierOf d id) q)) (refused 34))
+          sized : (l : Bool) → leb (length q + 4) 254 ≡ l → DescriptorMakes d id beside lent (pick l (made (enveloped (tagOf d) (identifierOf d id) q)) (refused 34))
           sized true l = its s (tagOf d) (identifierOf d id) q (payload-write-read id beside lent q d h e) (leb-true (length q + 4) 254 l)
           sized false l = long s (tagOf d) (identifierOf d id) q (payload-write-read id beside lent q d h e) (leb-false (length q + 4) 254 l)
 
   -- nothing else is allowed
-  framed-if-read : sees ≡ true → (tag : ℕ) (own p : List ℕ) → Payload d id beside lent tag own p
-      → descriptorMade d id beside lent ≡ pick (leb (length p + 4) 254) (made (framed tag own p)) (refused 34)
-  unfolding descriptorMade framedMade
-  framed-if-read s tag own p r = let w = only s tag own p r in rw (w .0, w .1, w .2)
+  enveloped-if-read : sees ≡ true → (tag : ℕ) (own p : List ℕ) → Payload d id beside lent tag own p
+      → descriptorMade d id beside lent ≡ pick (leb (length p + 4) 254) (made (enveloped tag own p)) (refused 34)
+  unfolding descriptorMade envelopedMade
+  enveloped-if-read s tag own p r = let w = only s tag own p r in rw (w .0, w .1, w .2)
 
   refused-if : (a b : Bool) (n : ℕ) → sees ≡ a → fits ≡ b → checked a b (told .writable) (told .bytes) ≡ refused n → descriptorMade d id beside lent ≡ refused n
-  unfolding descriptorMade framedMade
+  unfolding descriptorMade envelopedMade
   refused-if a b n s w e = let z : payloadMade d id beside lent ≡ refused n = told .is ∙ ap₂ (λ (a b : Bool). checked a b (told .writable) (told .bytes)) s w ∙ e in rw z
 
   pub nothing-else : {m : Made} → DescriptorMakes d id beside lent m → descriptorMade d id beside lent ≡ m
@@ -282,5 +282,5 @@ module _ (d : Descriptor) (id : List ℕ) (beside : Beside) (lent : List ℕ) (h
           let e : payloadMade d id beside lent ≡ made (told .bytes) = told .is ∙ ap₂ (λ (a b : Bool). checked a b (told .writable) (told .bytes)) s w ∙ rw f in
           absurd (none (tagOf d) (identifierOf d id) (told .bytes) (payload-write-read id beside lent (told .bytes) d h e))
       go false f = refused-if true true 33 s w (rw f)
-  nothing-else (long s tag own p r l) = framed-if-read s tag own p r ∙ rw (lt-leb (length p + 4) 254 l)
-  nothing-else (its s tag own p r l) = framed-if-read s tag own p r ∙ rw (le-leb (length p + 4) 254 l)
+  nothing-else (long s tag own p r l) = enveloped-if-read s tag own p r ∙ rw (lt-leb (length p + 4) 254 l)
+  nothing-else (its s tag own p r l) = enveloped-if-read s tag own p r ∙ rw (le-leb (length p + 4) 254 l)

@@ -14,23 +14,23 @@ use Rattle.table.proofs.Structure as laws
 use Rattle.table.proofs.Walks.{print-bits}
 use Rattle.descriptor.specs.Plain.{avail, dtmf, time, privateBytes}
 use Rattle.descriptor.specs.Segmentation.{writableDetail, segmentation}
-use Rattle.descriptor.specs.Whole.{wholeOf, identifierRead, besideRead}
+use Rattle.descriptor.specs.Full.{fullOf, identifierRead, besideRead}
 use Rattle.descriptor.specs.declared.Descriptor.{Descriptor}
 use Rattle.descriptor.specs.declared.Descriptor.the-variants.{Avail, Dtmf, Segmentation, Time, Reserved}
 use Rattle.descriptor.specs.declared.DescriptorRead.the-variants.{Is}
-use Rattle.descriptor.specs.declared.whole.Beside.{Beside}
-use Rattle.descriptor.specs.declared.whole.WholeDescriptor.{WholeDescriptor}
+use Rattle.descriptor.specs.declared.full.Beside.{Beside}
+use Rattle.descriptor.specs.declared.full.FullDescriptor.{FullDescriptor}
 use Rattle.canonical_form.specs.Descriptor.{canonicalPayload}
 use Rattle.canonical_form.specs.Same.{SameReading}
 use Rattle.descriptor_measure.specs.Writing.{countBeside, alone, writableReserved, payloadMade, tagOf, identifierOf, upidIn, upidSource, written, writtenDetail}
 use Rattle.descriptor_measure.proofs.Making.{by-table}
 use Rattle.descriptor_round_trips.specs.Making.{viewIn, Payload}
 use Rattle.descriptor_round_trips.specs.Trips.{Handed}
-use Rattle.descriptor_round_trips.proofs.Alike.{alike-payload, payload-told, same-frame, same-view}
+use Rattle.descriptor_round_trips.proofs.Alike.{alike-payload, payload-told, same-envelope, same-view}
 use Rattle.descriptor_round_trips.proofs.Canon.{avail-canonical, dtmf-canonical, time-canonical, reserved-canonical}
 use Rattle.descriptor_round_trips.proofs.PlainTrips.{ReadsBack, avail-payload-write-read, dtmf-payload-write-read, time-payload-write-read, reserved-payload-write-read}
 use Rattle.descriptor_round_trips.proofs.SegmentBack.{segmentation-payload-write-read}
-use Rattle.descriptor_round_trips.proofs.Wholes.{payload-is, whole-read}
+use Rattle.descriptor_round_trips.proofs.FullTrips.{payload-is, full-read}
 
 -- ---- what is written
 
@@ -72,14 +72,14 @@ module _ (id : List ℕ) (beside : Beside) (lent p : List ℕ) where
   payload-write-read d h e =
       let r = payload-reads-back d h e in
       let again : Descriptor = r .0 .again in
-      let w = whole-read (tagOf d) (identifierOf d id) p again (r .0 .reading) in
+      let w = full-read (tagOf d) (identifierOf d id) p again (r .0 .reading) in
       record {
         four = identifier-four d (h .four);
         are = payload-bytes d h e;
         form = r .1;
         again = again;
-        reading = ap (λ (x : WholeDescriptor). x .read) w;
-        same = subst (λ (x : WholeDescriptor). SameReading p again (x .identifier) (x .beside) lent d id beside) (sym w) (r .0 .same);
+        reading = ap (λ (x : FullDescriptor). x .read) w;
+        same = subst (λ (x : FullDescriptor). SameReading p again (x .identifier) (x .beside) lent d id beside) (sym w) (r .0 .same);
       }
 
 -- ---- what reads as it
@@ -89,14 +89,14 @@ module _ (d : Descriptor) (id : List ℕ) (beside : Beside) (lent : List ℕ) (t
   written-if-read tag own p q =
       let k = payload-is tag own p (q .four) (q .are) (q .form) in
       let x : Descriptor = k .read in
-      let w = whole-read tag own p x (k .reading) in
-      let z : x ≡ q .again = one x (q .again) (sym (ap (λ (x : WholeDescriptor). x .read) w) ∙ q .reading) in
+      let w = full-read tag own p x (k .reading) in
+      let z : x ≡ q .again = one x (q .again) (sym (ap (λ (x : FullDescriptor). x .read) w) ∙ q .reading) in
       let same : SameReading p x (identifierRead (Is x) own) (besideRead (Is x) p) lent d id beside =
-      subst (λ (x : WholeDescriptor). SameReading p (k .read) (x .identifier) (x .beside) lent d id beside) w
-      (subst (λ (x : Descriptor). SameReading p x (wholeOf tag own p .identifier) (wholeOf tag own p .beside) lent d id beside) (sym z) (q .same)) in
+      subst (λ (x : FullDescriptor). SameReading p (k .read) (x .identifier) (x .beside) lent d id beside) w
+      (subst (λ (x : Descriptor). SameReading p x (fullOf tag own p .identifier) (fullOf tag own p .beside) lent d id beside) (sym z) (q .same)) in
       let writes : payloadMade x id (besideRead (Is x) p) p ≡ made p = subst (λ (i : List ℕ). payloadMade x i (besideRead (Is x) p) p ≡ made p) (same .identifiers) (k .writes) in
       let views = same-view p lent x d (same .values) (same .bytes) (payload-told p p id (besideRead (Is x) p) x (k .places) writes) there in
-      let f = same-frame x d id (same .values) in (
+      let f = same-envelope x d id (same .values) in (
         alike-payload p lent id (besideRead (Is x) p) beside (same .eidrs) x d (k .places) (same .values) views (same .components) p writes,
         sym (f .0) ∙ k .tagged,
         sym (f .1) ∙ ap (identifierOf x) (sym (same .identifiers)) ∙ k .identified,

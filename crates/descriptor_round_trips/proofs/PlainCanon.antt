@@ -14,7 +14,7 @@ use Rattle.table.specs.declared.View.{View}
 use Rattle.table.proofs.Structure as laws
 use Rattle.descriptor.specs.Descriptor.{availOf, dtmfOf, timeOf, reservedOf, isCuei}
 use Rattle.descriptor.specs.Plain.{avail, dtmf, time, privateBytes}
-use Rattle.descriptor.specs.Whole.{blankBeside}
+use Rattle.descriptor.specs.Full.{blankBeside}
 use Rattle.descriptor.specs.declared.Descriptor.the-variants.{Avail, Dtmf, Time, Reserved}
 use Rattle.descriptor.specs.declared.DescriptorRead.the-variants.{Is}
 use Rattle.descriptor.specs.declared.plain.AvailDescriptor.{AvailDescriptor}

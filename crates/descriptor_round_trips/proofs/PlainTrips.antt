@@ -14,17 +14,17 @@ use Rattle.table.proofs.Lists.{zero-one, and-true}
 use Rattle.table.proofs.Structure as laws
 use Rattle.descriptor.specs.Descriptor.{availOf, dtmfOf, segmentationOf, timeOf, reservedOf, isCuei, byKind, descriptorOf}
 use Rattle.descriptor.specs.Plain.{avail, dtmf, time, privateBytes}
-use Rattle.descriptor.specs.Whole.{blankBeside, besideRead, identifierRead}
+use Rattle.descriptor.specs.Full.{blankBeside, besideRead, identifierRead}
 use Rattle.descriptor.specs.declared.Descriptor.{Descriptor}
 use Rattle.descriptor.specs.declared.Descriptor.the-variants.{Avail, Dtmf, Time, Reserved}
 use Rattle.descriptor.specs.declared.DescriptorRead.the-variants.{Is}
 use Rattle.descriptor.specs.declared.plain.AvailDescriptor.{AvailDescriptor}
 use Rattle.descriptor.specs.declared.plain.DTMFDescriptor.{DTMFDescriptor}
 use Rattle.descriptor.specs.declared.plain.TimeDescriptor.{TimeDescriptor}
-use Rattle.descriptor.specs.declared.whole.Beside.{Beside}
+use Rattle.descriptor.specs.declared.full.Beside.{Beside}
 use Rattle.descriptor.proofs.Structures.{dtmfMoved}
 use Rattle.canonical_form.specs.Same.{SameReading}
-use Rattle.descriptor_measure.specs.Writing.{framed, framedMade, allZero, alone, writableReserved, payloadMade, tagOf, identifierOf}
+use Rattle.descriptor_measure.specs.Writing.{enveloped, envelopedMade, allZero, alone, writableReserved, payloadMade, tagOf, identifierOf}
 use Rattle.descriptor_round_trips.proofs.PlainLaws.{avail-write-read, time-write-read, dtmf-write-read, reserved-write-read}
 
 -- the payload that was written, read again: equal to what was handed in
@@ -33,14 +33,14 @@ pub record ReadsBack (d : Descriptor) (id : List ℕ) (beside : Beside) (lent p 
   pub reading : descriptorOf (tagOf d) (identifierOf d id) p ≡ Is again
   pub same : SameReading p again (identifierRead (Is again) (identifierOf d id)) (besideRead (Is again) p) lent d id beside
 
--- ---- the frame, undone
-pub unframed : (tag : ℕ) (id : List ℕ) (m : Made) (s : List ℕ) → framedMade tag id m ≡ made s
-    → (p : List ℕ) × (m ≡ made p) × (s ≡ framed tag id p) × (length p + 4 ≤ 254)
-unfolding framedMade
-unframed tag id (refused n) s e = zero-one cc
-unframed tag id (made p) s e = go (leb (length p + 4) 254) refl e
+-- ---- the envelope, undone
+pub unenveloped : (tag : ℕ) (id : List ℕ) (m : Made) (s : List ℕ) → envelopedMade tag id m ≡ made s
+    → (p : List ℕ) × (m ≡ made p) × (s ≡ enveloped tag id p) × (length p + 4 ≤ 254)
+unfolding envelopedMade
+unenveloped tag id (refused n) s e = zero-one cc
+unenveloped tag id (made p) s e = go (leb (length p + 4) 254) refl e
   where
-    go : (b : Bool) → leb (length p + 4) 254 ≡ b → pick b (made (framed tag id p)) (refused 34) ≡ made s → (q : List ℕ) × (made p ≡ made q) × (s ≡ framed tag id q) × (length q + 4 ≤ 254)
+    go : (b : Bool) → leb (length p + 4) 254 ≡ b → pick b (made (enveloped tag id p)) (refused 34) ≡ made s → (q : List ℕ) × (made p ≡ made q) × (s ≡ enveloped tag id q) × (length q + 4 ≤ 254)
     go true h f = (p, refl, cc, leb-true (length p + 4) 254 h)
     go false h f = zero-one cc
 

@@ -13,14 +13,14 @@ use Rattle.table.specs.Writing.{Field, bits, run, rest, seen, within, Content, 
 use Rattle.table.proofs.Lists.{zero-one}
 use Rattle.table.proofs.Structure as laws
 use Rattle.descriptor.specs.declared.segmentation.DeliveryRestrictionFlags.{DeliveryRestrictionFlags}
-use Rattle.descriptor.specs.declared.segmentation.ModeComponent.{ModeComponent}
+use Rattle.descriptor.specs.declared.segmentation.SegmentationComponent.{SegmentationComponent}
 use Rattle.descriptor.specs.declared.segmentation.SegmentationDuration.{SegmentationDuration}
 use Rattle.descriptor.specs.declared.segmentation.SegmentationDetail.{SegmentationDetail}
 use Rattle.descriptor.specs.declared.segmentation.SegmentationMode.{SegmentationMode}
 use Rattle.descriptor.specs.declared.segmentation.SegmentationUpid.{SegmentationUpid}
 use Rattle.descriptor.specs.declared.segmentation.SubSegments.{SubSegments}
 use Rattle.descriptor_measure.specs.Private.{deliveryFields, componentsFields, modeFields, durationFields, upidFields, subFields, backFields}
-use Rattle.descriptor_measure.proofs.Fields.{foreFields}
+use Rattle.descriptor_measure.proofs.Fields.{frontFields}
 use Rattle.descriptor_measure.proofs.Refusals.{seen-append}
 
 -- ---- fields that hold the same
@@ -85,11 +85,11 @@ dry-delivery : (d : DeliveryRestrictionFlags) → dry (deliveryFields d) ≡ tru
 dry-delivery DeliveryRestrictionFlags.None = refl
 dry-delivery (DeliveryRestrictionFlags.DeliveryRestrictions r) = refl
 
-dry-components : (cs : List ModeComponent) → dry (componentsFields cs) ≡ true
+dry-components : (cs : List SegmentationComponent) → dry (componentsFields cs) ≡ true
 dry-components [] = refl
 dry-components (c ∷ cs) = dry-components cs
 
-dry-mode : (k : SegmentationMode) (cs : List ModeComponent) → dry (modeFields k cs) ≡ true
+dry-mode : (k : SegmentationMode) (cs : List SegmentationComponent) → dry (modeFields k cs) ≡ true
 dry-mode SegmentationMode.Program cs = refl
 dry-mode (SegmentationMode.Component n) cs = dry-components cs
 
@@ -104,26 +104,26 @@ dry-sub (SubSegments.Is x) = refl
 dry-both : (fs gs : List Field) → dry fs ≡ true → dry gs ≡ true → dry (fs ++ gs) ≡ true
 dry-both fs gs e f = dry-append fs gs ∙ rw e f
 
-dry-fore : (event : ℕ) (i : SegmentationDetail) (cs : List ModeComponent) → dry (foreFields event i cs) ≡ true
-dry-fore event i cs =
+dry-front : (event : ℕ) (i : SegmentationDetail) (cs : List SegmentationComponent) → dry (frontFields event i cs) ≡ true
+dry-front event i cs =
     dry-both (deliveryFields (i .«delivery_restrictions»)) _ (dry-delivery (i .«delivery_restrictions»))
     (dry-both (modeFields (i .«segmentation_mode») cs) (durationFields (i .«segmentation_duration»)) (dry-mode (i .«segmentation_mode») cs) (dry-duration (i .«segmentation_duration»)))
 
 -- the fields of an insert with a UPID
-abbrev pub withUpid : ℕ → SegmentationDetail → List ModeComponent → SegmentationUpid → List Field
-withUpid event i cs u = foreFields event i cs ++ (upidFields u ++ backFields i)
+abbrev pub withUpid : ℕ → SegmentationDetail → List SegmentationComponent → SegmentationUpid → List Field
+withUpid event i cs u = frontFields event i cs ++ (upidFields u ++ backFields i)
 
-module _ (event : ℕ) (i : SegmentationDetail) (cs : List ModeComponent) where
-  split-held : (l : List ℕ) (u : SegmentationUpid) → contents l (withUpid event i cs u) ≡ contents l (foreFields event i cs) ++ (contents l (upidFields u) ++ contents l (backFields i))
+module _ (event : ℕ) (i : SegmentationDetail) (cs : List SegmentationComponent) where
+  split-held : (l : List ℕ) (u : SegmentationUpid) → contents l (withUpid event i cs u) ≡ contents l (frontFields event i cs) ++ (contents l (upidFields u) ++ contents l (backFields i))
   split-held l u =
-      contents-append l (foreFields event i cs) (upidFields u ++ backFields i)
-      ∙ ap (λ (k : List Content). contents l (foreFields event i cs) ++ k) (contents-append l (upidFields u) (backFields i))
+      contents-append l (frontFields event i cs) (upidFields u ++ backFields i)
+      ∙ ap (λ (k : List Content). contents l (frontFields event i cs) ++ k) (contents-append l (upidFields u) (backFields i))
 
   -- only the UPID's fields have a view
   pub insert-seen : (l : List ℕ) (u : SegmentationUpid) → seen l (withUpid event i cs u) ≡ seen l (upidFields u)
   insert-seen l u =
-      seen-append l (foreFields event i cs) (upidFields u ++ backFields i)
-      ∙ rw (dry-seen l l (foreFields event i cs) (dry-fore event i cs))
+      seen-append l (frontFields event i cs) (upidFields u ++ backFields i)
+      ∙ rw (dry-seen l l (frontFields event i cs) (dry-front event i cs))
       (seen-append l (upidFields u) (backFields i) ∙ rw (dry-seen l l (backFields i) (dry-sub (i .«sub_segments»))) (and-last (seen l (upidFields u))))
 
   -- the same with another UPID, that holds the same
@@ -132,7 +132,7 @@ module _ (event : ℕ) (i : SegmentationDetail) (cs : List ModeComponent) where
   insert-makes writable other l r u v b e same s o =
       let held : contents l (withUpid event i cs u) ≡ contents r (withUpid event i cs v) =
       split-held l u
-      ∙ ap₂ (λ (p q : List Content). p ++ q) (dry-held l r (foreFields event i cs) (dry-fore event i cs))
+      ∙ ap₂ (λ (p q : List Content). p ++ q) (dry-held l r (frontFields event i cs) (dry-front event i cs))
       (ap₂ (λ (p q : List Content). p ++ q) same (dry-held l r (backFields i) (dry-sub (i .«sub_segments»))))
       ∙ sym (split-held r v) in
       same-make writable other l r (withUpid event i cs u) (withUpid event i cs v) b e held (insert-seen r v ∙ s) o
@@ -155,5 +155,5 @@ module _ (event : ℕ) (i : SegmentationDetail) (cs : List ModeComponent) where
       → take (u .bytes .len) (drop (u .bytes .at) l) ≡ take (v .bytes .len) (drop (v .bytes .at) r)
   unfolding third
   upid-found l r u v e =
-      let fs = foreFields event i cs in
+      let fs = frontFields event i cs in
       ap third (sym (past-first l fs (upidFields u ++ backFields i)) ∙ ap (drop (length fs)) e ∙ past-first r fs (upidFields v ++ backFields i))

@@ -13,7 +13,7 @@ use Rattle.upid.specs.Upid.{checkOf, readOf, plainOf, lengthOf, isText, reporte
 use Rattle.descriptor.specs.Descriptor.{isCuei}
 use Rattle.descriptor.specs.Plain.{avail, dtmf}
 use Rattle.descriptor.specs.Segmentation.{deviceOf, deliveryRestrictions, mode, duration, writtenUpid, parts, front, subSegments, back, head, segmentation, writableFront, writableDetail}
-use Rattle.descriptor.specs.Whole.{blankBeside}
+use Rattle.descriptor.specs.Full.{blankBeside}
 use Rattle.descriptor.specs.declared.Descriptor.{Descriptor}
 use Rattle.descriptor.specs.declared.Descriptor.the-variants.{Avail, Dtmf, Segmentation}
 use Rattle.descriptor.specs.declared.segmentation.DeliveryRestrictionFlags.{DeliveryRestrictionFlags}
@@ -23,7 +23,7 @@ use Rattle.descriptor.specs.declared.segmentation.SegmentationMode.{Segmentatio
 use Rattle.descriptor.specs.declared.segmentation.SegmentationUpid.{SegmentationUpid}
 use Rattle.descriptor.specs.declared.segmentation.SubSegments.{SubSegments}
 use Rattle.descriptor_measure.specs.Writing as w
-use Rattle.descriptor_measure.specs.Writing.{descriptorMade, payloadMade, framedMade, framed, alone, allZero, segmentationMade, writableSegment, writableUpid, writtenType, upidSource}
+use Rattle.descriptor_measure.specs.Writing.{descriptorMade, payloadMade, envelopedMade, enveloped, alone, allZero, segmentationMade, writableSegment, writableUpid, writtenType, upidSource}
 
 abbrev none : List ℕ
 none = replicate 4 0
@@ -33,16 +33,16 @@ abbrev chars : Descriptor
 chars = Dtmf (record { preroll = 177; «dtmf_chars» = record { at = 2; len = 1 } })
 
 pub row-g : descriptorMade chars none blankBeside (0xb1 ∷ 0x3f ∷ 0x34 ∷ []) ≡ made (0x01 ∷ 0x07 ∷ 0x43 ∷ 0x55 ∷ 0x45 ∷ 0x49 ∷ 0xb1 ∷ 0x3f ∷ 0x34 ∷ [])
-unfolding descriptorMade payloadMade framedMade framed alone allZero blankBeside dtmf number reserved part
+unfolding descriptorMade payloadMade envelopedMade enveloped alone allZero blankBeside dtmf number reserved part
 row-g = refl
 
 -- a view one byte too long; an identifier beside it
 pub row-31 : descriptorMade chars none blankBeside (0xb1 ∷ 0x3f ∷ []) ≡ refused 31
-unfolding descriptorMade payloadMade framedMade framed alone allZero blankBeside dtmf number reserved part
+unfolding descriptorMade payloadMade envelopedMade enveloped alone allZero blankBeside dtmf number reserved part
 row-31 = refl
 
 pub row-33 : descriptorMade chars (1 ∷ 0 ∷ 0 ∷ 0 ∷ []) blankBeside (0xb1 ∷ 0x3f ∷ 0x34 ∷ []) ≡ refused 33
-unfolding descriptorMade payloadMade framedMade framed alone allZero blankBeside dtmf number reserved part
+unfolding descriptorMade payloadMade envelopedMade enveloped alone allZero blankBeside dtmf number reserved part
 row-33 = refl
 
 -- row n, and the same with a UPID
@@ -66,20 +66,20 @@ start upid = Segmentation (record {
 
 pub row-n : descriptorMade (start (record { «upid_type» = 0; bytes = record { at = 0; len = 0 } })) none blankBeside []
     ≡ made (0x02 ∷ 0x0f ∷ 0x43 ∷ 0x55 ∷ 0x45 ∷ 0x49 ∷ 0 ∷ 0 ∷ 0 ∷ 0x2a ∷ 0x7f ∷ 0xbf ∷ 0 ∷ 0 ∷ 0x10 ∷ 1 ∷ 1 ∷ [])
-unfolding descriptorMade payloadMade framedMade framed segmentationMade writableSegment writableUpid writtenType w.writtenUpid upidSource allZero blankBeside segmentation head front parts deliveryRestrictions mode duration writtenUpid back subSegments number bit reserved part remaining viewed checkOf writableDetail writableFront writableSegmentation segmentationOf
+unfolding descriptorMade payloadMade envelopedMade enveloped segmentationMade writableSegment writableUpid writtenType w.writtenUpid upidSource allZero blankBeside segmentation head front parts deliveryRestrictions mode duration writtenUpid back subSegments number bit reserved part remaining viewed checkOf writableDetail writableFront writableSegmentation segmentationOf
 row-n = refl
 
 -- an eight-byte ISAN is of kind 6, and written as type 5
 pub row-isan : descriptorMade (start (record { «upid_type» = 6; bytes = record { at = 0; len = 8 } })) none blankBeside (1 ∷ 2 ∷ 3 ∷ 4 ∷ 5 ∷ 6 ∷ 7 ∷ 8 ∷ [])
     ≡ made (0x02 ∷ 0x17 ∷ 0x43 ∷ 0x55 ∷ 0x45 ∷ 0x49 ∷ 0 ∷ 0 ∷ 0 ∷ 0x2a ∷ 0x7f ∷ 0xbf ∷ 5 ∷ 8 ∷ 1 ∷ 2 ∷ 3 ∷ 4 ∷ 5 ∷ 6 ∷ 7 ∷ 8 ∷ 0x10 ∷ 1 ∷ 1 ∷ [])
-unfolding descriptorMade payloadMade framedMade framed segmentationMade writableSegment writableUpid writtenType w.writtenUpid upidSource allZero blankBeside segmentation head front parts deliveryRestrictions mode duration writtenUpid back subSegments number bit reserved part remaining viewed checkOf readOf plainOf lengthOf isText reportedOf writableDetail writableFront writableSegmentation segmentationOf
+unfolding descriptorMade payloadMade envelopedMade enveloped segmentationMade writableSegment writableUpid writtenType w.writtenUpid upidSource allZero blankBeside segmentation head front parts deliveryRestrictions mode duration writtenUpid back subSegments number bit reserved part remaining viewed checkOf readOf plainOf lengthOf isText reportedOf writableDetail writableFront writableSegmentation segmentationOf
 row-isan = refl
 
 -- type 5 is none that a reading has; nor is an empty UPID other than None
 pub row-5 : descriptorMade (start (record { «upid_type» = 5; bytes = record { at = 0; len = 8 } })) none blankBeside (1 ∷ 2 ∷ 3 ∷ 4 ∷ 5 ∷ 6 ∷ 7 ∷ 8 ∷ []) ≡ refused 33
-unfolding descriptorMade payloadMade framedMade framed segmentationMade writableSegment writableUpid writtenType w.writtenUpid upidSource allZero blankBeside segmentation head front parts deliveryRestrictions mode duration writtenUpid back subSegments number bit reserved part remaining viewed checkOf readOf plainOf lengthOf isText reportedOf writableDetail writableFront writableSegmentation segmentationOf
+unfolding descriptorMade payloadMade envelopedMade enveloped segmentationMade writableSegment writableUpid writtenType w.writtenUpid upidSource allZero blankBeside segmentation head front parts deliveryRestrictions mode duration writtenUpid back subSegments number bit reserved part remaining viewed checkOf readOf plainOf lengthOf isText reportedOf writableDetail writableFront writableSegmentation segmentationOf
 row-5 = refl
 
 pub row-empty : descriptorMade (start (record { «upid_type» = 7; bytes = record { at = 0; len = 0 } })) none blankBeside [] ≡ refused 33
-unfolding descriptorMade payloadMade framedMade framed segmentationMade writableSegment writableUpid writtenType w.writtenUpid upidSource allZero blankBeside segmentation head front parts deliveryRestrictions mode duration writtenUpid back subSegments number bit reserved part remaining viewed checkOf readOf plainOf lengthOf isText reportedOf writableDetail writableFront writableSegmentation segmentationOf
+unfolding descriptorMade payloadMade envelopedMade enveloped segmentationMade writableSegment writableUpid writtenType w.writtenUpid upidSource allZero blankBeside segmentation head front parts deliveryRestrictions mode duration writtenUpid back subSegments number bit reserved part remaining viewed checkOf readOf plainOf lengthOf isText reportedOf writableDetail writableFront writableSegmentation segmentationOf
 row-empty = refl

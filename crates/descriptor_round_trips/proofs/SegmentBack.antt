@@ -22,16 +22,16 @@ use Rattle.descriptor.specs.Descriptor.{isCuei, descriptorOf, reportedUpid, ifF
 use Rattle.descriptor.specs.Segmentation as table
 use Rattle.descriptor.specs.Segmentation.{componentCount, agrees, countOf, frontOf, segmentation}
 use Rattle.descriptor.specs.Views.{withoutView}
-use Rattle.descriptor.specs.Whole.{filled, besideIn, besideOf}
+use Rattle.descriptor.specs.Full.{filled, besideIn, besideOf}
 use Rattle.descriptor.specs.declared.Descriptor.the-variants.{Segmentation}
 use Rattle.descriptor.specs.declared.DescriptorRead.the-variants.{Is}
-use Rattle.descriptor.specs.declared.segmentation.ModeComponent.{ModeComponent}
+use Rattle.descriptor.specs.declared.segmentation.SegmentationComponent.{SegmentationComponent}
 use Rattle.descriptor.specs.declared.segmentation.SegmentationDescriptor.{SegmentationDescriptor}
 use Rattle.descriptor.specs.declared.segmentation.DescriptorDetail.{DescriptorDetail}
 use Rattle.descriptor.specs.declared.segmentation.DescriptorDetail.the-variants.{Cancel, Active}
 use Rattle.descriptor.specs.declared.segmentation.SegmentationDetail.{SegmentationDetail}
 use Rattle.descriptor.specs.declared.segmentation.SegmentationUpid.{SegmentationUpid}
-use Rattle.descriptor.specs.declared.whole.Beside.{Beside}
+use Rattle.descriptor.specs.declared.full.Beside.{Beside}
 use Rattle.descriptor.proofs.SegmentationLaws.{segmentationStructure, upidAt, upidPlace}
 use Rattle.canonical_form.specs.Descriptor.{canonicalUpid, canonicalSegmentation, canonicalPayload}
 use Rattle.canonical_form.specs.Same.{SameReading, bytesOfViews}
@@ -156,7 +156,7 @@ same-views s lent true v w f = refl
 same-views s lent false v w f = ap (λ (b : List ℕ). b ∷ []) (f refl)
 
 -- the components up to the count
-pub counted-again : (n : ℕ) (cs : List ModeComponent) → length cs ≡ n → take n (filled cs) ≡ cs
+pub counted-again : (n : ℕ) (cs : List SegmentationComponent) → length cs ≡ n → take n (filled cs) ≡ cs
 unfolding filled
 counted-again n cs e = take-at cs _ n e
 
@@ -198,7 +198,7 @@ module _ (id : List ℕ) (beside : Beside) (lent : List ℕ) (four : length id �
       abbrev source : List ℕ
       source = upidSource (i .«segmentation_upid») (beside .eidr) lent
 
-      abbrev cs : List ModeComponent
+      abbrev cs : List SegmentationComponent
       cs = take (countOf (i .«segmentation_mode»)) (beside .components)
 
       abbrev there : SegmentationUpid

@@ -24,17 +24,17 @@ use Rattle.upid.specs.declared.UpidRead.the-variants.{Fine, Refused}
 use Rattle.upid.proofs.Walks.{check-short}
 use Rattle.descriptor.specs.Descriptor.{reportedUpid, ifFine, segmentationOf}
 use Rattle.descriptor.specs.Segmentation as table
-use Rattle.descriptor.specs.Segmentation.{component, blankComponent, countOf, Moded, mode, duration, deliveryRestrictions, Fore, parts, front, Head, head, back, frontOf, backOf, writableDetail, writableFront, insertFrom, segmentation}
-use Rattle.descriptor.specs.Whole.{filled, besideIn, besideOf}
+use Rattle.descriptor.specs.Segmentation.{component, blankComponent, countOf, Moded, mode, duration, deliveryRestrictions, ListedFront, parts, front, Head, head, back, frontOf, backOf, writableDetail, writableFront, insertFrom, segmentation}
+use Rattle.descriptor.specs.Full.{filled, besideIn, besideOf}
 use Rattle.descriptor.specs.declared.Descriptor.the-variants.{Segmentation}
 use Rattle.descriptor.specs.declared.DescriptorRead.the-variants.{Is}
-use Rattle.descriptor.specs.declared.segmentation.ModeComponent.{ModeComponent}
+use Rattle.descriptor.specs.declared.segmentation.SegmentationComponent.{SegmentationComponent}
 use Rattle.descriptor.specs.declared.segmentation.SegmentationDescriptor.{SegmentationDescriptor}
 use Rattle.descriptor.specs.declared.segmentation.DescriptorDetail.{DescriptorDetail}
 use Rattle.descriptor.specs.declared.segmentation.DescriptorDetail.the-variants.{Cancel, Active}
 use Rattle.descriptor.specs.declared.segmentation.SegmentationDetail.{SegmentationDetail}
 use Rattle.descriptor.specs.declared.segmentation.SegmentationUpid.{SegmentationUpid}
-use Rattle.descriptor.specs.declared.whole.Beside.{Beside}
+use Rattle.descriptor.specs.declared.full.Beside.{Beside}
 use Rattle.descriptor.proofs.SegmentationLaws.{Counted}
 use Rattle.canonical_form.specs.Descriptor.{canonicalUpid, canonicalSegmentation, upidCanonical}
 use Rattle.descriptor_measure.specs.Private.{upidFields}
@@ -77,8 +77,8 @@ module _ (bs : List ℕ) where
   abbrev ModeCounted : Moded → Type 0
   ModeCounted x = length (x .components) ≡ countOf (x .mode)
 
-  abbrev ForeCounted : Fore → Type 0
-  ForeCounted x = length (x .components) ≡ countOf (x .front .«segmentation_mode»)
+  abbrev FrontCounted : ListedFront → Type 0
+  FrontCounted x = length (x .components) ≡ countOf (x .front .«segmentation_mode»)
 
   mode-counted : (b : Bool) (at : ℕ) → Every ModeCounted (parse (mode b) bs at)
   unfolding mode
@@ -86,23 +86,23 @@ module _ (bs : List ℕ) where
   mode-counted false at =
       every-in ModeCounted (fields.number 8) _ _ bs at λ n m e.
       every-in ModeCounted (list n blankComponent component) _ _ bs m λ cs k f.
-      every-got (λ (ys : List ModeComponent). length ys ≡ n) (parse (list n blankComponent component) bs m) cs k f (list-counted n blankComponent component m)
+      every-got (λ (ys : List SegmentationComponent). length ys ≡ n) (parse (list n blankComponent component) bs m) cs k f (list-counted n blankComponent component m)
 
-  parts-counted : (p l f : Bool) (at : ℕ) → Every ForeCounted (parse (parts p l f) bs at)
+  parts-counted : (p l f : Bool) (at : ℕ) → Every FrontCounted (parse (parts p l f) bs at)
   unfolding parts
   parts-counted p l f at =
-      every-in ForeCounted (deliveryRestrictions f) _ _ bs at λ r m₁ e₁.
-      every-in ForeCounted (mode p) _ _ bs m₁ λ moded m₂ e₂.
-      every-in ForeCounted (duration l) _ _ bs m₂ λ lasts m₃ e₃.
-      every-in ForeCounted table.writtenUpid _ _ bs m₃ λ upid m₄ e₄.
+      every-in FrontCounted (deliveryRestrictions f) _ _ bs at λ r m₁ e₁.
+      every-in FrontCounted (mode p) _ _ bs m₁ λ moded m₂ e₂.
+      every-in FrontCounted (duration l) _ _ bs m₂ λ lasts m₃ e₃.
+      every-in FrontCounted table.writtenUpid _ _ bs m₃ λ upid m₄ e₄.
       every-got ModeCounted (parse (mode p) bs m₁) moded m₂ e₂ (mode-counted p m₁)
 
-  front-counted : (at : ℕ) → Every ForeCounted (parse front bs at)
+  front-counted : (at : ℕ) → Every FrontCounted (parse front bs at)
   unfolding front
   front-counted at =
-      every-in ForeCounted bit _ _ bs at λ p m₁ e₁.
-      every-in ForeCounted bit _ _ bs m₁ λ l m₂ e₂.
-      every-in ForeCounted bit _ _ bs m₂ λ f m₃ e₃.
+      every-in FrontCounted bit _ _ bs at λ p m₁ e₁.
+      every-in FrontCounted bit _ _ bs m₁ λ l m₂ e₂.
+      every-in FrontCounted bit _ _ bs m₂ λ f m₃ e₃.
       parts-counted p l f m₃
 
   all-counted : Every Counted (parse segmentation bs 0)
@@ -115,7 +115,7 @@ module _ (bs : List ℕ) where
           rw e
           (every-in Counted front _ _ bs m λ f m₁ e₁.
           every-in Counted back _ _ bs m₁ λ b m₂ e₂.
-          every-got ForeCounted (parse front bs m) f m₁ e₁ (front-counted m))
+          every-got FrontCounted (parse front bs m) f m₁ e₁ (front-counted m))
 
 pub segmentation-counted : (s : List ℕ) (x : table.Segmentation) (m : ℕ) → parse segmentation (bitsOf s) 0 ≡ got x m → Counted x
 segmentation-counted s x m e = every-got Counted (parse segmentation (bitsOf s) 0) x m e (all-counted (bitsOf s))
@@ -243,7 +243,7 @@ module _ (p : List ℕ) (u : SegmentationUpid) (there : u .bytes .at + u .bytes 
 
 -- ---- the descriptor
 
-filled-places : (cs : List ModeComponent) → length cs ≤ length (filled cs)
+filled-places : (cs : List SegmentationComponent) → length cs ≤ length (filled cs)
 unfolding filled
 filled-places cs = omega (arith, length-append cs (replicate (255 - length cs) blankComponent))
 
@@ -256,7 +256,7 @@ module _ (p : List ℕ) (a : AllBytes p) where
       × (countOf (frontOf (d .«descriptor_detail») .«segmentation_mode») ≤ length (besideOf p .components))
 
   module _ (event : ℕ) where
-    module _ (cs : List ModeComponent) (m : ℕ) where
+    module _ (cs : List SegmentationComponent) (m : ℕ) where
       cancel-again : (let x : table.Segmentation = record { descriptor = record { «segmentation_event_id» = event; «descriptor_detail» = Cancel }; components = cs } in
           parse segmentation (bitsOf p) 0 ≡ got x m → make segmentation (writableDetail Cancel) p x ≡ made p → Back (x .descriptor))
       unfolding segmentationMade writableSegment writableDetail writableUpid upidSource writtenUpid writtenType eidrOf allZero besideOf besideIn
@@ -267,7 +267,7 @@ module _ (p : List ℕ) (a : AllBytes p) where
           let z : cs ≡ [] = nothing cs n in
           (segmentation-read p x m e, rw (e, le-leb 0 (length p) (omega arith), c) (rw z at f), omega arith)
         where
-          nothing : (cs : List ModeComponent) → length cs ≡ 0 → cs ≡ []
+          nothing : (cs : List SegmentationComponent) → length cs ≡ 0 → cs ≡ []
           nothing [] e = refl
           nothing (c ∷ cs) e = absurd (omega arith)
 
@@ -313,7 +313,7 @@ module _ (p : List ℕ) (a : AllBytes p) where
               let g : makeOf writable source (withUpid event i cs (writtenUpid v)) ≡ made p =
               insert-makes event i cs (writableDetail (Active i)) writable p source u (writtenUpid v) p (ap (makeOf (writableDetail (Active i)) p) (sym fields-of) ∙ f) (r .holds) (r .views) is in
               rw (le-leb (v .bytes .at + v .bytes .len) (length p) (r .there), le-leb (v .bytes .len) 255 (r .short))
-              (ap (λ (l : List ModeComponent). makeOf writable source (walk segmentation (record { descriptor = record { «segmentation_event_id» = event; «descriptor_detail» = Active (table.withUpid i (writtenUpid v)) }; components = l }) 0 .fields))
+              (ap (λ (l : List SegmentationComponent). makeOf writable source (walk segmentation (record { descriptor = record { «segmentation_event_id» = event; «descriptor_detail» = Active (table.withUpid i (writtenUpid v)) }; components = l }) 0 .fields))
               (counted-again (countOf (i .«segmentation_mode»)) cs counts)
               ∙ ap (makeOf writable source) (insert-fields event i (writtenUpid v) cs counts) ∙ g)
 
@@ -329,7 +329,7 @@ module _ (p : List ℕ) (a : AllBytes p) where
             ),
           )
 
-  by-detail : (event : ℕ) (d : DescriptorDetail) (cs : List ModeComponent) (m : ℕ)
+  by-detail : (event : ℕ) (d : DescriptorDetail) (cs : List SegmentationComponent) (m : ℕ)
       → (let x : table.Segmentation = record { descriptor = record { «segmentation_event_id» = event; «descriptor_detail» = d }; components = cs } in
       parse segmentation (bitsOf p) 0 ≡ got x m → make segmentation (writableDetail d) p x ≡ made p → canonicalUpid p (upidIn (x .descriptor)) ≡ true → (d : SegmentationDescriptor) × Back d)
   unfolding canonicalUpid

@@ -9,7 +9,7 @@ use Rattle.table.specs.Table.{Table, done, inside, Answer, got, short, parse}
 use Rattle.upid.specs.Upid.{checkOf}
 use Rattle.descriptor.specs.Descriptor.{ifFine, inserted, insertOf, segmentationOf}
 use Rattle.descriptor.specs.Segmentation as table
-use Rattle.descriptor.specs.Segmentation.{Fore, Head, head, headOf, front, frontOf, back, backOf, insertFrom, segmentation}
+use Rattle.descriptor.specs.Segmentation.{ListedFront, Head, head, headOf, front, frontOf, back, backOf, insertFrom, segmentation}
 use Rattle.descriptor.specs.declared.Descriptor.the-variants.{Segmentation}
 use Rattle.descriptor.specs.declared.DescriptorRead.{DescriptorRead}
 use Rattle.descriptor.specs.declared.DescriptorRead.the-variants.{Is}

@@ -14,7 +14,7 @@ use Rattle.descriptor.specs.Descriptor.{segmentationOf}
 use Rattle.descriptor.specs.Segmentation as table
 use Rattle.descriptor.specs.Segmentation.{componentCount, writableDetail, segmentation}
 use Rattle.descriptor.specs.declared.segmentation.SegmentationDescriptor.{SegmentationDescriptor}
-use Rattle.descriptor.specs.declared.whole.Beside.{Beside}
+use Rattle.descriptor.specs.declared.full.Beside.{Beside}
 use Rattle.descriptor.proofs.SegmentationLaws.{segmentationStructure, segmentationMoved, detailMoved}
 use Rattle.descriptor_measure.specs.Writing.{segmentationMade, upidIn, upidSource, written, writtenDetail}
 use Rattle.descriptor_measure.proofs.Making.{by-table, counted, count-written}

@@ -13,17 +13,17 @@ use Rattle.table.specs.Writing.{Made, made, refused}
 use Rattle.table.specs.declared.View.{View}
 use Rattle.descriptor.specs.Segmentation.{countOf, detailUpid, subSegment, ticks}
 use Rattle.descriptor.specs.Views.{byDescriptor}
-use Rattle.descriptor.specs.Whole.{wholeOf}
+use Rattle.descriptor.specs.Full.{fullOf}
 use Rattle.descriptor.specs.declared.Descriptor.{Descriptor}
 use Rattle.descriptor.specs.declared.Descriptor.the-variants.{Avail, Dtmf, Segmentation, Time, Reserved}
 use Rattle.descriptor.specs.declared.DescriptorRead.the-variants.{Is}
-use Rattle.descriptor.specs.declared.segmentation.ModeComponent.{ModeComponent}
+use Rattle.descriptor.specs.declared.segmentation.SegmentationComponent.{SegmentationComponent}
 use Rattle.descriptor.specs.declared.segmentation.DescriptorDetail.{DescriptorDetail}
 use Rattle.descriptor.specs.declared.segmentation.DescriptorDetail.the-variants.{Cancel, Active}
-use Rattle.descriptor.specs.declared.whole.Beside.{Beside}
+use Rattle.descriptor.specs.declared.full.Beside.{Beside}
 use Rattle.canonical_form.specs.Descriptor.{canonicalPayload}
 use Rattle.canonical_form.specs.Same.{SameReading}
-use Rattle.descriptor_measure.specs.Writing.{framed}
+use Rattle.descriptor_measure.specs.Writing.{enveloped}
 
 -- ---- 31: the view that is handed in, also where it should be blank
 
@@ -38,12 +38,12 @@ abbrev pub fit : List (ℕ × ℕ) → Bool
 fit [] = true
 fit (x ∷ xs) = ltb (x .1) (2 ^ x .0) && fit xs
 
-abbrev pub componentNumbers : List ModeComponent → List (ℕ × ℕ)
+abbrev pub componentNumbers : List SegmentationComponent → List (ℕ × ℕ)
 componentNumbers [] = []
 componentNumbers (c ∷ cs) = (8, c .«component_tag») ∷ (33, c .«pts_offset») ∷ componentNumbers cs
 
 -- what is absent counts as 0; of the places the components up to the count
-abbrev pub detailNumbers : DescriptorDetail → List ModeComponent → List (ℕ × ℕ)
+abbrev pub detailNumbers : DescriptorDetail → List SegmentationComponent → List (ℕ × ℕ)
 detailNumbers Cancel places = []
 detailNumbers (Active i) places =
     (8, countOf (i .«segmentation_mode»)) ∷ (40, ticks (i .«segmentation_duration»))
@@ -52,7 +52,7 @@ detailNumbers (Active i) places =
     ∷ (8, subSegment (i .«sub_segments») .«sub_segment_num») ∷ (8, subSegment (i .«sub_segments») .«sub_segments_expected»)
     ∷ componentNumbers (take (countOf (i .«segmentation_mode»)) places)
 
-abbrev pub numbersOf : Descriptor → List ModeComponent → List (ℕ × ℕ)
+abbrev pub numbersOf : Descriptor → List SegmentationComponent → List (ℕ × ℕ)
 numbersOf (Avail x) places = (32, x .«provider_avail_id») ∷ []
 numbersOf (Dtmf x) places = (8, x .preroll) ∷ (3, x .«dtmf_chars» .len) ∷ []
 numbersOf (Segmentation x) places = (32, x .«segmentation_event_id») ∷ detailNumbers (x .«descriptor_detail») places
@@ -67,8 +67,8 @@ pub record Payload (d : Descriptor) (identifier : List ℕ) (beside : Beside) (l
   pub are : AllBytes p
   pub form : canonicalPayload tag id p ≡ true
   pub again : Descriptor
-  pub reading : wholeOf tag id p .read ≡ Is again
-  pub same : SameReading p again (wholeOf tag id p .identifier) (wholeOf tag id p .beside) lent d identifier beside
+  pub reading : fullOf tag id p .read ≡ Is again
+  pub same : SameReading p again (fullOf tag id p .identifier) (fullOf tag id p .beside) lent d identifier beside
 
 -- "31 to 36 are checked in order of number". (Where there is a payload, each number was read of its field, so that 32 does not apply.)
 pub data DescriptorMakes (d : Descriptor) (identifier : List ℕ) (beside : Beside) (lent : List ℕ) : Made → Type 0 where
@@ -84,4 +84,4 @@ pub data DescriptorMakes (d : Descriptor) (identifier : List ℕ) (beside : Besi
       → DescriptorMakes d identifier beside lent (refused 34)
   -- the bytes that read as what is handed in
   its : liesIn lent (viewIn d) ≡ true → (tag : ℕ) (id p : List ℕ) → Payload d identifier beside lent tag id p → length p + 4 ≤ 254
-      → DescriptorMakes d identifier beside lent (made (framed tag id p))
+      → DescriptorMakes d identifier beside lent (made (enveloped tag id p))

@@ -4,17 +4,17 @@ use mathlib.Core.List.{List}
 use mathlib.Core.Path.{_≡_}
 use lib.ListN.{length, take, drop, getD}
 use Rattle.table.specs.Bits.{AllBytes}
-use Rattle.descriptor.specs.Whole.{wholeOf}
+use Rattle.descriptor.specs.Full.{fullOf}
 use Rattle.descriptor.specs.declared.Descriptor.{Descriptor}
 use Rattle.descriptor.specs.declared.DescriptorRead.the-variants.{Is}
-use Rattle.descriptor.specs.declared.whole.Beside.{Beside}
-use Rattle.descriptor.specs.declared.whole.WholeDescriptor.{WholeDescriptor}
+use Rattle.descriptor.specs.declared.full.Beside.{Beside}
+use Rattle.descriptor.specs.declared.full.FullDescriptor.{FullDescriptor}
 use Rattle.canonical_form.specs.Same.{SameReading}
 use Rattle.descriptor_measure.specs.Writing.{countBeside}
 
 -- the reading of a whole descriptor's bytes: tag, length, identifier of 4, payload. Its views count from the payload's first byte
-abbrev pub wholeIn : List ℕ → WholeDescriptor
-wholeIn s = wholeOf (getD s 0 0) (take 4 (drop 2 s)) (drop 6 s)
+abbrev pub fullIn : List ℕ → FullDescriptor
+fullIn s = fullOf (getD s 0 0) (take 4 (drop 2 s)) (drop 6 s)
 
 -- what the types say of a descriptor that is handed in: an identifier of 4 bytes, an EIDR of 12, an array of 255 places, a count that is a byte, and lent bytes
 pub record Handed (d : Descriptor) (identifier : List ℕ) (beside : Beside) (lent : List ℕ) : Type 0 where
@@ -28,5 +28,5 @@ pub record Handed (d : Descriptor) (identifier : List ℕ) (beside : Beside) (le
 -- the bytes s are read as a descriptor that is equal to what was handed in
 pub record ReadAs (s : List ℕ) (d : Descriptor) (identifier : List ℕ) (beside : Beside) (lent : List ℕ) : Type 0 where
   pub again : Descriptor
-  pub reading : wholeIn s .read ≡ Is again
-  pub same : SameReading (drop 6 s) again (wholeIn s .identifier) (wholeIn s .beside) lent d identifier beside
+  pub reading : fullIn s .read ≡ Is again
+  pub same : SameReading (drop 6 s) again (fullIn s .identifier) (fullIn s .beside) lent d identifier beside

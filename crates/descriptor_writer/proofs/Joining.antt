@@ -11,7 +11,7 @@ use Rattle.names.specs.Flags.{restrictionsBits}
 use Rattle.names.specs.declared.flags.DeviceRestrictions.{DeviceRestrictions}
 use Rattle.descriptor.specs.declared.segmentation.DeliveryRestrictionFlags.{DeliveryRestrictionFlags}
 use Rattle.descriptor.specs.declared.segmentation.DeliveryRestrictions.{DeliveryRestrictions}
-use Rattle.descriptor.specs.declared.segmentation.ModeComponent.{ModeComponent}
+use Rattle.descriptor.specs.declared.segmentation.SegmentationComponent.{SegmentationComponent}
 use Rattle.descriptor_measure.specs.Private.{headFields, flagFields, deliveryFields, componentsFields}
 use Rattle.bit_stores.proofs.Tables.{print-beside}
 
@@ -64,7 +64,7 @@ flags-bits from program lasts free d p l f r y hp hl hf hr rest e =
     ∙ ap (λ (n : ℕ). print (number 8 n ∷ [])) z
 
 -- ---- a component
-pub component-bits : (from : List ℕ) (x : ModeComponent) (t y : ℕ) → t ≡ x .«component_tag» → y ≡ t * 0x10000000000 + 0xFE00000000 + x .«pts_offset» % 0x200000000
+pub component-bits : (from : List ℕ) (x : SegmentationComponent) (t y : ℕ) → t ≡ x .«component_tag» → y ≡ t * 0x10000000000 + 0xFE00000000 + x .«pts_offset» % 0x200000000
     → print (contents from (componentsFields (x ∷ []))) ≡ print (number 48 y ∷ [])
 component-bits from x t y h e =
     let tag = x .«component_tag» in

@@ -1,6 +1,6 @@
 pub mod Storing
 pub mod Joining
-pub mod Framing
+pub mod Envelopes
 pub mod Plainly
 pub mod Listing
 pub mod Segmenting

@@ -14,26 +14,26 @@ use Rattle.table.specs.Writing.{Field, Content, number, bytes, contents, print,
 use Rattle.table.specs.declared.View.{View}
 use Rattle.table.specs.declared.cursor.Cursor.{Cursor}
 use Rattle.descriptor.specs.Segmentation.{componentCount, byProgram, countOf, frontOf, lasting, subBytes, unrestricted, modeSize, durationSize}
-use Rattle.descriptor.specs.Whole.{filled, blankBeside}
-use Rattle.descriptor.specs.declared.segmentation.ModeComponent.{ModeComponent}
+use Rattle.descriptor.specs.Full.{filled, blankBeside}
+use Rattle.descriptor.specs.declared.segmentation.SegmentationComponent.{SegmentationComponent}
 use Rattle.descriptor.specs.declared.segmentation.SegmentationDescriptor.{SegmentationDescriptor}
 use Rattle.descriptor.specs.declared.segmentation.DescriptorDetail.{DescriptorDetail}
 use Rattle.descriptor.specs.declared.segmentation.DescriptorDetail.the-variants.{Cancel, Active}
 use Rattle.descriptor.specs.declared.segmentation.SegmentationDetail.{SegmentationDetail}
 use Rattle.descriptor.specs.declared.segmentation.SegmentationMode.{SegmentationMode}
 use Rattle.descriptor.specs.declared.segmentation.SegmentationUpid.{SegmentationUpid}
-use Rattle.descriptor.specs.declared.whole.Beside.{Beside}
+use Rattle.descriptor.specs.declared.full.Beside.{Beside}
 use Rattle.descriptor_measure.specs.Private.{headFields, flagFields, deliveryFields, modeFields, durationFields, upidFields, backFields, insertFields, segmentFields, payloadSize}
-use Rattle.descriptor_measure.specs.Writing.{cuei, framedMade, segmentationMade, upidIn, upidSource, writtenType, writtenUpid}
+use Rattle.descriptor_measure.specs.Writing.{cuei, envelopedMade, segmentationMade, upidIn, upidSource, writtenType, writtenUpid}
 use Rattle.descriptor_measure.proofs.Making.{zero-view, made-zero, made-size, made-bits}
 use Rattle.bit_stores.specs.Pen.{Pens}
 use Rattle.bit_stores.specs.declared.Written.{Written}
 use Rattle.bit_stores.proofs.Tables.{print-beside}
 use Rattle.descriptor_writer.specs.Stores.{Writes}
-use Rattle.descriptor_writer.specs.Private.{Stores, start, frameContents}
+use Rattle.descriptor_writer.specs.Private.{Stores, start, envelopeContents}
 use Rattle.descriptor_writer.proofs.Storing.{then, then-fields, same-print, put-bytes, number-then}
-use Rattle.descriptor_writer.proofs.Framing.{writes-refused, writes-long, writes-short, writes-stored}
-use Rattle.descriptor_writer.proofs.Plainly.{Framed, refuses}
+use Rattle.descriptor_writer.proofs.Envelopes.{writes-refused, writes-long, writes-short, writes-stored}
+use Rattle.descriptor_writer.proofs.Plainly.{Enveloped, refuses}
 
 -- ---- sizes
 pub written-len : (u : SegmentationUpid) → u .bytes .len ≤ 255 → writtenUpid u .bytes .len ≤ 255
@@ -99,7 +99,7 @@ module _ (t : List ℕ) (c : Cursor) (s : List ℕ) (e : Cursor) (v : List ℕ) 
         rw f (upid-stores (record { «upid_type» = writtenType u; bytes = u .bytes }) lent part y (omega (arith, ek, j, ey)) z p q)
 
 -- ---- an insert
-pub insert-stores : (i : SegmentationDetail) (cs : List ModeComponent) (src : List ℕ) (p l f : Bool) → p ≡ byProgram (i .«segmentation_mode») → l ≡ lasting (i .«segmentation_duration»)
+pub insert-stores : (i : SegmentationDetail) (cs : List SegmentationComponent) (src : List ℕ) (p l f : Bool) → p ≡ byProgram (i .«segmentation_mode») → l ≡ lasting (i .«segmentation_duration»)
     → f ≡ unrestricted (i .«delivery_restrictions») → (t₀ t₁ t₂ t₃ t₄ t₅ : List ℕ) (c₀ c₁ c₂ c₃ c₄ c₅ : Cursor) → Stores t₀ c₀ (contents src (flagFields p l f ++ deliveryFields (i .«delivery_restrictions»))) t₁ c₁
     → Stores t₁ c₁ (contents src (modeFields (i .«segmentation_mode») cs)) t₂ c₂ → Stores t₂ c₂ (contents src (durationFields (i .«segmentation_duration»))) t₃ c₃
     → Stores t₃ c₃ (contents src (upidFields (writtenUpid (i .«segmentation_upid»)))) t₄ c₄ → Stores t₄ c₄ (contents src (backFields i)) t₅ c₅
@@ -116,7 +116,7 @@ insert-stores i cs src p l f ep el ef t₀ t₁ t₂ t₃ t₄ t₅ c₀ c₁ c�
     (then-fields src t₃ c₃ ups (backFields i) t₄ c₄ t₅ c₅ s₄ s₅)))
 
 -- ---- a payload
-module _ (x : SegmentationDescriptor) (cs : List ModeComponent) (eidr lent t : List ℕ) (c : Cursor) where
+module _ (x : SegmentationDescriptor) (cs : List SegmentationComponent) (eidr lent t : List ℕ) (c : Cursor) where
   abbrev All : List ℕ → Cursor → Type 0
   All v e = Stores t c (contents (upidSource (upidIn x) eidr lent) (segmentFields (x .«segmentation_event_id») (x .«descriptor_detail») cs)) v e
 
@@ -134,8 +134,8 @@ module _ (x : SegmentationDescriptor) (cs : List ModeComponent) (eidr lent t : L
 
 -- ---- with blank components
 pub with-blanks : (x : SegmentationDescriptor) (id eidr lent t v : List ℕ) (r : Written) (b : Beside) → b ≡ blankBeside
-    → Writes (framedMade 2 cuei (segmentationMade x id (record { components = b .components; eidr = eidr }) lent)) t v r
-    → Writes (framedMade 2 cuei (segmentationMade x id (record { components = filled []; eidr = eidr }) lent)) t v r
+    → Writes (envelopedMade 2 cuei (segmentationMade x id (record { components = b .components; eidr = eidr }) lent)) t v r
+    → Writes (envelopedMade 2 cuei (segmentationMade x id (record { components = filled []; eidr = eidr }) lent)) t v r
 unfolding blankBeside
 with-blanks x id eidr lent t v r b e w = rw e at w
 
@@ -148,7 +148,7 @@ module _ (x : SegmentationDescriptor) (id : List ℕ) (beside : Beside) (lent t 
   abbrev M : Made
   M = segmentationMade x id beside lent
 
-  pub segment-refused : (n ≡ 0 → ⊥) → Writes (framedMade 2 cuei M) t t (Written.Refused n)
+  pub segment-refused : (n ≡ 0 → ⊥) → Writes (envelopedMade 2 cuei M) t t (Written.Refused n)
   segment-refused h = refuses 2 cuei t M n (number-refused M n en h)
 
   pub segment-view : n ≡ 0 → (upidIn x .bytes .len ≤ 255) × (upidIn x .bytes .at + upidIn x .bytes .len ≤ length lent)
@@ -166,16 +166,16 @@ module _ (x : SegmentationDescriptor) (id : List ℕ) (beside : Beside) (lent t 
       size : length (bytesOf (print cs)) ≡ k
       size = made-size x id beside lent all (bytesOf (print cs)) (segment-made) ∙ sym ek
 
-      pub segment-long : 250 < k → Writes (framedMade 2 cuei M) t t (Written.Refused 34)
+      pub segment-long : 250 < k → Writes (envelopedMade 2 cuei M) t t (Written.Refused 34)
       segment-long h = rw (segment-made) (writes-long 2 cuei (bytesOf (print cs)) t k size h)
 
       module _ (few : k ≤ 250) where
-        pub segment-short : length t < k + 6 → Writes (framedMade 2 cuei M) t t (Written.Refused 36)
+        pub segment-short : length t < k + 6 → Writes (envelopedMade 2 cuei M) t t (Written.Refused 36)
         segment-short h = rw (segment-made) (writes-short 2 cuei (bytesOf (print cs)) t k size few refl h)
 
-        pub segment-writes : (i u v : List ℕ) (e d : Cursor) → k + 6 ≤ length t → i ≡ cuei → Framed t 2 (k + 4) i u e → Stores u e cs v d
-            → Writes (framedMade 2 cuei M) t v (Written.Wrote (k + 6))
+        pub segment-writes : (i u v : List ℕ) (e d : Cursor) → k + 6 ≤ length t → i ≡ cuei → Enveloped t 2 (k + 4) i u e → Stores u e cs v d
+            → Writes (envelopedMade 2 cuei M) t v (Written.Wrote (k + 6))
         segment-writes i u v e d room ei f s =
-            let g : Framed t 2 (k + 4) cuei u e = subst (λ (j : List ℕ). Framed t 2 (k + 4) j u e) ei f in
+            let g : Enveloped t 2 (k + 4) cuei u e = subst (λ (j : List ℕ). Enveloped t 2 (k + 4) j u e) ei f in
             let b : length (print cs) ≡ k * 8 = made-bits x id beside lent all (bytesOf (print cs)) (segment-made) ∙ ap (λ (m : ℕ). m * 8) (sym ek) in
-            rw (segment-made) (writes-stored 2 cuei t k cs b refl room (g .1) (g .2) v d few (then t start (frameContents 2 (k + 4) cuei) cs u e v d (g .0) s))
+            rw (segment-made) (writes-stored 2 cuei t k cs b refl room (g .1) (g .2) v d few (then t start (envelopeContents 2 (k + 4) cuei) cs u e v d (g .0) s))

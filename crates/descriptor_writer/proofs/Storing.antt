@@ -15,7 +15,7 @@ use Rattle.table.specs.declared.cursor.Cursor.{Cursor}
 use Rattle.table.proofs.Lists.{append-nil}
 use Rattle.table.proofs.Walks.{print-bits}
 use Rattle.descriptor.specs.Segmentation.{blankComponent}
-use Rattle.descriptor.specs.declared.segmentation.ModeComponent.{ModeComponent}
+use Rattle.descriptor.specs.declared.segmentation.SegmentationComponent.{SegmentationComponent}
 use Rattle.descriptor_measure.specs.Private.{componentFields, componentsFields}
 use Rattle.bit_stores.specs.Pen.{Pens}
 use Rattle.bit_stores.specs.Private.{Fits}
@@ -32,7 +32,7 @@ then t c cs ds u d v e p q = record {
       let k : Fits t c (print cs ++ print ds) = rw (print-append cs ds) at h in
       let n : length (print cs ++ print ds) ≡ length (print cs) + length (print ds) = length-append (print cs) (print ds) in
       let g = pens-append t c (print cs) u d (print ds) (print-bits cs) k (p .stores (omega arith)) in
-      rw (print-append cs ds) (g .whole v e (q .stores (g .room)));
+      rw (print-append cs ds) (g .both v e (q .stores (g .room)));
 }
 
 contents-append : (l : List ℕ) (fs gs : List Field) → contents l (fs ++ gs) ≡ contents l fs ++ contents l gs
@@ -75,11 +75,11 @@ pub count-then : (t : List ℕ) (c : Cursor) (u : List ℕ) (d : Cursor) (n : �
 count-then t c u d n cs s = record { stores = s .stores }
 
 -- ---- components, one behind the other
-components-append : (xs ys : List ModeComponent) → componentsFields (xs ++ ys) ≡ componentsFields xs ++ componentsFields ys
+components-append : (xs ys : List SegmentationComponent) → componentsFields (xs ++ ys) ≡ componentsFields xs ++ componentsFields ys
 components-append [] ys = refl
 components-append (x ∷ xs) ys = ap (λ (l : List Field). componentFields x ++ l) (components-append xs ys)
 
-pub component-next : (l t : List ℕ) (c : Cursor) (cs : List ModeComponent) (i : ℕ) (u : List ℕ) (d : Cursor) (v : List ℕ) (e : Cursor) → i < length cs
+pub component-next : (l t : List ℕ) (c : Cursor) (cs : List SegmentationComponent) (i : ℕ) (u : List ℕ) (d : Cursor) (v : List ℕ) (e : Cursor) → i < length cs
     → Stores t c (contents l (componentsFields (take i cs))) u d → Stores u d (contents l (componentsFields (getD cs i blankComponent ∷ []))) v e
     → Stores t c (contents l (componentsFields (take (i + 1) cs))) v e
 component-next l t c cs i u d v e h p q =
@@ -88,6 +88,6 @@ component-next l t c cs i u d v e h p q =
     let z : componentsFields (take (i + 1) cs) ≡ componentsFields (take i cs) ++ componentsFields (m ∷ []) = ap componentsFields y ∙ components-append (take i cs) (m ∷ []) in
     rw z (then-fields l t c (componentsFields (take i cs)) (componentsFields (m ∷ [])) u d v e p q)
 
-pub components-all : (l t : List ℕ) (c : Cursor) (cs : List ModeComponent) (i n : ℕ) (u : List ℕ) (d : Cursor) → n ≤ i → i ≤ n → Stores t c (contents l (componentsFields (take i cs))) u d
+pub components-all : (l t : List ℕ) (c : Cursor) (cs : List SegmentationComponent) (i n : ℕ) (u : List ℕ) (d : Cursor) → n ≤ i → i ≤ n → Stores t c (contents l (componentsFields (take i cs))) u d
     → Stores t c (contents l (componentsFields (take n cs))) u d
 components-all l t c cs i n u d h k s = let z : i ≡ n = omega arith in rw z at s

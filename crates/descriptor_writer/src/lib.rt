@@ -1,7 +1,7 @@
 // The descriptor writer (document 01, "Canonical form and writer"): all tests first, in the order of the refusals' numbers, and then the stores, so that a
 // refused write changes no byte.
 ghost use mathlib.Core.List.{[]};
-ghost use Rattle.descriptor.specs.Whole.{filled};
+ghost use Rattle.descriptor.specs.Full.{filled};
 ghost use Rattle.descriptor_measure.specs.Writing.{descriptorMade};
 ghost use Rattle.descriptor_writer.specs.Stores.{Writes};
 use crate::plain::write_avail;
@@ -12,9 +12,9 @@ use crate::segmentation::write_segmentation;
 use crate::segmentation::write_segmentation_without_components;
 use bit_stores::Written;
 use descriptor::Descriptor;
-use descriptor::whole::Beside;
+use descriptor::full::Beside;
 
-mod frame;
+mod envelope;
 mod parts;
 mod plain;
 mod segmentation;

@@ -4,7 +4,7 @@ ghost use mathlib.Core.Path.{_≡_};
 ghost use mathlib.Core.List.{List, [], _∷_, _++_};
 ghost use Prim.Native.Nat.{ℕ, _<_};
 ghost use lib.ListN.{take};
-ghost use Rattle.descriptor.specs.declared.segmentation.ModeComponent.{ModeComponent};
+ghost use Rattle.descriptor.specs.declared.segmentation.SegmentationComponent.{SegmentationComponent};
 ghost use Rattle.descriptor_measure.specs.Private.{headFields, flagFields, deliveryFields, componentsFields, modeFields, durationFields, subFields, backFields};
 ghost use Rattle.table.specs.Writing.{number, contents, print};
 ghost use Rattle.descriptor_writer.specs.Private.{Stores, componentBytes};
@@ -12,7 +12,7 @@ use bit_stores::put_bits;
 use bit_stores::put_run;
 use descriptor::segmentation::DeliveryRestrictionFlags;
 use descriptor::segmentation::MAX_COMPONENTS;
-use descriptor::segmentation::ModeComponent;
+use descriptor::segmentation::SegmentationComponent;
 use descriptor::segmentation::SegmentationDetail;
 use descriptor::segmentation::SegmentationDuration;
 use descriptor::segmentation::SegmentationMode;
@@ -67,7 +67,7 @@ pub(crate) fn store_flags(
 }
 
 // (The offset fits its 33 bits, which the remainder says to the proof.)
-fn store_component(out: &mut [u8], c: Cursor, component: ModeComponent) -> Cursor
+fn store_component(out: &mut [u8], c: Cursor, component: SegmentationComponent) -> Cursor
     ensures { λ r. ⌜ ((from : List ℕ) → Stores (now (out .entry)) c (contents from (componentsFields (component ∷ []))) (now (out .exit)) r) ⌝ }
 {
     let tag = wide(component.component_tag);
@@ -83,7 +83,7 @@ fn store_component(out: &mut [u8], c: Cursor, component: ModeComponent) -> Curso
 pub(crate) fn store_components(
     out: &mut [u8],
     c: Cursor,
-    components: [ModeComponent; MAX_COMPONENTS],
+    components: [SegmentationComponent; MAX_COMPONENTS],
     n: usize,
 ) -> Cursor
     requires { ⌜ n < 256 ⌝ }
@@ -101,7 +101,7 @@ pub(crate) fn store_components(
 
 // With its components' bytes.
 pub(crate) fn store_mode(out: &mut [u8], c: Cursor, mode: SegmentationMode, listed: &[u8]) -> Cursor
-    ensures { λ r. ⌜ ((from : List ℕ) (cs : List ModeComponent) → now (listed .entry) ≡ componentBytes cs → Stores (now (out .entry)) c (contents from (modeFields mode cs)) (now (out .exit)) r) ⌝ }
+    ensures { λ r. ⌜ ((from : List ℕ) (cs : List SegmentationComponent) → now (listed .entry) ≡ componentBytes cs → Stores (now (out .entry)) c (contents from (modeFields mode cs)) (now (out .exit)) r) ⌝ }
 {
     match mode {
         SegmentationMode::Program => put_bits(out, c, 0, 0),

@@ -2,12 +2,12 @@
 ghost use mathlib.Core.Path.{_≡_};
 ghost use mathlib.Core.List.{[]};
 ghost use Rattle.descriptor.specs.Plain.{avail, dtmf, time, privateBytes};
-ghost use Rattle.descriptor_measure.specs.Writing.{cuei, framedMade, alone, writableReserved};
+ghost use Rattle.descriptor_measure.specs.Writing.{cuei, envelopedMade, alone, writableReserved};
 ghost use Rattle.table.specs.Writing.{make};
 ghost use Rattle.descriptor_writer.specs.Stores.{Writes};
-use crate::frame::MAX_PAYLOAD;
-use crate::frame::cuei;
-use crate::frame::store_frame;
+use crate::envelope::MAX_PAYLOAD;
+use crate::envelope::cuei;
+use crate::envelope::store_envelope;
 use bit_stores::Written;
 use bit_stores::put_bits;
 use bit_stores::put_run;
@@ -27,7 +27,7 @@ pub(crate) fn write_avail(
     eidr: [u8; 12],
     target: &mut [u8],
 ) -> Written
-    ensures { λ r. ⌜ Writes (framedMade 0 cuei (make avail (alone identifier eidr) [] x)) (now (target .entry)) (now (target .exit)) r ⌝ }
+    ensures { λ r. ⌜ Writes (envelopedMade 0 cuei (make avail (alone identifier eidr) [] x)) (now (target .entry)) (now (target .exit)) r ⌝ }
 {
     if !is_alone(identifier, eidr) {
         return Written::Refused(33);
@@ -36,7 +36,7 @@ pub(crate) fn write_avail(
         return Written::Refused(36);
     }
     let id = cuei();
-    let c = store_frame(target, 0, 8, &id[..]);
+    let c = store_envelope(target, 0, 8, &id[..]);
     let _last = put_bits(target, c, 32, x.provider_avail_id as u64);
     Written::Wrote(10)
 }
@@ -47,7 +47,7 @@ pub(crate) fn write_time(
     eidr: [u8; 12],
     target: &mut [u8],
 ) -> Written
-    ensures { λ r. ⌜ Writes (framedMade 3 cuei (make time (alone identifier eidr) [] x)) (now (target .entry)) (now (target .exit)) r ⌝ }
+    ensures { λ r. ⌜ Writes (envelopedMade 3 cuei (make time (alone identifier eidr) [] x)) (now (target .entry)) (now (target .exit)) r ⌝ }
 {
     if 0xffff_ffff_ffff < x.tai_seconds {
         return Written::Refused(32);
@@ -59,7 +59,7 @@ pub(crate) fn write_time(
         return Written::Refused(36);
     }
     let id = cuei();
-    let c = store_frame(target, 3, 16, &id[..]);
+    let c = store_envelope(target, 3, 16, &id[..]);
     let second = put_bits(target, c, 48, x.tai_seconds);
     let third = put_bits(target, second, 32, x.tai_nanoseconds as u64);
     let _last = put_bits(target, third, 16, x.utc_offset as u64);
@@ -73,7 +73,7 @@ pub(crate) fn write_dtmf(
     lent: &[u8],
     target: &mut [u8],
 ) -> Written
-    ensures { λ r. ⌜ Writes (framedMade 1 cuei (make dtmf (alone identifier eidr) (now (lent .entry)) x)) (now (target .entry)) (now (target .exit)) r ⌝ }
+    ensures { λ r. ⌜ Writes (envelopedMade 1 cuei (make dtmf (alone identifier eidr) (now (lent .entry)) x)) (now (target .entry)) (now (target .exit)) r ⌝ }
 {
     let chars = x.dtmf_chars;
     if !lies_in(lent, chars) {
@@ -89,7 +89,7 @@ pub(crate) fn write_dtmf(
         return Written::Refused(36);
     }
     let id = cuei();
-    let c = store_frame(target, 1, 6 + chars.len, &id[..]);
+    let c = store_envelope(target, 1, 6 + chars.len, &id[..]);
     let second = put_bits(target, c, 8, wide(x.preroll));
     let third = put_bits(target, second, 3, chars.len as u64);
     let fourth = put_bits(target, third, 5, 31);
@@ -106,7 +106,7 @@ pub(crate) fn write_reserved(
     lent: &[u8],
     target: &mut [u8],
 ) -> Written
-    ensures { λ r. ⌜ Writes (framedMade tag identifier (make privateBytes (writableReserved tag identifier eidr) (now (lent .entry)) «private_bytes»)) (now (target .entry)) (now (target .exit)) r ⌝ }
+    ensures { λ r. ⌜ Writes (envelopedMade tag identifier (make privateBytes (writableReserved tag identifier eidr) (now (lent .entry)) «private_bytes»)) (now (target .entry)) (now (target .exit)) r ⌝ }
 {
     if !lies_in(lent, private_bytes) {
         return Written::Refused(31);
@@ -120,7 +120,7 @@ pub(crate) fn write_reserved(
     if target.len() < 6 + private_bytes.len {
         return Written::Refused(36);
     }
-    let c = store_frame(target, tag, 4 + private_bytes.len, &identifier[..]);
+    let c = store_envelope(target, tag, 4 + private_bytes.len, &identifier[..]);
     let part = view(lent, private_bytes);
     let _last = put_run(target, c, part);
     Written::Wrote(6 + private_bytes.len)

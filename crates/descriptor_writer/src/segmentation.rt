@@ -4,17 +4,17 @@ ghost use mathlib.Core.List.{List, []};
 ghost use Prim.Native.Nat.{_+_, _≤_};
 ghost use lib.ListN.{length};
 ghost use Rattle.descriptor.specs.Segmentation.{componentCount, countOf};
-ghost use Rattle.descriptor.specs.Whole.{filled};
-ghost use Rattle.descriptor.specs.declared.segmentation.ModeComponent.{ModeComponent};
+ghost use Rattle.descriptor.specs.Full.{filled};
+ghost use Rattle.descriptor.specs.declared.segmentation.SegmentationComponent.{SegmentationComponent};
 ghost use Rattle.descriptor.specs.declared.segmentation.DescriptorDetail.the-variants.{Active};
 ghost use Rattle.descriptor_measure.specs.Private.{upidFields, insertFields, segmentFields, payloadSize};
-ghost use Rattle.descriptor_measure.specs.Writing.{cuei, framedMade, segmentationMade, upidIn, upidSource, writtenUpid};
+ghost use Rattle.descriptor_measure.specs.Writing.{cuei, envelopedMade, segmentationMade, upidIn, upidSource, writtenUpid};
 ghost use Rattle.table.specs.Writing.{contents};
 ghost use Rattle.descriptor_writer.specs.Stores.{Writes};
 ghost use Rattle.descriptor_writer.specs.Private.{Stores, WritesTested, componentBytes};
-use crate::frame::MAX_PAYLOAD;
-use crate::frame::cuei;
-use crate::frame::store_frame;
+use crate::envelope::MAX_PAYLOAD;
+use crate::envelope::cuei;
+use crate::envelope::store_envelope;
 use crate::parts::store_back;
 use crate::parts::store_components;
 use crate::parts::store_duration;
@@ -24,13 +24,13 @@ use crate::parts::store_mode;
 use bit_stores::Written;
 use bit_stores::put_bits;
 use bit_stores::put_run;
+use descriptor::full::blank_beside;
 use descriptor::segmentation::DescriptorDetail;
 use descriptor::segmentation::MAX_COMPONENTS;
-use descriptor::segmentation::ModeComponent;
+use descriptor::segmentation::SegmentationComponent;
 use descriptor::segmentation::SegmentationDescriptor;
 use descriptor::segmentation::SegmentationDetail;
 use descriptor::segmentation::SegmentationUpid;
-use descriptor::whole::blank_beside;
 use descriptor_measure::segment::by_program;
 use descriptor_measure::segment::count_in_segmentation;
 use descriptor_measure::segment::duration_size;
@@ -103,7 +103,7 @@ fn store_insert(
     lent: &[u8],
 ) -> Cursor
     requires { ⌜ i .«segmentation_upid» .bytes .at + i .«segmentation_upid» .bytes .len ≤ length (now lent) ⌝ }
-    ensures { λ r. ⌜ ((cs : List ModeComponent) → now (listed .entry) ≡ componentBytes cs → Stores (now (out .entry)) c (contents (upidSource (i .«segmentation_upid») eidr (now (lent .entry))) (insertFields i cs)) (now (out .exit)) r) ⌝ }
+    ensures { λ r. ⌜ ((cs : List SegmentationComponent) → now (listed .entry) ≡ componentBytes cs → Stores (now (out .entry)) c (contents (upidSource (i .«segmentation_upid») eidr (now (lent .entry))) (insertFields i cs)) (now (out .exit)) r) ⌝ }
 {
     let mode = i.segmentation_mode;
     let duration = i.segmentation_duration;
@@ -126,7 +126,7 @@ fn store_segmentation(
     lent: &[u8],
 ) -> Cursor
     requires { ⌜ upidIn x .bytes .at + upidIn x .bytes .len ≤ length (now lent) ⌝ }
-    ensures { λ r. ⌜ ((cs : List ModeComponent) → now (listed .entry) ≡ componentBytes cs → Stores (now (out .entry)) c (contents (upidSource (upidIn x) eidr (now (lent .entry))) (segmentFields (x .«segmentation_event_id») (x .«descriptor_detail») cs)) (now (out .exit)) r) ⌝ }
+    ensures { λ r. ⌜ ((cs : List SegmentationComponent) → now (listed .entry) ≡ componentBytes cs → Stores (now (out .entry)) c (contents (upidSource (upidIn x) eidr (now (lent .entry))) (segmentFields (x .«segmentation_event_id») (x .«descriptor_detail») cs)) (now (out .exit)) r) ⌝ }
 {
     let detail = x.descriptor_detail;
     match detail {
@@ -159,7 +159,7 @@ fn write_tested_segmentation(
         return Written::Refused(36);
     }
     let id = cuei();
-    let c = store_frame(target, 2, size + 4, &id[..]);
+    let c = store_envelope(target, 2, size + 4, &id[..]);
     let _last = store_segmentation(target, c, x, listed, eidr, lent);
     Written::Wrote(size + 6)
 }
@@ -167,12 +167,12 @@ fn write_tested_segmentation(
 pub(crate) fn write_segmentation(
     x: SegmentationDescriptor,
     identifier: [u8; 4],
-    components: [ModeComponent; MAX_COMPONENTS],
+    components: [SegmentationComponent; MAX_COMPONENTS],
     eidr: [u8; 12],
     lent: &[u8],
     target: &mut [u8],
 ) -> Written
-    ensures { λ r. ⌜ Writes (framedMade 2 cuei (segmentationMade x identifier (record { components = components; eidr = eidr }) (now (lent .entry)))) (now (target .entry)) (now (target .exit)) r ⌝ }
+    ensures { λ r. ⌜ Writes (envelopedMade 2 cuei (segmentationMade x identifier (record { components = components; eidr = eidr }) (now (lent .entry)))) (now (target .entry)) (now (target .exit)) r ⌝ }
 {
     let refusal = refusal_of_segmentation(x, identifier, components, eidr, lent);
     if refusal != 0 {
@@ -193,7 +193,7 @@ pub(crate) fn write_segmentation_without_components(
     lent: &[u8],
     target: &mut [u8],
 ) -> Written
-    ensures { λ r. ⌜ Writes (framedMade 2 cuei (segmentationMade x identifier (record { components = filled []; eidr = eidr }) (now (lent .entry)))) (now (target .entry)) (now (target .exit)) r ⌝ }
+    ensures { λ r. ⌜ Writes (envelopedMade 2 cuei (segmentationMade x identifier (record { components = filled []; eidr = eidr }) (now (lent .entry)))) (now (target .entry)) (now (target .exit)) r ⌝ }
 {
     if 0 < count_in_segmentation(x) {
         let blank = blank_beside();

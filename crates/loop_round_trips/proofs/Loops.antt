@@ -15,20 +15,20 @@ use Rattle.table.specs.declared.View.{View}
 use Rattle.upid.specs.Cover.{All, none, more}
 use Rattle.descriptor.specs.Views.{descriptorViews}
 use Rattle.descriptor.specs.Private.{readViews}
-use Rattle.descriptor.specs.Whole.{wholeOf}
+use Rattle.descriptor.specs.Full.{fullOf}
 use Rattle.descriptor.specs.declared.Descriptor.{Descriptor}
 use Rattle.descriptor.specs.declared.DescriptorRead.{DescriptorRead}
-use Rattle.descriptor.specs.declared.whole.Beside.{Beside}
-use Rattle.descriptor.specs.declared.whole.WholeDescriptor.{WholeDescriptor}
+use Rattle.descriptor.specs.declared.full.Beside.{Beside}
+use Rattle.descriptor.specs.declared.full.FullDescriptor.{FullDescriptor}
 use Rattle.descriptor.proofs.Insides.{read-inside}
 use Rattle.canonical_form.specs.Descriptor.{canonicalLoop}
 use Rattle.canonical_form.specs.Same.{bytesOfViews, Given, ItemBack, Pairs, over, pair, SameItem}
 use Rattle.descriptor_measure.specs.Writing.{countBeside, descriptorMade}
 use Rattle.descriptor_round_trips.specs.Making.{viewIn}
-use Rattle.descriptor_round_trips.specs.Trips.{wholeIn, ReadAs, Handed}
+use Rattle.descriptor_round_trips.specs.Trips.{fullIn, ReadAs, Handed}
 use Rattle.descriptor_round_trips.proofs.Alike.{SameView, NoneTold, made-told, alike-made, same-made}
 use Rattle.descriptor_round_trips.proofs.Theorems.{descriptor-write-read}
-use Rattle.descriptor_round_trips.proofs.Wholes.{whole-descriptor-read-write}
+use Rattle.descriptor_round_trips.proofs.FullTrips.{full-descriptor-read-write}
 use Rattle.descriptor_loop.specs.Cover.{joined}
 use Rattle.descriptor_loop.specs.Items.{itemAt, stepOf, readingOf, Listed, listed, itemsOf}
 use Rattle.descriptor_loop.specs.Place.{movedDescriptor}
@@ -57,15 +57,15 @@ all-pieces (t ∷ ts) a = more (all-left t (joined ts) a) (all-pieces ts (all-ri
 -- ---- an item that is read where a piece stands
 
 module _ (loop : List ℕ) (offset : ℕ) (t : List ℕ) (a : At loop offset t) where
-  pub item-is : stepOf loop offset .item ≡ itemAt (offset + 6) (wholeIn t .read)
+  pub item-is : stepOf loop offset .item ≡ itemAt (offset + 6) (fullIn t .read)
   unfolding readingOf
   item-is = ap (λ (r : Reading). r .step .item) (a .reading)
 
-  pub identifier-is : stepOf loop offset .identifier ≡ wholeIn t .identifier
+  pub identifier-is : stepOf loop offset .identifier ≡ fullIn t .identifier
   unfolding readingOf
   identifier-is = ap (λ (r : Reading). r .step .identifier) (a .reading)
 
-  pub beside-is : readingOf loop offset .beside ≡ wholeIn t .beside
+  pub beside-is : readingOf loop offset .beside ≡ fullIn t .beside
   beside-is = ap (λ (r : Reading). r .beside) (a .reading)
 
   -- the piece is what is written of the item
@@ -76,18 +76,18 @@ module _ (loop : List ℕ) (offset : ℕ) (t : List ℕ) (a : At loop offset t) 
     pub places : countBeside read ≤ length (readingOf loop offset .beside .components)
     -- the piece alone is read as the same, with its view counted from its payload's first byte
     pub own : Descriptor
-    pub alone : wholeIn t .read ≡ DescriptorRead.Is own
+    pub alone : fullIn t .read ≡ DescriptorRead.Is own
     pub moves : read ≡ movedDescriptor (offset + 6) own
     pub view : SameView (drop 6 t) (viewIn own) loop (viewIn (movedDescriptor (offset + 6) own))
 
   pub back-at : AllBytes t → Back
   back-at all =
-      let w = whole-descriptor-read-write t all (a .canon) in
+      let w = full-descriptor-read-write t all (a .canon) in
       let d : Descriptor = w .read in
       let base : ℕ = offset + 6 in
       let there : Descriptor = movedDescriptor base d in
-      let id : List ℕ = wholeIn t .identifier in
-      let b : Beside = wholeIn t .beside in
+      let id : List ℕ = fullIn t .identifier in
+      let b : Beside = fullIn t .beside in
       let told = subst (λ (p : List ℕ). (viewIn d .at + viewIn d .len ≤ length p) × NoneTold d) (sym (a .payload)) (made-told (drop 6 t) t id b d (w .places) (w .writes)) in
       let v : SameView (drop 6 t) (viewIn d) loop (viewIn there) =
       subst (λ (p : List ℕ). SameView p (viewIn d) loop (viewIn there)) (a .payload) (moved-view loop base (length t - 6) (a .there) d told) in
@@ -95,18 +95,18 @@ module _ (loop : List ℕ) (offset : ℕ) (t : List ℕ) (a : At loop offset t) 
       alike-made (drop 6 t) loop id b b refl d there (w .places) (sym (moved-values base d)) v (ap (λ (n : ℕ). take n (b .components)) (sym (moved-count base d))) t (w .writes) in
       record {
         read = there;
-        is = item-is ∙ ap (itemAt base) (ap (λ (x : WholeDescriptor). x .read) (w .whole));
+        is = item-is ∙ ap (itemAt base) (ap (λ (x : FullDescriptor). x .read) (w .full));
         writes = ap₂ (λ (i : List ℕ) (c : Beside). descriptorMade there i c loop) identifier-is beside-is ∙ m;
         places = subst (λ (c : Beside). countBeside there ≤ length (c .components)) (sym beside-is) (omega (arith, moved-count base d, w .places));
         own = d;
-        alone = ap (λ (x : WholeDescriptor). x .read) (w .whole);
+        alone = ap (λ (x : FullDescriptor). x .read) (w .full);
         moves = refl;
         view = v;
       }
 
   -- the item is what the piece was written of
   pub given-at : (g : Given) → ReadAs t (g .descriptor) (g .identifier) (g .beside) (g .lent) → ItemBack loop (listed loop offset) g
-  unfolding wholeOf
+  unfolding fullOf
   given-at g r =
       let d : Descriptor = r .again in
       let base : ℕ = offset + 6 in

@@ -13,14 +13,14 @@ use lib.Seq.{take-at, drop-at, take-append-le, drop-append-le, drop-drop, getD-d
 use borrow.Author.Tests.{leb-true, eqb-true}
 use Rattle.table.proofs.Lists.{zero-one, and-true}
 use Rattle.upid.specs.Cover.{All, none, more}
-use Rattle.descriptor.specs.Whole.{wholeOf}
+use Rattle.descriptor.specs.Full.{fullOf}
 use Rattle.canonical_form.specs.Descriptor.{canonicalDescriptor, canonicalFrom, canonicalLoop}
-use Rattle.descriptor_round_trips.specs.Trips.{wholeIn}
+use Rattle.descriptor_round_trips.specs.Trips.{fullIn}
 use Rattle.descriptor_loop.specs.Cover.{joined, runOf}
 use Rattle.descriptor_loop.specs.Items.{stepOf, readingOf, Listed, listed, itemsOf}
 use Rattle.descriptor_loop.specs.declared.reading.Reading.{Reading}
 use Rattle.descriptor_loop.proofs.Lists.{rest, rest-end, rest-more, items-rest}
-use Rattle.descriptor_loop.proofs.Readings.{placed, reading-whole}
+use Rattle.descriptor_loop.proofs.Readings.{placed, reading-full}
 use Rattle.descriptor_loop.proofs.Steps.{Stands}
 
 abbrev pub Canonical : List ℕ → Type 0
@@ -92,7 +92,7 @@ cut-canonical {ts} cs = cut-from (length (joined ts)) cs (omega arith)
 -- the canonical descriptor t stands at this offset of the loop, and is read there
 pub record At (loop : List ℕ) (offset : ℕ) (t : List ℕ) : Type 0 where
   pub canon : Canonical t
-  pub reading : readingOf loop offset ≡ placed (offset + 6) (offset + length t) (wholeIn t)
+  pub reading : readingOf loop offset ≡ placed (offset + 6) (offset + length t) (fullIn t)
   pub run : take (length t) (drop offset loop) ≡ t
   pub payload : take (length t - 6) (drop (offset + 6) loop) ≡ drop 6 t
   pub there : offset + 6 + (length t - 6) ≤ length loop
@@ -119,9 +119,9 @@ module _ (loop : List ℕ) (fits : length loop ≤ 4076) where
       record {
         canon = c;
         reading =
-            reading-whole loop o L stands (omega (arith, z .1))
+            reading-full loop o L stands (omega (arith, z .1))
             ∙ ap₂ (λ (k : ℕ) (w : _). placed (o + 6) k w) next
-            (ap₂ (λ (k : ℕ) (i : List ℕ). wholeOf k i (take (L - 4) (drop (o + 6) loop))) head id ∙ ap (wholeOf (getD t 0 0) (take 4 (drop 2 t))) same);
+            (ap₂ (λ (k : ℕ) (i : List ℕ). fullOf k i (take (L - 4) (drop (o + 6) loop))) head id ∙ ap (fullOf (getD t 0 0) (take 4 (drop 2 t))) same);
         run = ap (take (length t)) is ∙ take-at t post (length t) refl;
         payload = body;
         there = omega arith;

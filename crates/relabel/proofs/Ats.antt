@@ -24,7 +24,7 @@ use Rattle.table.specs.Lent.{stored}
 use Rattle.table.specs.Writing.{Made, made, refused}
 use Rattle.upid.specs.Upid.{readOf, upidOf, partsIn}
 use Rattle.upid.specs.declared.Part.{Part}
-use Rattle.relabel.specs.Private.{run, oldSize, Lies, Takes, Limit, frontOf, cutOf, sealed, wrapped, placedMade}
+use Rattle.relabel.specs.Private.{run, oldSize, Lies, Takes, Limit, upToUpid, cutOf, sealed, wrapped, placedMade}
 use Rattle.relabel.specs.declared.Place.{Place}
 use Rattle.relabel.proofs.Stores.{size-cut, all-stored}
 
@@ -133,7 +133,7 @@ module _ (s : List ℕ) (p : Place) (limit part k : ℕ) (new t : List ℕ) (lie
   unfolding placedMade
   all-is = refl
 
-  module _ (room from : ℕ) (er : room ≡ length t - (length s - oldSize p)) (below : from ≤ length t - room) (whole : p .head + 2 ≤ length t - room → from ≡ p .head + 2) where
+  module _ (room from : ℕ) (er : room ≡ length t - (length s - oldSize p)) (below : from ≤ length t - room) (overall : p .head + 2 ≤ length t - room → from ≡ p .head + 2) where
     abbrev part-of : List ℕ
     part-of = midOf from (from + room - from) t
 
@@ -173,7 +173,7 @@ module _ (s : List ℕ) (p : Place) (limit part k : ℕ) (new t : List ℕ) (lie
         let some : 1 ≤ length (w .b) = some-made upid-type (run s (p .head + 2) (oldSize p)) part k new (w .b) (u .0) in
         let r : length (w .b) ≤ room = subst (λ (n : ℕ). length (w .b) ≤ n) size-part (w .fits) in
         let f₀ = room-fits (length t) (length s - oldSize p) room (length (w .b)) er r some in
-        let h : from ≡ p .head + 2 = whole (subst (λ (n : ℕ). p .head + 2 ≤ n) (sym (f₀ .1)) (head-in s p lies)) in
+        let h : from ≡ p .head + 2 = overall (subst (λ (n : ℕ). p .head + 2 ≤ n) (sym (f₀ .1)) (head-in s p lies)) in
         let g : drop (length (w .b)) part-of ++ postOf from (from + room - from) t ≡ drop (length (w .b)) (drop from t) =
         sym (drop-append-le (length (w .b)) part-of (postOf from (from + room - from) t) (w .fits)) ∙ ap (drop (length (w .b))) (take-append-drop (from + room - from) (drop from t)) in
         let stores : putMid from (from + room - from) t later ≡ stored t (p .head + 2) (w .b) =
@@ -201,7 +201,7 @@ module _ (s : List ℕ) (p : Place) (limit part k : ℕ) (new t : List ℕ) (lie
   result = cutOf s p (typeThen part (getD s (p .head) 0) k) b
 
   pub all-wrote : (t₁ later : List ℕ) (n upid-type : ℕ) → n ≡ length b → upid-type ≡ typeThen part (getD s (p .head) 0) k → length s - oldSize p + length b ≤ length t → t₁ ≡ stored t (p .head + 2) b
-      → later ≡ sealed s p n (stored t₁ 0 (frontOf s p upid-type n))
+      → later ≡ sealed s p n (stored t₁ 0 (upToUpid s p upid-type n))
       → (Written.Wrote (length s - oldSize p + n) ≡ answerOf (placedMade s p limit part k new) t) × (later ≡ laterOf (placedMade s p limit part k new) t)
   all-wrote t₁ later n upid-type en ek fits e₁ e =
       let z = size-cut s p (typeThen part (getD s (p .head) 0) k) b lies in

@@ -22,13 +22,13 @@ use Rattle.relabel_joined.specs.Relabel.{typeThen, itemThen, relabelled}
 use Rattle.relabel_loop.specs.Item.{segmentationItem}
 use Rattle.relabel_loop.specs.Loop.{behindItem, withItem}
 use Rattle.relabel_payload.specs.Payload.{payload, upidHead}
-use Rattle.relabel_section.specs.Frame.{foreOf, spareOf, restWith, bodyWith, sectionWith}
+use Rattle.relabel_section.specs.Frame.{headerAndCommand, spareOf, restWith, bodyWith, sectionWith}
 use Rattle.section.specs.Section.{commandLength, loopLength, loopPlace, loopBytes}
 use Rattle.table.proofs.Bits.{length-bigEndian}
 use Rattle.table.specs.Bits.{bigEndian}
 use Rattle.table.specs.Lent.{viewed}
 use Rattle.relabel.specs.Relabel.{payloadIn, payloadThen, sectionThen}
-use Rattle.relabel.specs.Private.{run, oldSize, Lies, Takes, headOf, itemOf, frontOf, backOf, bodyOf, cutOf, Spotted, headIn, placeIn}
+use Rattle.relabel.specs.Private.{run, oldSize, Lies, Takes, headOf, itemOf, upToUpid, backOf, bodyOf, cutOf, Spotted, headIn, placeIn}
 use Rattle.relabel.specs.declared.Place.{Place}
 
 -- ---- runs of a run
@@ -268,14 +268,14 @@ module _ (s : List ℕ) (offset : ℕ) (at : Spotted s offset) where
     spare-long =
         length-take-le (length s - 20 - commandLength s - loopLength s) (drop (16 + commandLength s + loopLength s) s) (omega (arith, length-drop (16 + commandLength s + loopLength s) s, at .room))
 
-    fore-of : length (foreOf s) ≡ 11 + commandLength s
+    fore-of : length (headerAndCommand s) ≡ 11 + commandLength s
     fore-of = length-take-le (11 + commandLength s) (drop 3 s) (omega (arith, length-drop 3 s, at .room))
 
     rest-size : length (restWith s loopThen) ≡ length s - n + length b - 7
     rest-size =
         omega (
           arith,
-          length-append (foreOf s) (bigEndian 2 (length loopThen) ++ (loopThen ++ spareOf s)),
+          length-append (headerAndCommand s) (bigEndian 2 (length loopThen) ++ (loopThen ++ spareOf s)),
           length-append (bigEndian 2 (length loopThen)) (loopThen ++ spareOf s),
           length-append loopThen (spareOf s),
           length-bigEndian 2 (length loopThen),
@@ -342,7 +342,7 @@ module _ (s : List ℕ) (offset : ℕ) (at : Spotted s offset) where
           ap (λ (m : ℕ). bigEndian 2 (getD s 1 0 / 16 * 4096 + m)) f ∙ length-in (getD s 1 0) (length (restWith s loopThen) + 4) (bytes 1) h
 
       head-is : headOf s p (length b)
-          ≡ (getD s 0 0 ∷ ((getD s 1 0 / 16 * 16 + (length (restWith s loopThen) + 4) / 256) ∷ ((length (restWith s loopThen) + 4) % 256 ∷ []))) ++ (foreOf s ++ bigEndian 2 (length loopThen))
+          ≡ (getD s 0 0 ∷ ((getD s 1 0 / 16 * 16 + (length (restWith s loopThen) + 4) / 256) ∷ ((length (restWith s loopThen) + 4) % 256 ∷ []))) ++ (headerAndCommand s ++ bigEndian 2 (length loopThen))
       unfolding headOf
       head-is =
           let z : c - 2 - 3 ≡ 11 + commandLength s = omega arith in
@@ -361,7 +361,7 @@ module _ (s : List ℕ) (offset : ℕ) (at : Spotted s offset) where
       body-is : bodyWith s loopThen ≡ bodyOf s p K b
       unfolding bodyWith bodyOf
       body-is =
-          glue (getD s 0 0 ∷ ((getD s 1 0 / 16 * 16 + (length (restWith s loopThen) + 4) / 256) ∷ ((length (restWith s loopThen) + 4) % 256 ∷ []))) (foreOf s) (bigEndian 2 (length loopThen))
+          glue (getD s 0 0 ∷ ((getD s 1 0 / 16 * 16 + (length (restWith s loopThen) + 4) / 256) ∷ ((length (restWith s loopThen) + 4) % 256 ∷ []))) (headerAndCommand s) (bigEndian 2 (length loopThen))
           (take offset (loopBytes s)) cuei (foreIn pay) b (postIn pay) (behindItem (loopBytes s) (listed (loopBytes s) offset)) (spareOf s) 2 (length (cuei ++ payThen)) K (length b)
           ∙ sym (ap₂ (λ (x y : List ℕ). x ++ (b ++ y)) (ap₂ (λ (x y : List ℕ). x ++ y) head-is item-is) back-is)
 

@@ -237,7 +237,7 @@ module _ (s : List ℕ) (offset part k : ℕ) (new : List ℕ) where
   pub frame-refused : (r : Refusal) (q : ℕ) → FrameRead.Refused r ≡ frameOf s → q ≡ numberOf (SectionRead.Refused r) → relabelMade s offset part k new ≡ refused q
   frame-refused r q e f = let z = is-refused s r e in section-refused s offset part k new r q (sym z) (f ∙ ap numberOf z)
 
-  module _ (v : Frame) (e : FrameRead.Whole v ≡ frameOf s) where
+  module _ (v : Frame) (e : FrameRead.Is v ≡ frameOf s) where
     headed : (x : SpliceInfoHeader) × (headerOf (drop 3 s) ≡ HeaderRead.Header x)
     headed = header-there (drop 3 s) (omega (arith, length-drop 3 s, framed s v e .long))
 
@@ -258,7 +258,7 @@ module _ (s : List ℕ) (offset part k : ℕ) (new : List ℕ) where
         let z = is-accepted s v _ e (is-section _ (headed .0) (headed .1) (commandRead s) v c (moved 14 c) v f refl refl) in
         section-accepted s offset part k new _ (sym z)
 
-pub frame-len : (s : List ℕ) (v : Frame) → FrameRead.Whole v ≡ frameOf s → v .descriptors .len ≡ loopLength s
+pub frame-len : (s : List ℕ) (v : Frame) → FrameRead.Is v ≡ frameOf s → v .descriptors .len ≡ loopLength s
 unfolding frameIn loopPlace
 frame-len s v e = ap (λ (u : Frame). u .descriptors .len) (framed s v e .place)
 
@@ -282,7 +282,7 @@ unfolding sectionOf frameIn loopPlace
 framing s x e = go (frameOf s) refl e
   where
     go : (f : FrameRead) → frameOf s ≡ f → through f (headerOf (drop 3 s)) (movedRead (commandOf (commandType s) (commandBytes s))) ≡ SectionRead.Is x → Framing s x
-    go (FrameRead.Whole f) ef h =
+    go (FrameRead.Is f) ef h =
         let d = descriptors-of _ _ f x h in
         let w = framed s f (sym ef) in
         let g : x .descriptors ≡ frameIn s .descriptors = d ∙ ap (λ (u : Frame). u .descriptors) (w .place) in

@@ -16,7 +16,7 @@ use Rattle.table.proofs.Lists.{append-nil}
 use Rattle.table.proofs.Stores.{stored-fits, stored-append, stored-nil, stored-behind, length-stored}
 use Rattle.table.specs.Bits.{bigEndian}
 use Rattle.table.specs.Lent.{stored}
-use Rattle.relabel.specs.Private.{run, oldSize, Lies, Takes, headOf, itemOf, frontOf, backOf, bodyOf, cutOf, sealed}
+use Rattle.relabel.specs.Private.{run, oldSize, Lies, Takes, headOf, itemOf, upToUpid, backOf, bodyOf, cutOf, sealed}
 use Rattle.relabel.specs.declared.Place.{Place}
 
 -- ---- runs of bytes
@@ -197,7 +197,7 @@ module _ (s : List ℕ) (p : Place) (n : ℕ) (lies : Lies s p) where
   pub front-stored : (t t₁ t₂ t₃ t₄ t₅ : List ℕ) (k y f v w x len z : ℕ) → y ≡ getD s 1 0 → f ≡ length s - oldSize p + n - 3 → v ≡ y / 16 * 4096 + f → w ≡ p .len - oldSize p + n
       → x ≡ getD s (p .item + 1) 0 → len ≡ x - oldSize p + n → z ≡ k * 256 + n → t₁ ≡ stored t 0 (take (p .head + 2 - 0) (drop 0 s)) → t₂ ≡ stored t₁ 1 (bigEndian 2 v)
       → t₃ ≡ stored t₂ (p .list - 2) (bigEndian 2 w) → t₄ ≡ stored t₃ (p .item + 1) (len ∷ []) → t₅ ≡ stored t₄ (p .head) (bigEndian 2 z) → p .head + 2 ≤ length t
-      → t₅ ≡ stored t 0 (frontOf s p k n)
+      → t₅ ≡ stored t 0 (upToUpid s p k n)
   unfolding headOf itemOf
   front-stored t t₁ t₂ t₃ t₄ t₅ k y f v w x len z ey ef ev ew ex el ez e₁ e₂ e₃ e₄ e₅ room =
       let m = places (p .list) (p .item) (p .head) (lies .list) (lies .item) (lies .head) in
@@ -219,7 +219,7 @@ module _ (s : List ℕ) (p : Place) (k : ℕ) (b : List ℕ) (lies : Lies s p) w
   n : ℕ
   n = length b
 
-  pub size-front : length (frontOf s p k (length b)) ≡ p .head + 2
+  pub size-front : length (upToUpid s p k (length b)) ≡ p .head + 2
   size-front =
       omega (arith, length-append (headOf s p (length b)) (itemOf s p k (length b)), size-head s p (length b) lies, size-item s p (length b) lies k, lies .list, lies .item, lies .head)
 
@@ -228,7 +228,7 @@ module _ (s : List ℕ) (p : Place) (k : ℕ) (b : List ℕ) (lies : Lies s p) w
 
   pub size-body : length (bodyOf s p k b) ≡ p .head + 2 + length b + (length s - 4 - p .end)
   unfolding bodyOf
-  size-body = omega (arith, length-append (frontOf s p k (length b)) (b ++ backOf s p), length-append b (backOf s p), size-front, size-back)
+  size-body = omega (arith, length-append (upToUpid s p k (length b)) (b ++ backOf s p), length-append b (backOf s p), size-front, size-back)
 
   pub size-cut : length (cutOf s p k b) ≡ length s - oldSize p + length b
   unfolding cutOf
@@ -237,11 +237,11 @@ module _ (s : List ℕ) (p : Place) (k : ℕ) (b : List ℕ) (lies : Lies s p) w
   crc-number : (m : List ℕ) → bigEndian 4 (crcOf m) ≡ crcBytesOf m
   crc-number m = rw (div-one (crcOf m))
 
-  pub all-stored : (t t₁ t₂ t₃ : List ℕ) → length s - oldSize p + length b ≤ length t → t₁ ≡ stored t (p .head + 2) b → t₂ ≡ stored t₁ 0 (frontOf s p k (length b))
+  pub all-stored : (t t₁ t₂ t₃ : List ℕ) → length s - oldSize p + length b ≤ length t → t₁ ≡ stored t (p .head + 2) b → t₂ ≡ stored t₁ 0 (upToUpid s p k (length b))
       → t₃ ≡ sealed s p (length b) t₂ → t₃ ≡ stored t 0 (cutOf s p k b)
   unfolding sealed bodyOf cutOf
   all-stored t t₁ t₂ t₃ room e₁ e₂ e₃ =
-      let F : List ℕ = frontOf s p k (length b) in
+      let F : List ℕ = upToUpid s p k (length b) in
       let B : List ℕ = bodyOf s p k b in
       let at : ℕ = p .head + 2 + length b in
       let end : ℕ = at + (length s - 4 - p .end) in

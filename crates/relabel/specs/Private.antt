@@ -78,15 +78,15 @@ itemOf s p k n =
     ∷ (run s (p .item + 2) (p .head - (p .item + 2))
     ++ bigEndian 2 (k * 256 + n)))
 
-abbrev pub frontOf : List ℕ → Place → ℕ → ℕ → List ℕ
-frontOf s p k n = headOf s p n ++ itemOf s p k n
+abbrev pub upToUpid : List ℕ → Place → ℕ → ℕ → List ℕ
+upToUpid s p k n = headOf s p n ++ itemOf s p k n
 
 -- all behind them, the CRC excluded
 abbrev pub backOf : List ℕ → Place → List ℕ
 backOf s p = run s (p .end) (length s - 4 - p .end)
 
 unfoldable pub bodyOf : List ℕ → Place → ℕ → List ℕ → List ℕ
-bodyOf s p k b = frontOf s p k (length b) ++ (b ++ backOf s p)
+bodyOf s p k b = upToUpid s p k (length b) ++ (b ++ backOf s p)
 
 unfoldable pub cutOf : List ℕ → Place → ℕ → List ℕ → List ℕ
 cutOf s p k b = bodyOf s p k b ++ crcBytesOf (bodyOf s p k b)

@@ -10,7 +10,7 @@ ghost use Rattle.table.specs.Bits.{bigEndian};
 ghost use Rattle.table.specs.Lent.{stored};
 ghost use Rattle.relabel.specs.Relabel.{loopMade, relabelMade};
 ghost use Rattle.section.specs.Section.{commandLength, loopLength};
-ghost use Rattle.relabel.specs.Private.{Spotted, placeIn, Lies, Takes, Limit, oldSize, frontOf, sealed, placedMade};
+ghost use Rattle.relabel.specs.Private.{Spotted, placeIn, Lies, Takes, Limit, oldSize, upToUpid, sealed, placedMade};
 use bit_stores::Written;
 use command::CommandRead;
 use command::read_command;
@@ -84,7 +84,7 @@ fn store_two(target: &mut [u8], at: usize, v: usize)
 // All up to the UPID's bytes, of which there are n: copied as it stands, and then section_length, the loop's length, the item's and the UPID's head are mended.
 fn store_front(section: &[u8], p: Place, upid_type: u8, n: usize, target: &mut [u8])
     requires { ⌜ Lies (now section) p × Takes (now section) p n × (p .head + 2 ≤ length (now target)) ⌝ }
-    ensures { λ _. ⌜ now (target .exit) ≡ stored (now (target .entry)) 0 (frontOf (now (section .entry)) p «upid_type» n) ⌝ }
+    ensures { λ _. ⌜ now (target .exit) ≡ stored (now (target .entry)) 0 (upToUpid (now (section .entry)) p «upid_type» n) ⌝ }
 {
     let head = p.head;
     let start = head + 2;
@@ -115,7 +115,7 @@ fn store_back(section: &[u8], p: Place, n: usize, target: &mut [u8])
 // All around the UPID's n bytes, in the order in which it stands.
 fn store_around(section: &[u8], p: Place, upid_type: u8, n: usize, target: &mut [u8])
     requires { ⌜ Lies (now section) p × Takes (now section) p n × (length (now section) - oldSize p + n ≤ length (now target)) ⌝ }
-    ensures { λ _. ⌜ now (target .exit) ≡ sealed (now (section .entry)) p n (stored (now (target .entry)) 0 (frontOf (now (section .entry)) p «upid_type» n)) ⌝ }
+    ensures { λ _. ⌜ now (target .exit) ≡ sealed (now (section .entry)) p n (stored (now (target .entry)) 0 (upToUpid (now (section .entry)) p «upid_type» n)) ⌝ }
 {
     store_front(section, p, upid_type, n, target);
     store_back(section, p, n, target);
@@ -231,7 +231,7 @@ pub fn relabel(
     ensures bytes { λ _. ⌜ now (target .exit) ≡ laterOf (relabelMade (now (section .entry)) offset part k (now (new .entry))) (now (target .entry)) ⌝ }
 {
     let frame = match read_frame(section) {
-        FrameRead::Whole(f) => f,
+        FrameRead::Is(f) => f,
         FrameRead::Refused(r) => return Written::Refused(r.number()),
     };
     let payload = frame.command;

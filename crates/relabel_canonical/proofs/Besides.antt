@@ -6,9 +6,9 @@ use mathlib.Core.Path.{_≡_, refl, ap, ap₂, sym, subst, _∙_}
 use native.Mathlib.Omega.{arith}
 use lib.ListN.{length, take, drop, getD, length-append, take-append-drop}
 use lib.Seq.{length-take-le}
-use Rattle.descriptor.specs.Whole.{besideOf}
+use Rattle.descriptor.specs.Full.{besideOf}
 use Rattle.descriptor.specs.declared.Descriptor.the-variants.{Avail, Dtmf, Segmentation, Time, Reserved}
-use Rattle.descriptor.specs.declared.whole.Beside.{Beside}
+use Rattle.descriptor.specs.declared.full.Beside.{Beside}
 use Rattle.descriptor_loop.proofs.Lists.{Walked, stop, step, walked}
 use Rattle.descriptor_loop.specs.Items.{stepOf, besideItem, readingOf, Listed, listed, itemsOf}
 use Rattle.descriptor_loop.specs.declared.Item.{Item}

@@ -12,8 +12,8 @@ use Rattle.descriptor.specs.Descriptor.{cuei, isCuei}
 use Rattle.descriptor.specs.Segmentation.{segmentation}
 use Rattle.descriptor_loop.specs.Items.{listed}
 use Rattle.canonical_form.specs.Descriptor.{canonicalUpid, upidCanonical, canonicalSegmentation, canonicalPayload, canonicalLoop}
-use Rattle.descriptor_measure.specs.Writing.{framed}
-use Rattle.descriptor_round_trips.proofs.Canon.{framed-canonical, canonical-framed}
+use Rattle.descriptor_measure.specs.Writing.{enveloped}
+use Rattle.descriptor_round_trips.proofs.Canon.{enveloped-canonical, canonical-enveloped}
 use Rattle.loop_round_trips.proofs.Pieces.{Canonical, At, said}
 use Rattle.relabel.proofs.Ats.{some-made}
 use Rattle.relabel.proofs.Cuts.{loop-there}
@@ -55,10 +55,10 @@ unfolding canonicalPayload isCuei
 cuei-payload p = refl
 
 item-canonical : (p : List ℕ) → length p ≤ 250 → canonicalSegmentation p ≡ true → Canonical (2 ∷ (length (cuei ++ p) ∷ (cuei ++ p)))
-unfolding framed
+unfolding enveloped
 item-canonical p short c =
     let n : length p + 4 ≡ length (cuei ++ p) = omega arith in
-    subst (λ (m : ℕ). Canonical (2 ∷ (m ∷ (cuei ++ p)))) n (framed-canonical 2 cuei p refl (omega arith) (cuei-payload p ∙ c))
+    subst (λ (m : ℕ). Canonical (2 ∷ (m ∷ (cuei ++ p)))) n (enveloped-canonical 2 cuei p refl (omega arith) (cuei-payload p ∙ c))
 
 -- ---- the section
 
@@ -121,7 +121,7 @@ module _ (s : List ℕ) (offset part k : ℕ) (new r : List ℕ) (bytes : (j : �
         sym (List·getD-append t post 0 0 (omega arith)) ∙ ap (λ (l : List ℕ). getD l 0 0) (sym is) ∙ getD-drop offset loop 0 0 ∙ ap (λ (n : ℕ). getD loop n 0) o ∙ i .tag in
         let size : getD loop (offset + 1) 0 - 4 ≡ length t - 6 = omega (arith, i .next, next-at loop (i .stands .fits) offset t a) in
         let body : drop 6 t ≡ pay = sym (ap (λ (n : ℕ). take n (drop (offset + 6) loop)) size ∙ a .payload) in
-        sym (cuei-payload pay) ∙ sym (three tag id body) ∙ canonical-framed t (a .canon) .2
+        sym (cuei-payload pay) ∙ sym (three tag id body) ∙ canonical-enveloped t (a .canon) .2
       where
         three : {a b : ℕ} {l m p q : List ℕ} → a ≡ b → l ≡ m → p ≡ q → canonicalPayload a l p ≡ canonicalPayload b m q
         three e f g = rw (e, f, g)

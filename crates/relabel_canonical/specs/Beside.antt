@@ -1,7 +1,7 @@
 -- What stands beside the items of a section: the components and the EIDR of each segmentation descriptor, and the blank beside any other item.
 use Prim.Native.Nat.{ℕ, zero, suc}
 use mathlib.Core.List.{List, map}
-use Rattle.descriptor.specs.declared.whole.Beside.{Beside}
+use Rattle.descriptor.specs.declared.full.Beside.{Beside}
 use Rattle.descriptor_loop.specs.Items.{readingOf, Listed, itemsOf}
 use Rattle.section.specs.Section.{loopBytes}
 use Rattle.upid.specs.Upid.{eidrOf}

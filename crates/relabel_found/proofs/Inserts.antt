@@ -28,7 +28,7 @@ use Rattle.descriptor.specs.declared.segmentation.DescriptorDetail.{DescriptorD
 use Rattle.descriptor.specs.declared.segmentation.DescriptorDetail.the-variants.{Cancel, Active}
 use Rattle.descriptor.specs.declared.segmentation.SegmentationDetail.{SegmentationDetail}
 use Rattle.descriptor_loop.proofs.Steps.{Clause, long, ended, last, small, entire, clause, Stands}
-use Rattle.descriptor_loop.specs.Items.{itemAt, readAt, wholeAt, stepOf, itemsOf}
+use Rattle.descriptor_loop.specs.Items.{itemAt, readAt, completeAt, stepOf, itemsOf}
 use Rattle.descriptor_loop.specs.Place.{movedDescriptor, movedUpid}
 use Rattle.descriptor_loop.specs.declared.Item.{Item}
 use Rattle.descriptor_loop.specs.declared.Item.the-variants.{Is}
@@ -155,9 +155,9 @@ pub record Inserted (loop : List ℕ) (offset : ℕ) : Type 0 where
   pub item : stepOf loop offset .item ≡ Is (movedDescriptor (offset + 6) (Segmentation x))
 
 module _ (loop : List ℕ) (offset : ℕ) where
-  whole-inserts : (L : ℕ) → L ≡ getD loop (offset + 1) 0 → Stands loop offset L → 4 ≤ L → stepOf loop offset ≡ wholeAt loop offset L → inserts (wholeAt loop offset L .item) ≡ true → Inserted loop offset
-  unfolding wholeAt readAt
-  whole-inserts L is s h st e =
+  complete-inserts : (L : ℕ) → L ≡ getD loop (offset + 1) 0 → Stands loop offset L → 4 ≤ L → stepOf loop offset ≡ completeAt loop offset L → inserts (completeAt loop offset L .item) ≡ true → Inserted loop offset
+  unfolding completeAt readAt
+  complete-inserts L is s h st e =
       let pay : List ℕ = take (L - 4) (drop (offset + 6) loop) in
       let t = tagged (offset + 6) pay (getD loop offset 0) (take 4 (drop (offset + 2) loop)) e in
       let n : length (take 4 (drop (offset + 2) loop)) ≡ 4 = omega (arith, length-take 4 (drop (offset + 2) loop), length-drop (offset + 2) loop, s .six) in
@@ -181,7 +181,7 @@ module _ (loop : List ℕ) (offset : ℕ) where
   by-clause (ended h) st e = zero-one cc
   by-clause (last r v h) st e = zero-one cc
   by-clause (small L s) st e = zero-one cc
-  by-clause (entire L s h) st e = whole-inserts L (s .is) s h st e
+  by-clause (entire L s h) st e = complete-inserts L (s .is) s h st e
 
   pub inserted : found loop offset ≡ true → Inserted loop offset
   unfolding found

@@ -24,7 +24,7 @@ use Rattle.descriptor.proofs.Heads.{place, head-ends, front-told}
 use Rattle.descriptor.proofs.Parts.{components-there, by-program, by-components, lasts, no-duration, upid-at}
 use Rattle.descriptor.proofs.Segmentations.{front-is, head-is}
 use Rattle.descriptor.specs.Descriptor.{segmentationOf, cuei, isCuei, descriptorOf}
-use Rattle.descriptor.specs.Segmentation.{Moded, Fore, Head, mode, duration, fieldsBefore, writtenUpid, front, back, head}
+use Rattle.descriptor.specs.Segmentation.{Moded, ListedFront, Head, mode, duration, fieldsBefore, writtenUpid, front, back, head}
 use Rattle.descriptor.specs.declared.Descriptor.the-variants.{Segmentation}
 use Rattle.descriptor.specs.declared.DescriptorRead.{DescriptorRead}
 use Rattle.descriptor.specs.declared.DescriptorRead.the-variants as read
@@ -37,8 +37,8 @@ use Rattle.descriptor.specs.declared.segmentation.SegmentationMode.{Segmentatio
 use Rattle.descriptor.specs.declared.segmentation.SegmentationUpid.{SegmentationUpid}
 use Rattle.descriptor.specs.declared.segmentation.SubSegments.{SubSegments}
 use Rattle.descriptor_loop.proofs.Lists.{items-none}
-use Rattle.descriptor_loop.proofs.Steps.{step-whole}
-use Rattle.descriptor_loop.specs.Items.{itemAt, readAt, wholeAt, stepOf, Listed, itemsOf}
+use Rattle.descriptor_loop.proofs.Steps.{step-complete}
+use Rattle.descriptor_loop.specs.Items.{itemAt, readAt, completeAt, stepOf, Listed, itemsOf}
 use Rattle.descriptor_loop.specs.declared.Item.{Item}
 use Rattle.descriptor_loop.specs.declared.Step.{Step}
 use Rattle.relabel_payload.proofs.Payloads.{Of, Parsed, parsed, assemble}
@@ -89,7 +89,7 @@ module _ (s : List ℕ) (bytes : (k : ℕ) → getD s k 0 < 256) where
   written = record { «upid_type» = typeIn s; bytes = record { at = upidHead s + 2; len = sizeIn s } }
 
   record Fronted : Type 0 where
-    f : Fore
+    f : ListedFront
     reads : parse front (bitsOf s) 40 ≡ got f (postAt s * 8)
     upid : f .front .«segmentation_upid» ≡ written
 
@@ -156,7 +156,7 @@ module _ (s : List ℕ) (bytes : (k : ℕ) → getD s k 0 < 256) where
       ap (λ (u : SegmentationUpid). checkOf (u .«upid_type») (viewed s (u .bytes))) (f .upid) ∙ ap (checkOf (typeIn s)) (upid-viewed h) ∙ fine in
       record { x = _; i = _; reads = assemble s _ 40 (f .f) (postAt s * 8) q (b .0) (b .1) (d .1) off (f .reads) same (b .2); detail = refl }
 
-  room : (f : Fore) → place f ≡ 6 + fieldsBefore (getD s 5 0) (getD s 6 0) → place f + 2 + getD s (place f + 1) 0 ≤ length s → postAt s ≤ length s
+  room : (f : ListedFront) → place f ≡ 6 + fieldsBefore (getD s 5 0) (getD s 6 0) → place f + 2 + getD s (place f + 1) 0 ≤ length s → postAt s ≤ length s
   unfolding upidHead
   room f before there = subst (λ (q : ℕ). q + 2 + getD s (q + 1) 0 ≤ length s) before there
 
@@ -245,8 +245,8 @@ module _ (loop : List ℕ) (offset : ℕ) where
   unfolding readAt descriptorOf
   reads-segmentation t = rw (t .tag, t .id)
 
-  whole-item : wholeAt loop offset L .item ≡ itemAt (offset + 6) (readAt loop offset L)
-  unfolding wholeAt
+  whole-item : completeAt loop offset L .item ≡ itemAt (offset + 6) (readAt loop offset L)
+  unfolding completeAt
   whole-item = refl
 
   insert-item : (base : ℕ) (x : SegmentationDescriptor) (i : SegmentationDetail) → x .«descriptor_detail» ≡ Active i → inserts (itemAt base (read.Is (Segmentation x))) ≡ true
@@ -262,7 +262,7 @@ module _ (loop : List ℕ) (offset : ℕ) where
         let s = spot-is e in
         let t = s .titled in
         let fits = short-loop (s .begun) in
-        let st = step-whole loop offset fits (omega (arith, t .there)) L refl (omega (arith, t .there, t .long)) (omega (arith, t .there)) (t .right) (omega (arith, t .long)) in
+        let st = step-complete loop offset fits (omega (arith, t .there)) L refl (omega (arith, t .there, t .long)) (omega (arith, t .there)) (t .right) (omega (arith, t .long)) in
         let r = reads-insert pay pay-bytes (s .complete) q fine in
         sym (found-some loop offset (s .begun))
         ∙ ap (λ (y : Step). inserts (y .item)) st

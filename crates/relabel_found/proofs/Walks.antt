@@ -14,17 +14,17 @@ use lib.ListN.{length, getD}
 use borrow.Author.Tests.{eq-eqb, ne-eqb, eqb-true}
 use Rattle.table.proofs.Lists.{zero-one}
 use Rattle.descriptor_loop.proofs.Lists.{rest, rest-end, rest-more, items-rest, items-none}
-use Rattle.descriptor_loop.proofs.Steps.{step-small, step-whole, turn, forward, within}
-use Rattle.descriptor_loop.specs.Items.{wholeAt, stepOf, Listed, listed, itemsOf}
+use Rattle.descriptor_loop.proofs.Steps.{step-small, step-complete, turn, forward, within}
+use Rattle.descriptor_loop.specs.Items.{completeAt, stepOf, Listed, listed, itemsOf}
 use Rattle.descriptor_loop.specs.declared.Step.{Step}
 use Rattle.upid.proofs.Laws.{by-cases}
 use Rattle.relabel_found.specs.Found.{begins, inserts, found}
 use Rattle.relabel_payload.specs.Payload.{upidHead}
 use Rattle.table.specs.Bits.{pick}
 
-whole-next : (loop : List ℕ) (offset L : ℕ) → wholeAt loop offset L .next ≡ offset + (L + 2)
-unfolding wholeAt
-whole-next loop offset L = refl
+complete-next : (loop : List ℕ) (offset L : ℕ) → completeAt loop offset L .next ≡ offset + (L + 2)
+unfolding completeAt
+complete-next loop offset L = refl
 
 module _ (loop : List ℕ) (offset : ℕ) (fits : length loop ≤ 4076) (inside : offset < length loop) (L : ℕ) (is : L ≡ getD loop (offset + 1) 0)
     (six : 6 ≤ length loop - offset) (there : L + 2 ≤ length loop - offset) (right : L ≤ 254) where
@@ -32,7 +32,7 @@ module _ (loop : List ℕ) (offset : ℕ) (fits : length loop ≤ 4076) (inside 
   next-is =
       by-cases L 4
       (λ h. sym (ap (λ (s : Step). s .next) (step-small loop offset fits inside L is six there right h)))
-      (λ h. sym (ap (λ (s : Step). s .next) (step-whole loop offset fits inside L is six there right h) ∙ whole-next loop offset L))
+      (λ h. sym (ap (λ (s : Step). s .next) (step-complete loop offset fits inside L is six there right h) ∙ complete-next loop offset L))
 
 module _ (loop : List ℕ) (fits : length loop ≤ 4076) where
   -- what begins later does not begin here

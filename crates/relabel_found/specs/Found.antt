@@ -6,7 +6,7 @@ use lib.Dec.{ltb, leb, eqb}
 use lib.ListN.{length, take, drop, getD}
 use Rattle.descriptor.specs.Descriptor.{isCuei}
 use Rattle.descriptor.specs.Segmentation.{cancelled}
-use Rattle.descriptor.specs.Whole.{ofSegmentation}
+use Rattle.descriptor.specs.Full.{ofSegmentation}
 use Rattle.descriptor_loop.specs.Items.{stepOf, Listed, itemsOf}
 use Rattle.descriptor_loop.specs.declared.Item.{Item}
 use Rattle.descriptor_loop.specs.declared.Item.the-variants.{End, Refused, Is}

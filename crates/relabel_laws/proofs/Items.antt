@@ -16,7 +16,7 @@ use Rattle.descriptor_loop.specs.declared.Item.{Item}
 use Rattle.descriptor_loop.specs.declared.Step.{Step}
 use Rattle.relabel_found.proofs.Inserts.{inserted}
 use Rattle.relabel_found.specs.Found.{found, payloadAt}
-use Rattle.relabel_loop.proofs.Pieces.{piece, step-of-whole}
+use Rattle.relabel_loop.proofs.Pieces.{piece, step-of-complete}
 use Rattle.relabel_loop.specs.Item.{segmentationItem}
 use Rattle.relabel_loop.specs.Loop.{movedItem, movedListed}
 use Rattle.upid.proofs.Laws.{by-cases}
@@ -34,7 +34,7 @@ module _ (s : List ℕ) (short : length s ≤ 250) where
       let fits : length (piece 2 (cuei ++ s) right []) ≤ 4076 = omega (arith, body-size, length-append (cuei ++ s) []) in
       let alone : segmentationItem s ≡ piece 2 (cuei ++ s) right [] = ap (λ (l : List ℕ). 2 ∷ (length (cuei ++ s) ∷ l)) (sym (append-nil (cuei ++ s))) in
       ap (λ (l : List ℕ). stepOf l 0 .next) alone
-      ∙ ap (λ (x : Step). x .next) (step-of-whole 2 (cuei ++ s) right [] fits (omega (arith, body-size)) (omega (arith, body-size))) ∙ omega (arith, body-size)
+      ∙ ap (λ (x : Step). x .next) (step-of-complete 2 (cuei ++ s) right [] fits (omega (arith, body-size)) (omega (arith, body-size))) ∙ omega (arith, body-size)
 
 module _ {A : Type 0} (F : Item → List ℕ → A) where
   abbrev pub ofListed : List ℕ → Listed → A

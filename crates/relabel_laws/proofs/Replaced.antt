@@ -99,7 +99,7 @@ module _ (s : List ℕ) (offset part k : ℕ) (new r : List ℕ) (x : Result s o
   new-item =
       moved-item A (d ++ behind) (listed d 0) offset (sym A-long)
       ∙ own-item (payloadThen s offset part k (x .upid)) (x .short) (ap inserts (x .kept .own)) behind
-      ∙ payload-then pay K (x .upid) (x .whole)
+      ∙ payload-then pay K (x .upid) (x .complete)
       ∙ upid-then (typeIn pay) (upidIn pay) part k new (x .upid) (x .made-of)
 
   new-tail : each (A ++ (d ++ behind)) (map (movedListed (offset + length d)) (itemsOf behind)) ≡ each loop (x .tail)

@@ -105,7 +105,7 @@ module _ (s : List ℕ) (offset part k : ℕ) (new r : List ℕ) where
               event = i .x .«segmentation_event_id»;
               insert = i .i;
               cut = h .is ∙ cc (ef₁, ep, ek, eu);
-              whole = omega (arith, size-all pay _ _ h);
+              complete = omega (arith, size-all pay _ _ h);
               upid = f .b;
               made-of = f .was;
               is = f .is;

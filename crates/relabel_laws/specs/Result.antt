@@ -29,7 +29,7 @@ pub record Result (s : List ℕ) (offset part k : ℕ) (new r : List ℕ) : Type
   pub insert : SegmentationDetail
   -- its payload is what stands before the UPID's head, the UPID, and what stands after it
   pub cut : payloadIn s offset ≡ payload (foreIn (payloadIn s offset)) (postIn (payloadIn s offset)) (typeIn (payloadIn s offset)) (upidIn (payloadIn s offset))
-  pub whole : upidHead (payloadIn s offset) + 2 + sizeIn (payloadIn s offset) ≤ length (payloadIn s offset)
+  pub complete : upidHead (payloadIn s offset) + 2 + sizeIn (payloadIn s offset) ≤ length (payloadIn s offset)
   -- what becomes of the UPID is said by `every-other-identifier-stays` and `the-upid-itself` (relabel_upid)
   pub upid : List ℕ
   pub made-of : upidMade (typeIn (payloadIn s offset)) (upidIn (payloadIn s offset)) part k new ≡ made upid

@@ -18,7 +18,7 @@ use Rattle.upid.proofs.Laws.{by-cases}
 use Rattle.descriptor.specs.Descriptor.{movedRefusal, descriptorOf}
 use Rattle.descriptor.specs.Segmentation.{withUpid}
 use Rattle.descriptor.specs.Views.{withoutView}
-use Rattle.descriptor.specs.Whole.{identifierRead}
+use Rattle.descriptor.specs.Full.{identifierRead}
 use Rattle.descriptor.specs.declared.Descriptor.{Descriptor}
 use Rattle.descriptor.specs.declared.Descriptor.the-variants.{Avail, Dtmf, Segmentation, Time, Reserved}
 use Rattle.descriptor.specs.declared.DescriptorRead.{DescriptorRead}
@@ -26,7 +26,7 @@ use Rattle.descriptor.specs.declared.DescriptorRead.the-variants as read
 use Rattle.descriptor.specs.declared.segmentation.DescriptorDetail.{DescriptorDetail}
 use Rattle.descriptor.specs.declared.segmentation.DescriptorDetail.the-variants.{Cancel, Active}
 use Rattle.descriptor.specs.declared.segmentation.SegmentationUpid.{SegmentationUpid}
-use Rattle.descriptor_loop.specs.Items.{short, withoutIdentifier, itemAt, readAt, wholeAt, stepOf, unlessEnd, Listed, listed, itemsFrom, itemsOf}
+use Rattle.descriptor_loop.specs.Items.{short, withoutIdentifier, itemAt, readAt, completeAt, stepOf, unlessEnd, Listed, listed, itemsFrom, itemsOf}
 use Rattle.descriptor_loop.specs.Place.{movedUpid, movedDescriptor}
 use Rattle.descriptor_loop.specs.Private.{movedDetail}
 use Rattle.descriptor_loop.specs.declared.Item.{Item}
@@ -34,7 +34,7 @@ use Rattle.descriptor_loop.specs.declared.Item.the-variants.{End, Refused, Is}
 use Rattle.descriptor_loop.specs.declared.ItemRefusal.the-variants.{InvalidDescriptorLength, Other}
 use Rattle.descriptor_loop.specs.declared.Step.{Step}
 use Rattle.descriptor_loop.proofs.Lists.{rest, items-rest}
-use Rattle.descriptor_loop.proofs.Steps.{step-end, step-few, step-over, step-full, step-small, step-whole}
+use Rattle.descriptor_loop.proofs.Steps.{step-end, step-few, step-over, step-full, step-small, step-complete}
 use Rattle.relabel_loop.specs.Loop.{movedItem, movedStep, movedListed}
 
 -- ---- moved twice
@@ -119,9 +119,9 @@ module _ (pre s : List ℕ) (fits : length (pre ++ s) ≤ 4076) where
       ap₂ (λ (t : ℕ) (r : List ℕ). descriptorOf t (take 4 r) (take (L - 4) (drop (n + o + 6) (pre ++ s)))) (getD-append-add pre s o 0) (drop-there o 2)
       ∙ ap (λ (r : List ℕ). descriptorOf (getD s o 0) (take 4 (drop (o + 2) s)) (take (L - 4) r)) (drop-there o 6)
 
-  whole-there : (o L : ℕ) → wholeAt (pre ++ s) (n + o) L ≡ movedStep n (wholeAt s o L)
-  unfolding wholeAt
-  whole-there o L =
+  complete-there : (o L : ℕ) → completeAt (pre ++ s) (n + o) L ≡ movedStep n (completeAt s o L)
+  unfolding completeAt
+  complete-there o L =
       let base : n + o + 6 ≡ n + (o + 6) = omega arith in
       let next : n + o + (L + 2) ≡ n + (o + (L + 2)) = omega arith in
       let item : itemAt (n + o + 6) (readAt s o L) ≡ movedItem n (itemAt (o + 6) (readAt s o L)) = ap (λ (b : ℕ). itemAt b (readAt s o L)) base ∙ sym (item-moved n (o + 6) (readAt s o L)) in
@@ -150,8 +150,8 @@ module _ (pre s : List ℕ) (fits : length (pre ++ s) ≤ 4076) where
         step-small (pre ++ s) (n + o) fits inside-there L is2 six2 there2 right h
         ∙ ap (withoutIdentifier (short 6 (L + 2))) (add-assoc n o (L + 2)) ∙ sym (ap (movedStep n) (step-small s o fits-rest inside L is six there right h)))
         (λ h.
-        step-whole (pre ++ s) (n + o) fits inside-there L is2 six2 there2 right h
-        ∙ whole-there o L ∙ sym (ap (movedStep n) (step-whole s o fits-rest inside L is six there right h))))
+        step-complete (pre ++ s) (n + o) fits inside-there L is2 six2 there2 right h
+        ∙ complete-there o L ∙ sym (ap (movedStep n) (step-complete s o fits-rest inside L is six there right h))))
 
     headed : 6 ≤ length s - o → stepOf (pre ++ s) (n + o) ≡ movedStep n (stepOf s o)
     headed six =

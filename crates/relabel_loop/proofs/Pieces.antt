@@ -10,12 +10,12 @@ use lib.ListN.{length, take, drop, getD, length-append, length-take, length-drop
 use lib.Seq.{take-append-le, drop-append-le, take-at, drop-at, take-append-add, drop-append-add, take-append-seam, drop-append-seam, length-take-le, drop-length}
 use Rattle.upid.proofs.Laws.{by-cases}
 use Rattle.descriptor.specs.Descriptor.{descriptorOf}
-use Rattle.descriptor.specs.Whole.{identifierRead}
+use Rattle.descriptor.specs.Full.{identifierRead}
 use Rattle.descriptor.specs.declared.DescriptorRead.{DescriptorRead}
-use Rattle.descriptor_loop.specs.Items.{short, withoutIdentifier, itemAt, readAt, wholeAt, stepOf, Listed, listed, itemsOf}
+use Rattle.descriptor_loop.specs.Items.{short, withoutIdentifier, itemAt, readAt, completeAt, stepOf, Listed, listed, itemsOf}
 use Rattle.descriptor_loop.specs.declared.Step.{Step}
 use Rattle.descriptor_loop.proofs.Lists.{rest, rest-end, rest-more, items-rest, from-any}
-use Rattle.descriptor_loop.proofs.Steps.{step-small, step-whole, Turn, ends, goes, Stands, turn, forward, within}
+use Rattle.descriptor_loop.proofs.Steps.{step-small, step-complete, Turn, ends, goes, Stands, turn, forward, within}
 use Rattle.relabel_loop.specs.Loop.{movedStep, movedListed, behindItem, withItem, Piece, OthersStay}
 use Rattle.relabel_loop.proofs.Moves.{listed-twice, map-twice, step-moved, items-moved}
 
@@ -25,17 +25,17 @@ module _ (tag : ℕ) (body : List ℕ) (right : length body ≤ 254) where
   abbrev pub piece : List ℕ → List ℕ
   piece s = tag ∷ (length body ∷ (body ++ s))
 
-  abbrev whole : Step
-  whole =
+  abbrev complete : Step
+  complete =
       record {
         item = itemAt 6 (descriptorOf tag (take 4 body) (drop 4 body));
         identifier = identifierRead (descriptorOf tag (take 4 body) (drop 4 body)) (take 4 body);
         next = 0 + (length body + 2);
       }
 
-  whole-piece : (s : List ℕ) → 4 ≤ length body → wholeAt (piece s) 0 (length body) ≡ whole
-  unfolding wholeAt readAt
-  whole-piece s h =
+  complete-piece : (s : List ℕ) → 4 ≤ length body → completeAt (piece s) 0 (length body) ≡ complete
+  unfolding completeAt readAt
+  complete-piece s h =
       let id : take 4 (body ++ s) ≡ take 4 body = take-append-le 4 body s h in
       let load : take (length body - 4) (drop 4 (body ++ s)) ≡ drop 4 body =
       ap (take (length body - 4)) (drop-append-le 4 body s h) ∙ take-at (drop 4 body) s (length body - 4) (length-drop 4 body) in
@@ -48,15 +48,15 @@ module _ (tag : ℕ) (body : List ℕ) (right : length body ≤ 254) where
     pub step-of-small : length body < 4 → stepOf (piece s) 0 ≡ withoutIdentifier (short 6 (length body + 2)) (0 + (length body + 2))
     step-of-small h = step-small (piece s) 0 fits (omega arith) (length body) refl (omega (arith, size)) (omega (arith, size)) right h
 
-    pub step-of-whole : 4 ≤ length body → stepOf (piece s) 0 ≡ whole
-    step-of-whole h = step-whole (piece s) 0 fits (omega arith) (length body) refl (omega (arith, size)) (omega (arith, size)) right h ∙ whole-piece s h
+    pub step-of-complete : 4 ≤ length body → stepOf (piece s) 0 ≡ complete
+    step-of-complete h = step-complete (piece s) 0 fits (omega arith) (length body) refl (omega (arith, size)) (omega (arith, size)) right h ∙ complete-piece s h
 
   pub step-piece : (s t : List ℕ) → length (piece s) ≤ 4076 → length (piece t) ≤ 4076 → 6 ≤ length body + 2 + length s → 6 ≤ length body + 2 + length t
       → stepOf (piece s) 0 ≡ stepOf (piece t) 0
   step-piece s t fs ft ss st =
       by-cases (length body) 4
       (λ h. step-of-small s fs ss h ∙ sym (step-of-small t ft st h))
-      (λ h. step-of-whole s fs ss h ∙ sym (step-of-whole t ft st h))
+      (λ h. step-of-complete s fs ss h ∙ sym (step-of-complete t ft st h))
 
 -- ---- the first item, and those after it
 
@@ -91,13 +91,13 @@ module _ (d s : List ℕ) (w : Piece d) (fits : length (d ++ s) ≤ 4076) where
   opened-fits : length (piece (w .tag) (w .body) (w .short) s) ≤ 4076
   opened-fits = subst (λ (l : List ℕ). length l ≤ 4076) opened fits
 
-  step-first : stepOf (d ++ s) 0 ≡ whole (w .tag) (w .body) (w .short)
-  step-first = ap (λ (l : List ℕ). stepOf l 0) opened ∙ step-of-whole (w .tag) (w .body) (w .short) s opened-fits (omega (arith, w .named)) (w .named)
+  step-first : stepOf (d ++ s) 0 ≡ complete (w .tag) (w .body) (w .short)
+  step-first = ap (λ (l : List ℕ). stepOf l 0) opened ∙ step-of-complete (w .tag) (w .body) (w .short) s opened-fits (omega (arith, w .named)) (w .named)
 
-  step-alone : stepOf d 0 ≡ whole (w .tag) (w .body) (w .short)
+  step-alone : stepOf d 0 ≡ complete (w .tag) (w .body) (w .short)
   step-alone =
       let f : length (piece (w .tag) (w .body) (w .short) []) ≤ 4076 = subst (λ (l : List ℕ). length l ≤ 4076) alone (omega (arith, length-append d s)) in
-      ap (λ (l : List ℕ). stepOf l 0) alone ∙ step-of-whole (w .tag) (w .body) (w .short) [] f (omega (arith, w .named)) (w .named)
+      ap (λ (l : List ℕ). stepOf l 0) alone ∙ step-of-complete (w .tag) (w .body) (w .short) [] f (omega (arith, w .named)) (w .named)
 
   next-is : stepOf (d ++ s) 0 .next ≡ length d
   next-is = ap (λ (x : Step). x .next) step-first ∙ omega (arith, piece-size)

@@ -12,7 +12,7 @@ use Rattle.descriptor_loop.specs.declared.Step.{Step}
 use Rattle.descriptor_loop.proofs.Steps.{Turn, ends, goes, Stands, turn}
 use Rattle.relabel_loop.specs.Loop.{movedStep, movedListed, behindItem, withItem, Piece, OthersStay}
 use Rattle.relabel_loop.proofs.Moves.{listed-twice, map-twice}
-use Rattle.relabel_loop.proofs.Pieces.{piece, step-of-small, step-of-whole, step-piece, items-first, items-empty, items-piece, still}
+use Rattle.relabel_loop.proofs.Pieces.{piece, step-of-small, step-of-complete, step-piece, items-first, items-empty, items-piece, still}
 
 -- ---- a list that is a map, split
 
@@ -80,7 +80,7 @@ module _ (tag : ℕ) (body : List ℕ) (right : length body ≤ 254) where
     next-of =
         by-cases (length body) 4
         (λ h. ap (λ (x : Step). x .next) (step-of-small tag body right s fits six h) ∙ omega arith)
-        (λ h. ap (λ (x : Step). x .next) (step-of-whole tag body right s fits six h) ∙ omega arith)
+        (λ h. ap (λ (x : Step). x .next) (step-of-complete tag body right s fits six h) ∙ omega arith)
 
     items-of : itemsOf (p ++ s) ≡ listed (p ++ s) 0 ∷ map (movedListed (length p)) (itemsOf s)
     items-of =

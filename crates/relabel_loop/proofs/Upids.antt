@@ -20,7 +20,7 @@ use Rattle.descriptor_loop.specs.declared.Step.{Step}
 use Rattle.relabel_payload.specs.Payload.{payload, Holed}
 use Rattle.relabel_loop.specs.Item.{segmentationItem}
 use Rattle.relabel_loop.specs.Loop.{Piece}
-use Rattle.relabel_loop.proofs.Pieces.{piece, step-of-whole}
+use Rattle.relabel_loop.proofs.Pieces.{piece, step-of-complete}
 
 is-segmentation : (s : List ℕ) → descriptorOf 2 cuei s ≡ segmentationOf s
 unfolding descriptorOf isCuei
@@ -43,7 +43,7 @@ module _ (s : List ℕ) (short : length s ≤ 250) where
   item-reads =
       let fits : length (piece 2 (cuei ++ s) right []) ≤ 4076 = omega (arith, body-size, length-append (cuei ++ s) []) in
       ap (λ (l : List ℕ). stepOf l 0 .item) item-alone
-      ∙ ap (λ (x : Step). x .item) (step-of-whole 2 (cuei ++ s) right [] fits (omega (arith, body-size)) (omega (arith, body-size)))
+      ∙ ap (λ (x : Step). x .item) (step-of-complete 2 (cuei ++ s) right [] fits (omega (arith, body-size)) (omega (arith, body-size)))
       ∙ ap (itemAt 6) (is-segmentation s)
 
 pub item-refilled : (s : List ℕ) (event : ℕ) (i : SegmentationDetail) (h : Holed s event i) (k : ℕ) (u : List ℕ) (q : ℕ) → k < 256 → checkOf k u ≡ Fine q

@@ -18,7 +18,7 @@ use Rattle.table.proofs.Longer.{Blind}
 use Rattle.table.proofs.Steps.{reads-in, takes-in, canonical-inside, reads-number, reads-part, takes-number, takes-part}
 use Rattle.table.proofs.Swaps.{forward, swap, swap-form, EndsAt, ends-at, ends-inside, ends-pick, ends-list}
 use Rattle.descriptor.proofs.Longer.{blind-delivery, blind-mode, blind-duration}
-use Rattle.descriptor.specs.Segmentation.{Fore, Moded, Head, deliveryRestrictions, component, blankComponent, mode, duration, writtenUpid, parts, front, head, insertFrom, subSegments, back}
+use Rattle.descriptor.specs.Segmentation.{ListedFront, Moded, Head, deliveryRestrictions, component, blankComponent, mode, duration, writtenUpid, parts, front, head, insertFrom, subSegments, back}
 use Rattle.descriptor.specs.declared.segmentation.DeliveryRestrictionFlags.{DeliveryRestrictionFlags}
 use Rattle.descriptor.specs.declared.segmentation.SegmentationDuration.{SegmentationDuration}
 use Rattle.descriptor.specs.declared.segmentation.SegmentationUpid.{SegmentationUpid}
@@ -91,11 +91,11 @@ upid-forms q k bs cs at u v m n e f g =
     canonical-inside writtenUpid q k cs at v n f ∙ ap₂ (λ (x z : Bool). x && z) (upid-form cs at ∙ sym (upid-form bs at)) g ∙ sym (canonical-inside writtenUpid q k bs at u m e)
 
 -- `make` is what was read before the UPID, which ends before bit `seam`
-pub record Split (bs : List ℕ) (at : ℕ) (f : Fore) (m : ℕ) : Type 0 where
+pub record Split (bs : List ℕ) (at : ℕ) (f : ListedFront) (m : ℕ) : Type 0 where
   pub seam : ℕ
   pub from : at ≤ seam
-  pub whole : at % 8 ≡ 0 → seam % 8 ≡ 0
-  pub make : SegmentationUpid → Fore
+  pub aligned : at % 8 ≡ 0 → seam % 8 ≡ 0
+  pub make : SegmentationUpid → ListedFront
   pub upid : SegmentationUpid
   pub reads : parse writtenUpid bs seam ≡ got upid m
   pub is : make upid ≡ f
@@ -107,7 +107,7 @@ pub record Split (bs : List ℕ) (at : ℕ) (f : Fore) (m : ℕ) : Type 0 where
   pub form : (pre r other : List ℕ) → bs ≡ pre ++ r → seam ≤ length pre → (u : SegmentationUpid) (n : ℕ) → parse writtenUpid (pre ++ other) seam ≡ got u n
       → canonical front (pre ++ other) at ≡ canonical front bs at
 
-abbrev made : Bool → Bool → Bool → DeliveryRestrictionFlags → Moded → SegmentationDuration → SegmentationUpid → Fore
+abbrev made : Bool → Bool → Bool → DeliveryRestrictionFlags → Moded → SegmentationDuration → SegmentationUpid → ListedFront
 made program lasting free restrictions moded lasts upid =
     record {
       front = record {
@@ -125,7 +125,7 @@ made program lasting free restrictions moded lasts upid =
 got-is : {X : Type 0} (x y : X) (m n : ℕ) → _≡_ (got x m) (got y n) → (x ≡ y) × (m ≡ n)
 got-is x y m n e = (cc, cc)
 
-pub split-front : (bs : List ℕ) (at : ℕ) (f : Fore) (m : ℕ) → parse front bs at ≡ got f m → Split bs at f m
+pub split-front : (bs : List ℕ) (at : ℕ) (f : ListedFront) (m : ℕ) → parse front bs at ≡ got f m → Split bs at f m
 unfolding front parts
 split-front bs at f m e =
     let r1 = reads-in bit _ _ bs at f m e in
@@ -146,7 +146,7 @@ split-front bs at f m e =
     record {
       seam = r6 .seam;
       from = omega arith;
-      whole = λ h.
+      aligned = λ h.
           ends-at (duration (r2 .inner)) 0 0 (ends-duration (r2 .inner)) bs (r5 .seam) (r6 .inner) (r6 .seam)
           (ends-at (mode (r1 .inner)) 0 0 (ends-mode (r1 .inner)) bs (r4 .seam) (r5 .inner) (r5 .seam)
           (ends-at (deliveryRestrictions (r3 .inner)) 3 0 (ends-delivery (r3 .inner)) bs (r3 .seam) (r4 .inner) (r4 .seam)
@@ -158,7 +158,7 @@ split-front bs at f m e =
       reads = r7 .front ∙ ap (got (r7 .inner)) (z .1);
       is = z .0;
       has = λ u. refl;
-      keeps = λ u v b. ap (λ (x : Fore). insertFrom (x .front) v b) (z .0);
+      keeps = λ u v b. ap (λ (x : ListedFront). insertFrom (x .front) v b) (z .0);
       again = λ pre r other eq h u n w.
           takes-in bit _ _ (pre ++ other) at (r1 .inner) (r1 .seam) (swapped bit blind-bit bs pre r other at (r1 .inner) (r1 .seam) eq (r1 .front) (omega arith))
           ∙ takes-in bit _ _ (pre ++ other) (r1 .seam) (r2 .inner) (r2 .seam) (swapped bit blind-bit bs pre r other (r1 .seam) (r2 .inner) (r2 .seam) eq (r2 .front) (omega arith))
@@ -170,7 +170,7 @@ split-front bs at f m e =
           ∙ takes-in (duration (r2 .inner)) _ _ (pre ++ other) (r5 .seam) (r6 .inner) (r6 .seam)
           (swapped (duration (r2 .inner)) (blind-duration (r2 .inner)) bs pre r other (r5 .seam) (r6 .inner) (r6 .seam) eq (r6 .front) (omega arith))
           ∙ takes-in writtenUpid _ _ (pre ++ other) (r6 .seam) u n w;
-      beside = λ u. ap (λ (x : Fore). x .components) (z .0);
+      beside = λ u. ap (λ (x : ListedFront). x .components) (z .0);
       form = λ pre r other eq h u n w.
           forms-in bit blind-bit _ _ bs pre r other at (r1 .inner) (r1 .seam) eq (r1 .front) (omega arith)
           (forms-in bit blind-bit _ _ bs pre r other (r1 .seam) (r2 .inner) (r2 .seam) eq (r2 .front) (omega arith)

@@ -22,8 +22,8 @@ use Rattle.upid.specs.declared.UpidRead.{UpidRead}
 use Rattle.upid.proofs.Walks.{check-short}
 use Rattle.descriptor.specs.Descriptor.{_andThen_, reportedUpid, ifFine, inserted, insertOf, segmentationOf}
 use Rattle.descriptor.specs.Segmentation as table
-use Rattle.descriptor.specs.Segmentation.{Fore, Head, head, front, back, subSegments, writtenUpid, insertFrom, withUpid, segmentation}
-use Rattle.descriptor.specs.Whole.{filled, besideIn, besideOf}
+use Rattle.descriptor.specs.Segmentation.{ListedFront, Head, head, front, back, subSegments, writtenUpid, insertFrom, withUpid, segmentation}
+use Rattle.descriptor.specs.Full.{filled, besideIn, besideOf}
 use Rattle.descriptor.specs.declared.Descriptor.the-variants.{Segmentation}
 use Rattle.descriptor.specs.declared.DescriptorRead.{DescriptorRead}
 use Rattle.descriptor.specs.declared.DescriptorRead.the-variants.{Is, Refused}
@@ -31,9 +31,9 @@ use Rattle.descriptor.specs.declared.segmentation.SegmentationDescriptor.{Segme
 use Rattle.descriptor.specs.declared.segmentation.DescriptorDetail.{DescriptorDetail}
 use Rattle.descriptor.specs.declared.segmentation.DescriptorDetail.the-variants.{Cancel, Active}
 use Rattle.descriptor.specs.declared.segmentation.SegmentationDetail.{SegmentationDetail}
-use Rattle.descriptor.specs.declared.segmentation.ModeComponent.{ModeComponent}
+use Rattle.descriptor.specs.declared.segmentation.SegmentationComponent.{SegmentationComponent}
 use Rattle.descriptor.specs.declared.segmentation.SegmentationUpid.{SegmentationUpid}
-use Rattle.descriptor.specs.declared.whole.Beside.{Beside}
+use Rattle.descriptor.specs.declared.full.Beside.{Beside}
 use Rattle.descriptor.proofs.Heads.{head-ends, front-told}
 use Rattle.descriptor.proofs.Longer.{blind-head}
 use Rattle.relabel_payload.specs.Payload.{payload, upidHead, upidPlace, Tabled, Holed}
@@ -44,7 +44,7 @@ abbrev pub Of : {X : Type 0} → Table X → Type 0
 Of {X} t = X
 
 -- the head of the UPID that is read stands where the payload's own bytes say
-head-at : (s : List ℕ) → ((k : ℕ) → getD s k 0 < 256) → (h : Head) (a : ℕ) → parse head (bitsOf s) 0 ≡ got h a → (x : Fore) (m : ℕ) → parse front (bitsOf s) a ≡ got x m
+head-at : (s : List ℕ) → ((k : ℕ) → getD s k 0 < 256) → (h : Head) (a : ℕ) → parse head (bitsOf s) 0 ≡ got h a → (x : ListedFront) (m : ℕ) → parse front (bitsOf s) a ≡ got x m
     → x .front .«segmentation_upid» .bytes .at ≡ upidHead s + 2
 unfolding upidHead
 head-at s bytes h a eh x m e =
@@ -59,7 +59,7 @@ pub record Parsed (s : List ℕ) (event : ℕ) (i : SegmentationDetail) : Type 0
   pub head-is : parse head (bitsOf s) 0 ≡ got h a
   pub stays : h .cancel ≡ false
   pub event-is : h .event ≡ event
-  pub f : Fore
+  pub f : ListedFront
   pub m : ℕ
   pub front-is : parse front (bitsOf s) a ≡ got f m
   pub q : ℕ
@@ -70,7 +70,7 @@ pub record Parsed (s : List ℕ) (event : ℕ) (i : SegmentationDetail) : Type 0
   pub is : insertFrom (f .front) (reportedUpid q (f .front .«segmentation_upid» .bytes)) b ≡ i
 
 module _ (s : List ℕ) (x : SegmentationDescriptor) (i : SegmentationDetail) (detail : x .«descriptor_detail» ≡ Active i) where
-  module _ (h : Head) (a : ℕ) (eh : parse head (bitsOf s) 0 ≡ got h a) (stays : h .cancel ≡ false) (f : Fore) (m : ℕ) (ef : parse front (bitsOf s) a ≡ got f m) where
+  module _ (h : Head) (a : ℕ) (eh : parse head (bitsOf s) 0 ≡ got h a) (stays : h .cancel ≡ false) (f : ListedFront) (m : ℕ) (ef : parse front (bitsOf s) a ≡ got f m) where
     abbrev upid₀ : SegmentationUpid
     upid₀ = f .front .«segmentation_upid»
 
@@ -104,7 +104,7 @@ module _ (s : List ℕ) (x : SegmentationDescriptor) (i : SegmentationDetail) (d
     of-check (UpidRead.Refused r) ec e = zero-one cc
 
   module _ (h : Head) (a : ℕ) (eh : parse head (bitsOf s) 0 ≡ got h a) where
-    of-front : h .cancel ≡ false → (r : Answer Fore) → parse front (bitsOf s) a ≡ r
+    of-front : h .cancel ≡ false → (r : Answer ListedFront) → parse front (bitsOf s) a ≡ r
         → (r andThen λ f m. ifFine (checkOf (f .front .«segmentation_upid» .«upid_type») (viewed s (f .front .«segmentation_upid» .bytes))) (f .front .«segmentation_upid» .bytes) λ upid.
         parse back (bitsOf s) m andThen λ b n. inserted (h .event) (f .front) upid b) ≡ Is (Segmentation x) → Parsed s (x .«segmentation_event_id») i
     of-front stays (got f m) ef e = of-check h a eh stays f m ef (checkOf (f .front .«segmentation_upid» .«upid_type») (viewed s (f .front .«segmentation_upid» .bytes))) refl e
@@ -131,7 +131,7 @@ module _ (s : List ℕ) (x : SegmentationDescriptor) (i : SegmentationDetail) (d
   parsed e = of-head (parse head (bitsOf s) 0) refl e
 
 -- and the other way round
-pub assemble : (s : List ℕ) (h : Head) (a : ℕ) (f : Fore) (m q : ℕ) (b : Of back) (n : ℕ) → parse head (bitsOf s) 0 ≡ got h a → h .cancel ≡ false → parse front (bitsOf s) a ≡ got f m
+pub assemble : (s : List ℕ) (h : Head) (a : ℕ) (f : ListedFront) (m q : ℕ) (b : Of back) (n : ℕ) → parse head (bitsOf s) 0 ≡ got h a → h .cancel ≡ false → parse front (bitsOf s) a ≡ got f m
     → checkOf (f .front .«segmentation_upid» .«upid_type») (viewed s (f .front .«segmentation_upid» .bytes)) ≡ UpidRead.Fine q → parse back (bitsOf s) m ≡ got b n
     → segmentationOf s ≡ Is (Segmentation (record { «segmentation_event_id» = h .event; «descriptor_detail» = Active (insertFrom (f .front) (reportedUpid q (f .front .«segmentation_upid» .bytes)) b) }))
 unfolding segmentationOf insertOf inserted
@@ -140,15 +140,15 @@ assemble s h a f m q b n eh stays ef ec eb = rw (eh, stays, ef, ec, eb)
 -- ---- the table
 
 -- of a payload, part by part: its reading, and whether it is canonical
-module _ (s : List ℕ) (h : Head) (a : ℕ) (f : Fore) (m : ℕ) (b : Of back) (n : ℕ) (eh : parse head (bitsOf s) 0 ≡ got h a) (stays : h .cancel ≡ false) (ef : parse front (bitsOf s) a ≡ got f m)
+module _ (s : List ℕ) (h : Head) (a : ℕ) (f : ListedFront) (m : ℕ) (b : Of back) (n : ℕ) (eh : parse head (bitsOf s) 0 ≡ got h a) (stays : h .cancel ≡ false) (ef : parse front (bitsOf s) a ≡ got f m)
     (eb : parse back (bitsOf s) m ≡ got b n) where
-  abbrev whole : table.Segmentation
-  whole = record {
+  abbrev overall : table.Segmentation
+  overall = record {
     descriptor = record { «segmentation_event_id» = h .event; «descriptor_detail» = Active (insertFrom (f .front) (f .front .«segmentation_upid») b) };
     components = f .components;
   }
 
-  table-reads : parse segmentation (bitsOf s) 0 ≡ got whole n
+  table-reads : parse segmentation (bitsOf s) 0 ≡ got overall n
   unfolding segmentation
   table-reads = takes-in head _ _ (bitsOf s) 0 h a eh ∙ rw stays (takes-in front _ _ (bitsOf s) a f m ef ∙ takes-in back _ _ (bitsOf s) m b n eb)
 
@@ -256,7 +256,7 @@ module _ (s : List ℕ) (event : ℕ) (i : SegmentationDetail) (bytes : (k : ℕ
   seam-is : split .seam ≡ q * 8
   unfolding q
   seam-is =
-      let z : split .seam % 8 ≡ 0 = split .whole (ends-at head 0 0 ends-head (bitsOf s) 0 (p .h) (p .a) refl (p .head-is)) in
+      let z : split .seam % 8 ≡ 0 = split .aligned (ends-at head 0 0 ends-head (bitsOf s) 0 (p .h) (p .a) refl (p .head-is)) in
       omega arith
 
   written : Written s q (split .upid) (p .m)
@@ -282,7 +282,7 @@ module _ (s : List ℕ) (event : ℕ) (i : SegmentationDetail) (bytes : (k : ℕ
 
   upid-is : p .f .front .«segmentation_upid» ≡ record { «upid_type» = written .«upid_type»; bytes = record { at = length fore + 2; len = length (written .bytes) } }
   upid-is =
-      ap (λ (x : Fore). x .front .«segmentation_upid») (sym (split .is)) ∙ split .has (split .upid) ∙ written .upid
+      ap (λ (x : ListedFront). x .front .«segmentation_upid») (sym (split .is)) ∙ split .has (split .upid) ∙ written .upid
       ∙ ap (λ (n : ℕ). record { «upid_type» = written .«upid_type»; bytes = record { at = n + 2; len = length (written .bytes) } }) (sym fore-size)
 
   place-is : length fore ≡ upidHead s
@@ -420,7 +420,7 @@ module _ (s : List ℕ) (event : ℕ) (i : SegmentationDetail) (bytes : (k : ℕ
     unfolding place
     new-beside =
         table-beside new (p .h) (p .a) (split .make place) ((length fore + 2 + length u) * 8) (p .b) end new-head (p .stays) new-front (new-back .1)
-        ∙ ap₂ (λ (cs : List ModeComponent) (l : List ℕ). record { components = cs; eidr = l })
+        ∙ ap₂ (λ (cs : List SegmentationComponent) (l : List ℕ). record { components = cs; eidr = l })
         (ap filled (split .beside place)
         ∙ sym (ap (λ (x : Beside). x .components) (table-beside s (p .h) (p .a) (p .f) (p .m) (p .b) (p .n) (p .head-is) (p .stays) (p .front-is) (p .back-is))))
         (ap (λ (x : SegmentationUpid). eidrOf (x .«upid_type») (viewed new (x .bytes))) (split .has place) ∙ ap (eidrOf k) new-bytes)
@@ -429,7 +429,7 @@ module _ (s : List ℕ) (event : ℕ) (i : SegmentationDetail) (bytes : (k : ℕ
     unfolding new place
     new-tabled =
         record {
-          reading = whole new (p .h) (p .a) (split .make place) ((length fore + 2 + length u) * 8) (p .b) end new-head (p .stays) new-front (new-back .1);
+          reading = overall new (p .h) (p .a) (split .make place) ((length fore + 2 + length u) * 8) (p .b) end new-head (p .stays) new-front (new-back .1);
           end = end;
           reads = table-reads new (p .h) (p .a) (split .make place) ((length fore + 2 + length u) * 8) (p .b) end new-head (p .stays) new-front (new-back .1);
           upid = split .has place;

@@ -33,7 +33,7 @@ use Rattle.section.specs.declared.SectionRead.{SectionRead}
 use Rattle.section.proofs.Acceptance.{none-if-accepted}
 use Rattle.section.proofs.Framing.{number-of, extent-is, commandRead, is-accepted}
 use Rattle.table.proofs.Swaps.{swap}
-use Rattle.relabel_section.specs.Frame.{foreOf, spareOf, restWith, bodyWith, sectionWith}
+use Rattle.relabel_section.specs.Frame.{headerAndCommand, spareOf, restWith, bodyWith, sectionWith}
 
 -- ---- fields behind three bytes that may differ, of bytes that begin alike
 
@@ -116,7 +116,7 @@ module _ (s loop : List ℕ) (x : Section) (is : sectionOf s ≡ SectionRead.Is 
       omega arith
 
   fore : List ℕ
-  fore = foreOf s
+  fore = headerAndCommand s
 
   fore-size : length fore ≡ 11 + commandLength s
   unfolding fore
@@ -257,7 +257,7 @@ module _ (s loop : List ℕ) (x : Section) (is : sectionOf s ≡ SectionRead.Is 
   unfolding new sectionWith
   crc-right = crc-appended (bodyWith s loop)
 
-  new-frame : frameOf new ≡ FrameRead.Whole (frameIn new)
+  new-frame : frameOf new ≡ FrameRead.Is (frameIn new)
   unfolding frameOf roomAfter
   new-frame =
       let l : length new ≤ 4096 = new-fits in
@@ -272,7 +272,7 @@ module _ (s loop : List ℕ) (x : Section) (is : sectionOf s ≡ SectionRead.Is 
       let t9 : ltb (length new - 18 - commandLength new) (loopLength new + 2) ≡ false = le-ltb (length new - 18 - commandLength new) (loopLength new + 2) (omega (arith, new-size, command-length-same, loop-length)) in
       rw (t1, t2, t3, t4, t5, t6, t7, t8, t9)
 
-  old-frame : frameOf s ≡ FrameRead.Whole (frameIn s)
+  old-frame : frameOf s ≡ FrameRead.Is (frameIn s)
   unfolding frameOf
   old-frame =
       rw (

@@ -31,8 +31,8 @@ module _ (F : List ℕ) (k : ℕ) (b after : List ℕ) where
   pub all-size : length (withCrc body) ≡ length F + 2 + length b + length after + 4
   all-size = omega (arith, length-append body crc, body-size)
 
-  pub front-byte : (j : ℕ) → j < length F → getD (withCrc body) j 0 ≡ getD F j 0
-  front-byte j h = ap (λ (l : List ℕ). getD l j 0) all-is ∙ List·getD-append F (k ∷ (length b ∷ (b ++ (after ++ crc)))) 0 j h
+  pub prior-byte : (j : ℕ) → j < length F → getD (withCrc body) j 0 ≡ getD F j 0
+  prior-byte j h = ap (λ (l : List ℕ). getD l j 0) all-is ∙ List·getD-append F (k ∷ (length b ∷ (b ++ (after ++ crc)))) 0 j h
 
   pub type-is-byte : getD (withCrc body) (length F) 0 ≡ k
   type-is-byte = ap (λ (l : List ℕ). getD l (length F) 0) all-is ∙ getD-append-seam F k (length b ∷ (b ++ (after ++ crc))) 0
@@ -74,8 +74,8 @@ by-byte s offset part k new r c =
       long = (omega arith, omega arith);
       before =
           λ j h g.
-          ap (λ (l : List ℕ). getD l j 0) (c .then) ∙ front-byte G k new after j (omega (arith, c .size)) ∙ c .stays j g
-          ∙ sym (ap (λ (l : List ℕ). getD l j 0) (c .old) ∙ front-byte F k₀ b after j (omega (arith, c .place)));
+          ap (λ (l : List ℕ). getD l j 0) (c .then) ∙ prior-byte G k new after j (omega (arith, c .size)) ∙ c .stays j g
+          ∙ sym (ap (λ (l : List ℕ). getD l j 0) (c .old) ∙ prior-byte F k₀ b after j (omega (arith, c .place)));
       «upid_type» = ap₂ (λ (l : List ℕ) (i : ℕ). getD l i 0) (c .then) (sym (c .size)) ∙ type-is-byte G k new after;
       counted = ap₂ (λ (l : List ℕ) (i : ℕ). getD l (i + 1) 0) (c .then) (sym (c .size)) ∙ length-byte G k new after;
       run = ap₂ (λ (l : List ℕ) (i : ℕ). take (length new) (drop (i + 2) l)) (c .then) (sym (c .size)) ∙ run-is G k new after;

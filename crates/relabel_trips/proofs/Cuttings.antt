@@ -19,7 +19,7 @@ use Rattle.relabel_laws.specs.Result.{Result}
 use Rattle.relabel_loop.specs.Item.{segmentationItem}
 use Rattle.relabel_loop.specs.Loop.{behindItem, withItem}
 use Rattle.relabel_payload.specs.Payload.{payload, upidHead}
-use Rattle.relabel_section.specs.Frame.{foreOf, spareOf, restWith, bodyWith, sectionWith}
+use Rattle.relabel_section.specs.Frame.{headerAndCommand, spareOf, restWith, bodyWith, sectionWith}
 use Rattle.section.specs.Section.{commandLength, loopLength, loopBytes}
 use Rattle.table.proofs.Bits.{length-bigEndian}
 use Rattle.table.specs.Bits.{bigEndian}
@@ -104,18 +104,18 @@ module _ (a : ℕ) (ls : List ℕ) where
 
 -- ---- the pieces, put together
 
-abbrev fronted : List ℕ → List ℕ → List ℕ → List ℕ → ℕ → List ℕ → List ℕ
-fronted h fo tw X len named = h ++ (fo ++ (tw ++ (X ++ (2 ∷ (len ∷ named)))))
+abbrev priors : List ℕ → List ℕ → List ℕ → List ℕ → ℕ → List ℕ → List ℕ
+priors h fo tw X len named = h ++ (fo ++ (tw ++ (X ++ (2 ∷ (len ∷ named)))))
 
 glue : (h fo tw X cu fi be sp u po : List ℕ) (len : ℕ)
-    → h ++ (fo ++ (tw ++ ((X ++ ((2 ∷ (len ∷ (cu ++ (fi ++ (u ++ po))))) ++ be)) ++ sp))) ≡ fronted h fo tw X len (cu ++ fi) ++ (u ++ (po ++ (be ++ sp)))
+    → h ++ (fo ++ (tw ++ ((X ++ ((2 ∷ (len ∷ (cu ++ (fi ++ (u ++ po))))) ++ be)) ++ sp))) ≡ priors h fo tw X len (cu ++ fi) ++ (u ++ (po ++ (be ++ sp)))
 glue h fo tw X cu fi be sp u po len = simp append-assoc
 
 glue-cut : (F f : List ℕ) (x y : ℕ) (b r after : List ℕ) → F ++ ((f ++ (x ∷ (y ∷ (b ++ r)))) ++ after) ≡ (F ++ f) ++ (x ∷ (y ∷ (b ++ (r ++ after))))
 glue-cut F f x y b r after = simp append-assoc
 
-fronted-size : (h fo tw X named : List ℕ) (len : ℕ) → length (fronted h fo tw X len named) ≡ length h + (length fo + (length tw + (length X + (2 + length named))))
-fronted-size h fo tw X named len =
+priors-size : (h fo tw X named : List ℕ) (len : ℕ) → length (priors h fo tw X len named) ≡ length h + (length fo + (length tw + (length X + (2 + length named))))
+priors-size h fo tw X named len =
     omega (
       arith,
       length-append h (fo ++ (tw ++ (X ++ (2 ∷ (len ∷ named))))),
@@ -125,10 +125,10 @@ fronted-size h fo tw X named len =
     )
 
 -- the item's length in them
-fronted-length : (h fo tw X named also : List ℕ) (len at : ℕ) → at ≡ length h + (length fo + (length tw + (length X + 1))) → getD (fronted h fo tw X len named ++ also) at 0 ≡ len
-fronted-length h fo tw X named also len at e =
+priors-length : (h fo tw X named also : List ℕ) (len at : ℕ) → at ≡ length h + (length fo + (length tw + (length X + 1))) → getD (priors h fo tw X len named ++ also) at 0 ≡ len
+priors-length h fo tw X named also len at e =
     let rest : List ℕ = 2 ∷ (len ∷ (named ++ also)) in
-    let z : fronted h fo tw X len named ++ also ≡ h ++ (fo ++ (tw ++ (X ++ rest))) = simp append-assoc in
+    let z : priors h fo tw X len named ++ also ≡ h ++ (fo ++ (tw ++ (X ++ rest))) = simp append-assoc in
     ap₂ (λ (l : List ℕ) (i : ℕ). getD l i 0) z e
     ∙ getD-append-add h (fo ++ (tw ++ (X ++ rest))) (length fo + (length tw + (length X + 1))) 0
     ∙ getD-append-add fo (tw ++ (X ++ rest)) (length tw + (length X + 1)) 0
@@ -184,7 +184,7 @@ module _ (s : List ℕ) (offset part k : ℕ) (new r : List ℕ) (bytes : (j : �
   named = cuei ++ foreIn old
 
   F₀ : List ℕ
-  F₀ = fronted (take 3 s) (foreOf s) (bigEndian 2 (length loop)) X (length (cuei ++ old)) named
+  F₀ = priors (take 3 s) (headerAndCommand s) (bigEndian 2 (length loop)) X (length (cuei ++ old)) named
 
   n : ℕ
   n = length (restWith s loopThen) + 4
@@ -193,7 +193,7 @@ module _ (s : List ℕ) (offset part k : ℕ) (new r : List ℕ) (bytes : (j : �
   three = getD s 0 0 ∷ ((getD s 1 0 / 16 * 16 + n / 256) ∷ (n % 256 ∷ []))
 
   F₁ : List ℕ
-  F₁ = fronted three (foreOf s) (bigEndian 2 (length loopThen)) X (length (cuei ++ payThen)) named
+  F₁ = priors three (headerAndCommand s) (bigEndian 2 (length loopThen)) X (length (cuei ++ payThen)) named
 
   after : List ℕ
   after = u .rest ++ (postIn old ++ (behind ++ spareOf s))
@@ -208,21 +208,21 @@ module _ (s : List ℕ) (offset part k : ℕ) (new r : List ℕ) (bytes : (j : �
       sym (own-item loop offset (t .there)) ∙ ap (λ (l : List ℕ). X ++ ((2 ∷ (length (cuei ++ old) ∷ (cuei ++ l))) ++ behind)) (t .cut) in
       ap (λ (m : ℕ). take m s) all ∙ take-add 3 (length s - 7) s
       ∙ ap (λ (l : List ℕ). take 3 s ++ l) (sym (rest-is s (t .old) (t .accepted) bytes))
-      ∙ ap (λ (l : List ℕ). take 3 s ++ (foreOf s ++ (bigEndian 2 (length loop) ++ (l ++ spareOf s)))) item
-      ∙ glue (take 3 s) (foreOf s) (bigEndian 2 (length loop)) X cuei (foreIn old) behind (spareOf s) (typeIn old ∷ (length (upidIn old) ∷ upidIn old)) (postIn old) (length (cuei ++ old))
+      ∙ ap (λ (l : List ℕ). take 3 s ++ (headerAndCommand s ++ (bigEndian 2 (length loop) ++ (l ++ spareOf s)))) item
+      ∙ glue (take 3 s) (headerAndCommand s) (bigEndian 2 (length loop)) X cuei (foreIn old) behind (spareOf s) (typeIn old ∷ (length (upidIn old) ∷ upidIn old)) (postIn old) (length (cuei ++ old))
 
-  old-is : s ≡ withCrc ((F₀ ++ u .front) ++ (typeAt s offset part ∷ (length b₀ ∷ (b₀ ++ after))))
+  old-is : s ≡ withCrc ((F₀ ++ u .prior) ++ (typeAt s offset part ∷ (length b₀ ∷ (b₀ ++ after))))
   unfolding after
   old-is =
       crc-last s (length s - 4) (omega (arith, fr .fits)) bytes (checked s (t .old) (t .accepted) bytes)
       ∙ ap withCrc (old-body ∙ ap (λ (l : List ℕ). F₀ ++ (l ++ (postIn old ++ (behind ++ spareOf s)))) (u .old)
-      ∙ glue-cut F₀ (u .front) (typeAt s offset part) (length b₀) b₀ (u .rest) (postIn old ++ (behind ++ spareOf s)))
+      ∙ glue-cut F₀ (u .prior) (typeAt s offset part) (length b₀) b₀ (u .rest) (postIn old ++ (behind ++ spareOf s)))
 
   new-body : bodyWith s loopThen ≡ F₁ ++ ((K ∷ (length (t .upid) ∷ t .upid)) ++ (postIn old ++ (behind ++ spareOf s)))
   unfolding F₁ three n named
   new-body =
       body-as s loopThen
-      ∙ glue (getD s 0 0 ∷ ((getD s 1 0 / 16 * 16 + (length (restWith s loopThen) + 4) / 256) ∷ ((length (restWith s loopThen) + 4) % 256 ∷ []))) (foreOf s) (bigEndian 2 (length loopThen)) X cuei (foreIn old) behind (spareOf s)
+      ∙ glue (getD s 0 0 ∷ ((getD s 1 0 / 16 * 16 + (length (restWith s loopThen) + 4) / 256) ∷ ((length (restWith s loopThen) + 4) % 256 ∷ []))) (headerAndCommand s) (bigEndian 2 (length loopThen)) X cuei (foreIn old) behind (spareOf s)
       (K ∷ (length (t .upid) ∷ t .upid)) (postIn old) (length (cuei ++ payThen))
 
   new-is : r ≡ withCrc ((F₁ ++ u .fixed) ++ (k ∷ (length new ∷ (new ++ after))))
@@ -237,7 +237,7 @@ module _ (s : List ℕ) (offset part k : ℕ) (new r : List ℕ) (bytes : (j : �
   three-is : take 3 s ≡ getD s 0 0 ∷ (getD s 1 0 ∷ (getD s 2 0 ∷ []))
   three-is = run-three s (omega (arith, fr .fits))
 
-  fore-long : length (foreOf s) ≡ 11 + c
+  fore-long : length (headerAndCommand s) ≡ 11 + c
   fore-long = length-take-le (11 + c) (drop 3 s) (omega (arith, length-drop 3 s, fr .fits))
 
   X-long : length X ≡ offset
@@ -245,14 +245,14 @@ module _ (s : List ℕ) (offset part k : ℕ) (new r : List ℕ) (bytes : (j : �
 
   named-long : length named ≡ 4 + upidHead old
   unfolding named
-  named-long = length-append cuei (foreIn old) ∙ ap (λ (m : ℕ). 4 + m) (length-take-le (upidHead old) old (omega (arith, t .whole)))
+  named-long = length-append cuei (foreIn old) ∙ ap (λ (m : ℕ). 4 + m) (length-take-le (upidHead old) old (omega (arith, t .complete)))
 
   F₀-long : length F₀ ≡ upidPlace s offset
   unfolding F₀
   F₀-long =
       omega (
         arith,
-        fronted-size (take 3 s) (foreOf s) (bigEndian 2 (length loop)) X named (length (cuei ++ old)),
+        priors-size (take 3 s) (headerAndCommand s) (bigEndian 2 (length loop)) X named (length (cuei ++ old)),
         ap length three-is,
         fore-long,
         length-bigEndian 2 (length loop),
@@ -265,7 +265,7 @@ module _ (s : List ℕ) (offset part k : ℕ) (new r : List ℕ) (bytes : (j : �
   F₁-long =
       omega (
         arith,
-        fronted-size three (foreOf s) (bigEndian 2 (length loopThen)) X named (length (cuei ++ payThen)),
+        priors-size three (headerAndCommand s) (bigEndian 2 (length loopThen)) X named (length (cuei ++ payThen)),
         fore-long,
         length-bigEndian 2 (length loopThen),
         X-long,
@@ -320,17 +320,17 @@ module _ (s : List ℕ) (offset part k : ℕ) (new r : List ℕ) (bytes : (j : �
   abbrev ls : List ℕ
   ls = lengthBytes s offset part
 
-  agree-front : Agree ls 0 F₁ F₀
+  agree-prior : Agree ls 0 F₁ F₀
   unfolding F₁ F₀ three
-  agree-front =
-      subst (λ (l : List ℕ). Agree ls 0 F₁ (fronted l (foreOf s) (bigEndian 2 (length loop)) X (length (cuei ++ old)) named)) (sym three-is)
+  agree-prior =
+      subst (λ (l : List ℕ). Agree ls 0 F₁ (priors l (headerAndCommand s) (bigEndian 2 (length loop)) X (length (cuei ++ old)) named)) (sym three-is)
       (agree-append _ _ (agree-three (getD s 0 0) _ _ _ _ _) (let z : 0 + 3 ≡ 3 = omega arith in z)
-      (agree-append _ _ (agree-same ls 3 (foreOf s)) (let z : 3 + length (foreOf s) ≡ 14 + c = omega (arith, fore-long) in z)
+      (agree-append _ _ (agree-same ls 3 (headerAndCommand s)) (let z : 3 + length (headerAndCommand s) ≡ 14 + c = omega (arith, fore-long) in z)
       (agree-append _ _ (agree-two 0 ls (14 + c) _ _ _ _ (λ h. all-head (all-tail (all-tail h)) (omega arith)) (λ h. all-head (all-tail (all-tail (all-tail h))) (omega arith))) (let z : 14 + c + 2 ≡ 16 + c = omega arith in z)
       (agree-append _ _ (agree-same ls (16 + c) X) (let z : 16 + c + length X ≡ 16 + c + offset = omega (arith, X-long) in z)
       (agree-item 2 ls (16 + c + offset) _ _ named (λ h. all-head (all-tail (all-tail (all-tail (all-tail h)))) (omega arith)))))))
 
-  agree-upid : Agree ls (upidPlace s offset) (u .fixed) (u .front)
+  agree-upid : Agree ls (upidPlace s offset) (u .fixed) (u .prior)
   agree-upid =
       record {
         size = u .size;
@@ -339,22 +339,22 @@ module _ (s : List ℕ) (offset part k : ℕ) (new r : List ℕ) (bytes : (j : �
             (all-unmap (λ (i : ℕ). upidPlace s offset + i) (lengthsWithin (typeIn old) (upidIn old) part) (all-tail (all-tail (all-tail (all-tail (all-tail h)))))));
       }
 
-  agree-all : Agree ls 0 (F₁ ++ u .fixed) (F₀ ++ u .front)
-  agree-all = agree-append (u .fixed) (u .front) agree-front (let z : 0 + length F₁ ≡ upidPlace s offset = omega (arith, F₁-long) in z) agree-upid
+  agree-all : Agree ls 0 (F₁ ++ u .fixed) (F₀ ++ u .prior)
+  agree-all = agree-append (u .fixed) (u .prior) agree-prior (let z : 0 + length F₁ ≡ upidPlace s offset = omega (arith, F₁-long) in z) agree-upid
 
   abbrev Counts : ℕ → Type 0
   Counts at = getD r at 0 ≡ getD s at 0 - length b₀ + length new
 
   -- the rest of either section, behind what stands before the identifier
   old-rest : List ℕ
-  old-rest = (typeAt s offset part ∷ (length b₀ ∷ (b₀ ++ after))) ++ crcBytesOf ((F₀ ++ u .front) ++ (typeAt s offset part ∷ (length b₀ ∷ (b₀ ++ after))))
+  old-rest = (typeAt s offset part ∷ (length b₀ ∷ (b₀ ++ after))) ++ crcBytesOf ((F₀ ++ u .prior) ++ (typeAt s offset part ∷ (length b₀ ∷ (b₀ ++ after))))
 
   new-rest : List ℕ
   new-rest = (k ∷ (length new ∷ (new ++ after))) ++ crcBytesOf ((F₁ ++ u .fixed) ++ (k ∷ (length new ∷ (new ++ after))))
 
-  old-split : s ≡ (F₀ ++ u .front) ++ old-rest
+  old-split : s ≡ (F₀ ++ u .prior) ++ old-rest
   unfolding old-rest
-  old-split = old-is ∙ append-assoc (F₀ ++ u .front) (typeAt s offset part ∷ (length b₀ ∷ (b₀ ++ after))) (crcBytesOf ((F₀ ++ u .front) ++ (typeAt s offset part ∷ (length b₀ ∷ (b₀ ++ after)))))
+  old-split = old-is ∙ append-assoc (F₀ ++ u .prior) (typeAt s offset part ∷ (length b₀ ∷ (b₀ ++ after))) (crcBytesOf ((F₀ ++ u .prior) ++ (typeAt s offset part ∷ (length b₀ ∷ (b₀ ++ after)))))
 
   new-split : r ≡ (F₁ ++ u .fixed) ++ new-rest
   unfolding new-rest
@@ -364,31 +364,31 @@ module _ (s : List ℕ) (offset part k : ℕ) (new r : List ℕ) (bytes : (j : �
   unfolding F₀ F₁ three
   item-counts =
       let x : getD s (16 + c + offset + 1) 0 ≡ length (cuei ++ old) =
-      ap (λ (l : List ℕ). getD l (16 + c + offset + 1) 0) (old-split ∙ append-assoc F₀ (u .front) old-rest)
-      ∙ fronted-length (take 3 s) (foreOf s) (bigEndian 2 (length loop)) X named (u .front ++ old-rest) (length (cuei ++ old)) (16 + c + offset + 1)
+      ap (λ (l : List ℕ). getD l (16 + c + offset + 1) 0) (old-split ∙ append-assoc F₀ (u .prior) old-rest)
+      ∙ priors-length (take 3 s) (headerAndCommand s) (bigEndian 2 (length loop)) X named (u .prior ++ old-rest) (length (cuei ++ old)) (16 + c + offset + 1)
       (omega (arith, ap length three-is, fore-long, length-bigEndian 2 (length loop), X-long)) in
       let y : getD r (16 + c + offset + 1) 0 ≡ length (cuei ++ payThen) =
       ap (λ (l : List ℕ). getD l (16 + c + offset + 1) 0) (new-split ∙ append-assoc F₁ (u .fixed) new-rest)
-      ∙ fronted-length three (foreOf s) (bigEndian 2 (length loopThen)) X named (u .fixed ++ new-rest) (length (cuei ++ payThen)) (16 + c + offset + 1)
+      ∙ priors-length three (headerAndCommand s) (bigEndian 2 (length loopThen)) X named (u .fixed ++ new-rest) (length (cuei ++ payThen)) (16 + c + offset + 1)
       (omega (arith, fore-long, length-bigEndian 2 (length loopThen), X-long)) in
       y ∙ item-then ∙ ap (λ (m : ℕ). m - length b₀ + length new) (sym x)
 
-  upid-counts : (j : ℕ) → (j < length (u .front)) × (getD (u .fixed) j 0 ≡ getD (u .front) j 0 - length b₀ + length new) → Counts (upidPlace s offset + j)
+  upid-counts : (j : ℕ) → (j < length (u .prior)) × (getD (u .fixed) j 0 ≡ getD (u .prior) j 0 - length b₀ + length new) → Counts (upidPlace s offset + j)
   upid-counts j h =
       cut-byte r F₁ (u .fixed) new-rest (upidPlace s offset) j new-split (sym F₁-long) (omega (arith, h .0, u .size))
       ∙ h .1
-      ∙ ap (λ (m : ℕ). m - length b₀ + length new) (sym (cut-byte s F₀ (u .front) old-rest (upidPlace s offset) j old-split (sym F₀-long) (h .0)))
+      ∙ ap (λ (m : ℕ). m - length b₀ + length new) (sym (cut-byte s F₀ (u .prior) old-rest (upidPlace s offset) j old-split (sym F₀-long) (h .0)))
 
   pub cutting : CutAt s offset part k new r
   unfolding t
   cutting =
       record {
-        before = F₀ ++ u .front;
+        before = F₀ ++ u .prior;
         mended = F₁ ++ u .fixed;
         after = after;
         old = old-is;
         then = new-is;
-        place = omega (arith, length-append F₀ (u .front), F₀-long, u .place);
+        place = omega (arith, length-append F₀ (u .prior), F₀-long, u .place);
         size = omega (arith, length-append F₁ (u .fixed), F₁-long, u .size, u .place);
         stays = λ j h. agree-all .same j (subst (λ (i : ℕ). NotIn ls i) (let z : j ≡ 0 + j = omega arith in z) h);
         right = trips.is-right s offset part k new r bytes byte e;

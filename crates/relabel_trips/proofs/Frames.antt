@@ -16,7 +16,7 @@ use Rattle.crc.specs.Crc.{crcOf, crcBytesOf}
 use Rattle.relabel.proofs.Cuts.{run-join, loop-there, loop-size}
 use Rattle.relabel.proofs.Mades.{Framing, framing}
 use Rattle.relabel_section.proofs.Frames.{with-loop, size-with}
-use Rattle.relabel_section.specs.Frame.{foreOf, spareOf, restWith, bodyWith, sectionWith}
+use Rattle.relabel_section.specs.Frame.{headerAndCommand, spareOf, restWith, bodyWith, sectionWith}
 use Rattle.section.proofs.Acceptance.{none-if-accepted}
 use Rattle.section.proofs.Framing.{number-of, extent-is}
 use Rattle.section.specs.Section.{commandLength, loopLength, loopBytes, sectionOf}
@@ -60,7 +60,7 @@ module _ (s loop : List ℕ) (x : Section) (is : sectionOf s ≡ SectionRead.Is 
   pub loop-same : loopLength (sectionWith s loop) ≡ length loop
   loop-same = sym (then .len)
 
-  fore-size : length (foreOf s) ≡ 11 + commandLength s
+  fore-size : length (headerAndCommand s) ≡ 11 + commandLength s
   fore-size = length-take-le (11 + commandLength s) (drop 3 s) (omega (arith, length-drop 3 s, here .fits))
 
   n : ℕ
@@ -69,20 +69,20 @@ module _ (s loop : List ℕ) (x : Section) (is : sectionOf s ≡ SectionRead.Is 
   end : List ℕ
   end = crcBytesOf (bodyWith s loop)
 
-  front : List ℕ
-  front = getD s 0 0 ∷ ((getD s 1 0 / 16 * 16 + n / 256) ∷ (n % 256 ∷ (foreOf s ++ (bigEndian 2 (length loop) ++ loop))))
+  prior : List ℕ
+  prior = getD s 0 0 ∷ ((getD s 1 0 / 16 * 16 + n / 256) ∷ (n % 256 ∷ (headerAndCommand s ++ (bigEndian 2 (length loop) ++ loop))))
 
-  front-size : length front ≡ 16 + commandLength s + length loop
-  unfolding front
-  front-size =
-      omega (arith, length-append (foreOf s) (bigEndian 2 (length loop) ++ loop), length-append (bigEndian 2 (length loop)) loop, length-bigEndian 2 (length loop), fore-size)
+  prior-size : length prior ≡ 16 + commandLength s + length loop
+  unfolding prior
+  prior-size =
+      omega (arith, length-append (headerAndCommand s) (bigEndian 2 (length loop) ++ loop), length-append (bigEndian 2 (length loop)) loop, length-bigEndian 2 (length loop), fore-size)
 
-  split : sectionWith s loop ≡ front ++ (spareOf s ++ end)
-  unfolding front end n sectionWith bodyWith
+  split : sectionWith s loop ≡ prior ++ (spareOf s ++ end)
+  unfolding prior end n sectionWith bodyWith
   split = simp append-assoc
 
-  begin : sectionWith s loop ≡ getD s 0 0 ∷ ((getD s 1 0 / 16 * 16 + n / 256) ∷ (n % 256 ∷ (foreOf s ++ (bigEndian 2 (length loop) ++ (loop ++ (spareOf s ++ end))))))
-  unfolding front end n sectionWith bodyWith
+  begin : sectionWith s loop ≡ getD s 0 0 ∷ ((getD s 1 0 / 16 * 16 + n / 256) ∷ (n % 256 ∷ (headerAndCommand s ++ (bigEndian 2 (length loop) ++ (loop ++ (spareOf s ++ end))))))
+  unfolding prior end n sectionWith bodyWith
   begin = simp append-assoc
 
   size-n : length (sectionWith s loop) ≡ 3 + n
@@ -115,18 +115,18 @@ module _ (s loop : List ℕ) (x : Section) (is : sectionOf s ≡ SectionRead.Is 
       number : (q n : ℕ) → n ≤ 4093 → (q * 16 + n / 256) % 16 * 256 + n % 256 ≡ n
       number q n h = omega arith
 
-  fore-same : foreOf (sectionWith s loop) ≡ foreOf s
+  fore-same : headerAndCommand (sectionWith s loop) ≡ headerAndCommand s
   fore-same =
       ap₂ (λ (k : ℕ) (l : List ℕ). take (11 + k) (drop 3 l)) command-same begin
-      ∙ take-at (foreOf s) (bigEndian 2 (length loop) ++ (loop ++ (spareOf s ++ end))) (11 + commandLength s) fore-size
+      ∙ take-at (headerAndCommand s) (bigEndian 2 (length loop) ++ (loop ++ (spareOf s ++ end))) (11 + commandLength s) fore-size
 
   spare-same : spareOf (sectionWith s loop) ≡ spareOf s
   spare-same =
       let count : length (sectionWith s loop) - 20 - commandLength (sectionWith s loop) - loopLength (sectionWith s loop) ≡ length (spareOf s) =
       omega (arith, size-with s loop x is fits, command-same, loop-same) in
-      let place : 16 + commandLength (sectionWith s loop) + loopLength (sectionWith s loop) ≡ length front = omega (arith, front-size, command-same, loop-same) in
-      ap₂ (λ (a b : ℕ). take a (drop b (sectionWith s loop))) count place ∙ ap (λ (l : List ℕ). take (length (spareOf s)) (drop (length front) l)) split
-      ∙ ap (take (length (spareOf s))) (drop-at front (spareOf s ++ end) (length front) refl) ∙ take-at (spareOf s) end (length (spareOf s)) refl
+      let place : 16 + commandLength (sectionWith s loop) + loopLength (sectionWith s loop) ≡ length prior = omega (arith, prior-size, command-same, loop-same) in
+      ap₂ (λ (a b : ℕ). take a (drop b (sectionWith s loop))) count place ∙ ap (λ (l : List ℕ). take (length (spareOf s)) (drop (length prior) l)) split
+      ∙ ap (take (length (spareOf s))) (drop-at prior (spareOf s ++ end) (length prior) refl) ∙ take-at (spareOf s) end (length (spareOf s)) refl
 
   body-twice : (other : List ℕ) → bodyWith (sectionWith s loop) other ≡ bodyWith s other
   body-twice other =
@@ -191,10 +191,10 @@ module _ (s : List ℕ) (x : Section) (is : sectionOf s ≡ SectionRead.Is x) (b
       let p : 3 + (11 + c) ≡ 14 + c = omega arith in
       let q : 14 + c + 2 ≡ 16 + c = omega arith in
       let all : 11 + c + (2 + (l + w)) ≡ length s - 7 = omega (arith, mine .fits) in
-      ap₂ (λ (a b : List ℕ). foreOf s ++ (a ++ (b ++ spareOf s))) count-is (loop-there s (mine .fits))
-      ∙ ap (λ (k : List ℕ). foreOf s ++ (run s (14 + c) 2 ++ k)) (run-join s (16 + c) l w)
-      ∙ ap (λ (k : ℕ). foreOf s ++ (run s (14 + c) 2 ++ run s k (l + w))) (sym q)
-      ∙ ap (λ (k : List ℕ). foreOf s ++ k) (run-join s (14 + c) 2 (l + w))
+      ap₂ (λ (a b : List ℕ). headerAndCommand s ++ (a ++ (b ++ spareOf s))) count-is (loop-there s (mine .fits))
+      ∙ ap (λ (k : List ℕ). headerAndCommand s ++ (run s (14 + c) 2 ++ k)) (run-join s (16 + c) l w)
+      ∙ ap (λ (k : ℕ). headerAndCommand s ++ (run s (14 + c) 2 ++ run s k (l + w))) (sym q)
+      ∙ ap (λ (k : List ℕ). headerAndCommand s ++ k) (run-join s (14 + c) 2 (l + w))
       ∙ ap (λ (k : ℕ). run s 3 (11 + c) ++ run s k (2 + (l + w))) (sym p)
       ∙ run-join s 3 (11 + c) (2 + (l + w)) ∙ ap (run s 3) all
 

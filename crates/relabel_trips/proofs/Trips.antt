@@ -64,8 +64,8 @@ module _ (s : List ℕ) (offset : ℕ) (x : Section) (is : sectionOf s ≡ Secti
   pub cut : payload (foreIn pay) (postIn pay) (typeIn pay) (upidIn pay) ≡ pay
   cut = sym (h .is ∙ cc (fore-in pay _ _ h, post-in pay _ _ h, type-in pay _ _ h, upid-in pay _ _ h))
 
-  pub whole : upidHead pay + 2 + sizeIn pay ≤ length pay
-  whole = omega (arith, size-all pay _ _ h)
+  pub complete : upidHead pay + 2 + sizeIn pay ≤ length pay
+  complete = omega (arith, size-all pay _ _ h)
 
   -- its UPID is accepted
   pub fine : Accepted (checkOf (typeIn pay) (upidIn pay))
@@ -162,16 +162,16 @@ module _ (s : List ℕ) (offset part k : ℕ) (new r : List ℕ) (bytes : (j : �
   upid-is : upidMade (typeIn then) (upidIn then) part (typeAt s offset part) (identifierAt s offset part) ≡ made (upidIn old)
   upid-is =
       ap₂ (λ (j : ℕ) (u : List ℕ). upidMade j u part (typeAt s offset part) (identifierAt s offset part))
-      (ap typeIn pay-is ∙ type-then old K b (t .whole)) (ap upidIn pay-is ∙ upid-then old K b (t .whole))
+      (ap typeIn pay-is ∙ type-then old K b (t .complete)) (ap upidIn pay-is ∙ upid-then old K b (t .complete))
       ∙ back-upid (typeIn old) (upidIn old) part k new b (t .made-of)
 
   -- the payload and the section then
   type-again : typeThen part (typeIn then) (typeAt s offset part) ≡ typeIn old
-  type-again = ap (λ (j : ℕ). typeThen part j (typeAt s offset part)) (ap typeIn pay-is ∙ type-then old K b (t .whole)) ∙ type-back (typeIn old) (upidIn old) part k
+  type-again = ap (λ (j : ℕ). typeThen part j (typeAt s offset part)) (ap typeIn pay-is ∙ type-then old K b (t .complete)) ∙ type-back (typeIn old) (upidIn old) part k
 
   pay-again : payloadThen r offset part (typeAt s offset part) (upidIn old) ≡ payload (foreIn old) (postIn old) (typeIn old) (upidIn old)
   pay-again =
-      ap₂ (λ (f p : List ℕ). payload f p (typeThen part (typeIn then) (typeAt s offset part)) (upidIn old)) (ap foreIn pay-is ∙ fore-then old K b (t .whole)) (ap postIn pay-is ∙ post-then old K b (t .whole))
+      ap₂ (λ (f p : List ℕ). payload f p (typeThen part (typeIn then) (typeAt s offset part)) (upidIn old)) (ap foreIn pay-is ∙ fore-then old K b (t .complete)) (ap postIn pay-is ∙ post-then old K b (t .complete))
       ∙ ap (λ (j : ℕ). payload (foreIn old) (postIn old) j (upidIn old)) type-again
 
   section-again : sectionThen r offset part (typeAt s offset part) (upidIn old) ≡ sectionWith s loop

@@ -24,7 +24,7 @@ use Rattle.upid.specs.Upid.{checkOf, upidOf, partsIn}
 use Rattle.upid.specs.declared.Part.{Part}
 use Rattle.upid.specs.declared.PartList.{PartList}
 use Rattle.relabel_trips.specs.Cutting.{headWithin, lengthsAround, lengthsWithin, NotIn}
-use Rattle.relabel_trips.specs.Named.{HasPart, kindWithin, identifierWithin}
+use Rattle.relabel_trips.specs.Named.{HasPart, typeWithin, identifierWithin}
 use Rattle.relabel_trips.proofs.Upids.{same-upid}
 
 -- ---- lists of places
@@ -89,17 +89,17 @@ value-all p n (q ∷ qs) s (before later rest) (more h hs) = more {x = q} (λ e.
 -- ---- the cutting
 
 pub record UpidCut (upid-type : ℕ) (top : List ℕ) (part k : ℕ) (new b : List ℕ) : Type 0 where
-  pub front : List ℕ
+  pub prior : List ℕ
   pub fixed : List ℕ
   pub rest : List ℕ
-  pub old : upid-type ∷ (length top ∷ top) ≡ front ++ (kindWithin upid-type top part ∷ (length (identifierWithin upid-type top part) ∷ (identifierWithin upid-type top part ++ rest)))
+  pub old : upid-type ∷ (length top ∷ top) ≡ prior ++ (typeWithin upid-type top part ∷ (length (identifierWithin upid-type top part) ∷ (identifierWithin upid-type top part ++ rest)))
   pub then : typeThen part upid-type k ∷ (length b ∷ b) ≡ fixed ++ (k ∷ (length new ∷ (new ++ rest)))
-  pub place : length front ≡ headWithin upid-type top part
-  pub size : length fixed ≡ length front
-  pub stays : (j : ℕ) → NotIn (lengthsWithin upid-type top part) j → getD fixed j 0 ≡ getD front j 0
+  pub place : length prior ≡ headWithin upid-type top part
+  pub size : length fixed ≡ length prior
+  pub stays : (j : ℕ) → NotIn (lengthsWithin upid-type top part) j → getD fixed j 0 ≡ getD prior j 0
   pub fits : length (identifierWithin upid-type top part) ≤ length top
   pub long : length b ≡ length top - length (identifierWithin upid-type top part) + length new
-  pub lengths : All (λ (j : ℕ). (j < length front) × (getD fixed j 0 ≡ getD front j 0 - length (identifierWithin upid-type top part) + length new)) (lengthsWithin upid-type top part)
+  pub lengths : All (λ (j : ℕ). (j < length prior) × (getD fixed j 0 ≡ getD prior j 0 - length (identifierWithin upid-type top part) + length new)) (lengthsWithin upid-type top part)
 
 -- two bytes before a list
 two-before : (a b : ℕ) (s : List ℕ) (j : ℕ) → 1 ≤ j → getD (a ∷ (b ∷ s)) (j + 1) 0 ≡ getD s (j - 1) 0
@@ -130,7 +130,7 @@ module _ (upid-type : ℕ) (top : List ℕ) (i k : ℕ) (new b : List ℕ) (e : 
   qs = take i ps
 
   abbrev kd : ℕ
-  kd = kindWithin upid-type top (suc i)
+  kd = typeWithin upid-type top (suc i)
 
   abbrev bs : List ℕ
   bs = identifierWithin upid-type top (suc i)
@@ -175,14 +175,14 @@ module _ (upid-type : ℕ) (top : List ℕ) (i k : ℕ) (new b : List ℕ) (e : 
   unfolding spliced
   then-is = made-able upid-type top i k new b e .1
 
-  abbrev old-front : List ℕ
-  old-front = upid-type ∷ (length top ∷ mended p (length bs) qs F)
+  abbrev old-prior : List ℕ
+  old-prior = upid-type ∷ (length top ∷ mended p (length bs) qs F)
 
-  abbrev new-front : List ℕ
-  new-front = upid-type ∷ (length b ∷ mended p (length new) qs F)
+  abbrev new-prior : List ℕ
+  new-prior = upid-type ∷ (length b ∷ mended p (length new) qs F)
 
-  front-long : (x n : ℕ) → length (upid-type ∷ (x ∷ mended p n qs F)) ≡ p .start
-  front-long x n = omega (arith, mended-length p n qs F, F-long, begins)
+  prior-long : (x n : ℕ) → length (upid-type ∷ (x ∷ mended p n qs F)) ≡ p .start
+  prior-long x n = omega (arith, mended-length p n qs F, F-long, begins)
 
   long-is : length b ≡ length top - length bs + length new
   long-is =
@@ -205,21 +205,21 @@ module _ (upid-type : ℕ) (top : List ℕ) (i k : ℕ) (new b : List ℕ) (e : 
       all-map (λ q x. λ a f. x .0 a (let z : q .start + 1 ≡ suc (suc j) = omega (arith, x .1 .0, f) in z)) (all-both qs (all-around (λ (at : ℕ). at ≡ suc (suc j) → ⊥) p qs h) rooms) in
       mended-elsewhere p (length new) qs F j apart ∙ sym (mended-elsewhere p (length bs) qs F j apart)
 
-  part-stays : (j : ℕ) → NotIn (lengthsWithin upid-type top (suc i)) j → getD new-front j 0 ≡ getD old-front j 0
+  part-stays : (j : ℕ) → NotIn (lengthsWithin upid-type top (suc i)) j → getD new-prior j 0 ≡ getD old-prior j 0
   part-stays zero h = refl
   part-stays (suc zero) (more h hs) = absurd (h refl)
   part-stays (suc (suc j)) (more h hs) = elsewhere j hs
 
-  part-lengths : All (λ (j : ℕ). (j < length old-front) × (getD new-front j 0 ≡ getD old-front j 0 - length bs + length new)) (lengthsWithin upid-type top (suc i))
+  part-lengths : All (λ (j : ℕ). (j < length old-prior) × (getD new-prior j 0 ≡ getD old-prior j 0 - length bs + length new)) (lengthsWithin upid-type top (suc i))
   unfolding Room
   part-lengths =
-      more {x = 1} (omega (arith, front-long (length top) (length bs), begins), long-is)
-      (around-all (λ (j : ℕ). (j < length old-front) × (getD new-front j 0 ≡ getD old-front j 0 - length bs + length new)) p qs
+      more {x = 1} (omega (arith, prior-long (length top) (length bs), begins), long-is)
+      (around-all (λ (j : ℕ). (j < length old-prior) × (getD new-prior j 0 ≡ getD old-prior j 0 - length bs + length new)) p qs
       (all-map
       (λ q x. λ a.
-      let v : getD new-front (q .start + 1) 0 ≡ q .len - p .len + length new = two-before upid-type (length b) (mended p (length new) qs F) (q .start) (omega (arith, x .0 .0)) ∙ x .1 .0 a in
-      let w : getD old-front (q .start + 1) 0 ≡ q .len - p .len + length bs = two-before upid-type (length top) (mended p (length bs) qs F) (q .start) (omega (arith, x .0 .0)) ∙ x .1 .1 a in
-      (omega (arith, front-long (length top) (length bs), x .0 .1, F-long, begins), v ∙ counts (q .len - p .len) (length bs) (length new) _ w))
+      let v : getD new-prior (q .start + 1) 0 ≡ q .len - p .len + length new = two-before upid-type (length b) (mended p (length new) qs F) (q .start) (omega (arith, x .0 .0)) ∙ x .1 .0 a in
+      let w : getD old-prior (q .start + 1) 0 ≡ q .len - p .len + length bs = two-before upid-type (length top) (mended p (length bs) qs F) (q .start) (omega (arith, x .0 .0)) ∙ x .1 .1 a in
+      (omega (arith, prior-long (length top) (length bs), x .0 .1, F-long, begins), v ∙ counts (q .len - p .len) (length bs) (length new) _ w))
       (all-both qs rooms (all-both qs (value-all p (length new) qs F in-order rooms) (value-all p (length bs) qs F in-order rooms)))))
     where
       counts : (x m n y : ℕ) → y ≡ x + m → x + n ≡ y - m + n
@@ -228,13 +228,13 @@ module _ (upid-type : ℕ) (top : List ℕ) (i k : ℕ) (new b : List ℕ) (e : 
   pub part-cut : UpidCut upid-type top (suc i) k new b
   part-cut =
       record {
-        front = old-front;
-        fixed = new-front;
+        prior = old-prior;
+        fixed = new-prior;
         rest = R;
         old = ap (λ (l : List ℕ). upid-type ∷ (length top ∷ l)) top-is;
         then = ap (λ (l : List ℕ). upid-type ∷ (length b ∷ l)) then-is;
-        place = front-long (length top) (length bs);
-        size = front-long (length b) (length new) ∙ sym (front-long (length top) (length bs));
+        place = prior-long (length top) (length bs);
+        size = prior-long (length b) (length new) ∙ sym (prior-long (length top) (length bs));
         stays = part-stays;
         fits = omega (arith, length-take (p .len) (drop (p .start) top), length-drop (p .start) top);
         long = long-is;
@@ -245,7 +245,7 @@ pub upid-cut : (upid-type : ℕ) (top : List ℕ) (part k : ℕ) (new b : List �
 upid-cut upid-type top zero k new b e =
     let x = the-upid-itself upid-type top k new b e in
     record {
-      front = [];
+      prior = [];
       fixed = [];
       rest = [];
       old = ap (λ (l : List ℕ). upid-type ∷ (length top ∷ l)) (sym (append-nil top));

@@ -85,7 +85,7 @@ pub record CutAt (s : List ℕ) (offset part k : ℕ) (new r : List ℕ) : Type 
 abbrev pub afterSize : List ℕ → ℕ → ℕ → ℕ
 afterSize s offset part = length s - 4 - (headAt s offset part + 2 + length (identifierAt s offset part))
 
--- The same of the two sections themselves: the place of the identifier's head is `headAt`, and it has two bytes.
+-- Every byte of the two sections, by its place: the place of the identifier's head is `headAt`, and it has two bytes.
 pub record ByByte (s : List ℕ) (offset part k : ℕ) (new r : List ℕ) : Type 0 where
   -- as many bytes as there are more or less of the identifier; what stands before, the identifier, what stands after, and the CRC are all
   pub long : (length r ≡ length s - length (identifierAt s offset part) + length new)

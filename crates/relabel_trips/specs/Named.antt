@@ -21,9 +21,9 @@ HasPart upid-type top zero = 0 < length top
 HasPart upid-type top (suc i) = i < length (partsIn (upidOf upid-type top))
 
 -- 5 and 6 told apart
-abbrev pub kindWithin : ℕ → List ℕ → ℕ → ℕ
-kindWithin upid-type top zero = upid-type
-kindWithin upid-type top (suc i) = writtenType top (partAt (partsIn (upidOf upid-type top)) i)
+abbrev pub typeWithin : ℕ → List ℕ → ℕ → ℕ
+typeWithin upid-type top zero = upid-type
+typeWithin upid-type top (suc i) = writtenType top (partAt (partsIn (upidOf upid-type top)) i)
 
 abbrev pub identifierWithin : ℕ → List ℕ → ℕ → List ℕ
 identifierWithin upid-type top zero = top
@@ -39,7 +39,7 @@ pub record Named (s : List ℕ) (offset part : ℕ) : Type 0 where
   pub has : HasPart (typeIn (payloadIn s offset)) (upidIn (payloadIn s offset)) part
 
 abbrev pub typeAt : List ℕ → ℕ → ℕ → ℕ
-typeAt s offset part = kindWithin (typeIn (payloadIn s offset)) (upidIn (payloadIn s offset)) part
+typeAt s offset part = typeWithin (typeIn (payloadIn s offset)) (upidIn (payloadIn s offset)) part
 
 abbrev pub identifierAt : List ℕ → ℕ → ℕ → List ℕ
 identifierAt s offset part = identifierWithin (typeIn (payloadIn s offset)) (upidIn (payloadIn s offset)) part

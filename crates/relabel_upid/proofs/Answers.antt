@@ -21,9 +21,9 @@ use Rattle.upid.proofs.Cutting.{after-head}
 use Rattle.upid.proofs.Walks.{check-mid, check-short}
 use Rattle.relabel_upid.specs.Hole.{Hole, headed, filled}
 use Rattle.relabel_upid.specs.Kept.{Identifier, identifiersIn, identifiersAt, insideOf, afterPart, identifiersThen, widened, moved, renewed, partsThen, writtenType, Relabelled}
-use Rattle.relabel_upid.specs.Relabel.{instead, mended, spliced, partAt, replacedIn, replaced, taken, wholeMade, partMade, upidMade}
-use Rattle.relabel_upid.proofs.Holes.{levelAt, startAt, recorded, inner, before, behind, list-filled, AcceptedBeside, AcceptedCut, accepted-filled, Found, find, front, back, cut-filled, length-front, length-filled}
-use Rattle.relabel_upid.proofs.Places.{spot, mend-front, before-widened, behind-moved}
+use Rattle.relabel_upid.specs.Relabel.{instead, mended, spliced, partAt, replacedIn, replaced, taken, topMade, partMade, upidMade}
+use Rattle.relabel_upid.proofs.Holes.{levelAt, startAt, recorded, inner, before, behind, list-filled, AcceptedBeside, AcceptedCut, accepted-filled, Found, find, prior, back, cut-filled, length-prior, length-filled}
+use Rattle.relabel_upid.proofs.Places.{spot, mend-prior, before-widened, behind-moved}
 use Rattle.relabel_upid.proofs.Told.{told-append, same-before, same-behind, reported-list, told-own}
 
 -- ---- the part that fills a hole, by its number
@@ -49,12 +49,12 @@ module _ (c : Cut) (h : Hole) where
   unfolding rest
   take-is = ap (take number) (list-filled c 1 0 h) ∙ take-at (before c 1 0 h) (spot c 1 0 h ∷ rest) number refl
 
-  place : length (front c h) ≡ startAt 0 h
-  place = omega (arith, length-front c 0 h)
+  place : length (prior c h) ≡ startAt 0 h
+  place = omega (arith, length-prior c 0 h)
 
   -- what stands at the hole
   there : drop (startAt 0 h) full ≡ headed c (back h)
-  there = ap (drop (startAt 0 h)) (cut-filled c h) ∙ drop-at (front c h) (headed c (back h)) (startAt 0 h) place
+  there = ap (drop (startAt 0 h)) (cut-filled c h) ∙ drop-at (prior c h) (headed c (back h)) (startAt 0 h) place
 
   run-is : bytesOf full (spot c 1 0 h) ≡ c .payload
   run-is = ap (take (length (c .payload))) (after-head full (startAt 0 h) (c .«upid_type») (length (c .payload)) (c .payload ++ back h) there) ∙ take-append-seam (c .payload) (back h)
@@ -62,7 +62,7 @@ module _ (c : Cut) (h : Hole) where
   type-is : getD full (spot c 1 0 h .start - 2) 0 ≡ c .«upid_type»
   type-is =
       let at : startAt 0 h + 2 - 2 ≡ startAt 0 h = omega arith in
-      ap₂ (λ (n : ℕ) (s : List ℕ). getD s n 0) at (cut-filled c h) ∙ getD-at (front c h) (c .«upid_type») (length (c .payload) ∷ (c .payload ++ back h)) 0 (startAt 0 h) place
+      ap₂ (λ (n : ℕ) (s : List ℕ). getD s n 0) at (cut-filled c h) ∙ getD-at (prior c h) (c .«upid_type») (length (c .payload) ∷ (c .payload ++ back h)) 0 (startAt 0 h) place
 
   inside-is : insideOf full (spot c 1 0 h) ≡ inner (levelAt 1 h) (startAt 0 h) c
   inside-is =
@@ -89,23 +89,23 @@ unfolding spliced
 by-part top ps i k new p qs e f = ap₂ (λ (p : Part) (qs : List Part). spliced top qs p k new) e f
 
 module _ (c d : Cut) (h : Hole) (f : AcceptedBeside h) where
-  before-hole : take (spot c 1 0 h .start - 2) (full c h) ≡ front c h
+  before-hole : take (spot c 1 0 h .start - 2) (full c h) ≡ prior c h
   before-hole =
       let at : startAt 0 h + 2 - 2 ≡ startAt 0 h = omega arith in
-      ap₂ take at (cut-filled c h) ∙ take-at (front c h) (headed c (back h)) (startAt 0 h) (place c h)
+      ap₂ take at (cut-filled c h) ∙ take-at (prior c h) (headed c (back h)) (startAt 0 h) (place c h)
 
   after-hole : drop (spot c 1 0 h .start + spot c 1 0 h .len) (full c h) ≡ back h
   after-hole =
-      let lead : List ℕ = front c h ++ (c .«upid_type» ∷ (length (c .payload) ∷ c .payload)) in
-      let size : length lead ≡ startAt 0 h + 2 + length (c .payload) = omega (arith, place c h, length-append (front c h) (c .«upid_type» ∷ (length (c .payload) ∷ c .payload))) in
-      let split : full c h ≡ lead ++ back h = cut-filled c h ∙ sym (append-assoc (front c h) (c .«upid_type» ∷ (length (c .payload) ∷ c .payload)) (back h)) in
+      let lead : List ℕ = prior c h ++ (c .«upid_type» ∷ (length (c .payload) ∷ c .payload)) in
+      let size : length lead ≡ startAt 0 h + 2 + length (c .payload) = omega (arith, place c h, length-append (prior c h) (c .«upid_type» ∷ (length (c .payload) ∷ c .payload))) in
+      let split : full c h ≡ lead ++ back h = cut-filled c h ∙ sym (append-assoc (prior c h) (c .«upid_type» ∷ (length (c .payload) ∷ c .payload)) (back h)) in
       ap (drop (startAt 0 h + 2 + length (c .payload))) split ∙ drop-at lead (back h) (startAt 0 h + 2 + length (c .payload)) size
 
   pub refilled : replacedIn (full c h) (parts c h) (number c h) (d .«upid_type») (d .payload) ≡ filled h d
   refilled =
       by-part (full c h) (parts c h) (number c h) (d .«upid_type») (d .payload) (spot c 1 0 h) (before c 1 0 h) (part-is c h) (take-is c h)
       ∙ ap₂ (λ (s t : List ℕ). mended (spot c 1 0 h) (length (d .payload)) (before c 1 0 h) s ++ headed d t) before-hole after-hole
-      ∙ ap (λ (s : List ℕ). s ++ headed d (back h)) (mend-front c d 1 0 h [] refl f)
+      ∙ ap (λ (s : List ℕ). s ++ headed d (back h)) (mend-prior c d 1 0 h [] refl f)
       ∙ sym (cut-filled d h)
 
   -- as many parts stand before it as before
@@ -305,22 +305,22 @@ module _ (top : List ℕ) (i k : ℕ) (new : List ℕ) (a : Accepted (checkOf 13
   there-is = rw ps-are at (h .there)
 
   -- all of it, of the parts that the reader lists
-  whole : (result : List ℕ) × Done top (partsIn (upidOf 13 top)) i k new result
-  whole =
+  overall : (result : List ℕ) × Done top (partsIn (upidOf 13 top)) i k new result
+  overall =
       subst (λ (ps : List Part). (result : List ℕ) × Done top ps i k new result) (sym ps-are)
       (done top i (record { «upid_type» = k; payload = new }) (check-mid top a) there-is (taken-accepted _ (h .accepted)))
 
-  result-is : replaced top i k new ≡ whole .0
-  result-is = whole .1 .is
+  result-is : replaced top i k new ≡ overall .0
+  result-is = overall .1 .is
 
-  result-short : length (whole .0) ≤ 255
-  result-short = omega (arith, whole .1 .size, h .short)
+  result-short : length (overall .0) ≤ 255
+  result-short = omega (arith, overall .1 .size, h .short)
 
-  result-accepted : Accepted (checkOf 13 (whole .0))
-  result-accepted = check-of-read 13 (whole .0) result-short (whole .1 .accepted)
+  result-accepted : Accepted (checkOf 13 (overall .0))
+  result-accepted = check-of-read 13 (overall .0) result-short (overall .1 .accepted)
 
-  result-parts : partsIn (upidOf 13 (whole .0)) ≡ listOf 13 1 0 (whole .0)
-  result-parts = parts-of-mid (whole .0) result-accepted
+  result-parts : partsIn (upidOf 13 (overall .0)) ≡ listOf 13 1 0 (overall .0)
+  result-parts = parts-of-mid (overall .0) result-accepted
 
   -- what was there can be put back
   abbrev old : Part
@@ -332,39 +332,39 @@ module _ (top : List ℕ) (i k : ℕ) (new : List ℕ) (a : Accepted (checkOf 13
   old-short : (old .len ≤ length top) × (length (bytesOf top old) ≡ old .len)
   old-short = subst (λ (ps : List Part). (partAt ps i .len ≤ length top) × (length (bytesOf top (partAt ps i)) ≡ partAt ps i .len)) (sym ps-are) (own-short top i (check-mid top a) there-is)
 
-  new-len : partAt (partsIn (upidOf 13 (whole .0))) i .len ≡ length new
-  new-len = ap (λ (ps : List Part). partAt ps i .len) result-parts ∙ ap (λ (p : Part). p .len) (whole .1 .spot)
+  new-len : partAt (partsIn (upidOf 13 (overall .0))) i .len ≡ length new
+  new-len = ap (λ (ps : List Part). partAt ps i .len) result-parts ∙ ap (λ (p : Part). p .len) (overall .1 .spot)
 
-  back-able : Able 13 (whole .0) i (writtenType top old) (bytesOf top old)
+  back-able : Able 13 (overall .0) i (writtenType top old) (bytesOf top old)
   back-able =
       record {
-        there = rw result-parts (whole .1 .there);
-        short = omega (arith, whole .1 .size, old-short .0, old-short .1, new-len, check-short 13 top a);
+        there = rw result-parts (overall .1 .there);
+        short = omega (arith, overall .1 .size, old-short .0, old-short .1, new-len, check-short 13 top a);
         accepted = accepted-taken _ old-accepted;
       }
 
-  back-is : upidMade 13 (whole .0) (suc i) (writtenType top old) (bytesOf top old) ≡ made top
+  back-is : upidMade 13 (overall .0) (suc i) (writtenType top old) (bytesOf top old) ≡ made top
   back-is =
-      able-made 13 (whole .0) i (writtenType top old) (bytesOf top old) back-able
-      ∙ ap (λ (ps : List Part). made (replacedIn (whole .0) ps i (writtenType top old) (bytesOf top old))) result-parts
-      ∙ ap made (whole .1 .again)
+      able-made 13 (overall .0) i (writtenType top old) (bytesOf top old) back-able
+      ∙ ap (λ (ps : List Part). made (replacedIn (overall .0) ps i (writtenType top old) (bytesOf top old))) result-parts
+      ∙ ap made (overall .1 .again)
 
-  told-is : identifiersIn (whole .0) (partsIn (upidOf 13 (whole .0))) ≡ identifiersThen top (partsIn (upidOf 13 top)) i k new
-  told-is = ap (identifiersIn (whole .0)) result-parts ∙ whole .1 .told
+  told-is : identifiersIn (overall .0) (partsIn (upidOf 13 (overall .0))) ≡ identifiersThen top (partsIn (upidOf 13 top)) i k new
+  told-is = ap (identifiersIn (overall .0)) result-parts ∙ overall .1 .told
 
-  relabelled-whole : Relabelled top i k new (whole .0)
+  relabelled-top : Relabelled top i k new (overall .0)
   unfolding upidOf
-  relabelled-whole =
+  relabelled-top =
       record {
         accepted = result-accepted;
         identifiers = told-is;
-        parts = result-parts ∙ whole .1 .listed;
-        run = whole .1 .run;
+        parts = result-parts ∙ overall .1 .listed;
+        run = overall .1 .run;
         again = back-is;
       }
 
   pub relabelled : Relabelled top i k new (replaced top i k new)
-  relabelled = subst (Relabelled top i k new) (sym result-is) relabelled-whole
+  relabelled = subst (Relabelled top i k new) (sym result-is) relabelled-top
 
 pub relabelled-made : (upid-type : ℕ) (top : List ℕ) (i k : ℕ) (new b : List ℕ) → upidMade upid-type top (suc i) k new ≡ made b → (upid-type ≡ 13) × Relabelled top i k new b
 relabelled-made upid-type top i k new b e =
@@ -417,9 +417,9 @@ one-hole top i a hi =
           (subst (λ (j : ℕ). replacedIn (filled h c) (listOf 13 1 0 (filled h c)) j (d .«upid_type») (d .payload) ≡ filled h d) (x .count) (refilled c d h (x .accepted))),
     )
 
-pub whole-made-is : (upid-type : ℕ) (top : List ℕ) (k : ℕ) (new b : List ℕ) → upidMade upid-type top 0 k new ≡ made b → (b ≡ new) × Accepted (checkOf k b) × (0 < length b)
-unfolding upidMade wholeMade
-whole-made-is upid-type top k new b = go (eqb (length top) 0 || not (taken (checkOf upid-type top))) (ltb 255 (length new)) refl (eqb (length new) 0) refl (taken (readOf k 0 new)) refl
+pub top-made-is : (upid-type : ℕ) (top : List ℕ) (k : ℕ) (new b : List ℕ) → upidMade upid-type top 0 k new ≡ made b → (b ≡ new) × Accepted (checkOf k b) × (0 < length b)
+unfolding upidMade topMade
+top-made-is upid-type top k new b = go (eqb (length top) 0 || not (taken (checkOf upid-type top))) (ltb 255 (length new)) refl (eqb (length new) 0) refl (taken (readOf k 0 new)) refl
   where
     go : (t u : Bool) → ltb 255 (length new) ≡ u → (v : Bool) → eqb (length new) 0 ≡ v → (x : Bool) → taken (readOf k 0 new) ≡ x
         → pick t (refused 41) (pick u (refused 32) (pick (v || not x) (refused 33) (made new))) ≡ made b → (b ≡ new) × Accepted (checkOf k b) × (0 < length b)

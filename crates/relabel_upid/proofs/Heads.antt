@@ -162,8 +162,8 @@ module _ (s : List ℕ) (i ahead at : ℕ) (few : ahead ≤ i) (r : Rest at (dro
     abbrev here : Turn s at (drop (i - ahead) (heads s))
     here = turn s at _ r h
 
-    pub whole : (at + 2 + getD s (at + 1) 0 ≤ length s) × (at + 2 ≤ nextHead s at) × (nextHead s at ≤ at + 2 + getD s (at + 1) 0)
-    whole = let n = next-bounds (eqb (getD s at 0) 13) at (getD s (at + 1) 0) in (here .inside, n .0, n .1)
+    pub complete : (at + 2 + getD s (at + 1) 0 ≤ length s) × (at + 2 ≤ nextHead s at) × (nextHead s at ≤ at + 2 + getD s (at + 1) 0)
+    complete = let n = next-bounds (eqb (getD s at 0) 13) at (getD s (at + 1) 0) in (here .inside, n .0, n .1)
 
     pub one-is : nth s (i - ahead) ≡ here .q
     one-is =

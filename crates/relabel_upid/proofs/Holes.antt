@@ -178,30 +178,30 @@ find (suc n) level start i (k ∷ (l ∷ rest)) hn a hi =
 
 -- ---- what stands before the hole's head, and what stands after the hole
 
-abbrev pub front : Cut → Hole → List ℕ
-front c (here a) = []
-front c (inside h a) = 13 ∷ (length (filled h c) ∷ front c h)
-front c (past d h) = headed d (front c h)
+abbrev pub prior : Cut → Hole → List ℕ
+prior c (here a) = []
+prior c (inside h a) = 13 ∷ (length (filled h c) ∷ prior c h)
+prior c (past d h) = headed d (prior c h)
 
 abbrev pub back : Hole → List ℕ
 back (here a) = a
 back (inside h a) = back h ++ a
 back (past d h) = back h
 
-pub cut-filled : (c : Cut) (h : Hole) → filled h c ≡ front c h ++ headed c (back h)
+pub cut-filled : (c : Cut) (h : Hole) → filled h c ≡ prior c h ++ headed c (back h)
 unfolding filled
 cut-filled c (here a) = refl
 cut-filled c (inside h a) =
-    let e : filled h c ++ a ≡ front c h ++ headed c (back h ++ a) = rw (cut-filled c h) (simp append-assoc) in
+    let e : filled h c ++ a ≡ prior c h ++ headed c (back h ++ a) = rw (cut-filled c h) (simp append-assoc) in
     ap (λ (l : List ℕ). 13 ∷ (length (filled h c) ∷ l)) e
 cut-filled c (past d h) = rw (cut-filled c h) (simp append-assoc)
 
-pub length-front : (c : Cut) (start : ℕ) (h : Hole) → start + length (front c h) ≡ startAt start h
-length-front c start (here a) = omega arith
-length-front c start (inside h a) = omega (arith, length-front c (start + 2) h)
-length-front c start (past d h) =
-    omega (arith, length-front c (start + (2 + length (d .payload))) h, length-append (d .payload) (front c h))
+pub length-prior : (c : Cut) (start : ℕ) (h : Hole) → start + length (prior c h) ≡ startAt start h
+length-prior c start (here a) = omega arith
+length-prior c start (inside h a) = omega (arith, length-prior c (start + 2) h)
+length-prior c start (past d h) =
+    omega (arith, length-prior c (start + (2 + length (d .payload))) h, length-append (d .payload) (prior c h))
 
 pub length-filled : (c : Cut) (start : ℕ) (h : Hole) → start + length (filled h c) ≡ startAt start h + (2 + (length (c .payload) + length (back h)))
 length-filled c start h =
-    omega (arith, length-front c start h, ap length (cut-filled c h), length-append (front c h) (headed c (back h)), length-append (c .payload) (back h))
+    omega (arith, length-prior c start h, ap length (cut-filled c h), length-append (prior c h) (headed c (back h)), length-append (c .payload) (back h))

@@ -18,7 +18,7 @@ use Rattle.upid.proofs.Tree.{all-append, all-map}
 use Rattle.relabel_upid.specs.Hole.{Hole, here, inside, past, headed, filled}
 use Rattle.relabel_upid.specs.Kept.{widened, moved}
 use Rattle.relabel_upid.specs.Relabel.{instead, around, mended}
-use Rattle.relabel_upid.proofs.Holes.{levelAt, startAt, recorded, inner, before, behind, AcceptedBeside, AcceptedCut, front, back, length-front, length-filled}
+use Rattle.relabel_upid.proofs.Holes.{levelAt, startAt, recorded, inner, before, behind, AcceptedBeside, AcceptedCut, prior, back, length-prior, length-filled}
 
 -- ---- the parts of what is accepted lie in it
 
@@ -89,7 +89,7 @@ spot c level start h = recorded (levelAt level h) (startAt start h) c
 
 -- a head around the hole counts what now is inside
 counts : (c d : Cut) (start : ℕ) (h : Hole) → length (filled h c) - length (c .payload) + length (d .payload) ≡ length (filled h d)
-counts c d start h = omega (arith, length-filled c start h, length-filled d start h, length-front c start h)
+counts c d start h = omega (arith, length-filled c start h, length-filled d start h, length-prior c start h)
 
 is-around : (c : Cut) (level start : ℕ) (h : Hole) (q : Part) → q .start ≡ start → q .len ≡ length (filled h c) → around (spot c level start h) q ≡ true
 unfolding around
@@ -101,7 +101,7 @@ beside-past : (c d : Cut) (level start : ℕ) (h : Hole) → AcceptedCut d
     → All (λ (q : Part). around (spot c level (start + (2 + length (d .payload))) h) q ≡ false) (recorded level start d ∷ inner level start d)
 beside-past c d level start h f =
     beside (spot c level (start + (2 + length (d .payload))) h) start (start + (2 + length (d .payload))) (recorded level start d ∷ inner level start d)
-    (omega (arith, length-front c (start + (2 + length (d .payload))) h)) (lies-in level start d f)
+    (omega (arith, length-prior c (start + (2 + length (d .payload))) h)) (lies-in level start d f)
 
 -- a length stored in a head
 store-length : (pre : List ℕ) (start l v : ℕ) (rest : List ℕ) → length pre ≡ start → set (pre ++ (13 ∷ (l ∷ rest))) (start + 2 - 1) v ≡ (pre ++ (13 ∷ (v ∷ []))) ++ rest
@@ -111,31 +111,31 @@ store-length pre start l v rest e =
     ap (λ (s : List ℕ). set s (start + 2 - 1) v) f ∙ set-at (pre ++ (13 ∷ [])) l rest v (start + 2 - 1) n ∙ simp append-assoc
 
 -- what stands before the hole, mended
-pub mend-front : (c d : Cut) (level start : ℕ) (h : Hole) (pre : List ℕ) → length pre ≡ start → AcceptedBeside h
-    → mended (spot c level start h) (length (d .payload)) (before c level start h) (pre ++ front c h) ≡ pre ++ front d h
+pub mend-prior : (c d : Cut) (level start : ℕ) (h : Hole) (pre : List ℕ) → length pre ≡ start → AcceptedBeside h
+    → mended (spot c level start h) (length (d .payload)) (before c level start h) (pre ++ prior c h) ≡ pre ++ prior d h
 unfolding mended
-mend-front c d level start (here a) pre e f = refl
-mend-front c d level start (inside h a) pre e f =
+mend-prior c d level start (here a) pre e f = refl
+mend-prior c d level start (inside h a) pre e f =
     let p : Part = spot c (level + 1) (start + 2) h in
     let q : Part = recorded level start (record { «upid_type» = 13; payload = filled h c }) in
     let v : ℕ = length (filled h c) - length (c .payload) + length (d .payload) in
     let n : length (pre ++ (13 ∷ (v ∷ []))) ≡ start + 2 = omega (arith, length-append pre (13 ∷ (v ∷ []))) in
     let r : List Part = before c (level + 1) (start + 2) h in
-    let s : List ℕ = pre ++ (13 ∷ (length (filled h c) ∷ front c h)) in
+    let s : List ℕ = pre ++ (13 ∷ (length (filled h c) ∷ prior c h)) in
     ap (λ (t : Bool). mended p (length (d .payload)) r (pick t (set s (start + 2 - 1) v) s)) (is-around c (level + 1) (start + 2) h q refl refl)
-    ∙ ap (mended p (length (d .payload)) r) (store-length pre start (length (filled h c)) v (front c h) e)
-    ∙ mend-front c d (level + 1) (start + 2) h (pre ++ (13 ∷ (v ∷ []))) n (f .0)
-    ∙ append-assoc pre (13 ∷ (v ∷ [])) (front d h)
-    ∙ ap (λ (x : ℕ). pre ++ (13 ∷ (x ∷ front d h))) (counts c d start h)
-mend-front c d level start (past x h) pre e f =
+    ∙ ap (mended p (length (d .payload)) r) (store-length pre start (length (filled h c)) v (prior c h) e)
+    ∙ mend-prior c d (level + 1) (start + 2) h (pre ++ (13 ∷ (v ∷ []))) n (f .0)
+    ∙ append-assoc pre (13 ∷ (v ∷ [])) (prior d h)
+    ∙ ap (λ (x : ℕ). pre ++ (13 ∷ (x ∷ prior d h))) (counts c d start h)
+mend-prior c d level start (past x h) pre e f =
     let there : ℕ = start + (2 + length (x .payload)) in
     let p : Part = spot c level there h in
     let head : List ℕ = x .«upid_type» ∷ (length (x .payload) ∷ x .payload) in
     let n : length (pre ++ head) ≡ there = omega (arith, length-append pre head) in
-    mended-beside p (length (d .payload)) (recorded level start x ∷ inner level start x) (before c level there h) (pre ++ headed x (front c h)) (beside-past c x level start h (f .0))
-    ∙ ap (mended p (length (d .payload)) (before c level there h)) (sym (append-assoc pre head (front c h)))
-    ∙ mend-front c d level there h (pre ++ head) n (f .1)
-    ∙ append-assoc pre head (front d h)
+    mended-beside p (length (d .payload)) (recorded level start x ∷ inner level start x) (before c level there h) (pre ++ headed x (prior c h)) (beside-past c x level start h (f .0))
+    ∙ ap (mended p (length (d .payload)) (before c level there h)) (sym (append-assoc pre head (prior c h)))
+    ∙ mend-prior c d level there h (pre ++ head) n (f .1)
+    ∙ append-assoc pre head (prior d h)
 
 -- the parts before the hole: those around it are longer
 pub before-widened : (c d : Cut) (level start : ℕ) (h : Hole) → AcceptedBeside h → map (widened (spot c level start h) (length (d .payload))) (before c level start h) ≡ before d level start h
@@ -185,5 +185,5 @@ behind-moved c d level start (inside h a) p e =
     map-append (moved p (length (d .payload))) (behind c (level + 1) (start + 2) h) (listOf 13 level (start + (2 + length (filled h c))) a)
     ∙ ap₂ (λ (xs ys : List Part). xs ++ ys) (behind-moved c d (level + 1) (start + 2) h p e)
     (moved-list (length (d .payload)) level (start + (2 + length (filled h c))) (start + (2 + length (filled h d))) p a
-    (omega (arith, length-filled c start h, length-front c start h)) (omega (arith, counts c d start h, length-filled c start h, length-front c start h)))
+    (omega (arith, length-filled c start h, length-prior c start h)) (omega (arith, counts c d start h, length-filled c start h, length-prior c start h)))
 behind-moved c d level start (past x h) p e = behind-moved c d level (start + (2 + length (x .payload))) h p e

@@ -17,7 +17,7 @@ use Rattle.upid.specs.declared.Part.{Part}
 use Rattle.upid.proofs.Laws.{list-plain}
 use Rattle.upid.proofs.Theorems.{eight-and-twelve}
 use Rattle.relabel_upid.specs.Kept.{Identifier, told, identifiersIn, identifiersOf, identifiersAt, identifiersThen, insideOf, afterPart}
-use Rattle.relabel_upid.specs.Relabel.{instead, around, mended, spliced, partAt, replacedIn, taken, wholeMade, partMade, upidMade}
+use Rattle.relabel_upid.specs.Relabel.{instead, around, mended, spliced, partAt, replacedIn, taken, topMade, partMade, upidMade}
 use Rattle.relabel_upid.proofs.Answers.{Able, able-made, accepted-taken, relabelled-made}
 use Rattle.relabel_upid.proofs.Told.{reported-other}
 
@@ -131,7 +131,7 @@ pub data Hold : List Row → Type 0 where
   more : {r : Row} {rs : List Row} → upidMade (r .«upid_type») (r .top) (r .part) (r .new-type) (r .new) ≡ r .answer → Hold rs → Hold (r ∷ rs)
 
 pub rows-hold : Hold rows
-unfolding rows upidMade wholeMade partMade spliced mended around taken upidOf checkOf readOf walkOf _then_ plainOf lengthOf isText reportedOf listOf partsOf listed unlessRefused textOf done step within
+unfolding rows upidMade topMade partMade spliced mended around taken upidOf checkOf readOf walkOf _then_ plainOf lengthOf isText reportedOf listOf partsOf listed unlessRefused textOf done step within
 rows-hold =
     more refl (more refl (more refl (more refl (more refl (more refl
     (more refl (more refl (more refl (more refl (more refl

@@ -22,13 +22,13 @@ use Rattle.upid.proofs.Laws.{by-cases}
 use Rattle.upid.proofs.Tree.{all-append, all-map}
 use Rattle.upid.proofs.Walks.{check-mid, check-short}
 use Rattle.relabel_upid.specs.Hole.{Hole, here, inside, past, filled}
-use Rattle.relabel_upid.specs.Relabel.{instead, around, mended, spliced, partAt, replacedIn, taken, wholeMade, partMade, upidMade}
+use Rattle.relabel_upid.specs.Relabel.{instead, around, mended, spliced, partAt, replacedIn, taken, topMade, partMade, upidMade}
 use Rattle.relabel_upid.specs.Private.{heads, nth, nextHead, Walkable, Mends, Mendable, Ahead, Storable}
 use Rattle.relabel_upid.proofs.Answers.{part-is, take-is, taken-accepted, has-parts}
-use Rattle.relabel_upid.proofs.Holes.{startAt, recorded, inner, before, AcceptedBeside, Found, find, length-front, length-filled}
+use Rattle.relabel_upid.proofs.Holes.{startAt, recorded, inner, before, AcceptedBeside, Found, find, length-prior, length-filled}
 use Rattle.relabel_upid.proofs.Places.{lies-in, spot}
-use Rattle.relabel_upid.proofs.Heads.{Rest, not-yet, told, whole, onward}
-use Rattle.relabel_upid.proofs.Turns.{mends-one, mended-on, mended-off, mended-length, mended-append, whole-none, whole-refused, part-none, part-long, part-unfit, part-made}
+use Rattle.relabel_upid.proofs.Heads.{Rest, not-yet, told, complete, onward}
+use Rattle.relabel_upid.proofs.Turns.{mends-one, mended-on, mended-off, mended-length, mended-append, top-none, top-refused, part-none, part-long, part-unfit, part-made}
 
 -- ---- where the parts before a part lie
 
@@ -40,12 +40,12 @@ unfolding filled
 early c level start high (here a) f l = none
 early c level start high (inside h a) f l =
     more {x = recorded level start (record { «upid_type» = 13; payload = filled h c })}
-    (omega arith, omega (arith, length-front c (start + 2) h), omega (arith, length-append (filled h c) a))
+    (omega arith, omega (arith, length-prior c (start + 2) h), omega (arith, length-append (filled h c) a))
     (early c (level + 1) (start + 2) high h (f .0) (omega (arith, length-append (filled h c) a)))
 early c level start high (past d h) f l =
     let n = length-append (d .payload) (filled h c) in
     all-append
-    (all-map (λ q x. (omega arith, omega (arith, length-front c (start + (2 + length (d .payload))) h), omega arith)) (lies-in level start d (f .0)))
+    (all-map (λ q x. (omega arith, omega (arith, length-prior c (start + (2 + length (d .payload))) h), omega arith)) (lies-in level start d (f .0)))
     (early c level (start + (2 + length (d .payload))) high h (f .1) (omega arith))
 
 -- a part of an accepted MID, and those before it
@@ -115,8 +115,8 @@ module _ (s : List ℕ) (i end old n ahead at : ℕ) (target₀ : List ℕ) (m :
   one-mends : Mends (nth s i) n target₀ one
   one-mends = mends-one (heads s) i (i - ahead) (nth s i) n (omega arith) (omega (arith, m .there)) target₀ (m .each)
 
-  pub head-whole : (at + 2 + getD s (at + 1) 0 ≤ length s) × (at + 2 ≤ length target₀)
-  head-whole = (whole s i ahead at few r not-done .0, omega (arith, one-mends .before, one-told .0))
+  pub head-complete : (at + 2 + getD s (at + 1) 0 ≤ length s) × (at + 2 ≤ length target₀)
+  head-complete = (complete s i ahead at few r not-done .0, omega (arith, one-mends .before, one-told .0))
 
   pub next-ahead : (to : ℕ) → to ≡ nextHead s at → Rest to (drop to s) (drop (i - (ahead - 1)) (heads s))
   next-ahead to e = onward s i ahead at few r not-done to e some
@@ -155,31 +155,31 @@ module _ (s : List ℕ) (i end old n ahead at : ℕ) (target₀ : List ℕ) (m :
 
 -- ---- the stores
 
-module _ (t front : List ℕ) (p : Part) (n : ℕ) (qs : List Part) (fits : length front ≤ length t) (each : All (λ (q : Part). (2 ≤ q .start) × (q .start ≤ length front)) qs) where
-  mended-stored : mended p n qs (stored t 0 front) ≡ stored t 0 (mended p n qs front)
+module _ (t prior : List ℕ) (p : Part) (n : ℕ) (qs : List Part) (fits : length prior ≤ length t) (each : All (λ (q : Part). (2 ≤ q .start) × (q .start ≤ length prior)) qs) where
+  mended-stored : mended p n qs (stored t 0 prior) ≡ stored t 0 (mended p n qs prior)
   mended-stored =
-      let l : length (mended p n qs front) ≡ length front = mended-length p n qs front in
-      ap (mended p n qs) (stored-fits t 0 front (omega arith))
-      ∙ mended-append p n qs front (drop (0 + length front) t) each
-      ∙ ap (λ (m : ℕ). mended p n qs front ++ drop (0 + m) t) (sym l)
-      ∙ sym (stored-fits t 0 (mended p n qs front) (omega arith))
+      let l : length (mended p n qs prior) ≡ length prior = mended-length p n qs prior in
+      ap (mended p n qs) (stored-fits t 0 prior (omega arith))
+      ∙ mended-append p n qs prior (drop (0 + length prior) t) each
+      ∙ ap (λ (m : ℕ). mended p n qs prior ++ drop (0 + m) t) (sym l)
+      ∙ sym (stored-fits t 0 (mended p n qs prior) (omega arith))
 
 -- the parts of a slice that the code lends
-pub front-slice : (h : ℕ) (s : List ℕ) → take (h - 0) s ≡ take h s
-front-slice h s = let e : h - 0 ≡ h = omega arith in ap (λ (n : ℕ). take n s) e
+pub prior-slice : (h : ℕ) (s : List ℕ) → take (h - 0) s ≡ take h s
+prior-slice h s = let e : h - 0 ≡ h = omega arith in ap (λ (n : ℕ). take n s) e
 
 pub back-slice : (e : ℕ) (s : List ℕ) → take (length s - e) (drop e s) ≡ drop e s
 back-slice e s = take-all (length s - e) (drop e s) (omega (arith, length-drop e s))
 
 -- one store behind another, from the target's first byte on
-behind : (t front b later : List ℕ) (at : ℕ) → at ≡ length front → length front + length b ≤ length t → later ≡ stored (stored t 0 front) at b → later ≡ stored t 0 (front ++ b)
-behind t front b later at e fits h =
-    let z : at ≡ 0 + length front = omega arith in
-    h ∙ ap (λ (m : ℕ). stored (stored t 0 front) m b) z ∙ stored-append t 0 front b (omega arith)
+behind : (t prior b later : List ℕ) (at : ℕ) → at ≡ length prior → length prior + length b ≤ length t → later ≡ stored (stored t 0 prior) at b → later ≡ stored t 0 (prior ++ b)
+behind t prior b later at e fits h =
+    let z : at ≡ 0 + length prior = omega arith in
+    h ∙ ap (λ (m : ℕ). stored (stored t 0 prior) m b) z ∙ stored-append t 0 prior b (omega arith)
 
-pub store-all : (top : List ℕ) (i k : ℕ) (new t t1 t2 t3 t4 t5 t6 : List ℕ) (front back : List ℕ) (head start end : ℕ) → Storable top i head new t
-    → start ≡ head + 2 → end ≡ nth top i .start + nth top i .len → front ≡ take head top → back ≡ drop end top
-    → t1 ≡ stored t 0 front → t2 ≡ mended (nth top i) (length new) (take i (heads top)) t1
+pub store-all : (top : List ℕ) (i k : ℕ) (new t t1 t2 t3 t4 t5 t6 : List ℕ) (prior back : List ℕ) (head start end : ℕ) → Storable top i head new t
+    → start ≡ head + 2 → end ≡ nth top i .start + nth top i .len → prior ≡ take head top → back ≡ drop end top
+    → t1 ≡ stored t 0 prior → t2 ≡ mended (nth top i) (length new) (take i (heads top)) t1
     → t3 ≡ stored t2 head (k ∷ []) → t4 ≡ stored t3 (head + 1) (length new ∷ []) → t5 ≡ stored t4 start new → t6 ≡ stored t5 (start + length new) back
     → t6 ≡ stored t 0 (spliced top (take i (heads top)) (nth top i) k new)
 unfolding spliced
@@ -188,13 +188,13 @@ store-all top i k new t t1 t2 t3 t4 t5 t6 front₀ back₀ head start end s es e
     let p : Part = nth top i in
     let qs : List Part = take i (heads top) in
     let eh : head ≡ p .start - 2 = omega (arith, s .starts) in
-    let front : List ℕ = take head top in
-    let lf : length front ≡ head = omega (arith, length-take head top, s .inside) in
-    let F : List ℕ = mended p n qs front in
-    let lF : length F ≡ head = mended-length p n qs front ∙ lf in
+    let prior : List ℕ = take head top in
+    let lf : length prior ≡ head = omega (arith, length-take head top, s .inside) in
+    let F : List ℕ = mended p n qs prior in
+    let lF : length F ≡ head = mended-length p n qs prior ∙ lf in
     let lb : length (drop end top) ≡ length top - end = length-drop end top in
-    let each : All (λ (q : Part). (2 ≤ q .start) × (q .start ≤ length front)) qs = all-map (λ q a. (a .behind, omega (arith, a .before, lf, s .starts))) (s .each) in
-    let f2 : t2 ≡ stored t 0 F = e2 ∙ ap (mended p n qs) (e1 ∙ ap (stored t 0) ef) ∙ mended-stored t front p n qs (omega (arith, s .inside, s .room)) each in
+    let each : All (λ (q : Part). (2 ≤ q .start) × (q .start ≤ length prior)) qs = all-map (λ q a. (a .behind, omega (arith, a .before, lf, s .starts))) (s .each) in
+    let f2 : t2 ≡ stored t 0 F = e2 ∙ ap (mended p n qs) (e1 ∙ ap (stored t 0) ef) ∙ mended-stored t prior p n qs (omega (arith, s .inside, s .room)) each in
     let f3 : t3 ≡ stored t 0 (F ++ (k ∷ [])) = behind t F (k ∷ []) t3 head (sym lF) (omega (arith, s .inside, s .room, s .starts)) (e3 ∙ ap (λ (x : List ℕ). stored x head (k ∷ [])) f2) in
     let l3 : length (F ++ (k ∷ [])) ≡ head + 1 = omega (arith, length-append F (k ∷ [])) in
     let f4 : t4 ≡ stored t 0 ((F ++ (k ∷ [])) ++ (n ∷ [])) =
@@ -298,7 +298,7 @@ module _ (upid-type k i : ℕ) (top new : List ℕ) where
         pub size-is : length (spliced top (take i (heads top)) (nth top i) k new) ≡ length top - nth top i .len + length new
         size-is = spliced-size top (take i (heads top)) (nth top i) k new (placed-here .0) (placed-here .1)
 
-pub relabel-zero : (upid-type k part : ℕ) (top new : List ℕ) → part ≡ 0 → upidMade upid-type top part k new ≡ wholeMade upid-type top k new
+pub relabel-zero : (upid-type k part : ℕ) (top new : List ℕ) → part ≡ 0 → upidMade upid-type top part k new ≡ topMade upid-type top k new
 unfolding upidMade
 relabel-zero upid-type k part top new h = rw h
 
@@ -312,6 +312,6 @@ pub refused-upid : (upid-type : ℕ) (top : List ℕ) (part k : ℕ) (new : List
 unfolding upidMade
 refused-upid upid-type top zero k new e =
     by-cases 0 (length top)
-    (λ some. whole-refused upid-type k top new (λ z. omega arith) e)
-    (λ none. whole-none upid-type k top new (omega arith))
+    (λ some. top-refused upid-type k top new (λ z. omega arith) e)
+    (λ none. top-none upid-type k top new (omega arith))
 refused-upid upid-type top (suc i) k new e = no-reading upid-type k i top new e

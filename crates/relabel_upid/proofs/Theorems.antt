@@ -46,16 +46,16 @@ one-hole-filled-twice top i a h = answers.one-hole top i a h
 -- The UPID itself: what is made is the new identifier, which its reader takes; it is not empty.
 pub the-upid-itself : (upid-type : ℕ) (top : List ℕ) (k : ℕ) (new b : List ℕ) → upidMade upid-type top 0 k new ≡ made b → (b ≡ new) × Accepted (upidOf k b .read) × (0 < length b)
 unfolding upidOf
-the-upid-itself = answers.whole-made-is
+the-upid-itself = answers.top-made-is
 
 -- ---- no other byte changes
 
 -- What stands before the part's head keeps its length, and every byte of it but the lengths in the heads around the part. (What stands after the part, and the new
 -- identifier, stand in the definition, `spliced`, as they are.)
-pub before-the-part-only-lengths-change : (p : Part) (n : ℕ) (qs : List Part) (front : List ℕ)
-    → (length (mended p n qs front) ≡ length front)
-    × ((j : ℕ) → All (λ (q : Part). around p q ≡ true → q .start - 1 ≡ j → ⊥) qs → getD (mended p n qs front) j 0 ≡ getD front j 0)
-before-the-part-only-lengths-change p n qs front = (turns.mended-length p n qs front, turns.mended-elsewhere p n qs front)
+pub before-the-part-only-lengths-change : (p : Part) (n : ℕ) (qs : List Part) (prior : List ℕ)
+    → (length (mended p n qs prior) ≡ length prior)
+    × ((j : ℕ) → All (λ (q : Part). around p q ≡ true → q .start - 1 ≡ j → ⊥) qs → getD (mended p n qs prior) j 0 ≡ getD prior j 0)
+before-the-part-only-lengths-change p n qs prior = (turns.mended-length p n qs prior, turns.mended-elsewhere p n qs prior)
 
 -- ---- the incident
 

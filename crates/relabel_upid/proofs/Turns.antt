@@ -22,7 +22,7 @@ use Rattle.upid.specs.declared.UpidRead.{UpidRead}
 use Rattle.upid.specs.declared.UpidRead.the-variants.{Fine, Refused}
 use Rattle.upid.proofs.Answers.{anywhere}
 use Rattle.upid.proofs.Laws.{read-nil, read-more}
-use Rattle.relabel_upid.specs.Relabel.{instead, around, mended, partAt, replacedIn, taken, wholeMade, partMade, upTo}
+use Rattle.relabel_upid.specs.Relabel.{instead, around, mended, partAt, replacedIn, taken, topMade, partMade, upTo}
 use Rattle.relabel_upid.specs.Private.{Mends}
 
 -- ---- whether an identifier is taken
@@ -127,33 +127,33 @@ mended-append p n (q ∷ qs) s t (more h hs) =
 -- ---- the UPID itself
 
 module _ (upid-type k : ℕ) (top new : List ℕ) where
-  pub whole-none : length top ≡ 0 → wholeMade upid-type top k new ≡ refused 41
-  unfolding wholeMade
-  whole-none h = rw (eq-eqb _ _ h)
+  pub top-none : length top ≡ 0 → topMade upid-type top k new ≡ refused 41
+  unfolding topMade
+  top-none h = rw (eq-eqb _ _ h)
 
   module _ (some : length top ≡ 0 → ⊥) where
-    pub whole-refused : taken (checkOf upid-type top) ≡ false → wholeMade upid-type top k new ≡ refused 41
-    unfolding wholeMade
-    whole-refused h = rw (ne-eqb _ _ some, h)
+    pub top-refused : taken (checkOf upid-type top) ≡ false → topMade upid-type top k new ≡ refused 41
+    unfolding topMade
+    top-refused h = rw (ne-eqb _ _ some, h)
 
     module _ (fine : taken (checkOf upid-type top) ≡ true) where
-      pub whole-long : 255 < length new → wholeMade upid-type top k new ≡ refused 32
-      unfolding wholeMade
-      whole-long h = rw (ne-eqb _ _ some, fine, lt-ltb _ _ h)
+      pub top-long : 255 < length new → topMade upid-type top k new ≡ refused 32
+      unfolding topMade
+      top-long h = rw (ne-eqb _ _ some, fine, lt-ltb _ _ h)
 
       module _ (short : length new ≤ 255) where
-        pub whole-empty : length new ≡ 0 → wholeMade upid-type top k new ≡ refused 33
-        unfolding wholeMade
-        whole-empty h = rw (ne-eqb _ _ some, fine, le-ltb _ _ short, eq-eqb _ _ h)
+        pub top-empty : length new ≡ 0 → topMade upid-type top k new ≡ refused 33
+        unfolding topMade
+        top-empty h = rw (ne-eqb _ _ some, fine, le-ltb _ _ short, eq-eqb _ _ h)
 
         module _ (full : length new ≡ 0 → ⊥) where
-          pub whole-unfit : taken (readOf k 0 new) ≡ false → wholeMade upid-type top k new ≡ refused 33
-          unfolding wholeMade
-          whole-unfit h = rw (ne-eqb _ _ some, fine, le-ltb _ _ short, ne-eqb _ _ full, h)
+          pub top-unfit : taken (readOf k 0 new) ≡ false → topMade upid-type top k new ≡ refused 33
+          unfolding topMade
+          top-unfit h = rw (ne-eqb _ _ some, fine, le-ltb _ _ short, ne-eqb _ _ full, h)
 
-          pub whole-made : taken (readOf k 0 new) ≡ true → wholeMade upid-type top k new ≡ made new
-          unfolding wholeMade
-          whole-made h = rw (ne-eqb _ _ some, fine, le-ltb _ _ short, ne-eqb _ _ full, h)
+          pub top-made : taken (readOf k 0 new) ≡ true → topMade upid-type top k new ≡ made new
+          unfolding topMade
+          top-made h = rw (ne-eqb _ _ some, fine, le-ltb _ _ short, ne-eqb _ _ full, h)
 
 -- ---- a part
 

@@ -4,7 +4,7 @@ use crate::say::flag;
 use crate::say::time;
 use crate::say::value;
 use command::SpliceCommand;
-use command::components::ComponentSplice;
+use command::components::InsertComponent;
 use command::components::read_components;
 use command::insert::Break;
 use command::insert::InsertDetail;
@@ -112,7 +112,7 @@ fn components(payload: &[u8], n: u8) {
     }
 }
 
-fn component(c: ComponentSplice) {
+fn component(c: InsertComponent) {
     let t = c.splice_time;
     value(c.component_tag as u64);
     time(t);

@@ -5,9 +5,11 @@ use crate::say::value;
 use crate::upids::contents;
 use crate::upids::refused;
 use descriptor::Descriptor;
+use descriptor::full::Beside;
+use descriptor::full::beside_of;
 use descriptor::segmentation::DeliveryRestrictionFlags;
 use descriptor::segmentation::DescriptorDetail;
-use descriptor::segmentation::ModeComponent;
+use descriptor::segmentation::SegmentationComponent;
 use descriptor::segmentation::SegmentationDescriptor;
 use descriptor::segmentation::SegmentationDetail;
 use descriptor::segmentation::SegmentationDuration;
@@ -15,8 +17,6 @@ use descriptor::segmentation::SegmentationMode;
 use descriptor::segmentation::SegmentationUpid;
 use descriptor::segmentation::SubSegments;
 use descriptor::segmentation::read_segmentation;
-use descriptor::whole::Beside;
-use descriptor::whole::beside_of;
 use descriptor_loop::Item;
 use descriptor_loop::ItemRefusal;
 use descriptor_loop::Step;
@@ -173,7 +173,7 @@ fn components(payload: &[u8], n: u8) {
     }
 }
 
-fn component(c: ModeComponent) {
+fn component(c: SegmentationComponent) {
     value(c.component_tag as u64);
     value(c.pts_offset);
 }

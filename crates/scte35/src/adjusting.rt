@@ -47,13 +47,13 @@ pub extern "C" fn scte35_undo_adjustment(a: u64) -> FlatAdjustment
 // The section in all bytes from the offset on, with its pts_adjustment moved.
 #[no_mangle]
 pub extern "C" fn scte35_adjust_section(
-    s: &[u8],
+    section: &[u8],
     at: usize,
     adjustment: u64,
     target: &mut [u8],
 ) -> FlatWritten
-    ensures answer { λ r. ⌜ r ≡ flatWritten (answerOf (adjustedSection (drop at (now (s .entry))) adjustment) (now (target .entry))) ⌝ }
-    ensures bytes { λ _. ⌜ now (target .exit) ≡ laterOf (adjustedSection (drop at (now (s .entry))) adjustment) (now (target .entry)) ⌝ }
+    ensures answer { λ r. ⌜ r ≡ flatWritten (answerOf (adjustedSection (drop at (now (section .entry))) adjustment) (now (target .entry))) ⌝ }
+    ensures bytes { λ _. ⌜ now (target .exit) ≡ laterOf (adjustedSection (drop at (now (section .entry))) adjustment) (now (target .entry)) ⌝ }
 {
-    flat_written(adjust_section(rest(s, at), adjustment, target))
+    flat_written(adjust_section(rest(section, at), adjustment, target))
 }

@@ -5,7 +5,7 @@ ghost use lib.ListN.{drop};
 ghost use Rattle.command.specs.Command.{commandOf, componentsOf};
 ghost use Rattle.crc.specs.Crc.{crcOf};
 ghost use Rattle.c_section.specs.Flat.{flatHeaderRead, flatAdjusted};
-ghost use Rattle.c_section.specs.FlatCommand.{flatCommandRead, flatSplices};
+ghost use Rattle.c_section.specs.FlatCommand.{flatCommandRead, flatInsertComponents};
 ghost use Rattle.c_section.specs.FlatSection.{flatSectionRead};
 ghost use Rattle.c_items.specs.FlatItem.{flatStep, flatBeside};
 ghost use Rattle.c_items.specs.FlatUpid.{flatUpid};
@@ -23,8 +23,8 @@ use c_items::upids::FlatUpid;
 use c_items::upids::flat_upid;
 use c_section::commands::FlatCommand;
 use c_section::commands::flat_command_read;
-use c_section::components::FlatSplices;
-use c_section::components::flat_splices;
+use c_section::components::FlatInsertComponents;
+use c_section::components::flat_insert_components;
 use c_section::headers::FlatAdjusted;
 use c_section::headers::FlatHeader;
 use c_section::headers::flat_adjusted;
@@ -80,12 +80,12 @@ pub extern "C" fn scte35_read_header(s: &[u8], at: usize) -> FlatHeader
 // Its header is read as numbers, its command as `read_section` reads it. There is a return in an arm for each type of answer: answers that meet behind a
 // match, or behind a call, are held word by word.
 #[no_mangle]
-pub extern "C" fn scte35_read_section(s: &[u8], at: usize) -> FlatSection
-    ensures { λ r. ⌜ r ≡ flatSectionRead (sectionOf (drop at (now (s .entry)))) ⌝ }
+pub extern "C" fn scte35_read_section(section: &[u8], at: usize) -> FlatSection
+    ensures { λ r. ⌜ r ≡ flatSectionRead (sectionOf (drop at (now (section .entry)))) ⌝ }
 {
-    let t = rest(s, at);
+    let t = rest(section, at);
     let frame = match read_frame(t) {
-        FrameRead::Whole(f) => f,
+        FrameRead::Is(f) => f,
         FrameRead::Refused(r) => return no_section(r),
     };
     let header = read_flat_header(&t[3..]);
@@ -126,45 +126,48 @@ pub extern "C" fn scte35_read_section(s: &[u8], at: usize) -> FlatSection
 
 // The command of a type, in its payload.
 #[no_mangle]
-pub extern "C" fn scte35_read_command(command_type: u8, s: &[u8], at: usize) -> FlatCommand
-    ensures { λ r. ⌜ r ≡ flatCommandRead (commandOf «command_type» (drop at (now (s .entry)))) ⌝ }
+pub extern "C" fn scte35_read_command(command_type: u8, payload: &[u8], at: usize) -> FlatCommand
+    ensures { λ r. ⌜ r ≡ flatCommandRead (commandOf «command_type» (drop at (now (payload .entry)))) ⌝ }
 {
-    flat_command_read(read_command(command_type, rest(s, at)))
+    flat_command_read(read_command(command_type, rest(payload, at)))
 }
 
 // The components of an insert, in its payload.
 #[no_mangle]
-pub extern "C" fn scte35_read_insert_components(s: &[u8], at: usize) -> FlatSplices
-    ensures { λ r. ⌜ r ≡ flatSplices (commandOf 0x05 (drop at (now (s .entry)))) (componentsOf (drop at (now (s .entry)))) ⌝ }
+pub extern "C" fn scte35_read_insert_components(payload: &[u8], at: usize) -> FlatInsertComponents
+    ensures { λ r. ⌜ r ≡ flatInsertComponents (commandOf 0x05 (drop at (now (payload .entry)))) (componentsOf (drop at (now (payload .entry)))) ⌝ }
 {
-    let listed = read_components(rest(s, at));
+    let listed = read_components(rest(payload, at));
     let read = listed.read;
     let components = listed.components;
-    flat_splices(read, components)
+    flat_insert_components(read, components)
 }
 
 // The item at an offset of a loop.
 #[no_mangle]
-pub extern "C" fn scte35_read_item(s: &[u8], offset: usize) -> FlatStep
-    ensures { λ r. ⌜ r ≡ flatStep (stepOf (now (s .entry)) offset) ⌝ }
+pub extern "C" fn scte35_read_item(descriptors: &[u8], offset: usize) -> FlatStep
+    ensures { λ r. ⌜ r ≡ flatStep (stepOf (now (descriptors .entry)) offset) ⌝ }
 {
-    flat_step(step(s, offset))
+    flat_step(step(descriptors, offset))
 }
 
 // What stands beside that item.
 #[no_mangle]
-pub extern "C" fn scte35_read_item_components(s: &[u8], offset: usize) -> FlatBeside
-    ensures { λ r. ⌜ r ≡ flatBeside (readingOf (now (s .entry)) offset) ⌝ }
+pub extern "C" fn scte35_read_segmentation_components(
+    descriptors: &[u8],
+    offset: usize,
+) -> FlatBeside
+    ensures { λ r. ⌜ r ≡ flatBeside (readingOf (now (descriptors .entry)) offset) ⌝ }
 {
-    flat_beside(read_item(s, offset))
+    flat_beside(read_item(descriptors, offset))
 }
 
 // The UPID of a type, in all bytes from the offset on.
 #[no_mangle]
-pub extern "C" fn scte35_read_upid(upid_type: u8, s: &[u8], at: usize) -> FlatUpid
-    ensures { λ r. ⌜ r ≡ flatUpid (upidOf «upid_type» (drop at (now (s .entry)))) ⌝ }
+pub extern "C" fn scte35_read_upid(upid_type: u8, upid: &[u8], at: usize) -> FlatUpid
+    ensures { λ r. ⌜ r ≡ flatUpid (upidOf «upid_type» (drop at (now (upid .entry)))) ⌝ }
 {
-    flat_upid(read_upid(upid_type, rest(s, at)))
+    flat_upid(read_upid(upid_type, rest(upid, at)))
 }
 
 #[no_mangle]

@@ -17,23 +17,23 @@ use daterange_line::read_line;
 // The line of the section in all bytes from the offset on.
 #[no_mangle]
 pub extern "C" fn scte35_write_daterange(
-    s: &[u8],
+    section: &[u8],
     at: usize,
     id: &[u8],
     date: &[u8],
     target: &mut [u8],
 ) -> FlatWritten
-    ensures answer { λ r. ⌜ r ≡ flatWritten (answerOf (daterangeMade (drop at (now (s .entry))) (now (id .entry)) (now (date .entry))) (now (target .entry))) ⌝ }
-    ensures bytes { λ _. ⌜ now (target .exit) ≡ laterOf (daterangeMade (drop at (now (s .entry))) (now (id .entry)) (now (date .entry))) (now (target .entry)) ⌝ }
+    ensures answer { λ r. ⌜ r ≡ flatWritten (answerOf (daterangeMade (drop at (now (section .entry))) (now (id .entry)) (now (date .entry))) (now (target .entry))) ⌝ }
+    ensures bytes { λ _. ⌜ now (target .exit) ≡ laterOf (daterangeMade (drop at (now (section .entry))) (now (id .entry)) (now (date .entry))) (now (target .entry)) ⌝ }
 {
-    flat_written(write_daterange(rest(s, at), id, date, target))
+    flat_written(write_daterange(rest(section, at), id, date, target))
 }
 
 // What the line says that is all bytes from the offset on; the section's bytes go into the target.
 #[no_mangle]
-pub extern "C" fn scte35_read_daterange(s: &[u8], at: usize, target: &mut [u8]) -> FlatDaterange
-    ensures answer { λ r. ⌜ r ≡ flatDaterange (readOf (drop at (now (s .entry))) (now (target .entry))) ⌝ }
-    ensures bytes { λ _. ⌜ now (target .exit) ≡ readLater (drop at (now (s .entry))) (now (target .entry)) ⌝ }
+pub extern "C" fn scte35_read_daterange(line: &[u8], at: usize, target: &mut [u8]) -> FlatDaterange
+    ensures answer { λ r. ⌜ r ≡ flatDaterange (readOf (drop at (now (line .entry))) (now (target .entry))) ⌝ }
+    ensures bytes { λ _. ⌜ now (target .exit) ≡ readLater (drop at (now (line .entry))) (now (target .entry)) ⌝ }
 {
-    flat_daterange(read_line(rest(s, at), target))
+    flat_daterange(read_line(rest(line, at), target))
 }

@@ -11,15 +11,15 @@ use relabel::relabel;
 // itself, part n the n-th of its MID's parts as `scte35_read_upid` lists them.
 #[no_mangle]
 pub extern "C" fn scte35_relabel(
-    s: &[u8],
+    section: &[u8],
     offset: usize,
     part: usize,
     upid_type: u8,
     bytes: &[u8],
     target: &mut [u8],
 ) -> FlatWritten
-    ensures answer { λ r. ⌜ r ≡ flatWritten (answerOf (relabelMade (now (s .entry)) offset part «upid_type» (now (bytes .entry))) (now (target .entry))) ⌝ }
-    ensures bytes { λ _. ⌜ now (target .exit) ≡ laterOf (relabelMade (now (s .entry)) offset part «upid_type» (now (bytes .entry))) (now (target .entry)) ⌝ }
+    ensures answer { λ r. ⌜ r ≡ flatWritten (answerOf (relabelMade (now (section .entry)) offset part «upid_type» (now (bytes .entry))) (now (target .entry))) ⌝ }
+    ensures bytes { λ _. ⌜ now (target .exit) ≡ laterOf (relabelMade (now (section .entry)) offset part «upid_type» (now (bytes .entry))) (now (target .entry)) ⌝ }
 {
-    flat_written(relabel(s, offset, part, upid_type, bytes, target))
+    flat_written(relabel(section, offset, part, upid_type, bytes, target))
 }

@@ -42,7 +42,7 @@ chain : (b₁ b₂ b₃ b₄ b₅ b₆ b₇ b₈ b₉ : Bool) (h : HeaderRead) (
     (pick b₆ (FrameRead.Refused Refusal.Encrypted)
     (pick b₇ (FrameRead.Refused Refusal.CommandTooLong)
     (pick b₈ (FrameRead.Refused Refusal.NoLoopLength)
-    (pick b₉ (FrameRead.Refused Refusal.LoopTooLong) (FrameRead.Whole v)))))))))) h r)
+    (pick b₉ (FrameRead.Refused Refusal.LoopTooLong) (FrameRead.Is v)))))))))) h r)
     ≡ first 1 (b₁ ∷ b₂ ∷ b₃ ∷ b₄ ∷ b₅ ∷ b₆ ∷ b₇ ∷ b₈ ∷ b₉ ∷ bs)
 unfolding numberOf
 chain true b₂ b₃ b₄ b₅ b₆ b₇ b₈ b₉ h r v bs k = refl

@@ -69,14 +69,14 @@ module _ (s : List ℕ) where
   unfolding commandLength
   size-of x y h ex bx ey by =
       let four : field (bitsOf s) 92 4 ≡ getD s 11 0 / 1 % 16 = field-in s 11 (omega arith) (rw (← ex) bx) 4 4 0 refl in
-      let whole = field-byte s 12 (omega arith) (rw (← ey) by) 92 4 refl in
-      sym (whole ∙ omega (arith, four, ex, ey))
+      let overall = field-byte s 12 (omega arith) (rw (← ey) by) 92 4 refl in
+      sym (overall ∙ omega (arith, four, ex, ey))
 
   pub number-of : (at x y : ℕ) → at + 2 ≤ length s → x ≡ getD s at 0 → x < 256 → y ≡ getD s (at + 1) 0 → y < 256 → x * 256 + y ≡ field (bitsOf s) (at * 8) 16
   number-of at x y h ex bx ey by =
       let high = byte-field s at (omega arith) (rw (← ex) bx) in
-      let whole = field-byte s (at + 1) (omega arith) (rw (← ey) by) (at * 8) 8 (omega arith) in
-      sym (whole ∙ omega (arith, high, ex, ey))
+      let overall = field-byte s (at + 1) (omega arith) (rw (← ey) by) (at * 8) 8 (omega arith) in
+      sym (overall ∙ omega (arith, high, ex, ey))
 
   pub extent-is : (n v : ℕ) → n ≡ commandLength s → v ≡ field (bitsOf s) ((14 + n) * 8) 16 → v ≡ loopLength s
   unfolding loopLength
@@ -109,9 +109,9 @@ module _ (s : List ℕ) where
             unfolding layoutOf roomAfter
             is-loop-long h = rw (clear-bit, ← em, ← en, le-ltb (length s - 18) n fits, le-ltb (length s - 18 - n) 2 room, lt-ltb (length s - 18 - n) (m + 2) h)
 
-            pub is-whole : m + 2 ≤ length s - 18 - n → FrameRead.Whole (record { command = record { at = 14; len = n }; descriptors = record { at = 16 + n; len = m } }) ≡ layoutOf s
+            pub is-laid : m + 2 ≤ length s - 18 - n → FrameRead.Is (record { command = record { at = 14; len = n }; descriptors = record { at = 16 + n; len = m } }) ≡ layoutOf s
             unfolding layoutOf roomAfter loopPlace frameIn
-            is-whole h = rw (clear-bit, ← em, ← en, le-ltb (length s - 18) n fits, le-ltb (length s - 18 - n) 2 room, le-ltb (length s - 18 - n) (m + 2) h)
+            is-laid h = rw (clear-bit, ← em, ← en, le-ltb (length s - 18) n fits, le-ltb (length s - 18 - n) 2 room, le-ltb (length s - 18 - n) (m + 2) h)
 
   module _ (v : ℕ) (ev : v ≡ field (bitsOf s) 32 1 % 2 ^ 64) (clear : v ≡ 1 → ⊥) (n : ℕ) (en : n ≡ commandLength s) (fits : n ≤ length s - 18) where
     not-set : eqb (field (bitsOf s) 32 1) 1 ≡ false
@@ -122,7 +122,7 @@ module _ (s : List ℕ) where
     no-loop h = rw (not-set, ← en, le-ltb (length s - 18) n fits, lt-ltb (length s - 18 - n) 2 h)
 
     module _ (room : 2 ≤ length s - 18 - n) (m : ℕ) (em : m ≡ loopLength s) where
-      pub has-parts : m + 2 ≤ length s - 18 - n → FrameRead.Whole (frameIn s) ≡ layoutOf s
+      pub has-parts : m + 2 ≤ length s - 18 - n → FrameRead.Is (frameIn s) ≡ layoutOf s
       unfolding layoutOf roomAfter
       has-parts h = rw (not-set, ← em, ← en, le-ltb (length s - 18) n fits, le-ltb (length s - 18 - n) 2 room, le-ltb (length s - 18 - n) (m + 2) h)
 
@@ -134,24 +134,24 @@ pub is-refused : (s : List ℕ) (x : Refusal) → FrameRead.Refused x ≡ frameO
 unfolding sectionOf
 is-refused s x e = ap (λ (f : FrameRead). through f (headerOf (drop 3 s)) (movedRead (commandRead s))) e
 
-pub is-accepted : (s : List ℕ) (v : Frame) (r : SectionRead) → FrameRead.Whole v ≡ frameOf s → r ≡ accepted (headerOf (drop 3 s)) (movedRead (commandRead s)) v → r ≡ sectionOf s
+pub is-accepted : (s : List ℕ) (v : Frame) (r : SectionRead) → FrameRead.Is v ≡ frameOf s → r ≡ accepted (headerOf (drop 3 s)) (movedRead (commandRead s)) v → r ≡ sectionOf s
 unfolding sectionOf
 is-accepted s v r e f = f ∙ ap (λ (x : FrameRead). through x (headerOf (drop 3 s)) (movedRead (commandRead s))) e
 
 -- what a whole frame says
 abbrev asNumber : FrameRead → ℕ
-asNumber (FrameRead.Whole v) = 1
+asNumber (FrameRead.Is v) = 1
 asNumber (FrameRead.Refused x) = 0
 
-not-whole : {A : Type 0} (x : Refusal) (v : Frame) → FrameRead.Whole v ≡ FrameRead.Refused x → A
-not-whole x v e = let z : _≡_ {A = ℕ} 1 0 = ap asNumber e in absurd (omega (arith, z))
+not-laid : {A : Type 0} (x : Refusal) (v : Frame) → FrameRead.Is v ≡ FrameRead.Refused x → A
+not-laid x v e = let z : _≡_ {A = ℕ} 1 0 = ap asNumber e in absurd (omega (arith, z))
 
 abbrev placeIn : FrameRead → Frame → Frame
-placeIn (FrameRead.Whole v) w = v
+placeIn (FrameRead.Is v) w = v
 placeIn (FrameRead.Refused x) w = w
 
 tests : (b₁ b₂ b₃ b₄ b₅ b₆ b₇ b₈ b₉ : Bool) (v w : Frame)
-    → FrameRead.Whole w ≡ pick b₁ (FrameRead.Refused Refusal.SectionTooShort)
+    → FrameRead.Is w ≡ pick b₁ (FrameRead.Refused Refusal.SectionTooShort)
     (pick b₂ (FrameRead.Refused Refusal.InputTooLong)
     (pick b₃ (FrameRead.Refused Refusal.OtherTable)
     (pick b₄ (FrameRead.Refused Refusal.WrongCrc)
@@ -159,17 +159,17 @@ tests : (b₁ b₂ b₃ b₄ b₅ b₆ b₇ b₈ b₉ : Bool) (v w : Frame)
     (pick b₆ (FrameRead.Refused Refusal.Encrypted)
     (pick b₇ (FrameRead.Refused Refusal.CommandTooLong)
     (pick b₈ (FrameRead.Refused Refusal.NoLoopLength)
-    (pick b₉ (FrameRead.Refused Refusal.LoopTooLong) (FrameRead.Whole v)))))))))
+    (pick b₉ (FrameRead.Refused Refusal.LoopTooLong) (FrameRead.Is v)))))))))
     → (w ≡ v) × (b₂ ≡ false) × (b₅ ≡ false) × (b₇ ≡ false) × (b₈ ≡ false) × (b₉ ≡ false)
-tests true b₂ b₃ b₄ b₅ b₆ b₇ b₈ b₉ v w e = not-whole _ w e
-tests false true b₃ b₄ b₅ b₆ b₇ b₈ b₉ v w e = not-whole _ w e
-tests false false true b₄ b₅ b₆ b₇ b₈ b₉ v w e = not-whole _ w e
-tests false false false true b₅ b₆ b₇ b₈ b₉ v w e = not-whole _ w e
-tests false false false false true b₆ b₇ b₈ b₉ v w e = not-whole _ w e
-tests false false false false false true b₇ b₈ b₉ v w e = not-whole _ w e
-tests false false false false false false true b₈ b₉ v w e = not-whole _ w e
-tests false false false false false false false true b₉ v w e = not-whole _ w e
-tests false false false false false false false false true v w e = not-whole _ w e
+tests true b₂ b₃ b₄ b₅ b₆ b₇ b₈ b₉ v w e = not-laid _ w e
+tests false true b₃ b₄ b₅ b₆ b₇ b₈ b₉ v w e = not-laid _ w e
+tests false false true b₄ b₅ b₆ b₇ b₈ b₉ v w e = not-laid _ w e
+tests false false false true b₅ b₆ b₇ b₈ b₉ v w e = not-laid _ w e
+tests false false false false true b₆ b₇ b₈ b₉ v w e = not-laid _ w e
+tests false false false false false true b₇ b₈ b₉ v w e = not-laid _ w e
+tests false false false false false false true b₈ b₉ v w e = not-laid _ w e
+tests false false false false false false false true b₉ v w e = not-laid _ w e
+tests false false false false false false false false true v w e = not-laid _ w e
 tests false false false false false false false false false v w e = (ap (λ (f : FrameRead). placeIn f v) e, refl, refl, refl, refl, refl)
 
 pub record Framed (s : List ℕ) (v : Frame) : Type 0 where
@@ -180,7 +180,7 @@ pub record Framed (s : List ℕ) (v : Frame) : Type 0 where
   pub long : 18 ≤ length s
   pub fits : 20 + commandLength s + loopLength s ≤ length s
 
-pub framed : (s : List ℕ) (v : Frame) → FrameRead.Whole v ≡ frameOf s → Framed s v
+pub framed : (s : List ℕ) (v : Frame) → FrameRead.Is v ≡ frameOf s → Framed s v
 unfolding frameOf roomAfter loopPlace frameIn
 framed s v e =
     let t = tests (ltb (length s) 3) (ltb 4096 (length s)) (not (eqb (getD s 0 0) 0xfc)) (not (eqb (crcOf s) 0)) (ltb (length s) 18)
@@ -199,13 +199,13 @@ framed s v e =
     }
 
 -- the bytes of its two parts, by the views of the frame
-pub command-viewed : (s : List ℕ) (v : Frame) → FrameRead.Whole v ≡ frameOf s → viewed s (v .command) ≡ commandBytes s
+pub command-viewed : (s : List ℕ) (v : Frame) → FrameRead.Is v ≡ frameOf s → viewed s (v .command) ≡ commandBytes s
 unfolding viewed frameIn commandBytes
 command-viewed s v e =
     let f = framed s v e in
     rw (f .place, le-leb (14 + commandLength s) (length s) (omega (arith, f .fits)))
 
-pub loop-viewed : (s : List ℕ) (v : Frame) → FrameRead.Whole v ≡ frameOf s → viewed s (v .descriptors) ≡ loopBytes s
+pub loop-viewed : (s : List ℕ) (v : Frame) → FrameRead.Is v ≡ frameOf s → viewed s (v .descriptors) ≡ loopBytes s
 unfolding frameIn
 loop-viewed s v e = rw (framed s v e .place)
 

@@ -20,7 +20,7 @@ use Rattle.table.specs.Bits.{bitsOf, field}
 use Rattle.table.specs.Table.{number, bit, reserved, list}
 use Rattle.section.specs.Section.{commandLength, commandType, commandBytes, roomAfter, loopLength, loopPlace, frameIn, moved, movedRead, accepted, frameOf, sectionOf, numberOf}
 use Rattle.section.specs.Private.{layoutOf}
-use Rattle.section.specs.Whole.{wholeSectionOf}
+use Rattle.section.specs.Full.{fullSectionOf}
 use Rattle.section.specs.declared.FrameRead.{FrameRead}
 use Rattle.section.specs.declared.SectionRead.{SectionRead}
 use Rattle.section.proofs.Framing.{is-framed, no-loop, has-parts, is-refused, is-accepted, is-section}
@@ -111,7 +111,7 @@ of-39 =
     ∷ 0x00 ∷ 0x00 ∷ 0x00 ∷ 0x01 ∷ 0x7f ∷ 0x8f ∷ 0x02 ∷ 0x01 ∷ 0xfe ∷ 0x00 ∷ 0x00 ∷ 0x00 ∷ 0x05 ∷ 0x02 ∷ 0x7f ∷ 0x00 ∷ 0x09 ∷ 0x00 ∷ 0x00
     ∷ 0x00 ∷ 0x00 ∷ 0xc0 ∷ 0x07 ∷ 0xc4 ∷ 0x9b ∷ []
 
-pub row-components : wholeSectionOf of-39 .components
+pub row-components : fullSectionOf of-39 .components
     ≡ record { «component_tag» = 1; «splice_time» = SpliceTime.At 5 } ∷ record { «component_tag» = 2; «splice_time» = SpliceTime.Unspecified } ∷ replicate 253 blank
-unfolding wholeSectionOf sectionOf frameOf frameIn accepted movedRead moved commandLength commandType commandBytes roomAfter loopLength crcOf crcBits crcBit headerOf headerRead spliceHeader commandOf componentsOf array insert active ending moded breakDuration timeUnless component spliceTime number bit reserved list
+unfolding fullSectionOf sectionOf frameOf frameIn accepted movedRead moved commandLength commandType commandBytes roomAfter loopLength crcOf crcBits crcBit headerOf headerRead spliceHeader commandOf componentsOf array insert active ending moded breakDuration timeUnless component spliceTime number bit reserved list
 row-components = refl

@@ -1,3 +1,3 @@
 pub mod Section
-pub mod Whole
+pub mod Full
 pub mod Private

@@ -11,4 +11,4 @@ viewStart c = privateView c .at
 
 -- the frame of a section that has a header: refusals 6 to 9
 unfoldable pub layoutOf : List ℕ → FrameRead
-layoutOf s = unlessFirst (layoutTests s) (FrameRead.Whole (frameIn s))
+layoutOf s = unlessFirst (layoutTests s) (FrameRead.Is (frameIn s))

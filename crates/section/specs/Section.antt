@@ -109,7 +109,7 @@ unlessFirst [] r = r
 unlessFirst (t ∷ ts) r = pick (t .0) (FrameRead.Refused (t .1)) (unlessFirst ts r)
 
 unfoldable pub frameOf : List ℕ → FrameRead
-frameOf s = unlessFirst (frameTests s) (FrameRead.Whole (frameIn s))
+frameOf s = unlessFirst (frameTests s) (FrameRead.Is (frameIn s))
 
 -- ---- the reading
 -- a command whose views count from `base` bytes before its payload
@@ -131,7 +131,7 @@ accepted HeaderRead.NoHeader r f = SectionRead.Refused Refusal.NoHeader
 
 -- a frame that is refused refuses the section
 abbrev pub through : FrameRead → HeaderRead → CommandRead → SectionRead
-through (FrameRead.Whole f) h r = accepted h r f
+through (FrameRead.Is f) h r = accepted h r f
 through (FrameRead.Refused x) h r = SectionRead.Refused x
 
 -- 1 to 9, and then 10 and 11

@@ -22,7 +22,7 @@ use table::View;
 use table::lent::view;
 use table::numbers::wide;
 
-pub mod whole;
+pub mod full;
 
 // A section has at most so many bytes.
 pub const MAX_SECTION: usize = 4096;
@@ -87,7 +87,7 @@ pub struct Frame {
 
 // Where the parts lie; or refusals 1 to 9, those that come before the command.
 pub enum FrameRead {
-    Whole(Frame),
+    Is(Frame),
     Refused(Refusal),
 }
 
@@ -122,42 +122,42 @@ fn move_command(c: SpliceCommand, base: usize) -> SpliceCommand
 // ---- the frame
 
 // splice_command_length: four bits of byte 11, and byte 12.
-fn command_length(s: &[u8]) -> usize
-    requires { ⌜ 18 ≤ length (now s) ⌝ }
-    ensures { λ r. ⌜ (r ≡ commandLength (now (s .entry))) × (r < 4096) ⌝ }
+fn command_length(section: &[u8]) -> usize
+    requires { ⌜ 18 ≤ length (now section) ⌝ }
+    ensures { λ r. ⌜ (r ≡ commandLength (now (section .entry))) × (r < 4096) ⌝ }
 {
-    (wide(s[11]) % 16 * 256 + wide(s[12])) as usize
+    (wide(section[11]) % 16 * 256 + wide(section[12])) as usize
 }
 
 // The number in the two bytes at a place.
-fn two_bytes(s: &[u8], at: usize) -> usize
-    requires { ⌜ at + 2 ≤ length (now s) ⌝ }
-    ensures { λ r. ⌜ (r ≡ field (bitsOf (now (s .entry))) (at * 8) 16) × (r < 65536) ⌝ }
+fn two_bytes(section: &[u8], at: usize) -> usize
+    requires { ⌜ at + 2 ≤ length (now section) ⌝ }
+    ensures { λ r. ⌜ (r ≡ field (bitsOf (now (section .entry))) (at * 8) 16) × (r < 65536) ⌝ }
 {
-    (wide(s[at]) * 256 + wide(s[at + 1])) as usize
+    (wide(section[at]) * 256 + wide(section[at + 1])) as usize
 }
 
 // Refusals 6 to 9.
-fn read_layout(s: &[u8]) -> FrameRead
-    requires { ⌜ (18 ≤ length (now s)) × (length (now s) ≤ 4096) ⌝ }
-    ensures { λ r. ⌜ r ≡ layoutOf (now (s .entry)) ⌝ }
+fn read_layout(section: &[u8]) -> FrameRead
+    requires { ⌜ (18 ≤ length (now section)) × (length (now section) ≤ 4096) ⌝ }
+    ensures { λ r. ⌜ r ≡ layoutOf (now (section .entry)) ⌝ }
 {
-    if 128 <= s[4] {
+    if 128 <= section[4] {
         return FrameRead::Refused(Refusal::Encrypted);
     }
-    let size = command_length(s);
-    if s.len() - LEAST_WITH_HEADER < size {
+    let size = command_length(section);
+    if section.len() - LEAST_WITH_HEADER < size {
         return FrameRead::Refused(Refusal::CommandTooLong);
     }
-    let room = s.len() - LEAST_WITH_HEADER - size;
+    let room = section.len() - LEAST_WITH_HEADER - size;
     if room < 2 {
         return FrameRead::Refused(Refusal::NoLoopLength);
     }
-    let extent = two_bytes(s, COMMAND_AT + size);
+    let extent = two_bytes(section, COMMAND_AT + size);
     if room < extent + 2 {
         return FrameRead::Refused(Refusal::LoopTooLong);
     }
-    FrameRead::Whole(Frame {
+    FrameRead::Is(Frame {
         command: View {
             at: COMMAND_AT,
             len: size,
@@ -171,32 +171,32 @@ fn read_layout(s: &[u8]) -> FrameRead
 
 // Refusals 1 to 9, in their order. A function of its own: its answers meet in `read_frame`, which is then so small that the compiler puts it in place of
 // its calls.
-fn test_frame(s: &[u8]) -> FrameRead
-    ensures { λ r. ⌜ r ≡ frameOf (now (s .entry)) ⌝ }
+fn test_frame(section: &[u8]) -> FrameRead
+    ensures { λ r. ⌜ r ≡ frameOf (now (section .entry)) ⌝ }
 {
-    if s.len() < 3 {
+    if section.len() < 3 {
         return FrameRead::Refused(Refusal::SectionTooShort);
     }
-    if MAX_SECTION < s.len() {
+    if MAX_SECTION < section.len() {
         return FrameRead::Refused(Refusal::InputTooLong);
     }
-    if s[0] != 0xFC {
+    if section[0] != 0xFC {
         return FrameRead::Refused(Refusal::OtherTable);
     }
-    if crc32(s) != 0 {
+    if crc32(section) != 0 {
         return FrameRead::Refused(Refusal::WrongCrc);
     }
-    if s.len() < LEAST_WITH_HEADER {
+    if section.len() < LEAST_WITH_HEADER {
         return FrameRead::Refused(Refusal::NoHeader);
     }
-    read_layout(s)
+    read_layout(section)
 }
 
 // Where command and loop lie, in a section whose parts are all there. Only its command is still to be read.
-pub fn read_frame(s: &[u8]) -> FrameRead
-    ensures { λ r. ⌜ r ≡ frameOf (now (s .entry)) ⌝ }
+pub fn read_frame(section: &[u8]) -> FrameRead
+    ensures { λ r. ⌜ r ≡ frameOf (now (section .entry)) ⌝ }
 {
-    test_frame(s)
+    test_frame(section)
 }
 
 // ---- the reading
@@ -214,18 +214,18 @@ pub fn read_command_part(command_type: u8, payload: &[u8]) -> CommandRead
 }
 
 // The header and the command of a section whose parts are all there, beside its frame.
-fn read_parts(s: &[u8], frame: Frame) -> SectionRead
-    requires { ⌜ (frame ≡ frameIn (now s)) × (16 + commandLength (now s) ≤ length (now s)) ⌝ }
-    ensures { λ r. ⌜ r ≡ accepted (headerOf (drop 3 (now (s .entry)))) (movedRead (commandOf (commandType (now (s .entry))) (commandBytes (now (s .entry))))) (frameIn (now (s .entry))) ⌝ }
+fn read_parts(section: &[u8], frame: Frame) -> SectionRead
+    requires { ⌜ (frame ≡ frameIn (now section)) × (16 + commandLength (now section) ≤ length (now section)) ⌝ }
+    ensures { λ r. ⌜ r ≡ accepted (headerOf (drop 3 (now (section .entry)))) (movedRead (commandOf (commandType (now (section .entry))) (commandBytes (now (section .entry))))) (frameIn (now (section .entry))) ⌝ }
 {
-    let header = match read_header(&s[3..]) {
+    let header = match read_header(&section[3..]) {
         HeaderRead::Header(h) => h,
         HeaderRead::NoHeader => return SectionRead::Refused(Refusal::NoHeader),
     };
     let payload = frame.command;
     let descriptors = frame.descriptors;
     let end = COMMAND_AT + payload.len;
-    match read_command(s[COMMAND_TYPE_AT], &s[COMMAND_AT..end]) {
+    match read_command(section[COMMAND_TYPE_AT], &section[COMMAND_AT..end]) {
         CommandRead::Is(c) => SectionRead::Is(Section {
             header,
             command: move_command(c, COMMAND_AT),
@@ -238,36 +238,36 @@ fn read_parts(s: &[u8], frame: Frame) -> SectionRead
 }
 
 // The section in these bytes.
-pub fn read_section(s: &[u8]) -> SectionRead
-    ensures { λ r. ⌜ r ≡ sectionOf (now (s .entry)) ⌝ }
+pub fn read_section(section: &[u8]) -> SectionRead
+    ensures { λ r. ⌜ r ≡ sectionOf (now (section .entry)) ⌝ }
 {
-    match read_frame(s) {
-        FrameRead::Whole(frame) => return read_parts(s, frame),
+    match read_frame(section) {
+        FrameRead::Is(frame) => return read_parts(section, frame),
         FrameRead::Refused(r) => return SectionRead::Refused(r),
     }
 }
 
 // The loop of a section, as a part of the lent bytes.
-pub fn loop_of(s: &[u8], x: Section) -> &[u8]
-    ensures { λ r. ⌜ now r ≡ viewed (now (s .entry)) (x .descriptors) ⌝ }
+pub fn loop_of(section: &[u8], x: Section) -> &[u8]
+    ensures { λ r. ⌜ now r ≡ viewed (now (section .entry)) (x .descriptors) ⌝ }
 {
     let place = x.descriptors;
-    view(s, place)
+    view(section, place)
 }
 
 // The bytes of a private command, as a part of the lent section; none of any other command.
-pub fn private_bytes_of(s: &[u8], c: SpliceCommand) -> &[u8]
-    ensures { λ r. ⌜ now r ≡ viewed (now (s .entry)) (privateView c) ⌝ }
+pub fn private_bytes_of(section: &[u8], c: SpliceCommand) -> &[u8]
+    ensures { λ r. ⌜ now r ≡ viewed (now (section .entry)) (privateView c) ⌝ }
 {
     let nothing = View { at: 0, len: 0 };
     match c {
         SpliceCommand::PrivateCommand(p) => {
             let place = p.private_bytes;
-            view(s, place)
+            view(section, place)
         }
-        SpliceCommand::SpliceNull => view(s, nothing),
-        SpliceCommand::SpliceInsert(_) => view(s, nothing),
-        SpliceCommand::TimeSignal(_) => view(s, nothing),
-        SpliceCommand::BandwidthReservation => view(s, nothing),
+        SpliceCommand::SpliceNull => view(section, nothing),
+        SpliceCommand::SpliceInsert(_) => view(section, nothing),
+        SpliceCommand::TimeSignal(_) => view(section, nothing),
+        SpliceCommand::BandwidthReservation => view(section, nothing),
     }
 }

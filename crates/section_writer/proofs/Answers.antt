@@ -11,7 +11,7 @@ use lib.Dec.{eqb, leb}
 use lib.ListN.{length, take}
 use borrow.Author.Tests.{le-leb, lt-leb, leb-true, leb-false, eq-eqb, ne-eqb, eqb-true, eqb-false}
 use Rattle.command.specs.declared.SpliceCommand.{SpliceCommand}
-use Rattle.command.specs.declared.components.ComponentSplice.{ComponentSplice}
+use Rattle.command.specs.declared.components.InsertComponent.{InsertComponent}
 use Rattle.command_measure.specs.Made.{commandMade, measuredOf}
 use Rattle.command_measure.specs.declared.Measured.{Measured}
 use Rattle.canonical_form.specs.Descriptor.{canonicalLoop}
@@ -55,7 +55,7 @@ module _ (h : SpliceInfoHeader) (m : Measured) (loop : List ℕ) (room : ℕ) (k
   short-enough z = tests-passed h (m .refusal) (m .size) (length loop) k (sym en ∙ omega arith) .2
 
 -- ---- the section, of what its command measures
-module _ (h : SpliceInfoHeader) (c : SpliceCommand) (cs : List ComponentSplice) (lent loop : List ℕ) (m : Measured) (em : m ≡ measuredOf (commandMade c cs lent)) where
+module _ (h : SpliceInfoHeader) (c : SpliceCommand) (cs : List InsertComponent) (lent loop : List ℕ) (m : Measured) (em : m ≡ measuredOf (commandMade c cs lent)) where
   abbrev payload : List ℕ
   payload = bytesIn (commandMade c cs lent)
 

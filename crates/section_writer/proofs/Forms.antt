@@ -72,22 +72,22 @@ module _ (s : List ℕ) where
 abbrev pub readAs : SpliceInfoHeader → SpliceCommand → Frame → Section
 readAs h c p = record { header = h; command = moved 14 c; descriptors = p .descriptors; payload = p .command }
 
-module _ (s : List ℕ) (p : Frame) (whole : FrameRead.Whole p ≡ frameOf s) where
+module _ (s : List ℕ) (p : Frame) (laid : FrameRead.Is p ≡ frameOf s) where
   there : (x : SpliceInfoHeader) × (headerOf (drop 3 s) ≡ HeaderRead.Header x)
-  there = header-there (drop 3 s) (omega (arith, length-drop 3 s, frame.framed s p whole .long))
+  there = header-there (drop 3 s) (omega (arith, length-drop 3 s, frame.framed s p laid .long))
 
   here : (r : CommandRead) → commandOf (getD s 13 0) (take (14 + p .command .len - 14) (drop 14 s)) ≡ r → frame.commandRead s ≡ r
-  here r e = sym (frame.command-at s p (frame.framed s p whole .place)) ∙ e
+  here r e = sym (frame.command-at s p (frame.framed s p laid .place)) ∙ e
 
   pub is-read : (c : SpliceCommand) → commandOf (getD s 13 0) (take (14 + p .command .len - 14) (drop 14 s)) ≡ CommandRead.Is c → (x : SpliceInfoHeader) × (d : SpliceCommand) × (sectionOf s ≡ SectionRead.Is (readAs x d p))
   is-read c e =
-      (there .0, c, sym (frame.is-accepted s p _ whole (frame.is-section _ (there .0) (there .1) _ p c (moved 14 c) p (here (CommandRead.Is c) e) refl refl)))
+      (there .0, c, sym (frame.is-accepted s p _ laid (frame.is-section _ (there .0) (there .1) _ p c (moved 14 c) p (here (CommandRead.Is c) e) refl refl)))
 
   pub is-unknown : commandOf (getD s 13 0) (take (14 + p .command .len - 14) (drop 14 s)) ≡ CommandRead.UnknownType → false ≡ canonicalFrame s
-  is-unknown e = not-accepted s Refusal.UnknownCommand (sym (frame.is-accepted s p _ whole (frame.is-unknown _ (there .0) (there .1) _ _ (here CommandRead.UnknownType e))))
+  is-unknown e = not-accepted s Refusal.UnknownCommand (sym (frame.is-accepted s p _ laid (frame.is-unknown _ (there .0) (there .1) _ _ (here CommandRead.UnknownType e))))
 
   pub is-malformed : commandOf (getD s 13 0) (take (14 + p .command .len - 14) (drop 14 s)) ≡ CommandRead.Malformed → false ≡ canonicalFrame s
-  is-malformed e = not-accepted s Refusal.MalformedCommand (sym (frame.is-accepted s p _ whole (frame.is-malformed _ (there .0) (there .1) _ _ (here CommandRead.Malformed e))))
+  is-malformed e = not-accepted s Refusal.MalformedCommand (sym (frame.is-accepted s p _ laid (frame.is-malformed _ (there .0) (there .1) _ _ (here CommandRead.Malformed e))))
 
 -- ---- what the canonical form of a frame says
 pub record Framed (s : List ℕ) : Type 0 where

@@ -10,5 +10,5 @@ pub mod Commands
 pub mod Theorems
 pub mod Rows
 pub mod Answers
-pub mod Whole
+pub mod FullTrips
 pub mod Sections

@@ -24,13 +24,13 @@ module _ (s : List ℕ) (f : Bool) (ef : f ≡ canonicalFrame s) where
   unfolding canonicalSection
   no-frame h = rw (← ef, not-true f h)
 
-  module _ (on : not f ≡ false) (p : Frame) (whole : FrameRead.Whole p ≡ frameOf s) (c : Bool) (ec : c ≡ canonicalCommand (getD s 13 0) (viewed s (p .command))) where
+  module _ (on : not f ≡ false) (p : Frame) (laid : FrameRead.Is p ≡ frameOf s) (c : Bool) (ec : c ≡ canonicalCommand (getD s 13 0) (viewed s (p .command))) where
     is-framed : canonicalFrame s ≡ true
     is-framed = sym ef ∙ not-false f on
 
     is-command : c ≡ canonicalCommand (commandType s) (commandBytes s)
     unfolding commandType
-    is-command = ec ∙ ap (canonicalCommand (getD s 13 0)) (command-viewed s p whole)
+    is-command = ec ∙ ap (canonicalCommand (getD s 13 0)) (command-viewed s p laid)
 
     pub no-command : not c ≡ true → false ≡ canonicalSection s
     unfolding canonicalSection
@@ -38,4 +38,4 @@ module _ (s : List ℕ) (f : Bool) (ef : f ≡ canonicalFrame s) where
 
     pub is-section : (l : Bool) → not c ≡ false → l ≡ canonicalLoop (viewed s (p .descriptors)) → l ≡ canonicalSection s
     unfolding canonicalSection
-    is-section l h el = rw (is-framed, ← is-command, not-false c h) (el ∙ ap canonicalLoop (loop-viewed s p whole))
+    is-section l h el = rw (is-framed, ← is-command, not-false c h) (el ∙ ap canonicalLoop (loop-viewed s p laid))

@@ -24,7 +24,7 @@ use Rattle.table.proofs.Lists.{append-nil, zero-one}
 use Rattle.table.proofs.Stores.{stored-fits, stored-append}
 use Rattle.section_writer.specs.Frame.{headed, headerBytes, opening, head, withLength, body, frame, numbersFit, writableHead}
 use Rattle.section.specs.Section.{sectionLength}
-use Rattle.section_writer.specs.Private.{frontNumber, backNumber, tail}
+use Rattle.section_writer.specs.Private.{firstNumber, lastNumber, tail}
 use Rattle.section_writer.proofs.Backs.{opening-is}
 use Rattle.section_writer.proofs.Frames.{length-with-length}
 use Rattle.section_writer.proofs.Heads.{Fitting, fitting, fits-within, clear, length-head}
@@ -71,11 +71,11 @@ unfolding headed spliceHeader number bit
 header-bits h size command-type e = rw (e, command-laws .there command-type)
 
 module _ (h : SpliceInfoHeader) (command-type size : ℕ) (fits : Fitting h) (plain : h .«encrypted_packet» ≡ false) (narrow : size < 2 ^ 12) (byte : command-type < 2 ^ 8) where
-  header-numbers : headerBytes (headed h size command-type) ≡ bigEndian 6 (frontNumber h) ++ bigEndian 5 (backNumber h command-type size)
-  unfolding headerBytes frontNumber backNumber
+  header-numbers : headerBytes (headed h size command-type) ≡ bigEndian 6 (firstNumber h) ++ bigEndian 5 (lastNumber h command-type size)
+  unfolding headerBytes firstNumber lastNumber
   header-numbers =
-      let a = frontNumber h in
-      let b = backNumber h command-type size in
+      let a = firstNumber h in
+      let b = lastNumber h command-type size in
       let e : print (contents [] (walk spliceHeader (headed h size command-type) 0 .fields)) ≡ bitsOfNum 48 a ++ bitsOfNum 40 b =
       header-bits h size command-type plain
       ∙ ap₂ (λ (l r : List ℕ). l ++ r) (front-bits (h .«protocol_version») (algorithmNumber (h .«encryption_algorithm»)) (h .«pts_adjustment») (fits .algorithm) (fits .adjustment))
@@ -100,7 +100,7 @@ three-stores t a b c la lb lc n =
     ∙ stored-append t 0 (a ++ b) c (omega arith) ∙ ap (stored t 0) (append-assoc a b c)
 
 pub head-stored : (t u v w : List ℕ) (h : SpliceInfoHeader) (command-type size extent f g : ℕ) → u ≡ stored t 0 (bigEndian 3 (0xfc3000 + (17 + size + extent)))
-    → v ≡ stored u 3 (bigEndian 6 f) → w ≡ stored v 9 (bigEndian 5 g) → f ≡ frontNumber h → g ≡ backNumber h command-type size
+    → v ≡ stored u 3 (bigEndian 6 f) → w ≡ stored v 9 (bigEndian 5 g) → f ≡ firstNumber h → g ≡ lastNumber h command-type size
     → numbersFit h ≡ true → writableHead h ≡ true → command-type < 2 ^ 8 → sectionLength size extent ≤ 4096 → 14 ≤ length t → w ≡ stored t 0 (head h command-type size extent)
 unfolding head
 head-stored t u v w h command-type size extent f g e₁ e₂ e₃ ef eg fit writable byte short room =

@@ -23,11 +23,11 @@ use Rattle.section_writer.specs.Frame.{headed, withLength}
 use Rattle.section_writer.specs.Writing.{writerConditions}
 
 -- the numbers in the first six and in the last five bytes of a header that is not encrypted
-unfoldable pub frontNumber : SpliceInfoHeader → ℕ
-frontNumber h = (h .«protocol_version» * 128 + algorithmNumber (h .«encryption_algorithm»)) * 2 ^ 33 + h .«pts_adjustment»
+unfoldable pub firstNumber : SpliceInfoHeader → ℕ
+firstNumber h = (h .«protocol_version» * 128 + algorithmNumber (h .«encryption_algorithm»)) * 2 ^ 33 + h .«pts_adjustment»
 
-unfoldable pub backNumber : SpliceInfoHeader → ℕ → ℕ → ℕ
-backNumber h command-type size = ((h .«cw_index» * 4096 + h .tier) * 4096 + size) * 256 + command-type
+unfoldable pub lastNumber : SpliceInfoHeader → ℕ → ℕ → ℕ
+lastNumber h command-type size = ((h .«cw_index» * 4096 + h .tier) * 4096 + size) * 256 + command-type
 
 -- what follows the command, where `before` stands before it
 unfoldable pub tail : List ℕ → List ℕ → List ℕ

@@ -6,7 +6,7 @@ use mathlib.Core.Path.{_≡_}
 use lib.ListN.{length}
 use Rattle.command.specs.Command.{withView}
 use Rattle.command.specs.declared.SpliceCommand.{SpliceCommand}
-use Rattle.command.specs.declared.components.ComponentSplice.{ComponentSplice}
+use Rattle.command.specs.declared.components.InsertComponent.{InsertComponent}
 use Rattle.command_measure.specs.Made.{commandMade}
 use Rattle.header.specs.declared.header.SpliceInfoHeader.{SpliceInfoHeader}
 use Rattle.section.specs.Section.{loopBytes, moved, sectionOf}
@@ -21,7 +21,7 @@ abbrev pub ownOf : SpliceCommand → SpliceCommand
 ownOf c = withView (λ v. record { at = 4; len = v .len }) c
 
 -- of a header, a command with its components, and a loop
-pub record ReadsBack (h : SpliceInfoHeader) (c : SpliceCommand) (cs : List ComponentSplice) (lent loop b : List ℕ) : Type 0 where
+pub record ReadsBack (h : SpliceInfoHeader) (c : SpliceCommand) (cs : List InsertComponent) (lent loop b : List ℕ) : Type 0 where
   pub payload : List ℕ
   pub command : commandMade c cs lent ≡ made payload
   pub reads : sectionOf b ≡ SectionRead.Is (record { header = headed h (length payload) (typeOf c); command = moved 14 (ownOf c); descriptors = record { at = 16 + length payload; len = length loop }; payload = record { at = 14; len = length payload } })

@@ -12,12 +12,12 @@ ghost use Rattle.command_measure.specs.Made.{commandMade};
 ghost use Rattle.bit_stores.specs.Written.{answerOf, laterOf};
 ghost use Rattle.section_writer.specs.Writing.{writerConditions, typeOf, sectionMade};
 ghost use Rattle.section.specs.declared.FrameRead.{FrameRead};
-ghost use Rattle.section_writer.specs.Private.{frontNumber, backNumber, tail, answerSection};
+ghost use Rattle.section_writer.specs.Private.{firstNumber, lastNumber, tail, answerSection};
 ghost use Rattle.table.specs.Lent.{stored};
 use bit_stores::Written;
 use command::CommandRead;
 use command::SpliceCommand;
-use command::components::ComponentSplice;
+use command::components::InsertComponent;
 use command::components::MAX_COMPONENTS;
 use command::read_command;
 use command_canonical::is_canonical_command;
@@ -108,9 +108,9 @@ fn refusal_of(header: SpliceInfoHeader, r: u8, size: usize, extent: usize, canon
 // ---- the stores
 
 // The first six bytes of a header that is not encrypted: version 8, encrypted 1, algorithm 6, pts_adjustment 33.
-fn front_number(header: SpliceInfoHeader) -> u64
+fn first_number(header: SpliceInfoHeader) -> u64
     requires { ⌜ numbersFit header ≡ true ⌝ }
-    ensures { λ r. ⌜ r ≡ frontNumber header ⌝ }
+    ensures { λ r. ⌜ r ≡ firstNumber header ⌝ }
 {
     let algorithm = header.encryption_algorithm;
     (wide(header.protocol_version) * 128 + wide(algorithm.id())) * 0x2_0000_0000
@@ -118,9 +118,9 @@ fn front_number(header: SpliceInfoHeader) -> u64
 }
 
 // Its last five: cw_index 8, tier 12, command length 12, command type 8.
-fn back_number(header: SpliceInfoHeader, command_type: u8, size: usize) -> u64
+fn last_number(header: SpliceInfoHeader, command_type: u8, size: usize) -> u64
     requires { ⌜ (numbersFit header ≡ true) × (size < 2 ^ 12) ⌝ }
-    ensures { λ r. ⌜ r ≡ backNumber header «command_type» size ⌝ }
+    ensures { λ r. ⌜ r ≡ lastNumber header «command_type» size ⌝ }
 {
     ((wide(header.cw_index) * 4096 + header.tier as u64) * 4096 + size as u64) * 256
         + wide(command_type)
@@ -132,8 +132,8 @@ fn put_head(out: &mut [u8], header: SpliceInfoHeader, command_type: u8, size: us
     ensures { λ _. ⌜ now (out .exit) ≡ stored (now (out .entry)) 0 (head header «command_type» size extent) ⌝ }
 {
     put_number(out, 0, 3, 0xFC_3000 + (17 + size + extent) as u64);
-    put_number(out, 3, 6, front_number(header));
-    put_number(out, 9, 5, back_number(header, command_type, size));
+    put_number(out, 3, 6, first_number(header));
+    put_number(out, 9, 5, last_number(header, command_type, size));
 }
 
 // All behind the command, which ends at `at`: the loop's length, the loop, and the CRC of all that stands before it.
@@ -190,7 +190,7 @@ fn answer_section(
 pub fn write_section(
     header: SpliceInfoHeader,
     command: SpliceCommand,
-    components: [ComponentSplice; MAX_COMPONENTS],
+    components: [InsertComponent; MAX_COMPONENTS],
     lent: &[u8],
     descriptors: &[u8],
     target: &mut [u8],
@@ -212,7 +212,7 @@ pub fn write_section(
     answer
 }
 
-// The same of a command whose components are all blank: one that has none needs no array.
+// A section, as `write_section` writes it, of a command whose components are all blank: one that has none needs no array.
 pub fn write_section_without_components(
     header: SpliceInfoHeader,
     command: SpliceCommand,
@@ -240,55 +240,55 @@ pub fn write_section_without_components(
 // ---- the canonical form
 
 // What the canonical form asks around command and loop of a section that has this frame.
-fn is_canonical_around(s: &[u8], frame: Frame) -> bool
-    requires { ⌜ FrameRead.Whole frame ≡ frameOf (now s) ⌝ }
-    ensures { λ r. ⌜ r ≡ canonicalFrame (now (s .entry)) ⌝ }
+fn is_canonical_around(section: &[u8], frame: Frame) -> bool
+    requires { ⌜ FrameRead.Is frame ≡ frameOf (now section) ⌝ }
+    ensures { λ r. ⌜ r ≡ canonicalFrame (now (section .entry)) ⌝ }
 {
     let payload = frame.command;
     let end = COMMAND_AT + payload.len;
-    match read_command(s[COMMAND_TYPE_AT], &s[COMMAND_AT..end]) {
+    match read_command(section[COMMAND_TYPE_AT], &section[COMMAND_AT..end]) {
         CommandRead::Is(_) => {}
         CommandRead::UnknownType => return false,
         CommandRead::Malformed => return false,
     }
-    if bits(s, 1, 0, 4) != 0b0011 {
+    if bits(section, 1, 0, 4) != 0b0011 {
         return false;
     }
-    if bits(s, 1, 4, 12) as usize != s.len() - 3 {
+    if bits(section, 1, 4, 12) as usize != section.len() - 3 {
         return false;
     }
     let descriptors = frame.descriptors;
-    if s.len() != descriptors.at + descriptors.len + 4 {
+    if section.len() != descriptors.at + descriptors.len + 4 {
         return false;
     }
     true
 }
 
 // What the canonical form asks of a section around its command and its loop.
-pub fn is_canonical_frame(s: &[u8]) -> bool
-    ensures { λ r. ⌜ r ≡ canonicalFrame (now (s .entry)) ⌝ }
+pub fn is_canonical_frame(section: &[u8]) -> bool
+    ensures { λ r. ⌜ r ≡ canonicalFrame (now (section .entry)) ⌝ }
 {
-    match read_frame(s) {
-        FrameRead::Whole(frame) => return is_canonical_around(s, frame),
+    match read_frame(section) {
+        FrameRead::Is(frame) => return is_canonical_around(section, frame),
         FrameRead::Refused(_) => return false,
     }
 }
 
 // Is the section canonical: its frame, its command and its loop?
-pub fn is_canonical_section(s: &[u8]) -> bool
-    ensures { λ r. ⌜ r ≡ canonicalSection (now (s .entry)) ⌝ }
+pub fn is_canonical_section(section: &[u8]) -> bool
+    ensures { λ r. ⌜ r ≡ canonicalSection (now (section .entry)) ⌝ }
 {
-    let frame = match read_frame(s) {
-        FrameRead::Whole(f) => f,
+    let frame = match read_frame(section) {
+        FrameRead::Is(f) => f,
         FrameRead::Refused(_) => return false,
     };
-    if !is_canonical_around(s, frame) {
+    if !is_canonical_around(section, frame) {
         return false;
     }
     let payload = frame.command;
-    if !is_canonical_command(s[COMMAND_TYPE_AT], view(s, payload)) {
+    if !is_canonical_command(section[COMMAND_TYPE_AT], view(section, payload)) {
         return false;
     }
     let descriptors = frame.descriptors;
-    is_canonical_loop(view(s, descriptors))
+    is_canonical_loop(view(section, descriptors))
 }

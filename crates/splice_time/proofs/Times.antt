@@ -106,9 +106,9 @@ module _ (s : List ℕ) (i : ℕ) where
     first : field (bitsOf s) (i * 8) 1 ≡ getD s i 0 / 128 % 2
     first = ap (λ (p : ℕ). field (bitsOf s) p 1) (sym (add-zero (i * 8))) ∙ field-in s i there byte 0 1 7 refl
 
-    pub whole-unspecified : getD s i 0 < 128 → TimeRead.Got (record { time = Unspecified; next = record { byte = i + 1; bit = 0 } }) ≡ timeRead (parse spliceTime (bitsOf s) (i * 8))
+    pub aligned-unspecified : getD s i 0 < 128 → TimeRead.Got (record { time = Unspecified; next = record { byte = i + 1; bit = 0 } }) ≡ timeRead (parse spliceTime (bitsOf s) (i * 8))
     unfolding spliceTime timeRead cursorAt
-    whole-unspecified h =
+    aligned-unspecified h =
         let z : getD s i 0 / 128 % 2 ≡ 0 = omega arith in
         let b : (i * 8 + 1 + 7) / 8 ≡ i + 1 = omega arith in
         let c : (i * 8 + 1 + 7) % 8 ≡ 0 = omega arith in
@@ -118,16 +118,16 @@ module _ (s : List ℕ) (i : ℕ) where
       set : eqb (field (bitsOf s) (i * 8) 1) 1 ≡ true
       set = let z : getD s i 0 / 128 % 2 ≡ 1 = omega arith in ap (λ (x : ℕ). eqb x 1) (first ∙ z)
 
-      pub whole-short : (n : ℕ) → n ≡ length s - i → n < 5 → TimeRead.Lacks (record { expected = 4; actual = n - 1 }) ≡ timeRead (parse spliceTime (bitsOf s) (i * 8))
+      pub aligned-short : (n : ℕ) → n ≡ length s - i → n < 5 → TimeRead.Lacks (record { expected = 4; actual = n - 1 }) ≡ timeRead (parse spliceTime (bitsOf s) (i * 8))
       unfolding spliceTime timeRead
-      whole-short n e h =
+      aligned-short n e h =
           let z : (length s * 8 - (i * 8 + 1 + 6)) / 8 ≡ n - 1 = omega arith in
           rw (takes-flag s (i * 8) true _ _ (omega arith) set, takes-ones s (i * 8 + 1) 6 _ (omega arith), lacks-number s (i * 8 + 1 + 6) 33 ticks (λ t. done (At t)) (omega arith), z)
 
-      pub whole-at : (v : ℕ) → v ≡ field (bitsOf s) (i * 8 + 7) 33 → i + 5 ≤ length s
+      pub aligned-at : (v : ℕ) → v ≡ field (bitsOf s) (i * 8 + 7) 33 → i + 5 ≤ length s
           → TimeRead.Got (record { time = At v; next = record { byte = i + 5; bit = 0 } }) ≡ timeRead (parse spliceTime (bitsOf s) (i * 8))
       unfolding spliceTime timeRead cursorAt
-      whole-at v e h =
+      aligned-at v e h =
           let p : i * 8 + 1 + 6 ≡ i * 8 + 7 = omega arith in
           let b : (i * 8 + 1 + 6 + 33) / 8 ≡ i + 5 = omega arith in
           let c : (i * 8 + 1 + 6 + 33) % 8 ≡ 0 = omega arith in

@@ -31,7 +31,7 @@ pub enum TimeRead {
 }
 
 // The splice_time() that starts with a byte, as all of the standard's do.
-pub fn read_whole_time(s: &[u8], at: usize) -> TimeRead
+pub fn read_aligned_time(s: &[u8], at: usize) -> TimeRead
     ensures { λ r. ⌜ r ≡ timeRead (parse spliceTime (bitsOf (now (s .entry))) (at * 8)) ⌝ }
 {
     if s.len() <= at {
@@ -70,7 +70,7 @@ pub fn read_splice_time(s: &[u8], c: Cursor) -> TimeRead
     ensures { λ r. ⌜ r ≡ timeRead (parse spliceTime (bitsOf (now (s .entry))) (place c)) ⌝ }
 {
     if c.bit == 0 {
-        return read_whole_time(s, c.byte);
+        return read_aligned_time(s, c.byte);
     }
     let specified = match c.flag(s) {
         Flagged::Got(f) => f,

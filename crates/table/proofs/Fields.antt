@@ -83,8 +83,8 @@ module _ (s : List ℕ) (q : ℕ) (inside : q < length s) (byte : getD s q 0 < 2
   pub field-in : (j w k : ℕ) → j + w + k ≡ 8 → field (bitsOf s) (q * 8 + j) w ≡ getD s q 0 / 2 ^ k % 2 ^ w
   field-in j w k e =
       let room : q * 8 + j + w + k ≤ length (bitsOf s) = omega (arith, length-bits s) in
-      let whole : field (bitsOf s) (q * 8) (j + w + k) ≡ getD s q 0 = ap (field (bitsOf s) (q * 8)) e ∙ byte-field in
-      sym (ap (λ (x : ℕ). x / 2 ^ k % 2 ^ w) (sym whole ∙ field-add (bitsOf s) (q * 8) (j + w) k (omega arith))
+      let overall : field (bitsOf s) (q * 8) (j + w + k) ≡ getD s q 0 = ap (field (bitsOf s) (q * 8)) e ∙ byte-field in
+      sym (ap (λ (x : ℕ). x / 2 ^ k % 2 ^ w) (sym overall ∙ field-add (bitsOf s) (q * 8) (j + w) k (omega arith))
       ∙ ap (λ (x : ℕ). x % 2 ^ w) (high (field (bitsOf s) (q * 8) (j + w)) k (field-below (bitsOf s) (q * 8 + (j + w)) k (all-bits s) (omega arith)))
       ∙ ap (λ (x : ℕ). x % 2 ^ w) (field-add (bitsOf s) (q * 8) j w (omega arith))
       ∙ low (field (bitsOf s) (q * 8) j) w (field-below (bitsOf s) (q * 8 + j) w (all-bits s) (omega arith)))

@@ -13,13 +13,13 @@ use Rattle.c_command_writer.specs.Words.{within, same, placesOf}
 use Rattle.c_descriptor_writer.proofs.Own.{step-small, bytes-are, filled-length}
 use Rattle.c_descriptor_writer.specs.ItemGiven.{byteFrom}
 use Rattle.c_descriptor_writer.specs.ItemWords.{itemWords, itemWidths, eidrIn, placesGiven, placesWithin, besideWithin, viewFits, itemFits, DescriptorIs}
-use Rattle.c_items.specs.FlatItem.{flatDescriptor, segmentationItem, wholeSegmentation}
+use Rattle.c_items.specs.FlatItem.{flatDescriptor, segmentationItem, activeSegmentation}
 use Rattle.descriptor.specs.Segmentation.{countOf, frontOf}
-use Rattle.descriptor.specs.Whole.{filled}
+use Rattle.descriptor.specs.Full.{filled}
 use Rattle.descriptor.specs.declared.Descriptor.{Descriptor}
 use Rattle.descriptor.specs.declared.segmentation.DescriptorDetail.{DescriptorDetail}
-use Rattle.descriptor.specs.declared.segmentation.ModeComponent.{ModeComponent}
-use Rattle.descriptor.specs.declared.whole.Beside.{Beside}
+use Rattle.descriptor.specs.declared.segmentation.SegmentationComponent.{SegmentationComponent}
+use Rattle.descriptor.specs.declared.full.Beside.{Beside}
 use Rattle.descriptor_measure.specs.Writing.{countBeside}
 use Rattle.descriptor_round_trips.specs.Trips.{Handed}
 use Rattle.table.proofs.Bits.{length-bigEndian}
@@ -34,7 +34,7 @@ placed (suc n) words = (mod-lt (getD words 0 0) (lit< tt), placed n (drop 1 word
 -- the count of components is a word of eight bits
 module _ (words : List ℕ) (w : within itemWidths (drop 5 words) ≡ true) where
   few-in : (event : ℕ) (e : DescriptorDetail) → same (itemWords (segmentationItem event e)) (drop 6 words) ≡ true → countOf (frontOf e .«segmentation_mode») ≤ 255
-  unfolding itemWords itemWidths segmentationItem wholeSegmentation
+  unfolding itemWords itemWidths segmentationItem activeSegmentation
   few-in event DescriptorDetail.Cancel is = omega arith
   few-in event (DescriptorDetail.Active i) is =
       let z : getD words 18 0 ≡ countOf (i .«segmentation_mode») =
@@ -62,7 +62,7 @@ words-handed words beside lent d identifier b a fits is =
       four = ap length (is .identifies) ∙ length-bigEndian 4 (getD words 5 0);
       twelve = is .twelve;
       held = subst AllBytes (bytes-are 12 (b .eidr) (eidrIn beside) (is .twelve) (is .eidr) (e .1)) (placed 12 (eidrIn beside));
-      places = ap (λ (l : List ModeComponent). length l) (is .components) ∙ filled-length (is .listed) (omega (arith, is .count, n));
+      places = ap (λ (l : List SegmentationComponent). length l) (is .components) ∙ filled-length (is .listed) (omega (arith, is .count, n));
       count = n;
       are = a;
     }

@@ -12,30 +12,30 @@ use lib.Seq.{take-all, take-at}
 use borrow.Author.Tests.{lt-ltb, ltb-true, ltb-false, leb-true, le-leb}
 use Rattle.descriptor.specs.Plain.{dtmf, time, privateBytes}
 use Rattle.descriptor.specs.Segmentation.{blankComponent, countOf, frontOf, segmentation, ticks}
-use Rattle.descriptor.specs.Whole.{filled}
+use Rattle.descriptor.specs.Full.{filled}
 use Rattle.descriptor.specs.declared.Descriptor.{Descriptor}
 use Rattle.descriptor.specs.declared.plain.AvailDescriptor.{AvailDescriptor}
 use Rattle.descriptor.specs.declared.plain.DTMFDescriptor.{DTMFDescriptor}
 use Rattle.descriptor.specs.declared.plain.TimeDescriptor.{TimeDescriptor}
 use Rattle.descriptor.specs.declared.segmentation.DeliveryRestrictionFlags.{DeliveryRestrictionFlags}
-use Rattle.descriptor.specs.declared.segmentation.ModeComponent.{ModeComponent}
+use Rattle.descriptor.specs.declared.segmentation.SegmentationComponent.{SegmentationComponent}
 use Rattle.descriptor.specs.declared.segmentation.SegmentationDescriptor.{SegmentationDescriptor}
 use Rattle.descriptor.specs.declared.segmentation.DescriptorDetail.{DescriptorDetail}
 use Rattle.descriptor.specs.declared.segmentation.SegmentationDuration.{SegmentationDuration}
 use Rattle.descriptor.specs.declared.segmentation.SegmentationDetail.{SegmentationDetail}
 use Rattle.descriptor.specs.declared.segmentation.SegmentationMode.{SegmentationMode}
 use Rattle.descriptor.specs.declared.segmentation.SubSegments.{SubSegments}
-use Rattle.descriptor.specs.declared.whole.Beside.{Beside}
+use Rattle.descriptor.specs.declared.full.Beside.{Beside}
 use Rattle.descriptor_measure.proofs.Refusals.{view-out, upid-long, numbers-over}
 use Rattle.descriptor_measure.specs.Private.{componentsFields, modeFields, durationFields, numbersFit}
-use Rattle.descriptor_measure.specs.Writing.{framedMade, segmentationMade, payloadMade, descriptorMade, tagOf, identifierOf, upidIn, upidSource, writableSegment, writtenDetail, countBeside}
+use Rattle.descriptor_measure.specs.Writing.{envelopedMade, segmentationMade, payloadMade, descriptorMade, tagOf, identifierOf, upidIn, upidSource, writableSegment, writtenDetail, countBeside}
 use Rattle.c_descriptor_writer.proofs.Answered.{unseen-made}
 use Rattle.c_descriptor_writer.proofs.Back.{descriptor-back}
 use Rattle.c_descriptor_writer.proofs.Told.{mode-count}
 use Rattle.c_descriptor_writer.specs.ItemGiven.{descriptorGiven, identifierFrom, placeFrom, byteFrom, placesFrom, eidrFrom, besideFrom, ownItem, wordsRefusal, descriptorRefusal, descriptorWordsMade}
 use Rattle.c_descriptor_writer.specs.ItemWords.{itemWords, itemWidths, placesIn, eidrIn, placeWidths, placesWithin, besideWithin, itemSeen, hasEidr, besideThere}
 use Rattle.c_descriptor_writer.proofs.Typed.{TypedSubs, TypedInsert, TypedDetail, Typed}
-use Rattle.c_items.specs.FlatItem.{flatRestrictions, flatSubSegments, wholeSegmentation, segmentationHead, segmentationItem, flatDescriptor, flatItem, refusalIn, valuesIn, flatStep, flatComponent, flatBeside}
+use Rattle.c_items.specs.FlatItem.{flatRestrictions, flatSubSegments, activeSegmentation, segmentationHead, segmentationItem, flatDescriptor, flatItem, refusalIn, valuesIn, flatStep, flatComponent, flatBeside}
 use Rattle.c_command_writer.proofs.Words.{and-unit, places-length}
 use Rattle.c_command_writer.specs.Words.{within, same, placesOf, eachPlace, refusalOf, seenFirst, noLess}
 use Rattle.descriptor_loop.specs.declared.Item.{Item}
@@ -58,7 +58,7 @@ use Rattle.theorems_c.proofs.OverC.{same-self, Wide, taken, flag-within
 -- ---- what the types say of what stands beside an item
 
 -- each tag is a byte
-abbrev pub ModeTags : List ModeComponent → Type 0
+abbrev pub ModeTags : List SegmentationComponent → Type 0
 ModeTags [] = Unit {0}
 ModeTags (c ∷ cs) = (c .«component_tag» < 256) × ModeTags cs
 
@@ -72,11 +72,11 @@ pub record TypedBeside (identifier : List ℕ) (beside : Beside) : Type 0 where
   pub eidr-bytes : AllBytes (beside .eidr)
 
 -- ---- what is beside the item, from its words
-place-back : (c : ModeComponent) (words : List ℕ) → c .«component_tag» < 256 → placeFrom (c .«component_tag» ∷ c .«pts_offset» ∷ words) ≡ c
+place-back : (c : SegmentationComponent) (words : List ℕ) → c .«component_tag» < 256 → placeFrom (c .«component_tag» ∷ c .«pts_offset» ∷ words) ≡ c
 unfolding placeFrom
 place-back c words h = rw (mod-eq-of-lt h)
 
-pairs-back : (n : ℕ) (cs : List ModeComponent) (words : List ℕ) → ModeTags cs → n ≤ length cs → placesOf placeFrom 2 n (pairsWords (map flatComponent cs) ++ words) ≡ take n cs
+pairs-back : (n : ℕ) (cs : List SegmentationComponent) (words : List ℕ) → ModeTags cs → n ≤ length cs → placesOf placeFrom 2 n (pairsWords (map flatComponent cs) ++ words) ≡ take n cs
 unfolding placesOf flatComponent
 pairs-back zero cs words t h = refl
 pairs-back (suc n) [] words t h = absurd (omega arith)
@@ -86,7 +86,7 @@ and-middle : (a b : Bool) → (a && true) && b ≡ a && b
 and-middle true b = refl
 and-middle false b = refl
 
-pairs-within : (n : ℕ) (cs : List ModeComponent) (words : List ℕ) → ModeTags cs → n ≤ length cs
+pairs-within : (n : ℕ) (cs : List SegmentationComponent) (words : List ℕ) → ModeTags cs → n ≤ length cs
     → eachPlace (within placeWidths) 2 n (pairsWords (map flatComponent cs) ++ words) ≡ writing.within (componentsFields (take n cs))
 unfolding eachPlace within placeWidths flatComponent
 pairs-within zero cs words t h = refl
@@ -94,7 +94,7 @@ pairs-within (suc n) [] words t h = absurd (omega arith)
 pairs-within (suc n) (c ∷ cs) words t h =
     rw (lt-ltb (c .«component_tag») 256 (t .0), pairs-within n cs words (t .1) (omega arith)) (and-middle (ltb (c .«pts_offset») (2 ^ 33)) (writing.within (componentsFields (take n cs))))
 
-pairs-past : (cs : List ModeComponent) (words : List ℕ) (n : ℕ) → n ≡ length cs * 2 → drop n (pairsWords (map flatComponent cs) ++ words) ≡ words
+pairs-past : (cs : List SegmentationComponent) (words : List ℕ) (n : ℕ) → n ≡ length cs * 2 → drop n (pairsWords (map flatComponent cs) ++ words) ≡ words
 unfolding flatComponent
 pairs-past [] words zero e = refl
 pairs-past [] words (suc n) e = absurd (omega arith)
@@ -102,7 +102,7 @@ pairs-past (c ∷ cs) words zero e = absurd (omega arith)
 pairs-past (c ∷ cs) words (suc zero) e = absurd (omega arith)
 pairs-past (c ∷ cs) words (suc (suc n)) e = pairs-past cs words n (omega arith)
 
-pairs-length : (cs : List ModeComponent) (words : List ℕ) → length (pairsWords (map flatComponent cs) ++ words) ≡ length cs * 2 + length words
+pairs-length : (cs : List SegmentationComponent) (words : List ℕ) → length (pairsWords (map flatComponent cs) ++ words) ≡ length cs * 2 + length words
 unfolding flatComponent
 pairs-length [] words = omega arith
 pairs-length (c ∷ cs) words = omega (arith, pairs-length cs words)
@@ -126,10 +126,10 @@ wide-numbered : (m : Made) (n : ℕ) → n ≡ numberIn m → 31 ≤ n → n ≤
 wide-numbered (made b) n e h g = absurd (omega arith)
 wide-numbered (refused k) n e h g = (omega arith, omega arith)
 
-framed-wide : (tag : ℕ) (identifier : List ℕ) (m : Made) → Wide m → Wide (framedMade tag identifier m)
-unfolding framedMade
-framed-wide tag identifier (made b) w = absurd w
-framed-wide tag identifier (refused n) w = w
+enveloped-wide : (tag : ℕ) (identifier : List ℕ) (m : Made) → Wide m → Wide (envelopedMade tag identifier m)
+unfolding envelopedMade
+enveloped-wide tag identifier (made b) w = absurd w
+enveloped-wide tag identifier (refused n) w = w
 
 unseen-wide : (writable : Bool) (lent : List ℕ) (fs : List Field) → seen lent fs ≡ false → Wide (makeOf writable lent fs)
 unseen-wide writable lent fs e = rw e (omega arith, omega arith)
@@ -174,7 +174,7 @@ duration-fits : (d : SegmentationDuration) → writing.within (durationFields d)
 duration-fits SegmentationDuration.Absent e = refl
 duration-fits (SegmentationDuration.Ticks n) e = and-true (ltb n (2 ^ 40)) true e .0
 
-components-fit : (m : SegmentationMode) (cs : List ModeComponent) → writing.within (modeFields m (take (countOf m) cs)) ≡ true → writing.within (componentsFields (take (countOf m) cs)) ≡ true
+components-fit : (m : SegmentationMode) (cs : List SegmentationComponent) → writing.within (modeFields m (take (countOf m) cs)) ≡ true → writing.within (componentsFields (take (countOf m) cs)) ≡ true
 components-fit SegmentationMode.Program cs e = refl
 components-fit (SegmentationMode.Component n) cs e = and-true (ltb n (2 ^ 8)) (writing.within (componentsFields (take n cs))) e .1
 
@@ -250,14 +250,14 @@ module _ (number : ℕ) (id : List ℕ) (beside : Beside) (lent : List ℕ) (sma
     abbrev view : View
     view = i .«segmentation_upid» .bytes
 
-    abbrev listed : List ModeComponent
+    abbrev listed : List SegmentationComponent
     listed = take (countOf (i .«segmentation_mode»)) (beside .components)
 
-    abbrev whole : Made
-    whole = segmentationMade x id beside lent
+    abbrev overall : Made
+    overall = segmentationMade x id beside lent
 
     insert-within : leb (view .at + view .len) (length lent) ≡ true → ltb (ticks (i .«segmentation_duration»)) (2 ^ 40) ≡ true → Within (Descriptor.Segmentation x)
-    unfolding within itemWidths itemWords flatDescriptor segmentationItem wholeSegmentation
+    unfolding within itemWidths itemWords flatDescriptor segmentationItem activeSegmentation
     insert-within e d =
         let v = view-small view lent short e in
         let r = restrictions-within (i .«delivery_restrictions») in
@@ -286,25 +286,25 @@ module _ (number : ℕ) (id : List ℕ) (beside : Beside) (lent : List ℕ) (sma
         )
 
     -- its writer's tests in their order: the view, the UPID's length, the numbers
-    insert-tests : Wide whole ⊎ ((leb (view .at + view .len) (length lent) ≡ true) × (numbersFit i listed ≡ true))
+    insert-tests : Wide overall ⊎ ((leb (view .at + view .len) (length lent) ≡ true) × (numbersFit i listed ≡ true))
     insert-tests = go (leb (view .at + view .len) (length lent)) refl
       where
         numbers : leb (view .at + view .len) (length lent) ≡ true → view .len ≤ 255 → (n : Bool) → numbersFit i listed ≡ n
-            → Wide whole ⊎ ((leb (view .at + view .len) (length lent) ≡ true) × (numbersFit i listed ≡ true))
+            → Wide overall ⊎ ((leb (view .at + view .len) (length lent) ≡ true) × (numbersFit i listed ≡ true))
         numbers e l true f = inr (e, f)
         numbers e l false f =
-            inl (wide-numbered whole 32
+            inl (wide-numbered overall 32
             (numbers-over event i id (beside .components) (beside .eidr) lent true (sym e) refl l (t .places) (t .twelve) ev (ty .upid) false (sym f, mode-count (i .«segmentation_mode») (ty .mode)) refl)
             (omega arith) (omega arith))
 
         long : leb (view .at + view .len) (length lent) ≡ true → (b : Bool) → ltb 255 (view .len) ≡ b
-            → Wide whole ⊎ ((leb (view .at + view .len) (length lent) ≡ true) × (numbersFit i listed ≡ true))
-        long e true f = inl (wide-numbered whole 32 (upid-long event i id (beside .components) (beside .eidr) lent true (sym e) refl (ltb-true 255 (view .len) f)) (omega arith) (omega arith))
+            → Wide overall ⊎ ((leb (view .at + view .len) (length lent) ≡ true) × (numbersFit i listed ≡ true))
+        long e true f = inl (wide-numbered overall 32 (upid-long event i id (beside .components) (beside .eidr) lent true (sym e) refl (ltb-true 255 (view .len) f)) (omega arith) (omega arith))
         long e false f = numbers e (ltb-false 255 (view .len) f) (numbersFit i listed) refl
 
-        go : (b : Bool) → leb (view .at + view .len) (length lent) ≡ b → Wide whole ⊎ ((leb (view .at + view .len) (length lent) ≡ true) × (numbersFit i listed ≡ true))
+        go : (b : Bool) → leb (view .at + view .len) (length lent) ≡ b → Wide overall ⊎ ((leb (view .at + view .len) (length lent) ≡ true) × (numbersFit i listed ≡ true))
         go true e = long e (ltb 255 (view .len)) refl
-        go false e = inl (wide-numbered whole 31 (view-out event i id (beside .components) (beside .eidr) lent false (sym e) refl) (omega arith) (omega arith))
+        go false e = inl (wide-numbered overall 31 (view-out event i id (beside .components) (beside .eidr) lent false (sym e) refl) (omega arith) (omega arith))
 
     parts-fit : numbersFit i listed ≡ true → (writing.within (componentsFields listed) ≡ true) × (ltb (ticks (i .«segmentation_duration»)) (2 ^ 40) ≡ true)
     unfolding numbersFit
@@ -317,7 +317,7 @@ module _ (number : ℕ) (id : List ℕ) (beside : Beside) (lent : List ℕ) (sma
     unfolding payloadMade
     insert-wide e = ⊎-elim (λ w. w) (λ f. let w = insert-within (f .0) (parts-fit (f .1) .1) in zero-one cc) insert-tests
 
-    offsets-wide : writing.within (componentsFields listed) ≡ false → Wide whole
+    offsets-wide : writing.within (componentsFields listed) ≡ false → Wide overall
     offsets-wide e = ⊎-elim (λ w. w) (λ f. let w = parts-fit (f .1) .0 in zero-one cc) insert-tests
 
   item-wide : (d : Descriptor) → Typed d → Refuses d
@@ -346,13 +346,13 @@ module _ (number : ℕ) (id : List ℕ) (beside : Beside) (lent : List ℕ) (sma
   places-wide (Descriptor.Reserved tag v) h e = zero-one cc
 
   -- the components that a descriptor counts are all that is looked at
-  same-payload : (d : Descriptor) (others : List ModeComponent) → take (countBeside d) others ≡ take (countBeside d) (beside .components)
+  same-payload : (d : Descriptor) (others : List SegmentationComponent) → take (countBeside d) others ≡ take (countBeside d) (beside .components)
       → payloadMade d id (record { components = others; eidr = beside .eidr }) lent ≡ payloadMade d id beside lent
   unfolding payloadMade segmentationMade
   same-payload (Descriptor.Avail x) others e = refl
   same-payload (Descriptor.Dtmf x) others e = refl
   same-payload (Descriptor.Segmentation x) others e =
-      ap (λ (cs : List ModeComponent).
+      ap (λ (cs : List SegmentationComponent).
       pick (leb (upidIn x .bytes .at + upidIn x .bytes .len) (length lent))
       (pick (leb (upidIn x .bytes .len) 255)
       (make segmentation (writableSegment x id (beside .eidr) lent) (upidSource (upidIn x) (beside .eidr) lent)
@@ -444,7 +444,7 @@ module _ (number : ℕ) (id : List ℕ) (beside : Beside) (lent : List ℕ) (sma
     unfolding descriptorMade identifierFrom
     given-made =
         ap (λ (e : Descriptor). descriptorMade e (identifierFrom words) (besideFrom (countBeside e) side) lent) (descriptor-back 0 0 0 0 next number d typed)
-        ∙ ap (λ (l : List ℕ). descriptorMade d l (besideFrom (countBeside d) side) lent) identifies ∙ ap (framedMade (tagOf d) (identifierOf d id)) beside-is
+        ∙ ap (λ (l : List ℕ). descriptorMade d l (besideFrom (countBeside d) side) lent) identifies ∙ ap (envelopedMade (tagOf d) (identifierOf d id)) beside-is
 
     words-taken : descriptorWordsMade words side lent ≡ descriptorMade d id beside lent
     unfolding descriptorWordsMade descriptorMade noLess
@@ -455,7 +455,7 @@ module _ (number : ℕ) (id : List ℕ) (beside : Beside) (lent : List ℕ) (sma
         outside s = sym given-made ∙ unseen-made words side lent given-own s
 
         go : (s : Bool) → itemSeen words lent ≡ s → noLess (seenFirst s (refusalOf fits own)) (descriptorMade d id beside lent) ≡ descriptorMade d id beside lent
-        go true s = taken fits own (descriptorMade d id beside lent) are-own (λ e. framed-wide (tagOf d) (identifierOf d id) (payloadMade d id beside lent) (payload-wide e))
+        go true s = taken fits own (descriptorMade d id beside lent) are-own (λ e. enveloped-wide (tagOf d) (identifierOf d id) (payloadMade d id beside lent) (payload-wide e))
         go false s = rw (outside s)
 
 -- ---- the step

@@ -10,19 +10,19 @@ use borrow.Author.Tests.{ltb-true, eqb-true}
 use Rattle.descriptor.specs.Plain.{avail, dtmf, time}
 use Rattle.descriptor.specs.Segmentation.{agrees, byProgram, writableDetail, writableFront, frontOf, lasting, segmentation, unrestricted}
 use Rattle.descriptor.specs.declared.Descriptor.{Descriptor}
-use Rattle.descriptor.specs.declared.segmentation.ModeComponent.{ModeComponent}
+use Rattle.descriptor.specs.declared.segmentation.SegmentationComponent.{SegmentationComponent}
 use Rattle.descriptor.specs.declared.segmentation.SegmentationDescriptor.{SegmentationDescriptor}
 use Rattle.descriptor.specs.declared.segmentation.DescriptorDetail.{DescriptorDetail}
 use Rattle.descriptor.specs.declared.segmentation.SegmentationDetail.{SegmentationDetail}
 use Rattle.descriptor.specs.declared.segmentation.SegmentationMode.{SegmentationMode}
 use Rattle.descriptor.specs.declared.segmentation.SegmentationUpid.{SegmentationUpid}
 use Rattle.descriptor.specs.declared.segmentation.SubSegments.{SubSegments}
-use Rattle.descriptor.specs.declared.whole.Beside.{Beside}
+use Rattle.descriptor.specs.declared.full.Beside.{Beside}
 use Rattle.descriptor_measure.proofs.Fields.{fields-are}
 use Rattle.descriptor_measure.proofs.Making.{counted, all-writable, by-table}
 use Rattle.descriptor_measure.proofs.Refusals.{within-append}
 use Rattle.descriptor_measure.specs.Private.{deliveryFields, modeFields, durationFields, upidFields, subFields, backFields, segmentFields}
-use Rattle.descriptor_measure.specs.Writing.{framed, framedMade, alone, writtenType, writtenUpid, writtenDetail, written, upidIn, upidSource, segmentationMade, payloadMade, tagOf, identifierOf, descriptorMade, countBeside}
+use Rattle.descriptor_measure.specs.Writing.{enveloped, envelopedMade, alone, writtenType, writtenUpid, writtenDetail, written, upidIn, upidSource, segmentationMade, payloadMade, tagOf, identifierOf, descriptorMade, countBeside}
 use Rattle.c_descriptor_writer.proofs.Own.{agree}
 use Rattle.c_descriptor_writer.proofs.Typed.{TypedMode, TypedSubs, TypedInsert, TypedDetail, Typed}
 use Rattle.names.specs.Segmentation.{segmentationNumber}
@@ -33,21 +33,21 @@ use Rattle.table.specs.Table.{flagNumber, number, reserved, part}
 use Rattle.table.specs.Writing.{walk, within, Made, made, refused}
 
 -- ---- a frame that is written, and its payload
-framed-made : (tag : ℕ) (id : List ℕ) (m : Made) (t : List ℕ) → framedMade tag id m ≡ made t → (p : List ℕ) × (m ≡ made p) × (t ≡ framed tag id p)
-unfolding framedMade
-framed-made tag id (refused n) t e = zero-one cc
-framed-made tag id (made p) t e = go (leb (length p + 4) 254) e
+enveloped-made : (tag : ℕ) (id : List ℕ) (m : Made) (t : List ℕ) → envelopedMade tag id m ≡ made t → (p : List ℕ) × (m ≡ made p) × (t ≡ enveloped tag id p)
+unfolding envelopedMade
+enveloped-made tag id (refused n) t e = zero-one cc
+enveloped-made tag id (made p) t e = go (leb (length p + 4) 254) e
   where
-    go : (b : Bool) → pick b (made (framed tag id p)) (refused 34) ≡ made t → (q : List ℕ) × (made p ≡ made q) × (t ≡ framed tag id q)
+    go : (b : Bool) → pick b (made (enveloped tag id p)) (refused 34) ≡ made t → (q : List ℕ) × (made p ≡ made q) × (t ≡ enveloped tag id q)
     go true e = (p, refl, cc)
     go false e = zero-one cc
 
-first-byte : (tag : ℕ) (id p t : List ℕ) → t ≡ framed tag id p → AllBytes t → tag < 256
-unfolding framed
+first-byte : (tag : ℕ) (id p t : List ℕ) → t ≡ enveloped tag id p → AllBytes t → tag < 256
+unfolding enveloped
 first-byte tag id p t e a = (subst AllBytes e a) .0
 
 -- ---- the parts of a segmentation descriptor
-mode-typed : (m : SegmentationMode) (cs : List ModeComponent) → within (modeFields m cs) ≡ true → TypedMode m
+mode-typed : (m : SegmentationMode) (cs : List SegmentationComponent) → within (modeFields m cs) ≡ true → TypedMode m
 mode-typed SegmentationMode.Program cs w = tt
 mode-typed (SegmentationMode.Component n) cs w = ltb-true _ _ (and-true (ltb n (2 ^ 8)) _ w .0)
 
@@ -68,7 +68,7 @@ upid-typed u w = go (eqb (u .«upid_type») 10) refl (eqb (u .«upid_type») 6) 
     go false e true f d w = omega (arith, eqb-true (u .«upid_type») 6 f)
     go false e false f d w = ltb-true _ _ (and-true (ltb (u .«upid_type») (2 ^ 8)) _ w .0)
 
-insert-typed : (event : ℕ) (i : SegmentationDetail) (cs : List ModeComponent) → within (segmentFields event (DescriptorDetail.Active i) cs) ≡ true → writableDetail (DescriptorDetail.Active i) ≡ true
+insert-typed : (event : ℕ) (i : SegmentationDetail) (cs : List SegmentationComponent) → within (segmentFields event (DescriptorDetail.Active i) cs) ≡ true → writableDetail (DescriptorDetail.Active i) ≡ true
     → (event < 2 ^ 32) × TypedInsert i
 unfolding segmentFields writableDetail writableFront
 insert-typed event i cs w f =
@@ -106,7 +106,7 @@ insert-typed event i cs w f =
       },
     )
 
-detail-typed : (event : ℕ) (d : DescriptorDetail) (cs : List ModeComponent) → within (segmentFields event d cs) ≡ true → writableDetail d ≡ true → (event < 2 ^ 32) × TypedDetail d
+detail-typed : (event : ℕ) (d : DescriptorDetail) (cs : List SegmentationComponent) → within (segmentFields event d cs) ≡ true → writableDetail d ≡ true → (event < 2 ^ 32) × TypedDetail d
 unfolding segmentFields
 detail-typed event DescriptorDetail.Cancel cs w f = (ltb-true _ _ (and-true (ltb event (2 ^ 32)) _ w .0), tt)
 detail-typed event (DescriptorDetail.Active i) cs w f = insert-typed event i cs w f
@@ -140,5 +140,5 @@ module _ (id : List ℕ) (beside : Beside) (lent : List ℕ) where
   pub written-typed : (d : Descriptor) (t : List ℕ) → AllBytes t → countBeside d ≤ length (beside .components) → descriptorMade d id beside lent ≡ made t → Typed d
   unfolding descriptorMade
   written-typed d t a all e =
-      let f = framed-made (tagOf d) (identifierOf d id) (payloadMade d id beside lent) t e in
+      let f = enveloped-made (tagOf d) (identifierOf d id) (payloadMade d id beside lent) t e in
       payload-typed d (f .0) (first-byte (tagOf d) (identifierOf d id) (f .0) t (f .2) a) all (f .1)

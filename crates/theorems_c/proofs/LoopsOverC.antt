@@ -10,14 +10,14 @@ use lib.Seq.{length-take-le}
 use borrow.Author.Tests.{eqb-true}
 use Rattle.descriptor.specs.Descriptor.{descriptorOf}
 use Rattle.descriptor.specs.Segmentation as table
-use Rattle.descriptor.specs.Segmentation.{Moded, Fore, Head, blankComponent, component, mode, duration, deliveryRestrictions, parts, front, back, head, frontOf, segmentation}
-use Rattle.descriptor.specs.Whole.{filled, blankBeside, besideIn, besideOf, besideRead, identifierRead, wholeOf}
+use Rattle.descriptor.specs.Segmentation.{Moded, ListedFront, Head, blankComponent, component, mode, duration, deliveryRestrictions, parts, front, back, head, frontOf, segmentation}
+use Rattle.descriptor.specs.Full.{filled, blankBeside, besideIn, besideOf, besideRead, identifierRead, fullOf}
 use Rattle.descriptor.specs.declared.Descriptor.{Descriptor}
 use Rattle.descriptor.specs.declared.DescriptorRead.{DescriptorRead}
-use Rattle.descriptor.specs.declared.segmentation.ModeComponent.{ModeComponent}
+use Rattle.descriptor.specs.declared.segmentation.SegmentationComponent.{SegmentationComponent}
 use Rattle.descriptor.specs.declared.segmentation.DescriptorDetail.{DescriptorDetail}
-use Rattle.descriptor.specs.declared.whole.Beside.{Beside}
-use Rattle.descriptor_round_trips.specs.Trips.{wholeIn}
+use Rattle.descriptor.specs.declared.full.Beside.{Beside}
+use Rattle.descriptor_round_trips.specs.Trips.{fullIn}
 use Rattle.c_descriptor_writer.proofs.Own.{filled-length}
 use Rattle.c_descriptor_writer.specs.ItemGiven.{descriptorWordsMade}
 use Rattle.c_items.specs.FlatItem.{flatStep, flatBeside}
@@ -52,14 +52,14 @@ got-same e = cc
 
 -- ---- the components of a payload that is read: at most 255, and their tags are bytes
 module _ (s : List ℕ) where
-  component-tag : (at : ℕ) (c : ModeComponent) (m : ℕ) → parse component (bitsOf s) at ≡ got c m → c .«component_tag» < 256
+  component-tag : (at : ℕ) (c : SegmentationComponent) (m : ℕ) → parse component (bitsOf s) at ≡ got c m → c .«component_tag» < 256
   unfolding component
   component-tag at c m e =
       let r = reads-number s (at + 8 + 7) 33 _ _ c m (reads-ones s (at + 8) 7 _ c m (reads-number s at 8 _ _ c m e .1) .1) .1 in
       let z = got-same r in
-      subst (λ (k : ModeComponent). k .«component_tag» < 256) z (field-lt s at 8)
+      subst (λ (k : SegmentationComponent). k .«component_tag» < 256) z (field-lt s at 8)
 
-  list-has : (n at : ℕ) (cs : List ModeComponent) (m : ℕ) → parse (list n blankComponent component) (bitsOf s) at ≡ got cs m → (length cs ≡ n) × ModeTags cs
+  list-has : (n at : ℕ) (cs : List SegmentationComponent) (m : ℕ) → parse (list n blankComponent component) (bitsOf s) at ≡ got cs m → (length cs ≡ n) × ModeTags cs
   unfolding list
   list-has zero at cs m e = let z : cs ≡ [] = cc in rw z (refl, tt)
   list-has (suc n) at cs m e =
@@ -67,9 +67,9 @@ module _ (s : List ℕ) where
       let q = reads-in (list n blankComponent component) _ _ (bitsOf s) (r .seam) cs m (r .back) in
       let z : r .inner ∷ q .inner ≡ cs = got-same (q .back) in
       let i = list-has n (r .seam) (q .inner) (q .seam) (q .front) in
-      subst (λ (l : List ModeComponent). (length l ≡ suc n) × ModeTags l) z (ap suc (i .0), (component-tag at (r .inner) (r .seam) (r .front), i .1))
+      subst (λ (l : List SegmentationComponent). (length l ≡ suc n) × ModeTags l) z (ap suc (i .0), (component-tag at (r .inner) (r .seam) (r .front), i .1))
 
-  abbrev Small : List ModeComponent → Type 0
+  abbrev Small : List SegmentationComponent → Type 0
   Small cs = (length cs ≤ 255) × ModeTags cs
 
   mode-small : (b : Bool) (at : ℕ) (x : Moded) (m : ℕ) → parse (mode b) (bitsOf s) at ≡ got x m → Small (x .components)
@@ -81,16 +81,16 @@ module _ (s : List ℕ) where
       let i = list-has n (at + 8) (r .inner) (r .seam) (r .front) in
       subst (λ (y : Moded). Small (y .components)) (got-same (r .back)) (omega (arith, i .0, field-lt s at 8), i .1)
 
-  parts-small : (p l f : Bool) (at : ℕ) (x : Fore) (m : ℕ) → parse (parts p l f) (bitsOf s) at ≡ got x m → Small (x .components)
+  parts-small : (p l f : Bool) (at : ℕ) (x : ListedFront) (m : ℕ) → parse (parts p l f) (bitsOf s) at ≡ got x m → Small (x .components)
   unfolding parts
   parts-small p l f at x m e =
       let r₁ = reads-in (deliveryRestrictions f) _ _ (bitsOf s) at x m e in
       let r₂ = reads-in (mode p) _ _ (bitsOf s) (r₁ .seam) x m (r₁ .back) in
       let r₃ = reads-in (duration l) _ _ (bitsOf s) (r₂ .seam) x m (r₂ .back) in
       let r₄ = reads-in table.writtenUpid _ _ (bitsOf s) (r₃ .seam) x m (r₃ .back) in
-      subst (λ (y : Fore). Small (y .components)) (got-same (r₄ .back)) (mode-small p (r₁ .seam) (r₂ .inner) (r₂ .seam) (r₂ .front))
+      subst (λ (y : ListedFront). Small (y .components)) (got-same (r₄ .back)) (mode-small p (r₁ .seam) (r₂ .inner) (r₂ .seam) (r₂ .front))
 
-  front-small : (at : ℕ) (x : Fore) (m : ℕ) → parse front (bitsOf s) at ≡ got x m → Small (x .components)
+  front-small : (at : ℕ) (x : ListedFront) (m : ℕ) → parse front (bitsOf s) at ≡ got x m → Small (x .components)
   unfolding front
   front-small at x m e =
       let a = reads-flag s at _ _ x m e .1 in
@@ -129,11 +129,11 @@ blank-tags : (n : ℕ) → ModeTags (replicate n blankComponent)
 blank-tags zero = tt
 blank-tags (suc n) = (omega arith, blank-tags n)
 
-tags-append : (cs ds : List ModeComponent) → ModeTags cs → ModeTags ds → ModeTags (cs ++ ds)
+tags-append : (cs ds : List SegmentationComponent) → ModeTags cs → ModeTags ds → ModeTags (cs ++ ds)
 tags-append [] ds t u = u
 tags-append (c ∷ cs) ds t u = (t .0, tags-append cs ds (t .1) u)
 
-filled-small : (cs : List ModeComponent) → length cs ≤ 255 → ModeTags cs → (length (filled cs) ≡ 255) × ModeTags (filled cs)
+filled-small : (cs : List SegmentationComponent) → length cs ≤ 255 → ModeTags cs → (length (filled cs) ≡ 255) × ModeTags (filled cs)
 unfolding filled
 filled-small cs h t =
     (filled-length cs h, tags-append cs (replicate (255 - length cs) blankComponent) t (blank-tags (255 - length cs)))
@@ -187,9 +187,9 @@ module _ (id p : List ℕ) (a : AllBytes p) where
   read-identified (DescriptorRead.Is (Descriptor.Reserved tag v)) l b = (l, b)
   read-identified (DescriptorRead.Refused n) l b = (refl, zeros 4)
 
-whole-typed : (t : List ℕ) → AllBytes t → 6 ≤ length t → TypedBeside (wholeIn t .identifier) (wholeIn t .beside)
-unfolding wholeOf
-whole-typed t a h =
+full-typed : (t : List ℕ) → AllBytes t → 6 ≤ length t → TypedBeside (fullIn t .identifier) (fullIn t .beside)
+unfolding fullOf
+full-typed t a h =
     let id = take 4 (drop 2 t) in
     let p = drop 6 t in
     let read = descriptorOf (getD t 0 0) id p in
@@ -213,7 +213,7 @@ module _ (loop : List ℕ) (fits : length loop ≤ 4076) where
       let d = b .read in
       let id = stepOf loop o .identifier in
       let side = readingOf loop o .beside in
-      let types : TypedBeside id side = subst (λ (i : List ℕ). TypedBeside i side) (sym (identifier-is loop o t a)) (subst (TypedBeside (wholeIn t .identifier)) (sym (beside-is loop o t a)) (whole-typed t all (said t (a .canon) .0))) in
+      let types : TypedBeside id side = subst (λ (i : List ℕ). TypedBeside i side) (sym (identifier-is loop o t a)) (subst (TypedBeside (fullIn t .identifier)) (sym (beside-is loop o t a)) (full-typed t all (said t (a .canon) .0))) in
       let typed = written-typed id side loop d t all (b .places) (b .writes) in
       ap₂ (λ (s : Step) (r : Reading). descriptorWordsMade (stepWords (flatStep s)) (besideWords (flatBeside r)) loop) (step-is (stepOf loop o) d (b .is)) (reading-is loop o d (b .is))
       ∙ descriptor-taken d (stepOf loop o .next) id side loop typed types (omega (arith, fits)) ∙ b .writes ∙ ap made (sym (run-is loop fits o t a))

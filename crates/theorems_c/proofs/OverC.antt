@@ -11,10 +11,10 @@ use borrow.Author.Tests.{ltb-false, eq-eqb}
 use Rattle.command.specs.Command.{array, countIn}
 use Rattle.command.specs.declared.CommandRead.{CommandRead}
 use Rattle.command.specs.declared.SpliceCommand.{SpliceCommand}
-use Rattle.command.specs.declared.components.ComponentSplice.{ComponentSplice}
+use Rattle.command.specs.declared.components.InsertComponent.{InsertComponent}
 use Rattle.command_measure.specs.Made.{insertMade, commandMade}
 use Rattle.c_section.specs.Flat.{flatHeader}
-use Rattle.c_section.specs.FlatCommand.{flatCommand, flatComponent, flatSplices}
+use Rattle.c_section.specs.FlatCommand.{flatCommand, flatComponent, flatInsertComponents}
 use Rattle.c_section_writer.proofs.Answers as section
 use Rattle.c_section_writer.specs.SectionGiven.{sectionWordsMade}
 use Rattle.c_section_writer.specs.SectionWords as section-words
@@ -33,7 +33,7 @@ use Rattle.table.specs.Bits.{pick}
 use Rattle.table.specs.Lent.{noView}
 use Rattle.table.specs.Table.{flagNumber}
 use Rattle.table.specs.Writing.{Made, made, refused}
-use Rattle.theorems_c.specs.OverC.{splicesWords}
+use Rattle.theorems_c.specs.OverC.{insertComponentsWords}
 
 -- ---- words that are a value's own are not refused for themselves
 pub same-self : (words : List ℕ) → same words words ≡ true
@@ -73,7 +73,7 @@ unfolding same
 same-front [] words = refl
 same-front (x ∷ own) words = rw (eq-eqb x x refl) (same-front own words)
 
-places-front : (n : ℕ) (cs : List ComponentSplice) → same (placesWords (map flatComponent (take n cs))) (placesWords (map flatComponent cs)) ≡ true
+places-front : (n : ℕ) (cs : List InsertComponent) → same (placesWords (map flatComponent (take n cs))) (placesWords (map flatComponent cs)) ≡ true
 unfolding same componentWords
 places-front zero cs = refl
 places-front (suc n) [] = refl
@@ -82,19 +82,19 @@ places-front (suc n) (c ∷ cs) =
     let words = placesWords (map flatComponent cs) in
     same-append own (placesWords (map flatComponent (take n cs))) (own ++ words) ∙ rw (same-front own words) (places-front n cs)
 
-module _ (places : List ComponentSplice) (lent : List ℕ) (short : length lent < 2 ^ 64) (c : SpliceCommand) (there : countIn c ≤ length places) where
+module _ (places : List InsertComponent) (lent : List ℕ) (short : length lent < 2 ^ 64) (c : SpliceCommand) (there : countIn c ≤ length places) where
   abbrev beside : List ℕ
-  beside = splicesWords (flatSplices (CommandRead.Is c) places)
+  beside = insertComponentsWords (flatInsertComponents (CommandRead.Is c) places)
 
   own-words : CommandIs (commandWords (flatCommand c)) beside c (take (countIn c) places)
-  unfolding flatSplices
+  unfolding flatInsertComponents
   own-words = record { own = same-self (commandWords (flatCommand c)); counts = length-take-le (countIn c) places there; places = places-front (countIn c) places }
 
   -- the components that a command counts are all that is looked at
-  same-made : (c : SpliceCommand) (others : List ComponentSplice) → take (countIn c) others ≡ take (countIn c) places → commandMade c others lent ≡ commandMade c places lent
+  same-made : (c : SpliceCommand) (others : List InsertComponent) → take (countIn c) others ≡ take (countIn c) places → commandMade c others lent ≡ commandMade c places lent
   unfolding commandMade
   same-made SpliceCommand.SpliceNull others e = refl
-  same-made (SpliceCommand.SpliceInsert x) others e = ap (λ (cs : List ComponentSplice). insertMade (record { value = x; components = cs })) e
+  same-made (SpliceCommand.SpliceInsert x) others e = ap (λ (cs : List InsertComponent). insertMade (record { value = x; components = cs })) e
   same-made (SpliceCommand.TimeSignal t) others e = refl
   same-made SpliceCommand.BandwidthReservation others e = refl
   same-made (SpliceCommand.PrivateCommand p) others e = refl

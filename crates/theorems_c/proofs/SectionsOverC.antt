@@ -13,19 +13,19 @@ use Rattle.command.specs.Command.{private, read, empty, commandOf, array, compo
 use Rattle.command.specs.Insert.{WithComponents, blank, count, insert, insertOf}
 use Rattle.command.specs.declared.CommandRead.{CommandRead}
 use Rattle.command.specs.declared.SpliceCommand.{SpliceCommand}
-use Rattle.command.specs.declared.components.ComponentSplice.{ComponentSplice}
+use Rattle.command.specs.declared.components.InsertComponent.{InsertComponent}
 use Rattle.command.specs.declared.insert.SpliceInsert.{SpliceInsert}
 use Rattle.command.specs.declared.insert.SpliceDetail.{SpliceDetail}
 use Rattle.command_measure.specs.Made.{commandMade}
 use Rattle.canonical_form.specs.Descriptor.{canonicalLoop}
 use Rattle.c_section.specs.Flat.{flatHeader}
-use Rattle.c_section.specs.FlatCommand.{flatCommand, flatSplices}
+use Rattle.c_section.specs.FlatCommand.{flatCommand, flatInsertComponents}
 use Rattle.c_section.specs.FlatSection.{flatSectionRead}
 use Rattle.c_section_writer.proofs.Answers as section
 use Rattle.c_section_writer.specs.SectionGiven.{sectionWordsMade}
 use Rattle.c_section_writer.specs.SectionWords.{headerWords, headerWidths, sectionFits}
 use Rattle.c_section.specs.declared.commands.FlatCommand.{FlatCommand}
-use Rattle.c_command_writer.specs.CommandGiven.{componentsFrom, splicesWithin, ownSplices, wordsRefusal, commandRefusal, commandGiven}
+use Rattle.c_command_writer.specs.CommandGiven.{componentsFrom, insertComponentsWithin, ownInsertComponents, wordsRefusal, commandRefusal, commandGiven}
 use Rattle.c_command_writer.specs.CommandWords.{commandWords, commandWidths, placesGiven, commandSeen, commandFits}
 use Rattle.c_command_writer.proofs.Fits.{own-count}
 use Rattle.c_command_writer.proofs.Given.{given-count}
@@ -47,7 +47,7 @@ use Rattle.table.specs.Bits.{pick, bitsOf, AllBytes}
 use Rattle.table.specs.Lent.{viewed}
 use Rattle.table.specs.Table.{Answer, got, short, parse}
 use Rattle.table.specs.Writing.{Made, made}
-use Rattle.theorems_c.specs.OverC.{splicesWords, componentsAnswered}
+use Rattle.theorems_c.specs.OverC.{insertComponentsWords, componentsAnswered}
 use Rattle.theorems_writer.proofs.InsertsRead.{insert-has}
 use Rattle.theorems_c.proofs.OverC.{same-self, section-taken}
 use Rattle.theorems_writer.proofs.WrittenBack.{section-back}
@@ -104,13 +104,13 @@ moved-count (SpliceCommand.TimeSignal t) = refl
 moved-count SpliceCommand.BandwidthReservation = refl
 moved-count (SpliceCommand.PrivateCommand p) = refl
 
-moved-splices : (c : SpliceCommand) (cs : List ComponentSplice) → flatSplices (CommandRead.Is c) cs ≡ flatSplices (CommandRead.Is (moved 14 c)) cs
-unfolding moved flatSplices flatCommand
-moved-splices SpliceCommand.SpliceNull cs = refl
-moved-splices (SpliceCommand.SpliceInsert x) cs = refl
-moved-splices (SpliceCommand.TimeSignal t) cs = refl
-moved-splices SpliceCommand.BandwidthReservation cs = refl
-moved-splices (SpliceCommand.PrivateCommand p) cs = refl
+moved-insert-components : (c : SpliceCommand) (cs : List InsertComponent) → flatInsertComponents (CommandRead.Is c) cs ≡ flatInsertComponents (CommandRead.Is (moved 14 c)) cs
+unfolding moved flatInsertComponents flatCommand
+moved-insert-components SpliceCommand.SpliceNull cs = refl
+moved-insert-components (SpliceCommand.SpliceInsert x) cs = refl
+moved-insert-components (SpliceCommand.TimeSignal t) cs = refl
+moved-insert-components SpliceCommand.BandwidthReservation cs = refl
+moved-insert-components (SpliceCommand.PrivateCommand p) cs = refl
 
 -- ---- the section
 section-made : (h : SpliceInfoHeader) (m : Made) (command-type : ℕ) (loop b : List ℕ) → sectionMade h m command-type loop ≡ made b → writableHead h ≡ true
@@ -130,7 +130,7 @@ same-words lent loop e f g = rw (e, f, g)
 
 by-payload : (s : List ℕ) (x : Section) → AllBytes s → sectionOf s ≡ SectionRead.Is x → canonicalSection s ≡ true
     → sectionWordsMade (headerWords (flatSectionRead (sectionOf s) .header)) (commandWords (flatSectionRead (sectionOf s) .command))
-    (splicesWords (flatSplices (commandOf (commandType s) (commandBytes s)) (componentsOf (commandBytes s)))) s (viewed s (x .descriptors)) ≡ made s
+    (insertComponentsWords (flatInsertComponents (commandOf (commandType s) (commandBytes s)) (componentsOf (commandBytes s)))) s (viewed s (x .descriptors)) ≡ made s
 by-payload s x a e c =
     let p = parts-of s x e in
     let own = p .own in
@@ -140,9 +140,9 @@ by-payload s x a e c =
     let m = section-back s x a e c in
     let h = section-made (x .header) (commandMade (x .command) places s) (typeOf (x .command)) (viewed s (x .descriptors)) s m in
     let k : countIn (x .command) ≡ countIn own = ap countIn (p .moves) ∙ moved-count own in
-    let splices : flatSplices (commandOf (commandType s) payload) places ≡ flatSplices (CommandRead.Is (x .command)) places =
-    ap (λ (r : CommandRead). flatSplices r places) (p .command) ∙ moved-splices own places ∙ sym (ap (λ (d : SpliceCommand). flatSplices (CommandRead.Is d) places) (p .moves)) in
-    same-words s (viewed s (x .descriptors)) (ap headerWords (flat-header s x e)) (ap commandWords (flat-command s x e)) (ap splicesWords splices)
+    let splices : flatInsertComponents (commandOf (commandType s) payload) places ≡ flatInsertComponents (CommandRead.Is (x .command)) places =
+    ap (λ (r : CommandRead). flatInsertComponents r places) (p .command) ∙ moved-insert-components own places ∙ sym (ap (λ (d : SpliceCommand). flatInsertComponents (CommandRead.Is d) places) (p .moves)) in
+    same-words s (viewed s (x .descriptors)) (ap headerWords (flat-header s x e)) (ap commandWords (flat-command s x e)) (ap insertComponentsWords splices)
     ∙ section-taken places s (omega (arith, p .short)) (x .command) (omega (arith, there, k)) (x .header) (clear (x .header) h .1) (viewed s (x .descriptors)) ∙ m
 
 -- ---- words of components that a command does not count
@@ -151,7 +151,7 @@ and-false true = refl
 and-false false = refl
 
 uncounted-given : (header command v w lent loop : List ℕ) → countIn (commandGiven command) ≡ 0 → sectionWordsMade header command v lent loop ≡ sectionWordsMade header command w lent loop
-unfolding sectionWordsMade commandRefusal wordsRefusal splicesWithin ownSplices componentsFrom eachPlace placesOf
+unfolding sectionWordsMade commandRefusal wordsRefusal insertComponentsWithin ownInsertComponents componentsFrom eachPlace placesOf
 uncounted-given header command v w lent loop e = rw e
 
 pub uncounted : (header command v w lent loop : List ℕ) → placesGiven command ≡ 0 → sectionWordsMade header command v lent loop ≡ sectionWordsMade header command w lent loop
@@ -188,17 +188,17 @@ counts-by-type command-type p c f = go (eqb command-type 0x00) (eqb command-type
     go false false i false false false e = zero-one cc
 
 pub section-again : (s : List ℕ) (x : Section) → AllBytes s → sectionOf s ≡ SectionRead.Is x → canonicalSection s ≡ true
-    → sectionWordsMade (headerWords (flatSectionRead (sectionOf s) .header)) (commandWords (flatSectionRead (sectionOf s) .command)) (splicesWords (componentsAnswered s)) s (viewed s (x .descriptors)) ≡ made s
+    → sectionWordsMade (headerWords (flatSectionRead (sectionOf s) .header)) (commandWords (flatSectionRead (sectionOf s) .command)) (insertComponentsWords (componentsAnswered s)) s (viewed s (x .descriptors)) ≡ made s
 section-again s x a e c =
     let p = parts-of s x e in
     let payload = payload-is s (omega (arith, p .long)) in
-    let answer : CommandRead → List ℕ → List ℕ = λ r bytes. splicesWords (flatSplices r (componentsOf bytes)) in
+    let answer : CommandRead → List ℕ → List ℕ = λ r bytes. insertComponentsWords (flatInsertComponents r (componentsOf bytes)) in
     let header = headerWords (flatSectionRead (sectionOf s) .header) in
     let command = commandWords (flatSectionRead (sectionOf s) .command) in
-    let insert : commandType s ≡ 0x05 → sectionWordsMade header command (splicesWords (componentsAnswered s)) s (viewed s (x .descriptors)) ≡ made s =
+    let insert : commandType s ≡ 0x05 → sectionWordsMade header command (insertComponentsWords (componentsAnswered s)) s (viewed s (x .descriptors)) ≡ made s =
     λ k. ap (λ (w : List ℕ). sectionWordsMade header command w s (viewed s (x .descriptors)))
     (ap (λ (q : List ℕ). answer (commandOf 0x05 q) q) payload ∙ sym (ap (λ (n : ℕ). answer (commandOf n (commandBytes s)) (commandBytes s)) k)) ∙ by-payload s x a e c in
-    let other : countIn (p .own) ≡ 0 → sectionWordsMade header command (splicesWords (componentsAnswered s)) s (viewed s (x .descriptors)) ≡ made s =
+    let other : countIn (p .own) ≡ 0 → sectionWordsMade header command (insertComponentsWords (componentsAnswered s)) s (viewed s (x .descriptors)) ≡ made s =
     λ z. uncounted header command _ _ s (viewed s (x .descriptors))
     (ap (λ (f : FlatCommand). placesGiven (commandWords f)) (flat-command s x e) ∙ own-count (x .command) (commandWords (flatCommand (x .command))) (same-self (commandWords (flatCommand (x .command))))
     ∙ ap countIn (p .moves) ∙ moved-count (p .own) ∙ z)

@@ -16,7 +16,7 @@ use Rattle.c_command_writer.proofs.Answers as command-answers
 use Rattle.c_command_writer.specs.CommandGiven.{commandWordsMade}
 use Rattle.c_command_writer.specs.CommandWords.{commandWords, placesGiven, CommandAnswer}
 use Rattle.descriptor.specs.declared.Descriptor.{Descriptor}
-use Rattle.descriptor.specs.declared.whole.Beside.{Beside}
+use Rattle.descriptor.specs.declared.full.Beside.{Beside}
 use Rattle.descriptor_loop.specs.Cover.{runOf}
 use Rattle.descriptor_loop.specs.Items.{itemsOf}
 use Rattle.descriptor_round_trips.specs.Trips.{Handed}
@@ -27,7 +27,7 @@ use Rattle.canonical_form.specs.Section.{canonicalSection}
 use Rattle.table.specs.Bits.{AllBytes}
 use Rattle.table.specs.Writing.{Made, made}
 use Rattle.upid.specs.Cover.{All}
-use Rattle.theorems_c.specs.OverC.{componentsAnswered, splicesWords, wordsMadeAt}
+use Rattle.theorems_c.specs.OverC.{componentsAnswered, insertComponentsWords, wordsMadeAt}
 use Rattle.theorems_c.proofs.HandedOverC as handed-over-c
 use Rattle.theorems_c.proofs.LoopsOverC as loops-over-c
 use Rattle.theorems_c.proofs.SectionsOverC as sections-over-c
@@ -54,7 +54,7 @@ section-answers-are-one = section-answers.one-answer
 -- (without the header's last two, the command's length and type, which are not looked at), those of its components, as `scte35_read_insert_components` answers them, and its loop as it stands in the section
 pub a-canonical-section-is-what-is-written-of-its-words : (s : List ℕ) (x : Section) → AllBytes s → sectionOf s ≡ SectionRead.Is x → canonicalSection s ≡ true
     → sectionWordsMade (headerWords (flatSectionRead (sectionOf s) .header)) (commandWords (flatSectionRead (sectionOf s) .command))
-    (splicesWords (componentsAnswered s)) s (loopIn s x) ≡ made s
+    (insertComponentsWords (componentsAnswered s)) s (loopIn s x) ≡ made s
 a-canonical-section-is-what-is-written-of-its-words = sections-over-c.section-again
 
 -- (The words of components matter for a command that counts some, an insert by components.)

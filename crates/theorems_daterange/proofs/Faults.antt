@@ -271,8 +271,8 @@ sound l n = go (faults l) refl
     go true e = absurd (n (faulty-if l e))
     go false e = refl
 
-whole : (l : List Attribute) → (Lacking l → ⊥) → has l ≡ true
-whole l n = go (has l) refl
+complete : (l : List Attribute) → (Lacking l → ⊥) → has l ≡ true
+complete l n = go (has l) refl
   where
     go : (b : Bool) → has l ≡ b → b ≡ true
     go true e = refl
@@ -280,7 +280,7 @@ whole l n = go (has l) refl
 
 module _ (line target : List ℕ) where
   fine-so : (l : List Attribute) → Line l line → (Faulty l → ⊥) → (Lacking l → ⊥) → judge (attributesOf line) ≡ fine l
-  fine-so l h f n = judged-by line l h ∙ rw (sound l f, whole l n)
+  fine-so l h f n = judged-by line l h ∙ rw (sound l f, complete l n)
 
   pub answer-is : {answer : Read} {later : List ℕ} → LineRead line target answer later → (answer ≡ readOf line target) × (later ≡ readLater line target)
   unfolding readBy sectionMade answerOf laterOf

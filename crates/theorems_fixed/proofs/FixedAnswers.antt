@@ -12,7 +12,7 @@ use Rattle.command.specs.Private.{insertRead}
 use Rattle.crc.specs.Crc.{crcOf}
 use Rattle.crc_table.specs.Turns.{reversed, turns}
 use Rattle.descriptor.specs.Descriptor.{availOf, descriptorOf, dtmfOf, isCuei, reservedOf, segmentationOf as descriptorSegmentationOf, timeOf}
-use Rattle.descriptor.specs.Whole.{besideRead, blankBeside, identifierRead, wholeOf}
+use Rattle.descriptor.specs.Full.{besideRead, blankBeside, identifierRead, fullOf}
 use Rattle.header.specs.Header.{headerOf}
 use Rattle.header_numbers.specs.Numbers.{numbersRead}
 use Rattle.splice_time.specs.Time.{adjustedOf, spliceTime, timeRead}
@@ -27,7 +27,7 @@ use Rattle.names.specs.declared.flags.NetworkRead.{NetworkRead}
 use Rattle.names.specs.declared.flags.RestrictionsRead.{RestrictionsRead}
 use Rattle.names.specs.declared.flags.ReturnRead.{ReturnRead}
 use Rattle.section.specs.Section.{frameOf, movedRead, numberOf, privateView, sectionOf}
-use Rattle.section.specs.Whole.{wholeSectionOf}
+use Rattle.section.specs.Full.{fullSectionOf}
 use Rattle.section.specs.declared.SectionRead.{SectionRead}
 use Rattle.table.proofs.Lists.{zero-one}
 use Rattle.table.specs.Bits.{bigEndian, bitsOf, field}
@@ -81,7 +81,7 @@ use Rattle.names.proofs.flags.DeviceRestrictions.bits.Reads as restrictions-bit
 use Rattle.header_numbers.proofs.read_header_numbers.Reads as read-header-numbers
 use Rattle.header.proofs.header.read_header.Reads as read-header
 use Rattle.splice_time.proofs.read_splice_time.Reads as read-splice-time
-use Rattle.splice_time.proofs.read_whole_time.Reads as read-whole-time
+use Rattle.splice_time.proofs.read_aligned_time.Reads as read-aligned-time
 use Rattle.splice_time.proofs.adjusted_time.Reads as adjusted-time
 use Rattle.upid.proofs.text.is_text.Reads as is-text
 use Rattle.upid.proofs.check_upid.Reads as check-upid
@@ -95,10 +95,10 @@ use Rattle.descriptor.proofs.plain.read_dtmf.Reads as read-dtmf
 use Rattle.descriptor.proofs.plain.read_time.Reads as read-time
 use Rattle.descriptor.proofs.plain.read_reserved.Reads as read-reserved
 use Rattle.descriptor.proofs.segmentation.read_segmentation.Reads as read-segmentation
-use Rattle.descriptor.proofs.whole.read_whole.Reads as read-whole
-use Rattle.descriptor.proofs.whole.blank_beside.Reads as blank-beside
-use Rattle.descriptor.proofs.whole.beside_of.Reads as beside-of
-use Rattle.descriptor.proofs.whole.identifier_of.Reads as identifier-of
+use Rattle.descriptor.proofs.full.read_full_descriptor.Reads as read-full-descriptor
+use Rattle.descriptor.proofs.full.blank_beside.Reads as blank-beside
+use Rattle.descriptor.proofs.full.beside_of.Reads as beside-of
+use Rattle.descriptor.proofs.full.identifier_of.Reads as identifier-of
 use Rattle.descriptor_loop.proofs.iteration.step.Reads as step
 use Rattle.descriptor_loop.proofs.iteration.count_items.Reads as count-items
 use Rattle.descriptor_loop.proofs.place.view_of.Reads as view-of
@@ -114,7 +114,7 @@ use Rattle.section.proofs.read_frame.Reads as read-frame
 use Rattle.section.proofs.read_section.Reads as read-section
 use Rattle.section.proofs.loop_of.Reads as loop-of
 use Rattle.section.proofs.private_bytes_of.Reads as private-bytes-of
-use Rattle.section.proofs.whole.read_whole_section.Reads as read-whole-section
+use Rattle.section.proofs.full.read_full_section.Reads as read-full-section
 use Rattle.theorems_fixed.specs.FixedAnswers.{Answers}
 
 -- ---- what the lines say
@@ -286,8 +286,8 @@ read-header-answers = record { takes-any = λ κ a. tt; is = λ κ a r e l. l }
 pub read-splice-time-answers : Answers read-splice-time.Asked read-splice-time.Learnt (λ κ r e. r) (λ κ a. timeRead (parse spliceTime (bitsOf (now (a .0))) (place (a .1 .0))))
 read-splice-time-answers = record { takes-any = λ κ a. tt; is = λ κ a r e l. l }
 
-pub read-whole-time-answers : Answers read-whole-time.Asked read-whole-time.Learnt (λ κ r e. r) (λ κ a. timeRead (parse spliceTime (bitsOf (now (a .0))) ((a .1 .0) * 8)))
-read-whole-time-answers = record { takes-any = λ κ a. tt; is = λ κ a r e l. l }
+pub read-aligned-time-answers : Answers read-aligned-time.Asked read-aligned-time.Learnt (λ κ r e. r) (λ κ a. timeRead (parse spliceTime (bitsOf (now (a .0))) ((a .1 .0) * 8)))
+read-aligned-time-answers = record { takes-any = λ κ a. tt; is = λ κ a r e l. l }
 
 pub adjusted-time-answers : Answers adjusted-time.Asked adjusted-time.Learnt (λ κ r e. r) (λ κ a. adjustedOf (a .0) (a .1 .0))
 adjusted-time-answers = record { takes-any = λ κ a. tt; is = λ κ a r e l. l }
@@ -329,8 +329,8 @@ read-reserved-answers = record { takes-any = λ κ a. tt; is = λ κ a r e l. l 
 pub read-segmentation-answers : Answers read-segmentation.Asked read-segmentation.Learnt (λ κ r e. r) (λ κ a. descriptorSegmentationOf (now (a .0)))
 read-segmentation-answers = record { takes-any = λ κ a. tt; is = λ κ a r e l. l }
 
-pub read-whole-answers : Answers read-whole.Asked read-whole.Learnt (λ κ r e. r) (λ κ a. wholeOf (a .0) (a .1 .0) (now (a .1 .1 .0)))
-read-whole-answers = record { takes-any = λ κ a. tt; is = λ κ a r e l. l }
+pub read-full-descriptor-answers : Answers read-full-descriptor.Asked read-full-descriptor.Learnt (λ κ r e. r) (λ κ a. fullOf (a .0) (a .1 .0) (now (a .1 .1 .0)))
+read-full-descriptor-answers = record { takes-any = λ κ a. tt; is = λ κ a r e l. l }
 
 pub blank-beside-answers : Answers blank-beside.Asked blank-beside.Learnt (λ κ r e. r) (λ κ a. blankBeside)
 blank-beside-answers = record { takes-any = λ κ a. tt; is = λ κ a r e l. l }
@@ -395,5 +395,5 @@ loop-of-answers = record { takes-any = λ κ a. tt; is = λ κ a r e l. l }
 pub private-bytes-of-answers : Answers private-bytes-of.Asked private-bytes-of.Learnt (λ κ r e. now r) (λ κ a. viewed (now (a .0)) (privateView (a .1 .0)))
 private-bytes-of-answers = record { takes-any = λ κ a. tt; is = λ κ a r e l. l }
 
-pub read-whole-section-answers : Answers read-whole-section.Asked read-whole-section.Learnt (λ κ r e. r) (λ κ a. wholeSectionOf (now (a .0)))
-read-whole-section-answers = record { takes-any = λ κ a. tt; is = λ κ a r e l. l }
+pub read-full-section-answers : Answers read-full-section.Asked read-full-section.Learnt (λ κ r e. r) (λ κ a. fullSectionOf (now (a .0)))
+read-full-section-answers = record { takes-any = λ κ a. tt; is = λ κ a r e l. l }

@@ -7,7 +7,7 @@ use Rattle.command.specs.Command.{commandOf, componentsOf, countIn}
 use Rattle.crc.specs.Crc.{crcOf}
 use Rattle.canonical_form.specs.Descriptor.{canonicalDescriptor, canonicalLoop}
 use Rattle.c_section.specs.Flat.{flatAdjusted, flatHeaderRead, flatView}
-use Rattle.c_section.specs.FlatCommand.{flatCommandRead, flatSplices}
+use Rattle.c_section.specs.FlatCommand.{flatCommandRead, flatInsertComponents}
 use Rattle.c_section.specs.FlatSection.{flatParts, flatSectionRead}
 use Rattle.c_descriptor_writer.specs.ItemGiven.{descriptorRefusal, descriptorWordsMade}
 use Rattle.c_items.specs.FlatItem.{flatBeside, flatStep}
@@ -37,7 +37,7 @@ use Rattle.c_section.proofs.commands.flat_command_read.Reads as flat-command-re
 use Rattle.c_section.proofs.headers.flat_header_read.Reads as flat-header-read
 use Rattle.c_section.proofs.headers.read_flat_header.Reads as read-flat-header
 use Rattle.c_section.proofs.headers.flat_adjusted.Reads as flat-adjusted
-use Rattle.c_section.proofs.components.flat_splices.Reads as flat-splices
+use Rattle.c_section.proofs.components.flat_insert_components.Reads as flat-insert-components
 use Rattle.c_section.proofs.sections.no_section.Reads as no-section
 use Rattle.c_section.proofs.sections.flat_parts.Reads as flat-parts
 use Rattle.c_items.proofs.beside.flat_beside.Reads as flat-beside
@@ -64,7 +64,7 @@ use Rattle.scte35.proofs.scte35_read_section.Reads as scte35-read-section
 use Rattle.scte35.proofs.scte35_read_command.Reads as scte35-read-command
 use Rattle.scte35.proofs.scte35_read_insert_components.Reads as scte35-read-insert-components
 use Rattle.scte35.proofs.scte35_read_item.Reads as scte35-read-item
-use Rattle.scte35.proofs.scte35_read_item_components.Reads as scte35-read-item-components
+use Rattle.scte35.proofs.scte35_read_segmentation_components.Reads as scte35-read-segmentation-components
 use Rattle.scte35.proofs.scte35_read_upid.Reads as scte35-read-upid
 use Rattle.scte35.proofs.scte35_crc.Reads as scte35-crc
 use Rattle.scte35.proofs.scte35_adjust_time.Reads as scte35-adjust-time
@@ -103,8 +103,8 @@ read-flat-header-answers = record { takes-any = λ κ a. tt; is = λ κ a r e l.
 pub flat-adjusted-answers : Answers flat-adjusted.Asked flat-adjusted.Learnt (λ κ r e. r) (λ κ a. flatAdjusted (a .0))
 flat-adjusted-answers = record { takes-any = λ κ a. tt; is = λ κ a r e l. l }
 
-pub flat-splices-answers : Answers flat-splices.Asked flat-splices.Learnt (λ κ r e. r) (λ κ a. flatSplices (a .0) (a .1 .0))
-flat-splices-answers = record { takes-any = λ κ a. tt; is = λ κ a r e l. l }
+pub flat-insert-components-answers : Answers flat-insert-components.Asked flat-insert-components.Learnt (λ κ r e. r) (λ κ a. flatInsertComponents (a .0) (a .1 .0))
+flat-insert-components-answers = record { takes-any = λ κ a. tt; is = λ κ a r e l. l }
 
 pub no-section-answers : Answers no-section.Asked no-section.Learnt (λ κ r e. r) (λ κ a. flatSectionRead (SectionRead.Refused (a .0)))
 no-section-answers = record { takes-any = λ κ a. tt; is = λ κ a r e l. l }
@@ -193,14 +193,14 @@ scte35-read-section-answers = record { takes-any = λ κ a. tt; is = λ κ a r e
 pub scte35-read-command-answers : Answers scte35-read-command.Asked scte35-read-command.Learnt (λ κ r e. r) (λ κ a. flatCommandRead (commandOf (a .0) (drop (a .1 .1 .0) (now (a .1 .0)))))
 scte35-read-command-answers = record { takes-any = λ κ a. tt; is = λ κ a r e l. l }
 
-pub scte35-read-insert-components-answers : Answers scte35-read-insert-components.Asked scte35-read-insert-components.Learnt (λ κ r e. r) (λ κ a. flatSplices (commandOf 0x05 (drop (a .1 .0) (now (a .0)))) (componentsOf (drop (a .1 .0) (now (a .0)))))
+pub scte35-read-insert-components-answers : Answers scte35-read-insert-components.Asked scte35-read-insert-components.Learnt (λ κ r e. r) (λ κ a. flatInsertComponents (commandOf 0x05 (drop (a .1 .0) (now (a .0)))) (componentsOf (drop (a .1 .0) (now (a .0)))))
 scte35-read-insert-components-answers = record { takes-any = λ κ a. tt; is = λ κ a r e l. l }
 
 pub scte35-read-item-answers : Answers scte35-read-item.Asked scte35-read-item.Learnt (λ κ r e. r) (λ κ a. flatStep (stepOf (now (a .0)) (a .1 .0)))
 scte35-read-item-answers = record { takes-any = λ κ a. tt; is = λ κ a r e l. l }
 
-pub scte35-read-item-components-answers : Answers scte35-read-item-components.Asked scte35-read-item-components.Learnt (λ κ r e. r) (λ κ a. flatBeside (readingOf (now (a .0)) (a .1 .0)))
-scte35-read-item-components-answers = record { takes-any = λ κ a. tt; is = λ κ a r e l. l }
+pub scte35-read-segmentation-components-answers : Answers scte35-read-segmentation-components.Asked scte35-read-segmentation-components.Learnt (λ κ r e. r) (λ κ a. flatBeside (readingOf (now (a .0)) (a .1 .0)))
+scte35-read-segmentation-components-answers = record { takes-any = λ κ a. tt; is = λ κ a r e l. l }
 
 pub scte35-read-upid-answers : Answers scte35-read-upid.Asked scte35-read-upid.Learnt (λ κ r e. r) (λ κ a. flatUpid (upidOf (a .0) (drop (a .1 .1 .0) (now (a .1 .0)))))
 scte35-read-upid-answers = record { takes-any = λ κ a. tt; is = λ κ a r e l. l }

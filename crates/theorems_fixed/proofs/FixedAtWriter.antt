@@ -10,7 +10,7 @@ use Rattle.command.specs.Command.{array}
 use Rattle.command.specs.Insert.{blank, immediate}
 use Rattle.command_measure.specs.Made.{commandMade, counted, insertMade, measuredOf}
 use Rattle.descriptor.specs.Segmentation.{byProgram, componentCount, durationSize, lasting, modeSize, subBytes, unrestricted}
-use Rattle.descriptor.specs.Whole.{filled}
+use Rattle.descriptor.specs.Full.{filled}
 use Rattle.canonical_form.specs.Descriptor.{canonicalDescriptor, canonicalLoop}
 use Rattle.descriptor_measure.specs.Writing.{allZero, alone, descriptorMade, writableReserved, segmentationMade, writtenType, writtenUpid}
 use Rattle.bit_stores.specs.Pen.{penAfter, penned}

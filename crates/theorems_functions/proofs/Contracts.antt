@@ -5,7 +5,7 @@ use mathlib.Core.List.{List}
 use mathlib.Core.Path.{_≡_, refl, sym, _∙_, ap}
 use denote.Ref.{now}
 use Rattle.command.specs.declared.SpliceCommand.{SpliceCommand}
-use Rattle.command.specs.declared.components.ComponentSplice.{ComponentSplice}
+use Rattle.command.specs.declared.components.InsertComponent.{InsertComponent}
 use Rattle.command_measure.specs.Made.{commandMade}
 use Rattle.descriptor_writer.specs.Stores.{Writes}
 use Rattle.descriptor_loop.specs.Items.{stepOf, readingOf}
@@ -18,10 +18,10 @@ use Rattle.loop_round_trips.specs.Loops.{givenMade}
 use Rattle.bit_stores.specs.Written.{answerOf, laterOf}
 use Rattle.bit_stores.specs.declared.Written.{Written}
 use Rattle.section.specs.Section.{sectionOf, privateView}
-use Rattle.section.specs.Whole.{wholeSectionOf}
+use Rattle.section.specs.Full.{fullSectionOf}
 use Rattle.section.specs.declared.Section.{Section}
 use Rattle.section.specs.declared.SectionRead.{SectionRead}
-use Rattle.section.specs.declared.whole.WholeSection.{WholeSection}
+use Rattle.section.specs.declared.full.FullSection.{FullSection}
 use Rattle.canonical_form.specs.Section.{canonicalSection}
 use Rattle.section_writer.specs.Writing.{typeOf, sectionMade}
 use Rattle.table.specs.Lent.{viewed}
@@ -38,7 +38,7 @@ use Rattle.descriptor_loop.proofs.reading.read_item.Reads as read-item
 use Rattle.section.proofs.loop_of.Reads as loop-of
 use Rattle.section.proofs.private_bytes_of.Reads as private-bytes-of
 use Rattle.section.proofs.read_section.Reads as read-section
-use Rattle.section.proofs.whole.read_whole_section.Reads as read-whole-section
+use Rattle.section.proofs.full.read_full_section.Reads as read-full-section
 use Rattle.section_writer.proofs.is_canonical_section.Reads as is-canonical-section
 use Rattle.section_writer.proofs.write_section.Reads as write-section
 use Rattle.upid.proofs.part_bytes.Reads as part-bytes
@@ -54,11 +54,11 @@ ReadsSection s r = May read-section.Learnt {S = List ℕ} {T = SectionRead} (λ 
 pub reads-section-so : {s : List ℕ} {r : SectionRead} → ReadsSection s r → r ≡ sectionOf s
 reads-section-so d = sym (d .left) ∙ d .learnt-so ∙ ap sectionOf (d .taken)
 
-abbrev pub ReadsWholeSection : List ℕ → WholeSection → Type 0
-ReadsWholeSection s r = May read-whole-section.Learnt {S = List ℕ} {T = WholeSection} (λ κ a. now (a .0)) (λ κ r e. r) s r
+abbrev pub ReadsFullSection : List ℕ → FullSection → Type 0
+ReadsFullSection s r = May read-full-section.Learnt {S = List ℕ} {T = FullSection} (λ κ a. now (a .0)) (λ κ r e. r) s r
 
-pub reads-whole-section-so : {s : List ℕ} {r : WholeSection} → ReadsWholeSection s r → r ≡ wholeSectionOf s
-reads-whole-section-so d = sym (d .left) ∙ d .learnt-so ∙ ap wholeSectionOf (d .taken)
+pub reads-full-section-so : {s : List ℕ} {r : FullSection} → ReadsFullSection s r → r ≡ fullSectionOf s
+reads-full-section-so d = sym (d .left) ∙ d .learnt-so ∙ ap fullSectionOf (d .taken)
 
 -- `step` of a loop and an offset
 abbrev pub Steps : List ℕ → ℕ → Step → Type 0
@@ -143,16 +143,16 @@ writes-descriptor-so d = record {
 }
 
 -- a command, its components and the bytes that its view refers to
-abbrev pub WritesCommand : SpliceCommand → List ComponentSplice → List ℕ → List ℕ → Written → List ℕ → Type 0
+abbrev pub WritesCommand : SpliceCommand → List InsertComponent → List ℕ → List ℕ → Written → List ℕ → Type 0
 WritesCommand c places lent target answer later =
-    May write-command.Learnt {S = SpliceCommand × (List ComponentSplice × (List ℕ × List ℕ))} {T = Written × List ℕ}
+    May write-command.Learnt {S = SpliceCommand × (List InsertComponent × (List ℕ × List ℕ))} {T = Written × List ℕ}
     (λ κ a. (a .0, (a .1 .0, (now (a .1 .1 .0), now (a .1 .1 .1 .0))))) (λ κ r e. (r, now (e .1 .1 .1 .0))) (c, (places, (lent, target))) (answer, later)
 
-pub writes-command-so : {c : SpliceCommand} {places : List ComponentSplice} {lent target : List ℕ} {answer : Written} {later : List ℕ} → WritesCommand c places lent target answer later
+pub writes-command-so : {c : SpliceCommand} {places : List InsertComponent} {lent target : List ℕ} {answer : Written} {later : List ℕ} → WritesCommand c places lent target answer later
     → Writes (commandMade c places lent) target later answer
 writes-command-so d = record {
   answer = sym (ap (λ (v : Written × List ℕ). v .0) (d .left)) ∙ d .learnt-so .0
-      ∙ ap (λ (v : SpliceCommand × (List ComponentSplice × (List ℕ × List ℕ))). answerOf (commandMade (v .0) (v .1 .0) (v .1 .1 .0)) (v .1 .1 .1)) (d .taken);
+      ∙ ap (λ (v : SpliceCommand × (List InsertComponent × (List ℕ × List ℕ))). answerOf (commandMade (v .0) (v .1 .0) (v .1 .1 .0)) (v .1 .1 .1)) (d .taken);
   target-later = sym (ap (λ (v : Written × List ℕ). v .1) (d .left)) ∙ d .learnt-so .1
-      ∙ ap (λ (v : SpliceCommand × (List ComponentSplice × (List ℕ × List ℕ))). laterOf (commandMade (v .0) (v .1 .0) (v .1 .1 .0)) (v .1 .1 .1)) (d .taken);
+      ∙ ap (λ (v : SpliceCommand × (List InsertComponent × (List ℕ × List ℕ))). laterOf (commandMade (v .0) (v .1 .0) (v .1 .1 .0)) (v .1 .1 .1)) (d .taken);
 }

@@ -14,7 +14,7 @@ use Rattle.descriptor.specs.declared.segmentation.DescriptorDetail.{DescriptorD
 use Rattle.descriptor.specs.declared.segmentation.SegmentationDescriptor.{SegmentationDescriptor}
 use Rattle.descriptor.specs.declared.segmentation.SegmentationDetail.{SegmentationDetail}
 use Rattle.c_section.specs.Flat.{flatView}
-use Rattle.c_items.specs.FlatItem.{segmentationHead, wholeSegmentation, itemWith, noTimes, segmentationItem, flatDescriptor, blankItem, flatItem, refusalIn, valuesIn, flatStep}
+use Rattle.c_items.specs.FlatItem.{segmentationHead, activeSegmentation, itemWith, noTimes, segmentationItem, flatDescriptor, blankItem, flatItem, refusalIn, valuesIn, flatStep}
 use Rattle.c_items.specs.FlatUpid.{three, flatPart, noParts, flatUpidRead, flatUpid}
 use Rattle.c_items.specs.declared.steps.FlatStep.{FlatStep}
 use Rattle.descriptor_loop.specs.Items as items
@@ -72,7 +72,7 @@ module _ (s : List ℕ) (base : ℕ) (loop : List ℕ) where
     withDetail event d = Item.Is (Descriptor.Segmentation (record { «segmentation_event_id» = event; «descriptor_detail» = d }))
 
     detail-lies : (event : ℕ) (d : DescriptorDetail) → DetailCase s (base + offset + 6) base loop (r .beside .eidr) d → ItemLies s (base + offset) base (flatStep (stepWith (withDetail event d)))
-    unfolding flatStep flatItem refusalIn flatDescriptor segmentationItem blankItem wholeSegmentation
+    unfolding flatStep flatItem refusalIn flatDescriptor segmentationItem blankItem activeSegmentation
     detail-lies event DescriptorDetail.Cancel w = none-lies (flatStep (stepWith (withDetail event DescriptorDetail.Cancel))) 3 refl (omega arith) (eqb-false 3 2 refl) (eqb-false 3 4 refl) refl
     detail-lies event (DescriptorDetail.Active i) w = record {
       kinds = omega arith;
@@ -116,7 +116,7 @@ module _ (s : List ℕ) (base : ℕ) (loop : List ℕ) where
     refusal-lies (ItemRefusal.Other (Refusal.InvalidUpidLength «upid_type» expected actual)) w = refused-lies (ItemRefusal.Other (Refusal.InvalidUpidLength «upid_type» expected actual)) (λ e. absurd (eqb-false 25 24 refl e))
 
     item-lies : (it : Item) → ItemCase s base loop offset r it → ItemLies s (base + offset) base (flatStep (stepWith it))
-    unfolding flatStep flatItem refusalIn flatDescriptor segmentationItem blankItem wholeSegmentation
+    unfolding flatStep flatItem refusalIn flatDescriptor segmentationItem blankItem activeSegmentation
     item-lies Item.End w = none-lies (flatStep (stepWith Item.End)) 0 refl (omega arith) (eqb-false 0 2 refl) (eqb-false 0 4 refl) refl
     item-lies (Item.Refused q) w = refusal-lies q w
     item-lies (Item.Is (Descriptor.Avail x)) w = none-lies (flatStep (stepWith (Item.Is (Descriptor.Avail x)))) 1 refl (omega arith) (eqb-false 1 2 refl) (eqb-false 1 4 refl) refl
@@ -157,13 +157,13 @@ pub record UpidOf (k : ℕ) (st : Step) : Type 0 where
 module _ (k : ℕ) (id : List ℕ) (next : ℕ) where
   upid-detail : (event : ℕ) (d : DescriptorDetail) → segmentationItem event d .kind ≡ 4 → segmentationItem event d .segmentation .«segmentation_upid_type» ≡ k
       → UpidOf k (record { item = Item.Is (Descriptor.Segmentation (record { «segmentation_event_id» = event; «descriptor_detail» = d })); identifier = id; next = next })
-  unfolding flatItem flatDescriptor segmentationItem blankItem wholeSegmentation flatStep
+  unfolding flatItem flatDescriptor segmentationItem blankItem activeSegmentation flatStep
   upid-detail event DescriptorDetail.Cancel e t = absurd (eqb-false 3 4 refl e)
   upid-detail event (DescriptorDetail.Active i) e t =
       record { descriptor = record { «segmentation_event_id» = event; «descriptor_detail» = DescriptorDetail.Active i }; insert = i; is = refl; detail = refl; «upid_type» = t; bytes = refl }
 
   upid-by : (it : Item) → flatItem it .kind ≡ 4 → flatItem it .segmentation .«segmentation_upid_type» ≡ k → UpidOf k (record { item = it; identifier = id; next = next })
-  unfolding flatItem flatDescriptor segmentationItem blankItem wholeSegmentation flatStep
+  unfolding flatItem flatDescriptor segmentationItem blankItem activeSegmentation flatStep
   upid-by Item.End e t = absurd (eqb-false 0 4 refl e)
   upid-by (Item.Refused q) e t = absurd (eqb-false 7 4 refl e)
   upid-by (Item.Is (Descriptor.Avail x)) e t = absurd (eqb-false 1 4 refl e)

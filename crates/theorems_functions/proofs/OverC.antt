@@ -11,10 +11,10 @@ use borrow.Author.Tests.{eqb-false}
 use Rattle.command.specs.Command.{commandOf, componentsOf}
 use Rattle.command.specs.declared.SpliceCommand.{SpliceCommand}
 use Rattle.c_section.specs.Flat.{flatView, flatHeader}
-use Rattle.c_section.specs.FlatCommand.{flatCommand, flatSplices}
+use Rattle.c_section.specs.FlatCommand.{flatCommand, flatInsertComponents}
 use Rattle.c_section.specs.FlatSection.{flatSectionRead}
 use Rattle.c_section.specs.declared.FlatView.{FlatView}
-use Rattle.c_section.specs.declared.components.FlatSplices.{FlatSplices}
+use Rattle.c_section.specs.declared.components.FlatInsertComponents.{FlatInsertComponents}
 use Rattle.c_section.specs.declared.sections.FlatSection.{FlatSection}
 use Rattle.c_descriptor_writer.specs.ItemGiven.{descriptorWordsMade}
 use Rattle.c_items.specs.FlatItem.{flatStep, flatBeside}
@@ -54,7 +54,7 @@ use Rattle.theorems_reader.proofs.Theorems as reading
 use Rattle.theorems_writer.proofs.Theorems as writing
 use Rattle.theorems_c.specs.Boards.{May}
 use Rattle.theorems_reader.specs.Identifiers.{Identifier, inLent, partsRead, Announced, Unsplit}
-use Rattle.theorems_c.specs.OverC.{splicesWords, componentsAnswered, stepWords, besideWords, wordsMadeAt}
+use Rattle.theorems_c.specs.OverC.{insertComponentsWords, componentsAnswered, stepWords, besideWords, wordsMadeAt}
 use Rattle.theorems_reader.specs.Whole.{upidAt}
 use Rattle.theorems_reader.proofs.Whole.{whole-case}
 use Rattle.theorems_reader.proofs.WholeCases.{ItemCase}
@@ -66,7 +66,7 @@ use Rattle.upid.specs.declared.UpidRead.{UpidRead}
 use Rattle.scte35.proofs.canonical.scte35_is_canonical_section.Reads as scte35-is-canonical-section
 use Rattle.scte35.proofs.scte35_read_insert_components.Reads as scte35-read-insert-components
 use Rattle.scte35.proofs.scte35_read_item.Reads as scte35-read-item
-use Rattle.scte35.proofs.scte35_read_item_components.Reads as scte35-read-item-components
+use Rattle.scte35.proofs.scte35_read_segmentation_components.Reads as scte35-read-segmentation-components
 use Rattle.scte35.proofs.scte35_read_section.Reads as scte35-read-section
 use Rattle.scte35.proofs.scte35_read_upid.Reads as scte35-read-upid
 use Rattle.scte35.proofs.writing.scte35_write_command_words.Reads as scte35-write-command-words
@@ -94,7 +94,7 @@ reads-item-so : {loop : List ℕ} {offset : ℕ} {f : FlatStep} → ReadsItemC l
 reads-item-so d = sym (d .left) ∙ d .learnt-so ∙ ap (λ (v : List ℕ × ℕ). flatStep (stepOf (v .0) (v .1))) (d .taken)
 
 abbrev pub ReadsBesideC : List ℕ → ℕ → FlatBeside → Type 0
-ReadsBesideC loop offset f = May scte35-read-item-components.Learnt {S = List ℕ × ℕ} {T = FlatBeside} (λ κ a. (now (a .0), a .1 .0)) (λ κ r e. r) (loop, offset) f
+ReadsBesideC loop offset f = May scte35-read-segmentation-components.Learnt {S = List ℕ × ℕ} {T = FlatBeside} (λ κ a. (now (a .0), a .1 .0)) (λ κ r e. r) (loop, offset) f
 
 reads-beside-so : {loop : List ℕ} {offset : ℕ} {f : FlatBeside} → ReadsBesideC loop offset f → f ≡ flatBeside (readingOf loop offset)
 reads-beside-so d = sym (d .left) ∙ d .learnt-so ∙ ap (λ (v : List ℕ × ℕ). flatBeside (readingOf (v .0) (v .1))) (d .taken)
@@ -106,11 +106,11 @@ reads-upid-so : {upid-type : ℕ} {bytes : List ℕ} {f : FlatUpid} → ReadsUpi
 reads-upid-so d = sym (d .left) ∙ d .learnt-so ∙ ap (λ (v : ℕ × List ℕ). flatUpid (upidOf (v .0) (v .1))) (d .taken)
 
 -- of an insert's payload
-abbrev pub ReadsComponentsC : List ℕ → FlatSplices → Type 0
-ReadsComponentsC payload f = May scte35-read-insert-components.Learnt {S = List ℕ} {T = FlatSplices} (λ κ a. drop (a .1 .0) (now (a .0))) (λ κ r e. r) payload f
+abbrev pub ReadsComponentsC : List ℕ → FlatInsertComponents → Type 0
+ReadsComponentsC payload f = May scte35-read-insert-components.Learnt {S = List ℕ} {T = FlatInsertComponents} (λ κ a. drop (a .1 .0) (now (a .0))) (λ κ r e. r) payload f
 
-reads-components-so : {payload : List ℕ} {f : FlatSplices} → ReadsComponentsC payload f → f ≡ flatSplices (commandOf 0x05 payload) (componentsOf payload)
-reads-components-so d = sym (d .left) ∙ d .learnt-so ∙ ap (λ (v : List ℕ). flatSplices (commandOf 0x05 v) (componentsOf v)) (d .taken)
+reads-components-so : {payload : List ℕ} {f : FlatInsertComponents} → ReadsComponentsC payload f → f ≡ flatInsertComponents (commandOf 0x05 payload) (componentsOf payload)
+reads-components-so d = sym (d .left) ∙ d .learnt-so ∙ ap (λ (v : List ℕ). flatInsertComponents (commandOf 0x05 v) (componentsOf v)) (d .taken)
 
 abbrev pub TellsCanonicalC : List ℕ → Bool → Type 0
 TellsCanonicalC s r = May scte35-is-canonical-section.Learnt {S = List ℕ} {T = Bool} (λ κ a. drop (a .1 .0) (now (a .0))) (λ κ r e. r) s r
@@ -209,7 +209,7 @@ pub the-items-over-c-are-whole : (s : List ℕ) (f : FlatSection) (offset : ℕ)
     → ItemLies s (f .descriptors .at + offset) (f .descriptors .at) i
 the-items-over-c-are-whole s f offset i a d z q = items-lie s f offset i a (accepted s f d z) q
 
--- An EIDR, which stands beside its item: `scte35_read_item_components` at the same offset answers the very twelve bytes
+-- An EIDR, which stands beside its item: `scte35_read_segmentation_components` at the same offset answers the very twelve bytes
 pub the-eidr-over-c-is-whole : (s : List ℕ) (f : FlatSection) (offset : ℕ) (i : FlatStep) (b : FlatBeside) → AllBytes s → ReadsSectionC s f → f .refusal ≡ 0
     → ReadsItemC (taken s (f .descriptors)) offset i → ReadsBesideC (taken s (f .descriptors)) offset b → i .item .kind ≡ 4 → i .item .segmentation .«segmentation_upid_type» ≡ 10
     → let h : ℕ = upidAt s (f .descriptors .at + offset + 6) in (getD s h 0 ≡ 10) × (getD s (h + 1) 0 ≡ 12) × Slice s (h + 2) 12 (b .eidr)
@@ -281,16 +281,16 @@ puts-flat m b target answer later e f g =
     }
 
 -- Demand 2 over C: the words that are read of a canonical section, its header's (without the last two) and its command's, those of its components, read of its bytes up to its command's end, and its loop, written, are that section
-pub a-canonical-section-over-c-is-written-back : (s : List ℕ) (f : FlatSection) (places : FlatSplices) (target : List ℕ) (answer : FlatWritten) (later : List ℕ) → AllBytes s
+pub a-canonical-section-over-c-is-written-back : (s : List ℕ) (f : FlatSection) (places : FlatInsertComponents) (target : List ℕ) (answer : FlatWritten) (later : List ℕ) → AllBytes s
     → TellsCanonicalC s true → ReadsSectionC s f → f .refusal ≡ 0 → ReadsComponentsC (drop 14 (take (14 + commandLength s) s)) places
-    → WritesSectionC (headerWords (f .header)) (commandWords (f .command)) (splicesWords places) s (taken s (f .descriptors)) target answer later → PutsFlat s target answer later
+    → WritesSectionC (headerWords (f .header)) (commandWords (f .command)) (insertComponentsWords places) s (taken s (f .descriptors)) target answer later → PutsFlat s target answer later
 a-canonical-section-over-c-is-written-back s f places target answer later a t d z c p =
     let x = accepted s f d z in
     let w = writes-section-so p in
-    let m : sectionWordsMade (headerWords (f .header)) (commandWords (f .command)) (splicesWords places) s (taken s (f .descriptors)) ≡ made s =
-    ap (λ (v : FlatSection). sectionWordsMade (headerWords (v .header)) (commandWords (v .command)) (splicesWords places) s (taken s (f .descriptors))) (reads-section-so d)
-    ∙ ap (λ (v : FlatSplices). sectionWordsMade (headerWords (flatSectionRead (sectionOf s) .header)) (commandWords (flatSectionRead (sectionOf s) .command)) (splicesWords v) s (taken s (f .descriptors))) (reads-components-so c)
-    ∙ ap (λ (l : List ℕ). sectionWordsMade (headerWords (flatSectionRead (sectionOf s) .header)) (commandWords (flatSectionRead (sectionOf s) .command)) (splicesWords (componentsAnswered s)) s l) (x .loop)
+    let m : sectionWordsMade (headerWords (f .header)) (commandWords (f .command)) (insertComponentsWords places) s (taken s (f .descriptors)) ≡ made s =
+    ap (λ (v : FlatSection). sectionWordsMade (headerWords (v .header)) (commandWords (v .command)) (insertComponentsWords places) s (taken s (f .descriptors))) (reads-section-so d)
+    ∙ ap (λ (v : FlatInsertComponents). sectionWordsMade (headerWords (flatSectionRead (sectionOf s) .header)) (commandWords (flatSectionRead (sectionOf s) .command)) (insertComponentsWords v) s (taken s (f .descriptors))) (reads-components-so c)
+    ∙ ap (λ (l : List ℕ). sectionWordsMade (headerWords (flatSectionRead (sectionOf s) .header)) (commandWords (flatSectionRead (sectionOf s) .command)) (insertComponentsWords (componentsAnswered s)) s l) (x .loop)
     ∙ over-c.a-canonical-section-is-what-is-written-of-its-words s (x .section) a (x .is) (sym (tells-canonical-so t)) in
     puts-flat _ s target answer later m (w .0) (w .1)
 

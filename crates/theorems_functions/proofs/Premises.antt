@@ -8,28 +8,28 @@ use Rattle.c_command_writer.specs.Words.{flatWritten}
 use Rattle.c_descriptor_writer.specs.ItemGiven.{descriptorWordsMade}
 use Rattle.c_items.specs.FlatItem.{flatStep, flatBeside}
 use Rattle.c_items.specs.FlatUpid.{flatUpid}
-use Rattle.c_section.specs.FlatCommand.{flatSplices}
+use Rattle.c_section.specs.FlatCommand.{flatInsertComponents}
 use Rattle.c_section.specs.FlatSection.{flatSectionRead}
 use Rattle.c_section_writer.specs.SectionGiven.{sectionWordsMade}
 use Rattle.canonical_form.specs.Same.{Given}
 use Rattle.canonical_form.specs.Section.{canonicalSection}
 use Rattle.command.specs.Command.{commandOf, componentsOf}
 use Rattle.command.specs.declared.SpliceCommand.{SpliceCommand}
-use Rattle.command.specs.declared.components.ComponentSplice.{ComponentSplice}
+use Rattle.command.specs.declared.components.InsertComponent.{InsertComponent}
 use Rattle.command_measure.specs.Made.{commandMade}
 use Rattle.descriptor_loop.specs.Items.{stepOf, readingOf}
 use Rattle.descriptor_loop.specs.Place.{viewOf}
 use Rattle.descriptor_loop.specs.declared.Item.{Item}
 use Rattle.loop_round_trips.specs.Loops.{givenMade}
 use Rattle.section.specs.Section.{privateView, sectionOf}
-use Rattle.section.specs.Whole.{wholeSectionOf}
+use Rattle.section.specs.Full.{fullSectionOf}
 use Rattle.section.specs.declared.Section.{Section}
 use Rattle.table.specs.Lent.{viewed}
 use Rattle.table.specs.Writing.{Made}
 use Rattle.upid.specs.Upid.{upidOf, partView}
 use Rattle.upid.specs.declared.Part.{Part}
 use Rattle.theorems_functions.specs.Calls.{SectionGiven}
-use Rattle.theorems_functions.proofs.Contracts.{ReadsSection, ReadsWholeSection, Steps, ReadsItem, ReadsUpid, GivesLoop, GivesPrivate, GivesBytes, GivesPart, TellsCanonical, WritesSection, WritesDescriptor, WritesCommand, sectionFrom}
+use Rattle.theorems_functions.proofs.Contracts.{ReadsSection, ReadsFullSection, Steps, ReadsItem, ReadsUpid, GivesLoop, GivesPrivate, GivesBytes, GivesPart, TellsCanonical, WritesSection, WritesDescriptor, WritesCommand, sectionFrom}
 use Rattle.theorems_functions.proofs.OverC.{ReadsSectionC, ReadsItemC, ReadsBesideC, ReadsUpidC, ReadsComponentsC, TellsCanonicalC, WritesSectionC, WritesDescriptorC}
 
 -- lent bytes, wherever they lie
@@ -41,8 +41,8 @@ slice s = record { ptr = (0, 0); name = 0; now = s }
 pub read-section-is-met : (s : List ℕ) → ReadsSection s (sectionOf s)
 read-section-is-met s = record { κ = ([], tt); arguments = (slice s, tt); answer = sectionOf s; after = (slice s, tt); taken = refl; left = refl; learnt-so = refl }
 
-pub read-whole-section-is-met : (s : List ℕ) → ReadsWholeSection s (wholeSectionOf s)
-read-whole-section-is-met s = record { κ = ([], tt); arguments = (slice s, tt); answer = wholeSectionOf s; after = (slice s, tt); taken = refl; left = refl; learnt-so = refl }
+pub read-whole-section-is-met : (s : List ℕ) → ReadsFullSection s (fullSectionOf s)
+read-whole-section-is-met s = record { κ = ([], tt); arguments = (slice s, tt); answer = fullSectionOf s; after = (slice s, tt); taken = refl; left = refl; learnt-so = refl }
 
 pub step-is-met : (loop : List ℕ) (offset : ℕ) → Steps loop offset (stepOf loop offset)
 step-is-met loop offset = record { κ = ([], tt); arguments = (slice loop, (offset, tt)); answer = stepOf loop offset; after = (slice loop, (offset, tt)); taken = refl; left = refl; learnt-so = refl }
@@ -92,7 +92,7 @@ write-descriptor-is-met g target = record {
   learnt-so = record { answer = refl; target-later = refl };
 }
 
-pub write-command-is-met : (c : SpliceCommand) (places : List ComponentSplice) (lent target : List ℕ)
+pub write-command-is-met : (c : SpliceCommand) (places : List InsertComponent) (lent target : List ℕ)
     → WritesCommand c places lent target (answerOf (commandMade c places lent) target) (laterOf (commandMade c places lent) target)
 write-command-is-met c places lent target = record {
   κ = ([], ([], tt));
@@ -118,8 +118,8 @@ scte35-read-item-components-is-met loop offset = record { κ = ([], tt); argumen
 pub scte35-read-upid-is-met : (k : ℕ) (b : List ℕ) → ReadsUpidC k b (flatUpid (upidOf k b))
 scte35-read-upid-is-met k b = record { κ = ([], tt); arguments = (k, (slice b, (0, tt))); answer = flatUpid (upidOf k b); after = (k, (slice b, (0, tt))); taken = refl; left = refl; learnt-so = refl }
 
-pub scte35-read-insert-components-is-met : (p : List ℕ) → ReadsComponentsC p (flatSplices (commandOf 0x05 p) (componentsOf p))
-scte35-read-insert-components-is-met p = record { κ = ([], tt); arguments = (slice p, (0, tt)); answer = flatSplices (commandOf 0x05 p) (componentsOf p); after = (slice p, (0, tt)); taken = refl; left = refl; learnt-so = refl }
+pub scte35-read-insert-components-is-met : (p : List ℕ) → ReadsComponentsC p (flatInsertComponents (commandOf 0x05 p) (componentsOf p))
+scte35-read-insert-components-is-met p = record { κ = ([], tt); arguments = (slice p, (0, tt)); answer = flatInsertComponents (commandOf 0x05 p) (componentsOf p); after = (slice p, (0, tt)); taken = refl; left = refl; learnt-so = refl }
 
 pub scte35-is-canonical-section-is-met : (s : List ℕ) → TellsCanonicalC s (canonicalSection s)
 scte35-is-canonical-section-is-met s = record { κ = ([], tt); arguments = (slice s, (0, tt)); answer = canonicalSection s; after = (slice s, (0, tt)); taken = refl; left = refl; learnt-so = refl }

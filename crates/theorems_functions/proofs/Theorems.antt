@@ -9,7 +9,7 @@ use lib.ListN.{length, take, drop}
 use denote.Ref.{now}
 use Rattle.command.specs.Command.{countIn, componentsOf}
 use Rattle.command.specs.declared.SpliceCommand.{SpliceCommand}
-use Rattle.command.specs.declared.components.ComponentSplice.{ComponentSplice}
+use Rattle.command.specs.declared.components.InsertComponent.{InsertComponent}
 use Rattle.command_measure.specs.Made.{commandMade}
 use Rattle.descriptor.specs.declared.Descriptor.{Descriptor}
 use Rattle.descriptor.specs.declared.segmentation.SegmentationDescriptor.{SegmentationDescriptor}
@@ -34,10 +34,10 @@ use Rattle.canonical_form.specs.Same.Pairs.{over, pair}
 use Rattle.bit_stores.specs.Written.{answerOf, laterOf}
 use Rattle.bit_stores.specs.declared.Written.{Written}
 use Rattle.section.specs.Section.{commandBytes, loopBytes, conditions, first, sectionOf, numberOf, None, loopIn}
-use Rattle.section.specs.Whole.{besideCommand, wholeSectionOf}
+use Rattle.section.specs.Full.{besideCommand, fullSectionOf}
 use Rattle.section.specs.declared.Section.{Section}
 use Rattle.section.specs.declared.SectionRead.{SectionRead}
-use Rattle.section.specs.declared.whole.WholeSection.{WholeSection}
+use Rattle.section.specs.declared.full.FullSection.{FullSection}
 use Rattle.canonical_form.specs.Section.{canonicalSection}
 use Rattle.section_writer.specs.Writing.{typeOf, sectionMade}
 use Rattle.table.proofs.Lists.{zero-one}
@@ -66,7 +66,7 @@ use Rattle.section_writer.proofs.write_section_without_components.Reads as writ
 use Rattle.section_writer.proofs.write_section.Reads as write-section
 use Rattle.theorems_functions.specs.Calls.{Stepped, SectionGiven, Puts}
 use Rattle.theorems_functions.specs.Slices.{ItemSlice, PartSlice, Parted, PrivateSlice}
-use Rattle.theorems_functions.proofs.Contracts.{ReadsSection, reads-section-so, ReadsWholeSection, reads-whole-section-so, Steps, steps-so, ReadsItem, reads-item-so, ReadsUpid, reads-upid-so, GivesLoop, gives-loop-so, GivesPrivate, gives-private-so, GivesBytes, gives-bytes-so, GivesPart, gives-part-so, TellsCanonical, tells-canonical-so, WritesSection, writes-section-so, WritesDescriptor, writes-descriptor-so, WritesCommand, writes-command-so, sectionFrom}
+use Rattle.theorems_functions.proofs.Contracts.{ReadsSection, reads-section-so, ReadsFullSection, reads-full-section-so, Steps, steps-so, ReadsItem, reads-item-so, ReadsUpid, reads-upid-so, GivesLoop, gives-loop-so, GivesPrivate, gives-private-so, GivesBytes, gives-bytes-so, GivesPart, gives-part-so, TellsCanonical, tells-canonical-so, WritesSection, writes-section-so, WritesDescriptor, writes-descriptor-so, WritesCommand, writes-command-so, sectionFrom}
 use Rattle.theorems_functions.proofs.Slices as slices
 use Rattle.theorems_functions.proofs.Steps as steps
 use Rattle.theorems_functions.proofs.Writes as writes
@@ -133,12 +133,12 @@ the-private-bytes-are-whole s x b d g = rw (gives-private-so g) (slices.private-
 -- ---- writing
 
 -- Demand 2: what is read of a canonical section, written with the components that stand beside it and the loop as it is handed back, is that section
-pub a-canonical-section-is-written-back : (s : List ℕ) (w : WholeSection) (x : Section) (loop target : List ℕ) (answer : Written) (later : List ℕ) → AllBytes s
-    → TellsCanonical s true → ReadsWholeSection s w → w .read ≡ SectionRead.Is x → GivesLoop s x loop
+pub a-canonical-section-is-written-back : (s : List ℕ) (w : FullSection) (x : Section) (loop target : List ℕ) (answer : Written) (later : List ℕ) → AllBytes s
+    → TellsCanonical s true → ReadsFullSection s w → w .read ≡ SectionRead.Is x → GivesLoop s x loop
     → WritesSection (record { header = x .header; command = x .command; components = w .components; lent = s; loop = loop }) target answer later → Puts s target answer later
 a-canonical-section-is-written-back s w x loop target answer later a t d r g p =
-    let e : sectionOf s ≡ SectionRead.Is x = writes.whole-read s w x (reads-whole-section-so d) r in
-    let c : w .components ≡ besideCommand (x .command) (commandBytes s) = writes.whole-beside s w x (reads-whole-section-so d) r in
+    let e : sectionOf s ≡ SectionRead.Is x = writes.full-read s w x (reads-full-section-so d) r in
+    let c : w .components ≡ besideCommand (x .command) (commandBytes s) = writes.full-beside s w x (reads-full-section-so d) r in
     let m : sectionMade (x .header) (commandMade (x .command) (w .components) s) (typeOf (x .command)) loop ≡ made s =
     rw (c, writes.beside-serves (x .command) (commandBytes s) s, gives-loop-so g) (writing.a-canonical-section-is-what-is-written-of-its-reading s x a e (sym (tells-canonical-so t))) in
     writes.puts-made _ s target answer later m (writes-section-so p)
@@ -174,11 +174,11 @@ the-items-of-a-canonical-section-are-written-back s x loop a t d g =
     all-into (λ y h r d target answer later i is p. writes.item-back loop y h r d (reads-item-so i) is target answer later (writes-descriptor-so p)) (writes.all-again loop fits h)
 
 -- Demand 2 in one statement: the loop stepped through, each of its items read and written, what was written joined in order, and the section written around it: that is the section
-pub a-canonical-section-is-written-back-by-its-items : (s : List ℕ) (w : WholeSection) (x : Section) (loop : List ℕ) (xs : List Listed) (bs : List (List ℕ)) (target : List ℕ) (answer : Written) (later : List ℕ)
-    → AllBytes s → TellsCanonical s true → ReadsWholeSection s w → w .read ≡ SectionRead.Is x → GivesLoop s x loop → Stepped (Steps loop) 0 xs → Pairs (Rewrites loop) xs bs
+pub a-canonical-section-is-written-back-by-its-items : (s : List ℕ) (w : FullSection) (x : Section) (loop : List ℕ) (xs : List Listed) (bs : List (List ℕ)) (target : List ℕ) (answer : Written) (later : List ℕ)
+    → AllBytes s → TellsCanonical s true → ReadsFullSection s w → w .read ≡ SectionRead.Is x → GivesLoop s x loop → Stepped (Steps loop) 0 xs → Pairs (Rewrites loop) xs bs
     → WritesSection (record { header = x .header; command = x .command; components = w .components; lent = s; loop = joined bs }) target answer later → Puts s target answer later
 a-canonical-section-is-written-back-by-its-items s w x loop xs bs target answer later a t d r g st rw-all p =
-    let e : sectionOf s ≡ SectionRead.Is x = writes.whole-read s w x (reads-whole-section-so d) r in
+    let e : sectionOf s ≡ SectionRead.Is x = writes.full-read s w x (reads-full-section-so d) r in
     let l : loop ≡ loopIn s x = gives-loop-so g in
     let fits : length loop ≤ 4076 = rw l (loop-short s x e) in
     let z : xs ≡ itemsOf loop = steps.stepped-items loop fits (Steps loop) (λ offset st. steps-so) st in
@@ -186,7 +186,7 @@ a-canonical-section-is-written-back-by-its-items s w x loop xs bs target answer 
     let h : All (writes.Again loop) xs = rw z (writes.all-again loop fits o) in
     let j : joined (map (runOf loop) xs) ≡ loop = rw (z, l) (reading.the-items-cover-the-loop-of-the-section s x e .cutting .joins) in
     let k : joined bs ≡ loop = ap joined (rewritten loop h rw-all) ∙ j in
-    let c : w .components ≡ besideCommand (x .command) (commandBytes s) = writes.whole-beside s w x (reads-whole-section-so d) r in
+    let c : w .components ≡ besideCommand (x .command) (commandBytes s) = writes.full-beside s w x (reads-full-section-so d) r in
     let m : sectionMade (x .header) (commandMade (x .command) (w .components) s) (typeOf (x .command)) (joined bs) ≡ made s =
     rw (c, writes.beside-serves (x .command) (commandBytes s) s, k, l) (writing.a-canonical-section-is-what-is-written-of-its-reading s x a e (sym (tells-canonical-so t))) in
     writes.puts-made _ s target answer later m (writes-section-so p)
@@ -223,7 +223,7 @@ made-of (pair {x = g} w ws) =
     pair (c .is ∙ ap made (sym e)) (made-of ws)
 
 -- and so of any header, command and items, in one statement: the descriptors written, joined in order, and the section written around them, are read as this header, this command and these items
-pub what-is-written-of-items-is-read-back : (h : SpliceInfoHeader) (c : SpliceCommand) (places : List ComponentSplice) (lent : List ℕ) (gs : List Given) (bs : List (List ℕ)) (target : List ℕ) (n : ℕ) (later : List ℕ)
+pub what-is-written-of-items-is-read-back : (h : SpliceInfoHeader) (c : SpliceCommand) (places : List InsertComponent) (lent : List ℕ) (gs : List Given) (bs : List (List ℕ)) (target : List ℕ) (n : ℕ) (later : List ℕ)
     → length places ≡ 255 → countIn c ≤ 255 → AllBytes lent → AllBytes (joined bs) → All (λ (g : Given). Handed (g .descriptor) (g .identifier) (g .beside) (g .lent)) gs → Pairs WritesBytes gs bs
     → WritesSection (record { header = h; command = c; components = places; lent = lent; loop = joined bs }) target (Written.Wrote n) later
     → SectionBytes h c places lent (joined bs) (take n later) × Pairs (ItemBack (loopBytes (take n later))) (itemsOf (loopBytes (take n later))) gs
@@ -250,25 +250,25 @@ an-item-that-is-read-is-written s x loop offset r d a rs g i is =
     (w .bytes, w .form, back, λ target answer later p. writes.puts-made _ (w .bytes) target answer later m (writes-descriptor-so p))
 
 -- and the command of every section, but for "insert reserved other than 127": what `write_command` writes of it is a canonical payload that reads as it
-pub the-command-of-a-section-is-written : (s : List ℕ) (w : WholeSection) (x : Section) → AllBytes s → ReadsWholeSection s w → w .read ≡ SectionRead.Is x
+pub the-command-of-a-section-is-written : (s : List ℕ) (w : FullSection) (x : Section) → AllBytes s → ReadsFullSection s w → w .read ≡ SectionRead.Is x
     → ((i : SpliceInsert) → x .command ≡ SpliceCommand.SpliceInsert i → i .reserved ≡ 127)
     → (p : List ℕ) × CommandPayload (x .command) (componentsOf (commandBytes s)) s p × ((target : List ℕ) (answer : Written) (later : List ℕ)
     → WritesCommand (x .command) (w .components) s target answer later → Puts p target answer later)
 the-command-of-a-section-is-written s w x a d r ones =
-    let e : sectionOf s ≡ SectionRead.Is x = writes.whole-read s w x (reads-whole-section-so d) r in
-    let c : w .components ≡ besideCommand (x .command) (commandBytes s) = writes.whole-beside s w x (reads-whole-section-so d) r in
+    let e : sectionOf s ≡ SectionRead.Is x = writes.full-read s w x (reads-full-section-so d) r in
+    let c : w .components ≡ besideCommand (x .command) (commandBytes s) = writes.full-beside s w x (reads-full-section-so d) r in
     let k = writing.what-is-read-of-a-command-can-be-written s x a e ones in
-    let m : commandMade (x .command) (w .components) s ≡ made (k .0) = ap (λ (l : List ComponentSplice). commandMade (x .command) l s) c ∙ writes.beside-serves (x .command) (commandBytes s) s ∙ k .1 in
+    let m : commandMade (x .command) (w .components) s ≡ made (k .0) = ap (λ (l : List InsertComponent). commandMade (x .command) l s) c ∙ writes.beside-serves (x .command) (commandBytes s) s ∙ k .1 in
     (k .0, k .2, λ target answer later p. writes.puts-made _ (k .0) target answer later m (writes-command-so p))
 
-payload-of : (c : SpliceCommand) (places : List ComponentSplice) (lent : List ℕ) {m : Made} → CommandMakes c places lent m → (b : List ℕ) → m ≡ made b → CommandPayload c places lent b
+payload-of : (c : SpliceCommand) (places : List InsertComponent) (lent : List ℕ) {m : Made} → CommandMakes c places lent m → (b : List ℕ) → m ≡ made b → CommandPayload c places lent b
 payload-of c places lent (CommandMakes.outside f) b e = zero-one cc
 payload-of c places lent (CommandMakes.over f g) b e = zero-one cc
 payload-of c places lent (CommandMakes.nobodys f g h) b e = zero-one cc
 payload-of c places lent (CommandMakes.its f p h) b e = let q : p ≡ b = cc in subst (CommandPayload c places lent) q h
 
 -- whatever was written of a command is a canonical payload that reads as it
-pub what-is-written-of-a-command-is-read-back : (c : SpliceCommand) (places : List ComponentSplice) (lent target : List ℕ) (n : ℕ) (later : List ℕ) → length places ≡ 255 → countIn c ≤ 255 → AllBytes lent
+pub what-is-written-of-a-command-is-read-back : (c : SpliceCommand) (places : List InsertComponent) (lent target : List ℕ) (n : ℕ) (later : List ℕ) → length places ≡ 255 → countIn c ≤ 255 → AllBytes lent
     → WritesCommand c places lent target (Written.Wrote n) later → CommandPayload c places lent (take n later)
 what-is-written-of-a-command-is-read-back c places lent target n later full count bytes p =
     let k = writing.an-accepted-write-changes-only-its-result (commandMade c places lent) target n (sym (writes-command-so p .answer)) in
@@ -286,17 +286,17 @@ canonical-sections-with-equal-readings-are-one s r x y a b t u d e same =
 pub a-refused-section-changes-no-byte : (κ : _) (a : _) (r : Written) (e : _) (n : ℕ) → write-section.Learnt κ a r e → r ≡ Written.Refused n → now (e .1 .1 .1 .1 .1 .0) ≡ now (a .1 .1 .1 .1 .1 .0)
 a-refused-section-changes-no-byte κ a r e n l f = l .1 ∙ writing.a-refused-write-changes-no-byte _ _ n (sym (l .0) ∙ f)
 
-pub a-refused-bare-section-changes-no-byte : (κ : _) (a : _) (r : Written) (e : _) (n : ℕ) → write-section-without-components.Learnt κ a r e → r ≡ Written.Refused n → now (e .1 .1 .1 .1 .0) ≡ now (a .1 .1 .1 .1 .0)
-a-refused-bare-section-changes-no-byte κ a r e n l f = l .1 ∙ writing.a-refused-write-changes-no-byte _ _ n (sym (l .0) ∙ f)
+pub a-refused-section-without-components-changes-no-byte : (κ : _) (a : _) (r : Written) (e : _) (n : ℕ) → write-section-without-components.Learnt κ a r e → r ≡ Written.Refused n → now (e .1 .1 .1 .1 .0) ≡ now (a .1 .1 .1 .1 .0)
+a-refused-section-without-components-changes-no-byte κ a r e n l f = l .1 ∙ writing.a-refused-write-changes-no-byte _ _ n (sym (l .0) ∙ f)
 
 pub a-refused-command-changes-no-byte : (κ : _) (a : _) (r : Written) (e : _) (n : ℕ) → write-command.Learnt κ a r e → r ≡ Written.Refused n → now (e .1 .1 .1 .0) ≡ now (a .1 .1 .1 .0)
 a-refused-command-changes-no-byte κ a r e n l f = l .1 ∙ writing.a-refused-write-changes-no-byte _ _ n (sym (l .0) ∙ f)
 
-pub a-refused-bare-command-changes-no-byte : (κ : _) (a : _) (r : Written) (e : _) (n : ℕ) → write-command-without-components.Learnt κ a r e → r ≡ Written.Refused n → now (e .1 .1 .0) ≡ now (a .1 .1 .0)
-a-refused-bare-command-changes-no-byte κ a r e n l f = l .1 ∙ writing.a-refused-write-changes-no-byte _ _ n (sym (l .0) ∙ f)
+pub a-refused-command-without-components-changes-no-byte : (κ : _) (a : _) (r : Written) (e : _) (n : ℕ) → write-command-without-components.Learnt κ a r e → r ≡ Written.Refused n → now (e .1 .1 .0) ≡ now (a .1 .1 .0)
+a-refused-command-without-components-changes-no-byte κ a r e n l f = l .1 ∙ writing.a-refused-write-changes-no-byte _ _ n (sym (l .0) ∙ f)
 
 pub a-refused-descriptor-changes-no-byte : (κ : _) (a : _) (r : Written) (e : _) (n : ℕ) → write-descriptor.Learnt κ a r e → r ≡ Written.Refused n → now (e .1 .1 .1 .1 .0) ≡ now (a .1 .1 .1 .1 .0)
 a-refused-descriptor-changes-no-byte κ a r e n l f = l .target-later ∙ writing.a-refused-write-changes-no-byte _ _ n (sym (l .answer) ∙ f)
 
-pub a-refused-bare-descriptor-changes-no-byte : (κ : _) (a : _) (r : Written) (e : _) (n : ℕ) → write-descriptor-without-components.Learnt κ a r e → r ≡ Written.Refused n → now (e .1 .1 .1 .1 .0) ≡ now (a .1 .1 .1 .1 .0)
-a-refused-bare-descriptor-changes-no-byte κ a r e n l f = l .target-later ∙ writing.a-refused-write-changes-no-byte _ _ n (sym (l .answer) ∙ f)
+pub a-refused-descriptor-without-components-changes-no-byte : (κ : _) (a : _) (r : Written) (e : _) (n : ℕ) → write-descriptor-without-components.Learnt κ a r e → r ≡ Written.Refused n → now (e .1 .1 .1 .1 .0) ≡ now (a .1 .1 .1 .1 .0)
+a-refused-descriptor-without-components-changes-no-byte κ a r e n l f = l .target-later ∙ writing.a-refused-write-changes-no-byte _ _ n (sym (l .answer) ∙ f)

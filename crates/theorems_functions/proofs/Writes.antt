@@ -9,16 +9,16 @@ use lib.ListN.{length, take, drop}
 use borrow.Author.Tests.{le-leb, lt-leb}
 use Rattle.command.specs.Command.{componentsOf, array, ofInsert}
 use Rattle.command.specs.declared.SpliceCommand.{SpliceCommand}
-use Rattle.command.specs.declared.components.ComponentSplice.{ComponentSplice}
+use Rattle.command.specs.declared.components.InsertComponent.{InsertComponent}
 use Rattle.command_measure.specs.Made.{commandMade}
 use Rattle.descriptor_writer.specs.Stores.{Writes}
 use Rattle.bit_stores.specs.Written.{answerOf, laterOf}
 use Rattle.bit_stores.specs.declared.Written.{Written}
-use Rattle.section.specs.Whole.{besideCommand, besideSection, wholeSectionOf}
+use Rattle.section.specs.Full.{besideCommand, besideSection, fullSectionOf}
 use Rattle.section.specs.Section.{commandBytes, sectionOf}
 use Rattle.section.specs.declared.SectionRead.{SectionRead}
 use Rattle.section.specs.declared.Section.{Section}
-use Rattle.section.specs.declared.whole.WholeSection.{WholeSection}
+use Rattle.section.specs.declared.full.FullSection.{FullSection}
 use Rattle.table.proofs.Lists.{zero-one}
 use Rattle.table.specs.Bits.{pick}
 use Rattle.upid.proofs.Laws.{by-cases}
@@ -62,13 +62,13 @@ beside-serves SpliceCommand.BandwidthReservation payload lent = refl
 beside-serves (SpliceCommand.PrivateCommand p) payload lent = refl
 
 -- ---- the full reading of a section that is accepted
-pub whole-read : (s : List ℕ) (w : WholeSection) (x : Section) → w ≡ wholeSectionOf s → w .read ≡ SectionRead.Is x → sectionOf s ≡ SectionRead.Is x
-unfolding wholeSectionOf
-whole-read s w x e r = ap (λ (v : WholeSection). v .read) (sym e) ∙ r
+pub full-read : (s : List ℕ) (w : FullSection) (x : Section) → w ≡ fullSectionOf s → w .read ≡ SectionRead.Is x → sectionOf s ≡ SectionRead.Is x
+unfolding fullSectionOf
+full-read s w x e r = ap (λ (v : FullSection). v .read) (sym e) ∙ r
 
-pub whole-beside : (s : List ℕ) (w : WholeSection) (x : Section) → w ≡ wholeSectionOf s → w .read ≡ SectionRead.Is x → w .components ≡ besideCommand (x .command) (commandBytes s)
-unfolding wholeSectionOf
-whole-beside s w x e r = ap (λ (v : WholeSection). v .components) e ∙ ap (λ (v : SectionRead). besideSection v (commandBytes s)) (ap (λ (v : WholeSection). v .read) (sym e) ∙ r)
+pub full-beside : (s : List ℕ) (w : FullSection) (x : Section) → w ≡ fullSectionOf s → w .read ≡ SectionRead.Is x → w .components ≡ besideCommand (x .command) (commandBytes s)
+unfolding fullSectionOf
+full-beside s w x e r = ap (λ (v : FullSection). v .components) e ∙ ap (λ (v : SectionRead). besideSection v (commandBytes s)) (ap (λ (v : FullSection). v .read) (sym e) ∙ r)
 
 -- ---- an item that is read at its offset and written again
 

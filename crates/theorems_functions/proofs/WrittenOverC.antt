@@ -14,7 +14,7 @@ use Rattle.c_command_writer.proofs.Given.{given-typed}
 use Rattle.c_command_writer.proofs.Typed.{TypedMode, TypedDetail, Typed}
 use Rattle.c_command_writer.proofs.Words.{places-length}
 use Rattle.c_command_writer.specs.CommandGiven.{commandGiven, componentFrom, componentsFrom, wordsRefusal, commandRefusal}
-use Rattle.c_command_writer.specs.CommandWords.{commandWords, splicesIn, CommandIs, commandSeen}
+use Rattle.c_command_writer.specs.CommandWords.{commandWords, insertComponentsIn, CommandIs, commandSeen}
 use Rattle.c_command_writer.specs.Words.{word, within, same, refusalOf, seenFirst, lowerOf, lowest, noLess, flatWritten}
 use Rattle.c_command_writer.specs.declared.FlatWritten.{FlatWritten}
 use Rattle.c_section.specs.Flat.{flatHeader}
@@ -26,7 +26,7 @@ use Rattle.command.specs.Command.{array, withView, countIn, insertCount}
 use Rattle.command.specs.Insert.{blank, count}
 use Rattle.command.specs.declared.CommandRead.{CommandRead}
 use Rattle.command.specs.declared.SpliceCommand.{SpliceCommand}
-use Rattle.command.specs.declared.components.ComponentSplice.{ComponentSplice}
+use Rattle.command.specs.declared.components.InsertComponent.{InsertComponent}
 use Rattle.command.specs.declared.insert.SpliceDetail.{SpliceDetail}
 use Rattle.command.specs.declared.insert.SpliceMode.{SpliceMode}
 use Rattle.command_measure.specs.Made.{commandMade}
@@ -87,7 +87,7 @@ few-typed SpliceCommand.BandwidthReservation h = omega arith
 few-typed (SpliceCommand.PrivateCommand p) h = omega arith
 
 -- what is made of a section is refused with 31 to 35, or made
-makes-some : (h : SpliceInfoHeader) (d : SpliceCommand) (places : List ComponentSplice) (lent loop : List ℕ) {m : Made} → SectionMakes h d places lent loop m → (n : ℕ) → m ≡ refused n → n ≡ 0 → ⊥
+makes-some : (h : SpliceInfoHeader) (d : SpliceCommand) (places : List InsertComponent) (lent loop : List ℕ) {m : Made} → SectionMakes h d places lent loop m → (n : ℕ) → m ≡ refused n → n ≡ 0 → ⊥
 makes-some h d places lent loop (SectionMakes.outside a) n e z = let q : 31 ≡ n = cc in omega arith
 makes-some h d places lent loop (SectionMakes.over a b) n e z = let q : 32 ≡ n = cc in omega arith
 makes-some h d places lent loop (SectionMakes.nobodys a b f) n e z = let q : 33 ≡ n = cc in omega arith
@@ -95,7 +95,7 @@ makes-some h d places lent loop (SectionMakes.long a b p x y g) n e z = let q : 
 makes-some h d places lent loop (SectionMakes.other a b p x y g i) n e z = let q : 35 ≡ n = cc in omega arith
 makes-some h d places lent loop (SectionMakes.its a b x) n e z = zero-one cc
 
-array-size : (cs : List ComponentSplice) → length cs ≤ 255 → length (array cs) ≡ 255
+array-size : (cs : List InsertComponent) → length cs ≤ 255 → length (array cs) ≡ 255
 unfolding array
 array-size cs h = omega (arith, length-append cs (replicate (255 - length cs) blank), length-replicate (255 - length cs) blank)
 
@@ -105,14 +105,14 @@ module _ (header command components lent loop : List ℕ) where
   abbrev c : SpliceCommand
   c = commandGiven command
 
-  abbrev cs : List ComponentSplice
+  abbrev cs : List InsertComponent
   cs = command-answers.listed command components lent
 
   record Made-of (b : List ℕ) : Type 0 where
     head : same (headerWords (flatHeader (headerFrom header))) header ≡ true
     its : CommandIs command components c cs
     few : countIn c ≤ 255
-    whole : sectionMade (headerFrom header) (commandMade c (array cs) lent) (typeOf c) loop ≡ made b
+    overall : sectionMade (headerFrom header) (commandMade c (array cs) lent) (typeOf c) loop ≡ made b
 
   few-of : countIn c ≤ 255
   few-of = few-typed c (given-typed command)
@@ -125,13 +125,13 @@ module _ (header command components lent loop : List ℕ) where
       let h = none-of (within headerWidths header) (same (headerWords (flatHeader (headerFrom header))) header) (v .0) in
       let s = seen-none (commandSeen command lent) (wordsRefusal c command components) (v .1) in
       let o = none-of (command-answers.fits command components lent) (command-answers.own command components lent) (s .1) in
-      record { head = h .1; its = command-answers.given-is command components lent (o .1); few = few-of; whole = u .1 }
+      record { head = h .1; its = command-answers.given-is command components lent (o .1); few = few-of; overall = u .1 }
 
   -- a refusal has a number
   section-some : (n : ℕ) → sectionMade (headerFrom header) (commandMade c (array cs) lent) (typeOf c) loop ≡ refused n → AllBytes lent → AllBytes loop → n ≡ 0 → ⊥
   section-some n e a l =
       makes-some (headerFrom header) c (array cs) lent loop
-      (writing.what-is-made-of-a-section (headerFrom header) c (array cs) lent loop (array-size cs (omega (arith, places-length componentFrom 3 (countIn c) (splicesIn components), few-of))) few-of a l) n e
+      (writing.what-is-made-of-a-section (headerFrom header) c (array cs) lent loop (array-size cs (omega (arith, places-length componentFrom 3 (countIn c) (insertComponentsIn components), few-of))) few-of a l) n e
 
   written-of : AllBytes lent → AllBytes loop → (b : List ℕ) → sectionWordsMade header command components lent loop ≡ made b → WrittenOf header command components lent loop b
   unfolding headerFrom
@@ -143,7 +143,7 @@ module _ (header command components lent loop : List ℕ) where
         own-components = cs;
         header-is = record { own = m .head; writable = algorithm-laws .is-writable (word header 3 % 256) };
         command-is = m .its;
-        section = writing.what-is-written-reads-back (headerFrom header) c (array cs) lent loop (array-size cs (omega (arith, m .its .counts, m .few))) (m .few) a l b (m .whole);
+        section = writing.what-is-written-reads-back (headerFrom header) c (array cs) lent loop (array-size cs (omega (arith, m .its .counts, m .few))) (m .few) a l b (m .overall);
       }
 
 -- ---- the answer

@@ -4,7 +4,7 @@ use mathlib.Core.List.{List, [], _∷_, _++_}
 use mathlib.Core.Path.{_≡_}
 use lib.ListN.{length, drop}
 use Rattle.command.specs.declared.SpliceCommand.{SpliceCommand}
-use Rattle.command.specs.declared.components.ComponentSplice.{ComponentSplice}
+use Rattle.command.specs.declared.components.InsertComponent.{InsertComponent}
 use Rattle.header.specs.declared.header.SpliceInfoHeader.{SpliceInfoHeader}
 use Rattle.descriptor_loop.specs.Items.{Listed}
 use Rattle.descriptor_loop.specs.declared.Item.{Item}
@@ -22,7 +22,7 @@ pub data Stepped (Steps : ℕ → Step → Type 0) : ℕ → List Listed → Typ
 pub record SectionGiven : Type 0 where
   pub header : SpliceInfoHeader
   pub command : SpliceCommand
-  pub components : List ComponentSplice
+  pub components : List InsertComponent
   pub lent : List ℕ
   pub loop : List ℕ
 

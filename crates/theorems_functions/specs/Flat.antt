@@ -1,4 +1,4 @@
--- The same over C: what the words of an answer say of the section.
+-- Demands over C: what the words of an answer say of the section.
 use Prim.Native.Nat.{ℕ, _+_, _*_, _-_, _/_, _≤_, _<_}
 use mathlib.Core.Bool.{true}
 use mathlib.Core.List.{List, [], _∷_, _++_}
@@ -12,7 +12,7 @@ use Rattle.c_section.specs.declared.sections.FlatSection.{FlatSection}
 use Rattle.c_section_writer.specs.SectionWords.{headerWords, HeaderIs}
 use Rattle.command.specs.Command.{array}
 use Rattle.command.specs.declared.SpliceCommand.{SpliceCommand}
-use Rattle.command.specs.declared.components.ComponentSplice.{ComponentSplice}
+use Rattle.command.specs.declared.components.InsertComponent.{InsertComponent}
 use Rattle.header.specs.declared.header.SpliceInfoHeader.{SpliceInfoHeader}
 use Rattle.c_items.specs.declared.descriptors.FlatItem.{FlatItem}
 use Rattle.c_items.specs.declared.steps.FlatStep.{FlatStep}
@@ -92,7 +92,7 @@ pub record PutsFlat (b target : List ℕ) (answer : FlatWritten) (later : List �
 pub record WrittenOf (header command components lent loop b : List ℕ) : Type 0 where
   pub own-header : SpliceInfoHeader
   pub own-command : SpliceCommand
-  pub own-components : List ComponentSplice
+  pub own-components : List InsertComponent
   pub header-is : HeaderIs header own-header
   pub command-is : CommandIs command components own-command own-components
   pub section : SectionBytes own-header own-command (array own-components) lent loop b

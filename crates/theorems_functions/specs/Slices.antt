@@ -14,7 +14,7 @@ use Rattle.descriptor_loop.specs.declared.reading.Reading.{Reading}
 use Rattle.section.specs.Section.{commandLength}
 use Rattle.table.specs.Bits.{pick}
 use Rattle.theorems_reader.specs.Whole.{Exactly, upidAt}
-use Rattle.upid.specs.Cover.{All, Covered, Ascending, Owned, whole}
+use Rattle.upid.specs.Cover.{All, Covered, Ascending, Owned, topPart}
 use Rattle.upid.specs.declared.Part.{Part}
 use Rattle.upid.specs.declared.Refusal.{Refusal}
 
@@ -70,8 +70,8 @@ pub record PartSlice (s : List ℕ) (start : ℕ) (p : Part) (b : List ℕ) : Ty
 
 -- The parts of a MID with the bytes b: they cover it once, and each MID in it, and can be cut in no other way; there are no others, and they go by the bytes
 pub record Parted (b : List ℕ) (ps : List Part) : Type 0 where
-  pub covered : All (λ (m : Part). m .«upid_type» ≡ 13 → Covered b ps m) (whole b ∷ ps)
-  pub owned : All (Owned (whole b ∷ ps)) ps
+  pub covered : All (λ (m : Part). m .«upid_type» ≡ 13 → Covered b ps m) (topPart b ∷ ps)
+  pub owned : All (Owned (topPart b ∷ ps)) ps
   pub ordered : Ascending ps
 
 -- ---- the private bytes of a command: from 18 to its end

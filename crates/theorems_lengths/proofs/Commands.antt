@@ -18,7 +18,7 @@ use Rattle.command.specs.Insert.{WithComponents, timeUnless, component, blank, 
 use Rattle.command.specs.declared.CommandRead.{CommandRead}
 use Rattle.command.specs.declared.Private.{Private}
 use Rattle.command.specs.declared.SpliceCommand.{SpliceCommand}
-use Rattle.command.specs.declared.components.ComponentSplice.{ComponentSplice}
+use Rattle.command.specs.declared.components.InsertComponent.{InsertComponent}
 use Rattle.command.specs.declared.insert.Break.{Break}
 use Rattle.command.specs.declared.insert.InsertDetail.{InsertDetail}
 use Rattle.command.specs.declared.insert.SpliceInsert.{SpliceInsert}
@@ -68,13 +68,13 @@ module _ (s : List ℕ) where
   unless-past true at t m e = let z : t ≡ Immediate = sym (got-same e) in rw z (omega (arith, got-end e))
   unless-past false at t m e = time-past at t m e
 
-  component-past : (b : Bool) (at : ℕ) (c : ComponentSplice) (m : ℕ) → parse (component b) (bitsOf s) at ≡ got c m → m ≡ at + componentBytes c * 8
+  component-past : (b : Bool) (at : ℕ) (c : InsertComponent) (m : ℕ) → parse (component b) (bitsOf s) at ≡ got c m → m ≡ at + componentBytes c * 8
   unfolding component
   component-past b at c m e =
       let r = reads-in (timeUnless b) _ _ (bitsOf s) (at + 8) c m (reads-number s at 8 _ _ c m e .1) in
       rw (← got-same (r .back)) (omega (arith, got-end (r .back), unless-past b (at + 8) (r .inner) (r .seam) (r .front)))
 
-  list-past : (b : Bool) (n at : ℕ) (cs : List ComponentSplice) (m : ℕ) → parse (list n blank (component b)) (bitsOf s) at ≡ got cs m → m ≡ at + total componentBytes cs * 8
+  list-past : (b : Bool) (n at : ℕ) (cs : List InsertComponent) (m : ℕ) → parse (list n blank (component b)) (bitsOf s) at ≡ got cs m → m ≡ at + total componentBytes cs * 8
   unfolding list
   list-past b zero at cs m e = rw (← got-same e) (omega (arith, got-end e))
   list-past b (suc n) at cs m e =

@@ -12,18 +12,18 @@ use Rattle.descriptor.proofs.Plains.{reserved-is}
 use Rattle.descriptor.specs.Descriptor.{_andThen_, reportedUpid, ifFine, availOf, dtmfOf, timeOf, reservedOf, inserted, insertOf, segmentationOf, isCuei, descriptorOf}
 use Rattle.descriptor.specs.Plain.{avail, dtmf, time}
 use Rattle.descriptor.specs.Segmentation.{head, front, back}
-use Rattle.descriptor.specs.Whole.{besideRead, identifierRead}
+use Rattle.descriptor.specs.Full.{besideRead, identifierRead}
 use Rattle.descriptor.specs.declared.Descriptor.{Descriptor}
 use Rattle.descriptor.specs.declared.Descriptor.the-variants.{Avail, Dtmf, Segmentation, Time, Reserved}
 use Rattle.descriptor.specs.declared.DescriptorRead.{DescriptorRead}
 use Rattle.descriptor.specs.declared.segmentation.SegmentationUpid.{SegmentationUpid}
-use Rattle.descriptor.specs.declared.whole.Beside.{Beside}
+use Rattle.descriptor.specs.declared.full.Beside.{Beside}
 use Rattle.descriptor_loop.proofs.Steps.{Stands, Clause, long, ended, last, small, entire, clause}
-use Rattle.descriptor_loop.specs.Items.{itemAt, readAt, wholeAt, stepOf, besideItem, readingOf}
+use Rattle.descriptor_loop.specs.Items.{itemAt, readAt, completeAt, stepOf, besideItem, readingOf}
 use Rattle.descriptor_loop.specs.Place.{movedDescriptor}
 use Rattle.descriptor_loop.specs.declared.Item.{Item}
 use Rattle.descriptor_loop.specs.declared.Step.{Step}
-use Rattle.descriptor_measure.specs.Writing.{countBeside, framed, framedMade, payloadMade, descriptorMade, tagOf, identifierOf}
+use Rattle.descriptor_measure.specs.Writing.{countBeside, enveloped, envelopedMade, payloadMade, descriptorMade, tagOf, identifierOf}
 use Rattle.descriptor_round_trips.proofs.Alike.{SameView, alike-made, made-told}
 use Rattle.descriptor_round_trips.proofs.Payloads.{payload-write-read}
 use Rattle.descriptor_round_trips.specs.Making.{viewIn}
@@ -45,25 +45,25 @@ pub bytes-both : (a b : List ℕ) → AllBytes a → AllBytes b → AllBytes (a 
 bytes-both [] b h k = k
 bytes-both (x ∷ a) b h k = (h .0, bytes-both a b (h .1) k)
 
--- ---- a frame that is written, and its payload
+-- ---- an envelope that is written, and its payload
 
-framed-made : (tag : ℕ) (id : List ℕ) (m : Made) (t : List ℕ) → framedMade tag id m ≡ made t → (p : List ℕ) × (m ≡ made p) × (t ≡ framed tag id p) × (length p + 4 ≤ 254)
-unfolding framedMade
-framed-made tag id (refused n) t e = zero-one cc
-framed-made tag id (made p) t e = go (leb (length p + 4) 254) refl e
+enveloped-made : (tag : ℕ) (id : List ℕ) (m : Made) (t : List ℕ) → envelopedMade tag id m ≡ made t → (p : List ℕ) × (m ≡ made p) × (t ≡ enveloped tag id p) × (length p + 4 ≤ 254)
+unfolding envelopedMade
+enveloped-made tag id (refused n) t e = zero-one cc
+enveloped-made tag id (made p) t e = go (leb (length p + 4) 254) refl e
   where
-    go : (b : Bool) → leb (length p + 4) 254 ≡ b → pick b (made (framed tag id p)) (refused 34) ≡ made t
-        → (q : List ℕ) × (made p ≡ made q) × (t ≡ framed tag id q) × (length q + 4 ≤ 254)
+    go : (b : Bool) → leb (length p + 4) 254 ≡ b → pick b (made (enveloped tag id p)) (refused 34) ≡ made t
+        → (q : List ℕ) × (made p ≡ made q) × (t ≡ enveloped tag id q) × (length q + 4 ≤ 254)
     go true l e = (p, refl, cc, leb-true _ _ l)
     go false l e = zero-one cc
 
-frame-length : (tag : ℕ) (id p : List ℕ) → length id ≡ 4 → length (framed tag id p) ≡ length p + 6
-unfolding framed
-frame-length tag id p four = omega (arith, length-append id p)
+envelope-length : (tag : ℕ) (id p : List ℕ) → length id ≡ 4 → length (enveloped tag id p) ≡ length p + 6
+unfolding enveloped
+envelope-length tag id p four = omega (arith, length-append id p)
 
-frame-bytes : (tag : ℕ) (id p : List ℕ) → tag < 256 → AllBytes id → AllBytes p → length p + 4 ≤ 254 → AllBytes (framed tag id p)
-unfolding framed
-frame-bytes tag id p t i a l = (t, (omega arith, bytes-both id p i a))
+envelope-bytes : (tag : ℕ) (id p : List ℕ) → tag < 256 → AllBytes id → AllBytes p → length p + 4 ≤ 254 → AllBytes (enveloped tag id p)
+unfolding enveloped
+envelope-bytes tag id p t i a l = (t, (omega arith, bytes-both id p i a))
 
 -- ---- the tag and the identifier of a descriptor that is read are bytes
 
@@ -183,12 +183,12 @@ module _ (loop : List ℕ) (a : AllBytes loop) (offset L : ℕ) (st : Stands loo
       let beside : Beside = besideRead (DescriptorRead.Is d) payload in
       let r : Ready d own beside payload (length payload) = rw e at (ready payload id id-length payload-bytes (getD loop offset 0)) in
       let t : tagOf d < 256 = rw e at (tagged payload (getD loop offset 0) id (byte-in loop a offset)) in
-      let f = framed-made (tagOf d) (identifierOf d own) (payloadMade d own beside payload) b m in
+      let f = enveloped-made (tagOf d) (identifierOf d own) (payloadMade d own beside payload) b m in
       let q = payload-write-read own beside payload (f .0) d (r .handed) (f .1) in
       let n : length (f .0) ≤ length payload = r .size (f .0) (f .1) in
       rw (f .2) (
-        frame-bytes (tagOf d) (identifierOf d own) (f .0) t (identifier-bytes d id id-bytes) (q .are) (f .3),
-        omega (arith, frame-length (tagOf d) (identifierOf d own) (f .0) (q .four), n, size),
+        envelope-bytes (tagOf d) (identifierOf d own) (f .0) t (identifier-bytes d id id-bytes) (q .are) (f .3),
+        omega (arith, envelope-length (tagOf d) (identifierOf d own) (f .0) (q .four), n, size),
       )
 
   -- and in the loop: it is the same
@@ -222,7 +222,7 @@ module _ (loop : List ℕ) (a : AllBytes loop) (offset L : ℕ) (st : Stands loo
 module _ (loop : List ℕ) (a : AllBytes loop) (offset : ℕ) where
   short-by : {st : Step} → Clause loop offset st → (d : Descriptor) → st .item ≡ Item.Is d
       → Short loop (st .identifier) (besideItem (st .item) (take (st .next - (offset + 6)) (drop (offset + 6) loop))) d (st .next - offset)
-  unfolding wholeAt readAt
+  unfolding completeAt readAt
   short-by (long h) d e = zero-one cc
   short-by (ended h) d e = zero-one cc
   short-by (last q v n) d e = zero-one cc

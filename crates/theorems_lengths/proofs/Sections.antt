@@ -14,7 +14,7 @@ use Rattle.command.specs.Command.{componentsOf, typeOf}
 use Rattle.command.specs.Writable.{unmixed, writableInsert}
 use Rattle.command.specs.Insert.{insert}
 use Rattle.command.specs.declared.SpliceCommand.{SpliceCommand}
-use Rattle.command.specs.declared.components.ComponentSplice.{ComponentSplice}
+use Rattle.command.specs.declared.components.InsertComponent.{InsertComponent}
 use Rattle.command.specs.declared.insert.SpliceInsert.{SpliceInsert}
 use Rattle.command_measure.specs.Made.{counted, timesFit, insertMade, commandMade}
 use Rattle.descriptor.specs.declared.Descriptor.{Descriptor}
@@ -198,7 +198,7 @@ all-readable : {loop : List ℕ} {ys : List Listed} {bs : List (List ℕ)} → P
 all-readable over = none
 all-readable (pair i is) = more (record { descriptor = i .descriptor; is = i .is }) (all-readable is)
 
-insert-writable : (i : SpliceInsert) (places : List ComponentSplice) (lent p : List ℕ) → commandMade (SpliceCommand.SpliceInsert i) places lent ≡ made p → i .reserved ≡ 127
+insert-writable : (i : SpliceInsert) (places : List InsertComponent) (lent p : List ℕ) → commandMade (SpliceCommand.SpliceInsert i) places lent ≡ made p → i .reserved ≡ 127
 unfolding commandMade insertMade writableInsert
 insert-writable i places lent p e = go (timesFit (counted i places .components)) e
   where
@@ -209,7 +209,7 @@ insert-writable i places lent p e = go (timesFit (counted i places .components))
     go false f = zero-one cc
 
 -- a command of which a canonical payload is written
-has-127 : (c : SpliceCommand) (places : List ComponentSplice) (s p : List ℕ) → CommandPayload c places s p → (i : SpliceInsert) → c ≡ SpliceCommand.SpliceInsert i → i .reserved ≡ 127
+has-127 : (c : SpliceCommand) (places : List InsertComponent) (s p : List ℕ) → CommandPayload c places s p → (i : SpliceInsert) → c ≡ SpliceCommand.SpliceInsert i → i .reserved ≡ 127
 has-127 c places s p q i e =
     let r : CommandPayload (SpliceCommand.SpliceInsert i) places s p = subst (λ (d : SpliceCommand). CommandPayload d places s p) e q in
     insert-writable i places s p (made-if-read (SpliceCommand.SpliceInsert i) places s p (le-leb 0 (length s) (omega arith)) r)

@@ -21,7 +21,7 @@ use Rattle.upid.specs.declared.Part.{Part}
 use Rattle.upid.specs.declared.UpidRead.the-variants.{Fine}
 use Rattle.descriptor.specs.Descriptor.{reportedUpid}
 use Rattle.descriptor.specs.Segmentation.{segmentation}
-use Rattle.descriptor.specs.Whole.{besideOf, identifierRead}
+use Rattle.descriptor.specs.Full.{besideOf, identifierRead}
 use Rattle.descriptor.specs.declared.Descriptor.{Descriptor}
 use Rattle.descriptor.specs.declared.DescriptorRead.{DescriptorRead}
 use Rattle.descriptor.specs.declared.segmentation.DescriptorDetail.{DescriptorDetail}
@@ -29,7 +29,7 @@ use Rattle.descriptor.specs.declared.segmentation.SegmentationUpid.{Segmentatio
 use Rattle.upid.proofs.Reported.{mid-is-written, eidr-is-written}
 use Rattle.descriptor_loop.proofs.Places.{all-into, all-map, type-stays}
 use Rattle.descriptor_loop.proofs.Steps.{Clause, long, ended, last, small, entire}
-use Rattle.descriptor_loop.specs.Items.{itemAt, readAt, wholeAt}
+use Rattle.descriptor_loop.specs.Items.{itemAt, readAt, completeAt}
 use Rattle.descriptor_loop.specs.Place.{movedUpid, movedDescriptor}
 use Rattle.descriptor_loop.specs.Private.{movedDetail}
 use Rattle.descriptor_loop.specs.declared.Step.{Step}
@@ -67,7 +67,7 @@ pub record Found (loop : List ℕ) (offset next : ℕ) (u : SegmentationUpid) : 
   pub there : next ≤ length loop
 
 pub found : {loop : List ℕ} {offset : ℕ} {s : Step} → Clause loop offset s → All (Found loop offset (s .next)) (upidsOf (s .item))
-unfolding wholeAt readAt
+unfolding completeAt readAt
 found (long h) = none
 found (ended h) = none
 found (last r v e) = none
@@ -203,7 +203,7 @@ module _ (s : List ℕ) (i : Identifier) (r : OneRun s i) where
   beside-read base offset h (DescriptorRead.Refused q) = none
 
   pub beside-runs : {offset : ℕ} {st : Step} → Clause (i .bytes) offset st → All (OneRun s) (besidesOf (i .start) offset (st .identifier) (st .item))
-  unfolding wholeAt
+  unfolding completeAt
   beside-runs (long h) = none
   beside-runs (ended h) = none
   beside-runs (last q v e) = none

@@ -46,7 +46,7 @@ use Rattle.section.specs.declared.Section.{Section}
 use Rattle.section.specs.declared.SectionRead.{SectionRead}
 use Rattle.table.specs.Bits.{AllBytes}
 use Rattle.table.specs.Lent.{viewed}
-use Rattle.upid.specs.Cover.{All, whole, Once}
+use Rattle.upid.specs.Cover.{All, topPart, Once}
 use Rattle.upid.proofs.Answers as upids
 use Rattle.upid.specs.Upid.{checkOf, listOf, unlessRefused}
 use Rattle.theorems_reader.specs.Identifiers.{OneRun, inSection, inLent, partsRead, identifiersOf, Unsplit}
@@ -198,7 +198,7 @@ each-byte-of-the-loop-lies-in-one-item = sections.bytes-in-one-item
 -- "the direct parts of each accepted MID, heads included, cover that MID once", byte by byte: each byte of a MID, at every depth, lies in exactly one of its direct parts
 pub each-byte-of-a-mid-lies-in-one-part : (s : List ℕ) (x : Section) → sectionOf s ≡ SectionRead.Is x → (offset : ℕ) (d : SegmentationDescriptor) (i : SegmentationDetail)
     → stepOf (loopIn s x) offset .item ≡ Item.Is (Descriptor.Segmentation d) → d .«descriptor_detail» ≡ DescriptorDetail.Active i → i .«segmentation_upid» .«upid_type» ≡ 13
-    → let b : List ℕ = viewed (loopIn s x) (i .«segmentation_upid» .bytes) in All (λ m. m .«upid_type» ≡ 13 → Once (partsRead 13 b) m) (whole b ∷ partsRead 13 b)
+    → let b : List ℕ = viewed (loopIn s x) (i .«segmentation_upid» .bytes) in All (λ m. m .«upid_type» ≡ 13 → Once (partsRead 13 b) m) (topPart b ∷ partsRead 13 b)
 each-byte-of-a-mid-lies-in-one-part = whole-runs.whole-mid-bytes
 
 -- ---- numbers and times

@@ -18,8 +18,8 @@ use Rattle.upid.specs.declared.UpidRead.{UpidRead}
 use Rattle.upid.specs.declared.UpidRead.the-variants.{Fine, Refused}
 use Rattle.descriptor.specs.Descriptor.{_andThen_, reportedUpid, ifFine, availOf, dtmfOf, timeOf, reservedOf, inserted, insertOf, segmentationOf, isCuei, descriptorOf}
 use Rattle.descriptor.specs.Plain.{avail, dtmf, time, privateBytes}
-use Rattle.descriptor.specs.Segmentation.{Fore, Head, head, front, back, insertFrom, segmentation}
-use Rattle.descriptor.specs.Whole.{besideIn, besideOf}
+use Rattle.descriptor.specs.Segmentation.{ListedFront, Head, head, front, back, insertFrom, segmentation}
+use Rattle.descriptor.specs.Full.{besideIn, besideOf}
 use Rattle.descriptor.specs.declared.DescriptorRead.{DescriptorRead}
 use Rattle.descriptor.specs.declared.segmentation.DescriptorDetail.{DescriptorDetail}
 use Rattle.descriptor.specs.declared.segmentation.SegmentationUpid.{SegmentationUpid}
@@ -57,7 +57,7 @@ module _ (s : List ℕ) where
   if-fine (Refused r) v k f = none
 
   module _ (h : Head) (m : ℕ) (eh : parse head (bitsOf s) 0 ≡ got h m) (off : h .cancel ≡ false) where
-    source : (f : Fore) (m₁ : ℕ) (b : _) (m₂ q : ℕ) → parse front (bitsOf s) m ≡ got f m₁ → parse back (bitsOf s) m₁ ≡ got b m₂
+    source : (f : ListedFront) (m₁ : ℕ) (b : _) (m₂ q : ℕ) → parse front (bitsOf s) m ≡ got f m₁ → parse back (bitsOf s) m₁ ≡ got b m₂
         → checkOf (f .front .«segmentation_upid» .«upid_type») (viewed s (f .front .«segmentation_upid» .bytes)) ≡ Fine q → Source s (reportedUpid q (f .front .«segmentation_upid» .bytes))
     unfolding segmentation besideOf besideIn
     source f m₁ b m₂ q ef eb ec =

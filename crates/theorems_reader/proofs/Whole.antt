@@ -24,7 +24,7 @@ use Rattle.table.specs.Table.{Answer, got, short, parse}
 use Rattle.table.specs.declared.View.{View}
 use Rattle.table.proofs.Structure.{bytes-take, bytes-drop}
 use Rattle.upid.proofs.Theorems.{every-byte-lies-in-one-part}
-use Rattle.upid.specs.Cover.{All, whole, Once}
+use Rattle.upid.specs.Cover.{All, topPart, Once}
 use Rattle.upid.specs.Upid as upid
 use Rattle.upid.specs.Upid.{upidOf, checkOf, reportedOf}
 use Rattle.upid.specs.declared.Refusal.{Refusal}
@@ -33,7 +33,7 @@ use Rattle.descriptor.proofs.Heads.{upidIn}
 use Rattle.descriptor.specs.Segmentation.{fieldsBefore}
 use Rattle.descriptor.specs.Descriptor.{movedRefusal, reportedUpid, descriptorOf}
 use Rattle.descriptor.specs.Views.{withoutView}
-use Rattle.descriptor.specs.Whole.{besideOf, identifierRead}
+use Rattle.descriptor.specs.Full.{besideOf, identifierRead}
 use Rattle.descriptor.specs.declared.Descriptor.{Descriptor}
 use Rattle.descriptor.specs.declared.DescriptorRead.{DescriptorRead}
 use Rattle.descriptor.specs.declared.segmentation.SegmentationDescriptor.{SegmentationDescriptor}
@@ -44,7 +44,7 @@ use Rattle.upid.proofs.Reported.{check-none, reports, mid-is-written, eidr-is-w
 use Rattle.descriptor_loop.proofs.Lists.{walked}
 use Rattle.descriptor_loop.proofs.Places.{all-first, type-stays}
 use Rattle.descriptor_loop.proofs.Steps.{Stands, Clause, long, ended, last, small, entire, clause}
-use Rattle.descriptor_loop.specs.Items.{itemAt, readAt, wholeAt, stepOf, besideItem, readingOf, Listed, listed, itemsOf}
+use Rattle.descriptor_loop.specs.Items.{itemAt, readAt, completeAt, stepOf, besideItem, readingOf, Listed, listed, itemsOf}
 use Rattle.descriptor_loop.specs.Place.{viewsOf, movedUpid}
 use Rattle.descriptor_loop.specs.Private.{movedDetail}
 use Rattle.descriptor_loop.specs.declared.Item.{Item}
@@ -312,7 +312,7 @@ module _ (s : List ℕ) (a : AllBytes s) (i : Identifier) (r : OneRun s i) where
       payload-says l (byte-in l (bytes-take (L - 4) (drop (offset + 6) (i .bytes)) (bytes-drop (offset + 6) (i .bytes) loop-bytes))) _ _
 
   whole-by : (offset : ℕ) {st : Step} → Clause (i .bytes) offset st → ItemCase s (i .start) (i .bytes) offset (readingBy offset st) (st .item)
-  unfolding wholeAt
+  unfolding completeAt
   whole-by offset (long h) = tt
   whole-by offset (ended h) = tt
   whole-by offset (last q v e) = no-text s _ _ _ q v
@@ -423,7 +423,7 @@ module _ (s : List ℕ) (x : Section) (e : sectionOf s ≡ SectionRead.Is x) whe
 
     -- byte by byte
     pub whole-mid-bytes : i .«segmentation_upid» .«upid_type» ≡ 13 → let b : List ℕ = viewed (loopIn s x) (i .«segmentation_upid» .bytes) in
-        All (λ m. m .«upid_type» ≡ 13 → Once (partsRead 13 b) m) (whole b ∷ partsRead 13 b)
+        All (λ m. m .«upid_type» ≡ 13 → Once (partsRead 13 b) m) (topPart b ∷ partsRead 13 b)
     unfolding upidOf
     whole-mid-bytes k = every-byte-lies-in-one-part (viewed (loopIn s x) (i .«segmentation_upid» .bytes)) (rw (whole-mid k .accepted) tt)
 

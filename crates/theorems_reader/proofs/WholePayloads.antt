@@ -23,8 +23,8 @@ use Rattle.upid.specs.declared.UpidRead.the-variants.{Fine, Refused}
 use Rattle.descriptor.proofs.Plains.{reserved-is}
 use Rattle.descriptor.specs.Descriptor.{_andThen_, movedRefusal, reportedUpid, ifFine, availOf, dtmfOf, timeOf, reservedOf, inserted, insertOf, segmentationOf, isCuei, descriptorOf}
 use Rattle.descriptor.specs.Plain.{avail, dtmf, time}
-use Rattle.descriptor.specs.Segmentation.{Fore, Head, head, front, back, insertFrom, segmentation, modeSize, durationSize, fieldsBefore}
-use Rattle.descriptor.specs.Whole.{besideIn, besideOf}
+use Rattle.descriptor.specs.Segmentation.{ListedFront, Head, head, front, back, insertFrom, segmentation, modeSize, durationSize, fieldsBefore}
+use Rattle.descriptor.specs.Full.{besideIn, besideOf}
 use Rattle.descriptor.specs.declared.Descriptor.{Descriptor}
 use Rattle.descriptor.specs.declared.DescriptorRead.{DescriptorRead}
 use Rattle.descriptor.specs.declared.plain.DTMFDescriptor.{DTMFDescriptor}
@@ -119,7 +119,7 @@ module _ (s : List ℕ) (bytes : (k : ℕ) → getD s k 0 < 256) where
   -- ---- a segmentation descriptor
 
   module _ (h : Head) (m : ℕ) (eh : parse head (bitsOf s) 0 ≡ got h m) (off : h .cancel ≡ false) where
-    told : (f : Fore) (m₁ : ℕ) (b : _) (m₂ q : ℕ) → parse front (bitsOf s) m ≡ got f m₁ → parse back (bitsOf s) m₁ ≡ got b m₂ → Placed s bytes f
+    told : (f : ListedFront) (m₁ : ℕ) (b : _) (m₂ q : ℕ) → parse front (bitsOf s) m ≡ got f m₁ → parse back (bitsOf s) m₁ ≡ got b m₂ → Placed s bytes f
         → checkOf (f .front .«segmentation_upid» .«upid_type») (viewed s (f .front .«segmentation_upid» .bytes)) ≡ Fine q
         → Told s (insertFrom (f .front) (reportedUpid q (f .front .«segmentation_upid» .bytes)) b)
     unfolding segmentation besideOf besideIn

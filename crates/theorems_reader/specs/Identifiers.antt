@@ -8,7 +8,7 @@ use lib.ListN.{length, take, drop, getD}
 use Rattle.command.specs.Command.{ofPrivate}
 use Rattle.descriptor.specs.Segmentation as table
 use Rattle.descriptor.specs.Segmentation.{detailUpid}
-use Rattle.descriptor.specs.Whole.{ofSegmentation, ofReserved, besideOf}
+use Rattle.descriptor.specs.Full.{ofSegmentation, ofReserved, besideOf}
 use Rattle.descriptor.specs.declared.segmentation.DescriptorDetail.{DescriptorDetail}
 use Rattle.descriptor.specs.declared.segmentation.SegmentationUpid.{SegmentationUpid}
 use Rattle.descriptor_loop.specs.Items.{Listed, itemsOf}
@@ -19,7 +19,7 @@ use Rattle.table.specs.Bits.{bitsOf}
 use Rattle.table.specs.Lent.{viewed}
 use Rattle.table.specs.Table.{Answer, got, short, parse}
 use Rattle.table.specs.declared.View.{View}
-use Rattle.upid.specs.Cover.{All, Covered, Ascending, Owned, whole}
+use Rattle.upid.specs.Cover.{All, Covered, Ascending, Owned, topPart}
 use Rattle.upid.specs.Upid.{checkOf, partView, partsIn, reportedOf, upidOf}
 use Rattle.upid.specs.declared.Part.{Part}
 use Rattle.upid.specs.declared.UpidRead.{UpidRead}
@@ -121,6 +121,6 @@ pub record Unsplit (s : List ℕ) (mid : Identifier) : Type 0 where
   pub unbroken : OneRun s mid
   pub accepted : checkOf 13 (mid .bytes) ≡ UpidRead.Fine 13
   pub parts : All (λ (p : Part). Announced s p (inLent (mid .start) (mid .bytes) (partView p))) (partsRead 13 (mid .bytes))
-  pub covered : All (λ (m : Part). m .«upid_type» ≡ 13 → Covered (mid .bytes) (partsRead 13 (mid .bytes)) m) (whole (mid .bytes) ∷ partsRead 13 (mid .bytes))
-  pub owned : All (Owned (whole (mid .bytes) ∷ partsRead 13 (mid .bytes))) (partsRead 13 (mid .bytes))
+  pub covered : All (λ (m : Part). m .«upid_type» ≡ 13 → Covered (mid .bytes) (partsRead 13 (mid .bytes)) m) (topPart (mid .bytes) ∷ partsRead 13 (mid .bytes))
+  pub owned : All (Owned (topPart (mid .bytes) ∷ partsRead 13 (mid .bytes))) (partsRead 13 (mid .bytes))
   pub ordered : Ascending (partsRead 13 (mid .bytes))

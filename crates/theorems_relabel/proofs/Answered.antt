@@ -23,7 +23,7 @@ use Rattle.relabel_payload.specs.Payload.{Holed}
 use Rattle.relabel_upid.proofs.Answers.{Done, done, own-short, has-parts, taken-accepted, accepted-taken}
 use Rattle.upid.proofs.Answers.{parts-of-mid}
 use Rattle.relabel_upid.proofs.Turns.{fine-bytes}
-use Rattle.relabel_upid.specs.Relabel.{instead, partAt, replacedIn, taken, wholeMade, partMade, upidMade}
+use Rattle.relabel_upid.specs.Relabel.{instead, partAt, replacedIn, taken, topMade, partMade, upidMade}
 use Rattle.section.specs.Section.{commandLength, loopLength, conditions, first, loopBytes, sectionOf, numberOf}
 use Rattle.section.specs.declared.Section.{Section}
 use Rattle.section.specs.declared.SectionRead.{SectionRead}
@@ -40,7 +40,7 @@ use Rattle.upid.specs.Upid.{checkOf, readOf, upidOf, partsIn, listOf}
 use Rattle.upid.specs.declared.Part.{Part}
 use Rattle.upid.specs.declared.UpidRead.{UpidRead}
 use Rattle.theorems_relabel.specs.Answered.{noInsert, noPart, unfit, sizeThen, inAccepted, answered}
-use Rattle.theorems_relabel.specs.Replaced.{Request, runOf, upidFor, kindFor}
+use Rattle.theorems_relabel.specs.Replaced.{Request, runOf, upidFor, typeFor}
 
 -- ---- the item
 
@@ -97,7 +97,7 @@ sized q room =
 
 abbrev ordered : Request → ℕ → Written
 ordered q room =
-    pick (noPart (kindFor q) (upidFor q) (q .part)) (Written.Refused 41)
+    pick (noPart (typeFor q) (upidFor q) (q .part)) (Written.Refused 41)
     (pick (ltb 255 (sizeThen q (length (upidFor q)))) (Written.Refused 32)
     (pick (unfit (q .part) (q .«upid_type») (q .bytes)) (Written.Refused 33) (sized q room)))
 
@@ -121,9 +121,9 @@ module _ (s : List ℕ) (offset k : ℕ) (new target : List ℕ) (at : Spotted s
       (subst (λ (n : ℕ). length (runOf top part) ≤ n) et rn) (omega (arith, at .upid)) (omega (arith, at .upid, at .there, at .room)) target refl
 
   module _ (et : length top ≡ sizeIn (payloadIn s offset)) (fine : taken (checkOf upid-type top) ≡ true) where
-    whole-answer : answerOf (fitting s offset 0 k (wholeMade upid-type top k new)) target ≡ ordered (asked 0) (length target)
-    unfolding wholeMade noPart unfit fitting answerOf
-    whole-answer =
+    top-answer : answerOf (fitting s offset 0 k (topMade upid-type top k new)) target ≡ ordered (asked 0) (length target)
+    unfolding topMade noPart unfit fitting answerOf
+    top-answer =
         let z : length top - length top + length new ≡ length new = omega arith in
         rw (fine, z) (go (eqb (length top) 0) (ltb 255 (length new)) (eqb (length new) 0 || not (taken (readOf k 0 new))))
       where
@@ -191,7 +191,7 @@ module _ (s : List ℕ) (offset k : ℕ) (new target : List ℕ) (at : Spotted s
 
     upid-answer : (part : ℕ) → answerOf (fitting s offset part k (upidMade upid-type top part k new)) target ≡ ordered (asked part) (length target)
     unfolding upidMade
-    upid-answer zero = whole-answer
+    upid-answer zero = top-answer
     upid-answer (suc i) = part-answer i
 
 -- ---- the section
@@ -212,7 +212,7 @@ module _ (q : Request) (target : List ℕ) (bytes : (j : ℕ) → getD (q .secti
       rw n (go f (found loop (q .offset)) refl)
     where
       go : Framing s x → (b : Bool) → found loop (q .offset) ≡ b
-          → answerOf (pick b (fitting s (q .offset) (q .part) (q .«upid_type») (upidMade (kindFor q) (upidFor q) (q .part) (q .«upid_type») (q .bytes))) (refused 41)) target
+          → answerOf (pick b (fitting s (q .offset) (q .part) (q .«upid_type») (upidMade (typeFor q) (upidFor q) (q .part) (q .«upid_type») (q .bytes))) (refused 41)) target
           ≡ pick (not b) (Written.Refused 41) (ordered q (length target))
       go f false ef = refl
       go f true ef =
@@ -223,7 +223,7 @@ module _ (q : Request) (target : List ℕ) (bytes : (j : ℕ) → getD (q .secti
           let ek = type-in (payloadIn s (q .offset)) _ _ h in
           let eu = upid-in (payloadIn s (q .offset)) _ _ h in
           let et : length (upidFor q) ≡ sizeIn (payloadIn s (q .offset)) = ap length (sym eu) ∙ size-in (payloadIn s (q .offset)) _ _ h in
-          let fine : checkOf (kindFor q) (upidFor q) ≡ UpidRead.Fine (h .reported) = ap₂ checkOf (sym ek) (sym eu) ∙ h .fine in
+          let fine : checkOf (typeFor q) (upidFor q) ≡ UpidRead.Fine (h .reported) = ap₂ checkOf (sym ek) (sym eu) ∙ h .fine in
           upid-answer s (q .offset) (q .«upid_type») (q .bytes) target at x et (ap taken fine ∙ is-taken (h .reported)) (q .part)
 
   pub answers : answerOf (relabelMade s (q .offset) (q .part) (q .«upid_type») (q .bytes)) target ≡ answered q (length target)

@@ -60,8 +60,8 @@ module _ (s : List ℕ) (offset base : ℕ) (at : Spotted s offset) (eb : base �
   unfolding upidHead
   head-same = rw (eb, in-pay 5 (omega arith), in-pay 6 (omega arith))
 
-  kind-there : getD s (upidAt s (base + offset + 6)) 0 ≡ typeIn pay
-  kind-there = ap (λ (h : ℕ). getD s h 0) head-same ∙ type-is s offset at
+  type-there : getD s (upidAt s (base + offset + 6)) 0 ≡ typeIn pay
+  type-there = ap (λ (h : ℕ). getD s h 0) head-same ∙ type-is s offset at
 
   size-there : getD s (upidAt s (base + offset + 6) + 1) 0 ≡ sizeIn pay
   size-there = ap (λ (h : ℕ). getD s (h + 1) 0) head-same ∙ size-is s offset at
@@ -104,7 +104,7 @@ read-as s offset base loop eidr u at eb el w =
     let pay : List ℕ = payloadIn s offset in
     let size : getD s (upidAt s (base + offset + 6) + 1) 0 ≡ length (upidIn pay) = size-there s offset base at eb ∙ sym el in
     let k : u .«upid_type» ≡ pick (eqb (length (upidIn pay)) 0) 0 (pick (eqb (typeIn pay) 5) 6 (typeIn pay)) =
-    w .«upid_type» ∙ ap₂ (λ (n j : ℕ). pick (eqb n 0) 0 (pick (eqb j 5) 6 j)) size (kind-there s offset base at eb) in
+    w .«upid_type» ∙ ap₂ (λ (n j : ℕ). pick (eqb n 0) 0 (pick (eqb j 5) 6 j)) size (type-there s offset base at eb) in
     let b : (u .«upid_type» ≡ 0 → ⊥) → (u .«upid_type» ≡ 10 → ⊥) → viewed loop (u .bytes) ≡ upidIn pay =
     λ z t. ap (λ (i : readers.Identifier). i .bytes) (w .bytes z t .is) ∙ bytes-there s offset base at eb _ (size-there s offset base at eb) in
     record {

@@ -15,12 +15,12 @@ use Rattle.relabel_found.specs.Found.{typeIn, upidIn}
 use Rattle.relabel_laws.proofs.Theorems.{the-list-is-the-old-one-with-that-one-replaced}
 use Rattle.relabel_laws.specs.Identifiers.{ofUpid, ofPayload, each, identifiersIn, upidThen}
 use Rattle.relabel_laws.specs.Result.{Result}
-use Rattle.relabel_upid.proofs.Answers.{Able, made-able, has-parts, taken-accepted, whole-made-is, relabelled-made, same-again}
+use Rattle.relabel_upid.proofs.Answers.{Able, made-able, has-parts, taken-accepted, top-made-is, relabelled-made, same-again}
 use Rattle.upid.proofs.Answers.{parts-of-mid}
 use Rattle.relabel_upid.proofs.Theorems.{the-old-list-in-the-same-words}
 use Rattle.relabel_upid.specs.Kept.{Identifier, identifiersOf, identifiersAt, identifiersThen, afterPart, writtenType}
 use Rattle.relabel_upid.specs.Kept as kept
-use Rattle.relabel_upid.specs.Relabel.{partAt, taken, wholeMade, upidMade}
+use Rattle.relabel_upid.specs.Relabel.{partAt, taken, topMade, upidMade}
 use Rattle.section.specs.Section.{loopBytes, sectionOf}
 use Rattle.section.specs.declared.Section.{Section}
 use Rattle.section.specs.declared.SectionRead.{SectionRead}
@@ -32,7 +32,7 @@ use Rattle.upid.specs.Cover.{bytesOf}
 use Rattle.upid.specs.Private.{Accepted}
 use Rattle.upid.specs.Upid.{checkOf, readOf, upidOf, partsIn, listOf}
 use Rattle.upid.specs.declared.Part.{Part}
-use Rattle.theorems_relabel.specs.Replaced.{Request, levelOf, kindOf, runOf, upidFor, kindFor, Relabelled}
+use Rattle.theorems_relabel.specs.Replaced.{Request, levelOf, typeOf, runOf, upidFor, typeFor, Relabelled}
 
 -- ---- a UPID by itself
 
@@ -47,7 +47,7 @@ alone k u a h = rw (ne-eqb (length u) 0 (λ z. omega arith)) (go (eqb k 13) refl
 
 -- one that was replaced was accepted, and not empty
 pub was-there : (upid-type : ℕ) (top : List ℕ) (k : ℕ) (new b : List ℕ) → upidMade upid-type top 0 k new ≡ made b → Accepted (checkOf upid-type top) × (0 < length top)
-unfolding upidMade wholeMade
+unfolding upidMade topMade
 was-there upid-type top k new b = go (eqb (length top) 0) refl (taken (checkOf upid-type top)) refl
   where
     go : (t : Bool) → eqb (length top) 0 ≡ t → (u : Bool) → taken (checkOf upid-type top) ≡ u
@@ -68,7 +68,7 @@ regroup l a b c t =
 record Sides (upid-type : ℕ) (top : List ℕ) (part k : ℕ) (new : List ℕ) : Type 0 where
   pub left : List Identifier
   pub right : List Identifier
-  pub was : ofUpid upid-type top ≡ left ++ (identifiersAt (levelOf top part) (kindOf upid-type top part) (runOf top part) ++ right)
+  pub was : ofUpid upid-type top ≡ left ++ (identifiersAt (levelOf top part) (typeOf upid-type top part) (runOf top part) ++ right)
   pub then : upidThen upid-type top part k new ≡ left ++ (identifiersAt (levelOf top part) k new ++ right)
 
 nothing-after : (x : List Identifier) → x ≡ [] ++ (x ++ [])
@@ -96,7 +96,7 @@ sides : (upid-type : ℕ) (top : List ℕ) (part k : ℕ) (new b : List ℕ) →
 unfolding upidThen
 sides upid-type top zero k new b e =
     let w = was-there upid-type top k new b e in
-    let x = whole-made-is upid-type top k new b e in
+    let x = top-made-is upid-type top k new b e in
     record {
       left = [];
       right = [];
@@ -128,7 +128,7 @@ module _ (q : Request) (r : List ℕ) (bytes : (j : ℕ) → getD (q .section) j
   relabelled =
       let t = the-list-is-the-old-one-with-that-one-replaced (q .section) (q .offset) (q .part) (q .«upid_type») (q .bytes) r bytes byte e in
       let x = t .0 in
-      let y = sides (kindFor q) (upidFor q) (q .part) (q .«upid_type») (q .bytes) (x .upid) (x .made-of) in
+      let y = sides (typeFor q) (upidFor q) (q .part) (q .«upid_type») (q .bytes) (x .upid) (x .made-of) in
       let l : List Identifier = each (loopBytes (q .section)) (x .lead) in
       let z : List Identifier = each (loopBytes (q .section)) (x .tail) in
       let lists : identifiersIn r ≡ (l ++ y .left) ++ (identifiersAt (levelOf (upidFor q) (q .part)) (q .«upid_type») (q .bytes) ++ (y .right ++ z)) =
@@ -142,9 +142,9 @@ module _ (q : Request) (r : List ℕ) (bytes : (j : ℕ) → getD (q .section) j
         command = refl;
         before = l ++ y .left;
         after = y .right ++ z;
-        listed = t .1 ∙ ap (λ (m : List Identifier). l ++ (m ++ z)) (y .was) ∙ regroup l (y .left) (identifiersAt (levelOf (upidFor q) (q .part)) (kindOf (kindFor q) (upidFor q) (q .part)) (runOf (upidFor q) (q .part))) (y .right) z;
+        listed = t .1 ∙ ap (λ (m : List Identifier). l ++ (m ++ z)) (y .was) ∙ regroup l (y .left) (identifiersAt (levelOf (upidFor q) (q .part)) (typeOf (typeFor q) (upidFor q) (q .part)) (runOf (upidFor q) (q .part))) (y .right) z;
         lists = lists;
-        whole = λ n. lists ∙ ap (λ (m : List Identifier). (l ++ y .left) ++ (m ++ (y .right ++ z))) (one-of (levelOf (upidFor q) (q .part)) (q .«upid_type») (q .bytes) n);
+        single = λ n. lists ∙ ap (λ (m : List Identifier). (l ++ y .left) ++ (m ++ (y .right ++ z))) (one-of (levelOf (upidFor q) (q .part)) (q .«upid_type») (q .bytes) n);
         stays = x;
       }
 

@@ -11,7 +11,7 @@ use Rattle.relabel_upid.specs.Relabel.{taken}
 use Rattle.section.specs.Section.{conditions, first, loopBytes}
 use Rattle.table.specs.Bits.{pick}
 use Rattle.upid.specs.Upid.{readOf, upidOf, partsIn}
-use Rattle.theorems_relabel.specs.Replaced.{Request, runOf, upidFor, kindFor}
+use Rattle.theorems_relabel.specs.Replaced.{Request, runOf, upidFor, typeFor}
 
 -- 41: no item among these begins at the offset that is a segmentation descriptor and not cancelled
 unfoldable pub noInsert : ℕ → List Listed → Bool
@@ -36,7 +36,7 @@ sizeThen q n = n - length (runOf (upidFor q) (q .part)) + length (q .bytes)
 unfoldable pub inAccepted : Request → ℕ → Written
 inAccepted q room =
     pick (noInsert (q .offset) (itemsOf (loopBytes (q .section)))) (Written.Refused 41)
-    (pick (noPart (kindFor q) (upidFor q) (q .part)) (Written.Refused 41)
+    (pick (noPart (typeFor q) (upidFor q) (q .part)) (Written.Refused 41)
     -- 32: "more than 255 bytes of UPID"
     (pick (ltb 255 (sizeThen q (length (upidFor q)))) (Written.Refused 32)
     (pick (unfit (q .part) (q .«upid_type») (q .bytes)) (Written.Refused 33)

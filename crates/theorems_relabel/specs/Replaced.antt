@@ -29,9 +29,9 @@ abbrev pub levelOf : List ℕ → ℕ → ℕ
 levelOf top zero = 0
 levelOf top (suc i) = partAt (partsIn (upidOf 13 top)) i .level
 
-abbrev pub kindOf : ℕ → List ℕ → ℕ → ℕ
-kindOf «upid_type» top zero = «upid_type»
-kindOf «upid_type» top (suc i) = writtenType top (partAt (partsIn (upidOf 13 top)) i)
+abbrev pub typeOf : ℕ → List ℕ → ℕ → ℕ
+typeOf «upid_type» top zero = «upid_type»
+typeOf «upid_type» top (suc i) = writtenType top (partAt (partsIn (upidOf 13 top)) i)
 
 abbrev pub runOf : List ℕ → ℕ → List ℕ
 runOf top zero = top
@@ -41,8 +41,8 @@ runOf top (suc i) = bytesOf top (partAt (partsIn (upidOf 13 top)) i)
 abbrev pub upidFor : Request → List ℕ
 upidFor q = upidIn (payloadIn (q .section) (q .offset))
 
-abbrev pub kindFor : Request → ℕ
-kindFor q = typeIn (payloadIn (q .section) (q .offset))
+abbrev pub typeFor : Request → ℕ
+typeFor q = typeIn (payloadIn (q .section) (q .offset))
 
 -- ---- r is the section with that one replaced
 
@@ -57,9 +57,9 @@ pub record Relabelled (q : Request) (r : List ℕ) : Type 0 where
   -- the list of its identifiers is the old list with that one replaced: those before it and after it are the same, in the same order
   pub before : List Identifier
   pub after : List Identifier
-  pub listed : identifiersIn (q .section) ≡ before ++ (identifiersAt (levelOf (upidFor q) (q .part)) (kindOf (kindFor q) (upidFor q) (q .part)) (runOf (upidFor q) (q .part)) ++ after)
+  pub listed : identifiersIn (q .section) ≡ before ++ (identifiersAt (levelOf (upidFor q) (q .part)) (typeOf (typeFor q) (upidFor q) (q .part)) (runOf (upidFor q) (q .part)) ++ after)
   pub lists : identifiersIn r ≡ before ++ (identifiersAt (levelOf (upidFor q) (q .part)) (q .«upid_type») (q .bytes) ++ after)
   -- where it is no MID it is one identifier, whole: of this type, with exactly these bytes
-  pub whole : (q .«upid_type» ≡ 13 → ⊥) → identifiersIn r ≡ before ++ (record { level = levelOf (upidFor q) (q .part); «upid_type» = q .«upid_type»; bytes = q .bytes } ∷ after)
+  pub single : (q .«upid_type» ≡ 13 → ⊥) → identifiersIn r ≡ before ++ (record { level = levelOf (upidFor q) (q .part); «upid_type» = q .«upid_type»; bytes = q .bytes } ∷ after)
   -- every other item reads as it did, and of this item only the UPID differs
   pub stays : Result (q .section) (q .offset) (q .part) (q .«upid_type») (q .bytes) r

@@ -19,7 +19,7 @@ use Rattle.canonical_form.specs.Descriptor.{canonicalUpid, canonicalSegmentatio
 use Rattle.header.specs.Header.{headerOf, headerRead, spliceHeader}
 use Rattle.splice_time.specs.Time.{spliceTime}
 use Rattle.splice_time.specs.declared.SpliceTime.{SpliceTime}
-use Rattle.descriptor_loop.specs.Items.{readAt, wholeAt, stepOf, itemsFrom, itemsOf}
+use Rattle.descriptor_loop.specs.Items.{readAt, completeAt, stepOf, itemsFrom, itemsOf}
 use Rattle.names.specs.Algorithm.{algorithmOf}
 use Rattle.names.specs.Command as names
 use Rattle.section.proofs.Acceptance.{refusals-in-order, accepted-if-none}
@@ -107,7 +107,7 @@ pub both-whole : Identified eightAndTwelve (
     record { start = 35; len = 24; bytes = both }
     ∷ record { start = 37; len = 8; bytes = eight }
     ∷ record { start = 47; len = 12; bytes = twelve } ∷ [])
-unfolding eightAndTwelve identifiersOf sectionOf frameOf frameIn accepted movedRead moved commandLength commandType commandBytes roomAfter loopLength loopPlace crcOf crcBits crcBit headerOf headerRead spliceHeader spliceTime commandOf itemsOf itemsFrom stepOf wholeAt readAt descriptorOf isCuei segmentationOf insertOf inserted head front parts deliveryRestrictions mode duration writtenUpid back subSegments number bit reserved part remaining viewed upidOf checkOf readOf walkOf _then_ plainOf lengthOf isText reportedOf listOf partsOf listed unlessRefused textOf done step within
+unfolding eightAndTwelve identifiersOf sectionOf frameOf frameIn accepted movedRead moved commandLength commandType commandBytes roomAfter loopLength loopPlace crcOf crcBits crcBit headerOf headerRead spliceHeader spliceTime commandOf itemsOf itemsFrom stepOf completeAt readAt descriptorOf isCuei segmentationOf insertOf inserted head front parts deliveryRestrictions mode duration writtenUpid back subSegments number bit reserved part remaining viewed upidOf checkOf readOf walkOf _then_ plainOf lengthOf isText reportedOf listOf partsOf listed unlessRefused textOf done step within
 both-whole = record {
   section = record {
     header = record {

@@ -9,13 +9,13 @@ use Rattle.descriptor.proofs.Plains.{avail-is, time-is, reserved-is}
 use Rattle.descriptor.specs.Descriptor.{_andThen_, ifFine, movedRefusal, reportedUpid, inserted, insertOf, segmentationOf, dtmfOf, reservedOf, isCuei, cuei, descriptorOf}
 use Rattle.descriptor.specs.Plain.{dtmf}
 use Rattle.descriptor.specs.Segmentation as table
-use Rattle.descriptor.specs.Segmentation.{Fore, Head, head, front, back, insertFrom, segmentation}
+use Rattle.descriptor.specs.Segmentation.{ListedFront, Head, head, front, back, insertFrom, segmentation}
 use Rattle.descriptor.specs.declared.Descriptor.{Descriptor}
 use Rattle.descriptor.specs.declared.DescriptorRead.{DescriptorRead}
 use Rattle.descriptor.specs.declared.plain.DTMFDescriptor.{DTMFDescriptor}
 use Rattle.descriptor.specs.declared.segmentation.DescriptorDetail.{DescriptorDetail}
 use Rattle.descriptor.specs.declared.segmentation.SegmentationUpid.{SegmentationUpid}
-use Rattle.descriptor_loop.specs.Items.{itemAt, readAt, wholeAt, stepOf}
+use Rattle.descriptor_loop.specs.Items.{itemAt, readAt, completeAt, stepOf}
 use Rattle.descriptor_loop.specs.Place.{movedDescriptor}
 use Rattle.descriptor_loop.specs.declared.Item.{Item}
 use Rattle.descriptor_loop.specs.declared.Step.{Step}
@@ -77,7 +77,7 @@ module _ (s : List ℕ) where
           SegmentationReads.lacks e a (takes-in head _ _ (bitsOf s) 0 h at eh ∙ rw off (lacks-in front _ _ (bitsOf s) at e a ef))
           (λ u. let z = sym ef ∙ ap (parse front (bitsOf s)) (seam-is u) ∙ u .fronts in zero-one cc)
 
-      module _ (f : Fore) (m : ℕ) (ef : parse front (bitsOf s) at ≡ got f m) where
+      module _ (f : ListedFront) (m : ℕ) (ef : parse front (bitsOf s) at ≡ got f m) where
         there : UpidIn s
         there = record { first = h; seam = at; heads = eh; active = off; fore = f; end = m; fronts = ef }
 
@@ -90,12 +90,12 @@ module _ (s : List ℕ) where
           no-back e a eb =
               SegmentationReads.lacks e a
               (takes-in head _ _ (bitsOf s) 0 h at eh ∙ rw off (takes-in front _ _ (bitsOf s) at f m ef ∙ lacks-in back _ _ (bitsOf s) m e a eb))
-              (λ u. (k, subst (λ (x : Fore). checkedIn s (x .front .«segmentation_upid») ≡ UpidRead.Fine k) (fore-is u) fine))
+              (λ u. (k, subst (λ (x : ListedFront). checkedIn s (x .front .«segmentation_upid») ≡ UpidRead.Fine k) (fore-is u) fine))
 
           whole-reads : (b : _) (n : ℕ) → parse back (bitsOf s) m ≡ got b n → Reads (inserted (h .event) (f .front) (reportedUpid k (f .front .«segmentation_upid» .bytes)) b)
           unfolding segmentation inserted
           whole-reads b n eb =
-              SegmentationReads.whole
+              SegmentationReads.complete
               (record {
                 descriptor = record {
                   «segmentation_event_id» = h .event;
@@ -125,9 +125,9 @@ module _ (s : List ℕ) where
   lacks-so e a p fine (SegmentationReads.lacks f b q other) = let z : short e a ≡ short f b = sym p ∙ q in cc
   lacks-so e a p fine (SegmentationReads.upid u r c) = let z = sym c ∙ fine u .1 in zero-one cc
   lacks-so e a p fine (SegmentationReads.cancelled x end q d) = let z = sym p ∙ q in zero-one cc
-  lacks-so e a p fine (SegmentationReads.whole x end i k q d c) = let z = sym p ∙ q in zero-one cc
+  lacks-so e a p fine (SegmentationReads.complete x end i k q d c) = let z = sym p ∙ q in zero-one cc
 
-  refused-so : (h : Head) (at : ℕ) (f : Fore) (m : ℕ) (r : Refusal) → parse head (bitsOf s) 0 ≡ got h at → h .cancel ≡ false → parse front (bitsOf s) at ≡ got f m
+  refused-so : (h : Head) (at : ℕ) (f : ListedFront) (m : ℕ) (r : Refusal) → parse head (bitsOf s) 0 ≡ got h at → h .cancel ≡ false → parse front (bitsOf s) at ≡ got f m
       → checkedIn s (f .front .«segmentation_upid») ≡ UpidRead.Refused r → segmentationOf s ≡ DescriptorRead.Refused (movedRefusal (f .front .«segmentation_upid» .bytes .at) r)
   unfolding segmentationOf insertOf
   refused-so h at f m r eh off ef c = rw (eh, off, ef, c)
@@ -136,7 +136,7 @@ module _ (s : List ℕ) where
   is-read (SegmentationReads.lacks e a p fine) = lacks-so e a p fine segmentation-reads
   is-read (SegmentationReads.upid u r c) = sym (refused-so (u .first) (u .seam) (u .fore) (u .end) r (u .heads) (u .active) (u .fronts) c)
   is-read (SegmentationReads.cancelled x end p d) = sym (segmentation-read s x end p ∙ rw d)
-  is-read (SegmentationReads.whole x end i k p d c) = sym (segmentation-read s x end p ∙ rw (d, c))
+  is-read (SegmentationReads.complete x end i k p d c) = sym (segmentation-read s x end p ∙ rw (d, c))
 
   pub reads : Reads (descriptorOf 2 cuei s)
   unfolding descriptorOf isCuei
@@ -206,7 +206,7 @@ module _ (tag : ℕ) (id p : List ℕ) where
   segmentation-kind x end e fine (SegmentationReads.lacks f b q other) = let z = sym e ∙ q in zero-one cc
   segmentation-kind x end e fine (SegmentationReads.upid u r c) = let z = sym c ∙ fine u .1 in zero-one cc
   segmentation-kind x end e fine (SegmentationReads.cancelled y n q d) = (_, refl, refl)
-  segmentation-kind x end e fine (SegmentationReads.whole y n i k q d c) = (_, refl, refl)
+  segmentation-kind x end e fine (SegmentationReads.complete y n i k q d c) = (_, refl, refl)
 
   pub unrefused-is-read : (k : ℕ) → Unrefused tag id p k → (d : Descriptor) × (descriptorOf tag id p ≡ DescriptorRead.Is d) × (kindOf d ≡ k)
   unrefused-is-read k (Unrefused.an-avail t i h) = (_, by-tag 0 t i ∙ cuei-avail p h, refl)
@@ -226,7 +226,7 @@ moved-kind base (Descriptor.Reserved tag v) = refl
 pub item-read : (loop : List ℕ) (offset : ℕ) → length loop ≤ 4076 → offset + 6 ≤ length loop → getD loop (offset + 1) 0 + 2 ≤ length loop - offset → 4 ≤ getD loop (offset + 1) 0
     → getD loop (offset + 1) 0 ≤ 254 → (k : ℕ) → Unrefused (getD loop offset 0) (take 4 (drop (offset + 2) loop)) (take (getD loop (offset + 1) 0 - 4) (drop (offset + 6) loop)) k
     → (d : Descriptor) × (stepOf loop offset .item ≡ Item.Is d) × (kindOf d ≡ k)
-unfolding wholeAt readAt
+unfolding completeAt readAt
 item-read loop offset fits six there low high k u =
     let r = unrefused-is-read (getD loop offset 0) (take 4 (drop (offset + 2) loop)) (take (getD loop (offset + 1) 0 - 4) (drop (offset + 6) loop)) k u in
     (movedDescriptor (offset + 6) (r .0), ap (λ (t : Step). t .item) (else-read loop offset fits six there low high) ∙ ap (itemAt (offset + 6)) (r .1), moved-kind (offset + 6) (r .0) ∙ r .2)

@@ -13,14 +13,14 @@ use Rattle.command.specs.declared.CommandRead.{CommandRead}
 use Rattle.descriptor.specs.Descriptor.{availOf, dtmfOf, timeOf, reservedOf, segmentationOf, insertOf, inserted, isCuei, cuei, descriptorOf, _andThen_, ifFine}
 use Rattle.descriptor.specs.Plain.{avail, dtmf, time}
 use Rattle.descriptor.specs.Segmentation.{head, front, back}
-use Rattle.descriptor.specs.Whole.{blankBeside, identifierRead}
+use Rattle.descriptor.specs.Full.{blankBeside, identifierRead}
 use Rattle.descriptor.specs.declared.Descriptor.{Descriptor}
 use Rattle.descriptor.specs.declared.segmentation.DescriptorDetail.{DescriptorDetail}
 use Rattle.descriptor.specs.declared.DescriptorRead.{DescriptorRead}
 use Rattle.descriptor.specs.declared.segmentation.SegmentationUpid.{SegmentationUpid}
-use Rattle.descriptor_loop.proofs.Steps.{Clause, clause, step-long, step-end, step-few, step-over, step-full, step-small, step-whole}
+use Rattle.descriptor_loop.proofs.Steps.{Clause, clause, step-long, step-end, step-few, step-over, step-full, step-small, step-complete}
 use Rattle.descriptor_loop.specs.Cover.{Ends}
-use Rattle.descriptor_loop.specs.Items.{withoutIdentifier, short, itemAt, readAt, stepOf, readingOf, wholeAt}
+use Rattle.descriptor_loop.specs.Items.{withoutIdentifier, short, itemAt, readAt, stepOf, readingOf, completeAt}
 use Rattle.descriptor_loop.specs.Items as items
 use Rattle.descriptor_loop.specs.declared.Item.{Item}
 use Rattle.descriptor_loop.specs.declared.ItemRefusal.{ItemRefusal}
@@ -74,8 +74,8 @@ module _ (loop : List ℕ) (offset : ℕ) where
         unfolding items.numberOf items.valuesOf upid.numberOf upid.valuesOf
         length-below-4 h = refused-without-identifier _ (ItemRefusal.Other (Refusal.NotEnoughData 6 (L + 2))) 21 _ (offset + (L + 2)) (step-small loop offset fits (omega arith) L refl (omega arith) there (omega arith) (omega arith)) refl refl
 
-        pub else-read : 4 ≤ L → L ≤ 254 → stepOf loop offset ≡ wholeAt loop offset L
-        else-read low high = step-whole loop offset fits (omega arith) L refl (omega arith) there high low
+        pub else-read : 4 ≤ L → L ≤ 254 → stepOf loop offset ≡ completeAt loop offset L
+        else-read low high = step-complete loop offset fits (omega arith) L refl (omega arith) there high low
 
 -- ---- the kind of a descriptor
 
@@ -281,7 +281,7 @@ loops-that-end = (Ends.few {rest = 0x00 ∷ []} (omega arith) (omega arith), End
 
 -- ---- a refused item is no reading: nothing stands beside it
 by-clause : (loop : List ℕ) (offset : ℕ) (r : ItemRefusal) {st : Step} → Clause loop offset st → st .item ≡ Item.Refused r → st .identifier ≡ replicate 4 0
-unfolding wholeAt
+unfolding completeAt
 by-clause loop offset r (Clause.long h) e = refl
 by-clause loop offset r (Clause.ended h) e = refl
 by-clause loop offset r (Clause.last q v h) e = refl

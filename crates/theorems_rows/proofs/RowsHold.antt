@@ -7,7 +7,7 @@ use Rattle.descriptor.specs.Descriptor.{descriptorOf, isCuei, availOf, dtmfOf, 
 use Rattle.descriptor.specs.Plain.{avail, dtmf, privateBytes}
 use Rattle.descriptor.specs.Segmentation.{deliveryRestrictions, mode, duration, writtenUpid, parts, front, subSegments, back, head}
 use Rattle.splice_time.specs.Time.{spliceTime}
-use Rattle.descriptor_loop.specs.Items.{numberOf, valuesOf, readAt, wholeAt, stepOf, itemsFrom, itemsOf}
+use Rattle.descriptor_loop.specs.Items.{numberOf, valuesOf, readAt, completeAt, stepOf, itemsFrom, itemsOf}
 use Rattle.names.specs.Segmentation as names
 use Rattle.table.specs.Lent.{viewed}
 use Rattle.table.specs.Table.{number, bit, reserved, part, remaining, list, canonicalBy}
@@ -18,7 +18,7 @@ use Rattle.upid.specs.Upid.{upidOf, checkOf, readOf, walkOf, _then_, plainOf, l
 use Rattle.theorems_rows.specs.Rows.{insertsAre, Holds, rows}
 
 pub every-row : All Holds rows
-unfolding rows itemsOf itemsFrom stepOf wholeAt readAt numberOf valuesOf upid.numberOf upid.valuesOf descriptorOf isCuei availOf dtmfOf reservedOf avail dtmf privateBytes number bit reserved part remaining list viewed upidOf checkOf readOf walkOf _then_ plainOf lengthOf isText reportedOf listOf partsOf listed unlessRefused textOf done step within commandOf canonicalCommand canonicalBy componentsOf array insert active ending moded breakDuration timeUnless component spliceTime segmentationOf insertOf inserted head front parts deliveryRestrictions mode duration writtenUpid back subSegments names.segmentationOf
+unfolding rows itemsOf itemsFrom stepOf completeAt readAt numberOf valuesOf upid.numberOf upid.valuesOf descriptorOf isCuei availOf dtmfOf reservedOf avail dtmf privateBytes number bit reserved part remaining list viewed upidOf checkOf readOf walkOf _then_ plainOf lengthOf isText reportedOf listOf partsOf listed unlessRefused textOf done step within commandOf canonicalCommand canonicalBy componentsOf array insert active ending moded breakDuration timeUnless component spliceTime segmentationOf insertOf inserted head front parts deliveryRestrictions mode duration writtenUpid back subSegments names.segmentationOf
 every-row =
     more refl (more refl (more refl (more refl (more refl (more refl (more refl
     (more refl (more refl (more refl

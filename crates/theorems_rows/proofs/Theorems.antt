@@ -19,7 +19,7 @@ use Rattle.command.specs.declared.insert.SpliceInsert.{SpliceInsert}
 use Rattle.descriptor.proofs.Plains.{avail-short, avail-is, time-short, time-is, reserved-is}
 use Rattle.descriptor.specs.Descriptor.{availOf, timeOf, reservedOf, cuei, descriptorOf, isCuei}
 use Rattle.descriptor.specs.Plain.{dtmf}
-use Rattle.descriptor.specs.Whole.{blankBeside}
+use Rattle.descriptor.specs.Full.{blankBeside}
 use Rattle.descriptor.specs.declared.Descriptor.{Descriptor}
 use Rattle.descriptor.specs.declared.DescriptorRead.{DescriptorRead}
 use Rattle.descriptor.specs.declared.plain.DTMFDescriptor.{DTMFDescriptor}
@@ -28,7 +28,7 @@ use Rattle.header.specs.Header.{headerOf}
 use Rattle.header.specs.declared.header.HeaderRead.{HeaderRead}
 use Rattle.header.specs.declared.header.SpliceInfoHeader.{SpliceInfoHeader}
 use Rattle.descriptor_loop.specs.Cover.{Ends}
-use Rattle.descriptor_loop.specs.Items.{stepOf, readingOf, wholeAt}
+use Rattle.descriptor_loop.specs.Items.{stepOf, readingOf, completeAt}
 use Rattle.descriptor_loop.specs.declared.Item.{Item}
 use Rattle.descriptor_loop.specs.declared.ItemRefusal.{ItemRefusal}
 use Rattle.names.specs.Flags.{Answer, networkOf, returnOf, restrictionsOf}
@@ -190,7 +190,7 @@ an-item-under-4-bytes-is-refused-with-21 = refusals.length-below-4
 
 -- "Else tag, L, identifier of 4; the descriptor's payload is handed to its reader as a part of L - 4 bytes": no other item is refused by the loop
 pub any-other-item-is-read-by-its-descriptor : (loop : List ℕ) (offset : ℕ) → length loop ≤ 4076 → offset + 6 ≤ length loop → getD loop (offset + 1) 0 + 2 ≤ length loop - offset
-    → 4 ≤ getD loop (offset + 1) 0 → getD loop (offset + 1) 0 ≤ 254 → stepOf loop offset ≡ wholeAt loop offset (getD loop (offset + 1) 0)
+    → 4 ≤ getD loop (offset + 1) 0 → getD loop (offset + 1) 0 ≤ 254 → stepOf loop offset ≡ completeAt loop offset (getD loop (offset + 1) 0)
 any-other-item-is-read-by-its-descriptor = refusals.else-read
 
 -- a refusal is no reading: of whatever refused item, components, EIDR and identifier are blank

@@ -7,7 +7,7 @@ use lib.ListN.{length, take, drop}
 use Rattle.descriptor.specs.Descriptor.{cuei, movedRefusal, reportedUpid}
 use Rattle.descriptor.specs.Plain.{dtmf}
 use Rattle.descriptor.specs.Segmentation as table
-use Rattle.descriptor.specs.Segmentation.{Fore, Head, head, front, segmentation, withUpid}
+use Rattle.descriptor.specs.Segmentation.{ListedFront, Head, head, front, segmentation, withUpid}
 use Rattle.descriptor.specs.declared.Descriptor.{Descriptor}
 use Rattle.descriptor.specs.declared.DescriptorRead.{DescriptorRead}
 use Rattle.descriptor.specs.declared.plain.DTMFDescriptor.{DTMFDescriptor}
@@ -33,7 +33,7 @@ pub record UpidIn (s : List ℕ) : Type 0 where
   pub seam : ℕ
   pub heads : parse head (bitsOf s) 0 ≡ got first seam
   pub active : first .cancel ≡ false
-  pub fore : Fore
+  pub fore : ListedFront
   pub end : ℕ
   pub fronts : parse front (bitsOf s) seam ≡ got fore end
 
@@ -55,7 +55,7 @@ pub data SegmentationReads (s : List ℕ) : DescriptorRead → Type 0 where
   cancelled : (x : table.Segmentation) (end : ℕ) → parse segmentation (bitsOf s) 0 ≡ got x end → x .descriptor .«descriptor_detail» ≡ DescriptorDetail.Cancel
       → SegmentationReads s (DescriptorRead.Is (Descriptor.Segmentation (record { «segmentation_event_id» = x .descriptor .«segmentation_event_id»; «descriptor_detail» = DescriptorDetail.Cancel })))
   -- else it is what the table reads, with its UPID as the UPID's rules report it
-  whole : (x : table.Segmentation) (end : ℕ) (i : SegmentationDetail) (k : ℕ) → parse segmentation (bitsOf s) 0 ≡ got x end → x .descriptor .«descriptor_detail» ≡ DescriptorDetail.Active i
+  complete : (x : table.Segmentation) (end : ℕ) (i : SegmentationDetail) (k : ℕ) → parse segmentation (bitsOf s) 0 ≡ got x end → x .descriptor .«descriptor_detail» ≡ DescriptorDetail.Active i
       → checkedIn s (i .«segmentation_upid») ≡ UpidRead.Fine k
       → SegmentationReads s (DescriptorRead.Is (Descriptor.Segmentation (record {
         «segmentation_event_id» = x .descriptor .«segmentation_event_id»;

@@ -1,4 +1,4 @@
--- Rows a to n of document 01, "Worked rows", in one table. These are definitions; that every row holds is `rows-a-to-n-hold` in proofs/Theorems.antt.
+-- Rows a to n of document 01, "Worked rows", in one table. That every row holds is `rows-a-to-n-hold` in proofs/Theorems.antt.
 use Prim.Native.Nat.{ℕ, zero, suc, _+_}
 use mathlib.Core.Bool.{true, false}
 use mathlib.Core.List.{List, [], _∷_, _++_, map}

@@ -5,16 +5,16 @@ use mathlib.Core.List.{List, [], _∷_, _++_}
 use mathlib.Core.Path.{_≡_, refl}
 use lib.ListN.{drop, replicate}
 use Rattle.bit_stores.specs.Written.{answerOf, laterOf}
-use Rattle.c_command_writer.specs.CommandGiven.{modeIn, breakIn, insertIn, commandIn, commandFrom, insertionFrom, componentsFrom, splicesWithin, ownSplices, wordsRefusal, commandRefusal, commandWordsMade}
+use Rattle.c_command_writer.specs.CommandGiven.{modeIn, breakIn, insertIn, commandIn, commandFrom, insertionFrom, componentsFrom, insertComponentsWithin, ownInsertComponents, wordsRefusal, commandRefusal, commandWordsMade}
 use Rattle.c_command_writer.specs.CommandWords.{commandWords, commandWidths, commandSeen}
 use Rattle.c_command_writer.specs.Words.{within, same, eachPlace, placesOf, flatWritten, noLess}
 use Rattle.c_descriptor_writer.specs.ItemGiven.{restrictionsIn, subSegmentsIn, segmentationIn, itemIn, restrictionsFrom, insertFrom, descriptorFrom, identifierFrom, placeFrom, placesFrom, eidrFrom, besideFrom, ownItem, descriptorWordsMade, descriptorRefusal}
 use Rattle.c_descriptor_writer.specs.ItemGiven as item
 use Rattle.c_descriptor_writer.specs.ItemWords.{itemWords, itemWidths, placeWidths, placesWithin, besideWithin, itemSeen, besideThere}
-use Rattle.c_items.specs.FlatItem.{flatRestrictions, flatSubSegments, wholeSegmentation, segmentationHead, segmentationItem, flatDescriptor, blankItem, flatItem, refusalIn, valuesIn, flatStep}
+use Rattle.c_items.specs.FlatItem.{flatRestrictions, flatSubSegments, activeSegmentation, segmentationHead, segmentationItem, flatDescriptor, blankItem, flatItem, refusalIn, valuesIn, flatStep}
 use Rattle.c_items.specs.FlatUpid.{noParts, flatUpidRead, flatUpid}
 use Rattle.c_section.specs.Flat.{flatHeader, noHeader}
-use Rattle.c_section.specs.FlatCommand.{flatMode, flatBreak, wholeInsert, insertHead, noCommand, flatCommand}
+use Rattle.c_section.specs.FlatCommand.{flatMode, flatBreak, activeInsert, insertHead, noCommand, flatCommand}
 use Rattle.c_section.specs.FlatSection.{flatSectionRead}
 use Rattle.c_section_writer.specs.SectionGiven.{headerFrom, headerRefusal, sectionWordsMade}
 use Rattle.c_section_writer.specs.SectionWords.{headerWords, headerWidths}
@@ -24,12 +24,12 @@ use Rattle.crc.specs.Crc.{crcOf, crcBits, crcBit}
 use Rattle.descriptor.specs.Descriptor.{descriptorOf, isCuei, segmentationOf, insertOf, inserted, dtmfOf}
 use Rattle.descriptor.specs.Plain.{avail, dtmf, privateBytes}
 use Rattle.descriptor.specs.Segmentation.{writableFront, writableDetail, deviceOf, component, deliveryRestrictions, mode, duration, writtenUpid, parts, front, subSegments, back, head, segmentation}
-use Rattle.descriptor.specs.Whole.{filled}
+use Rattle.descriptor.specs.Full.{filled}
 use Rattle.descriptor_loop.specs.Items as items
-use Rattle.descriptor_loop.specs.Items.{readAt, wholeAt, stepOf}
+use Rattle.descriptor_loop.specs.Items.{readAt, completeAt, stepOf}
 use Rattle.canonical_form.specs.Descriptor.{canonicalDescriptor, canonicalFrom, canonicalLoop}
 use Rattle.descriptor_measure.specs.Writing as writing
-use Rattle.descriptor_measure.specs.Writing.{framed, framedMade, allZero, alone, writableReserved, writtenType, upidSource, writableUpid, writableSegment, segmentationMade, payloadMade, descriptorMade}
+use Rattle.descriptor_measure.specs.Writing.{enveloped, envelopedMade, allZero, alone, writableReserved, writtenType, upidSource, writableUpid, writableSegment, segmentationMade, payloadMade, descriptorMade}
 use Rattle.header.specs.Header.{headerOf, headerRead, spliceHeader}
 use Rattle.names.specs.Algorithm.{algorithmOf, writableAlgorithm}
 use Rattle.names.specs.Command as types-of-commands
@@ -88,7 +88,7 @@ loops-over-c-are-refused-with-2-21-and-22 = (refl, refl, refl, refl, refl)
 -- preroll; the count's three bits; a character
 pub dtmf-over-c-is-refused-with-21 : (flatStep (stepOf (cueiItem 1 []) 0) ≡ stepRefused 21 1 0 0 6) × (flatStep (stepOf (cueiItem 1 (0xB1 ∷ [])) 0) ≡ stepRefused 21 0 0 0 7)
     × (flatStep (stepOf (cueiItem 1 (0xB1 ∷ 0x3F ∷ [])) 0) ≡ stepRefused 21 1 0 0 8)
-unfolding flatStep refusalIn valuesIn flatItem stepOf wholeAt readAt items.numberOf items.valuesOf upids.numberOf upids.valuesOf descriptorOf isCuei dtmfOf dtmf number bit reserved part remaining list
+unfolding flatStep refusalIn valuesIn flatItem stepOf completeAt readAt items.numberOf items.valuesOf upids.numberOf upids.valuesOf descriptorOf isCuei dtmfOf dtmf number bit reserved part remaining list
 dtmf-over-c-is-refused-with-21 = (refl, refl, refl)
 
 -- event id; cancel bit; flags; how many components, a tag, reserved bits, an offset; a duration
@@ -96,7 +96,7 @@ pub segmentations-over-c-are-refused-with-21 : (flatStep (stepOf (cueiItem 2 (0 
     × (flatStep (stepOf (segment []) 0) ≡ stepRefused 21 0 0 0 11) × (flatStep (stepOf (segment (0x3F ∷ [])) 0) ≡ stepRefused 21 1 0 0 12)
     × (flatStep (stepOf (segment (0x3F ∷ 1 ∷ [])) 0) ≡ stepRefused 21 1 0 0 13) × (flatStep (stepOf (segment (0x3F ∷ 1 ∷ 9 ∷ [])) 0) ≡ stepRefused 21 0 0 0 14)
     × (flatStep (stepOf (segment (0x3F ∷ 1 ∷ 9 ∷ 0xFE ∷ 0 ∷ 0 ∷ 0 ∷ [])) 0) ≡ stepRefused 21 4 3 0 18) × (flatStep (stepOf (segment (0xFF ∷ 0 ∷ 0 ∷ [])) 0) ≡ stepRefused 21 5 2 0 14)
-unfolding flatStep refusalIn valuesIn flatItem stepOf wholeAt readAt items.numberOf items.valuesOf upids.numberOf upids.valuesOf descriptorOf isCuei segmentationOf insertOf inserted head front parts deliveryRestrictions mode component duration writtenUpid back subSegments segmentation number bit reserved part remaining list
+unfolding flatStep refusalIn valuesIn flatItem stepOf completeAt readAt items.numberOf items.valuesOf upids.numberOf upids.valuesOf descriptorOf isCuei segmentationOf insertOf inserted head front parts deliveryRestrictions mode component duration writtenUpid back subSegments segmentation number bit reserved part remaining list
 segmentations-over-c-are-refused-with-21 = (refl, refl, refl, refl, refl, refl, refl, refl)
 
 -- the UPID's type, its length, its bytes; type id, segment number, segments expected; sub-segments expected
@@ -104,7 +104,7 @@ pub behind-the-flags-over-c-are-refused-with-21 : (flatStep (stepOf (segment (0x
     × (flatStep (stepOf (segment (0xBF ∷ 8 ∷ 8 ∷ 1 ∷ [])) 0) ≡ stepRefused 21 1 0 0 15) × (flatStep (stepOf (segment (0xBF ∷ 0 ∷ 0 ∷ [])) 0) ≡ stepRefused 21 1 0 0 14)
     × (flatStep (stepOf (segment (0xBF ∷ 0 ∷ 0 ∷ 0x10 ∷ [])) 0) ≡ stepRefused 21 1 0 0 15) × (flatStep (stepOf (segment (0xBF ∷ 0 ∷ 0 ∷ 0x10 ∷ 1 ∷ [])) 0) ≡ stepRefused 21 1 0 0 16)
     × (flatStep (stepOf (segment (0xBF ∷ 0 ∷ 0 ∷ 0x34 ∷ 1 ∷ 1 ∷ 1 ∷ [])) 0) ≡ stepRefused 21 1 0 0 18)
-unfolding flatStep refusalIn valuesIn flatItem stepOf wholeAt readAt items.numberOf items.valuesOf upids.numberOf upids.valuesOf descriptorOf isCuei segmentationOf insertOf inserted head front parts deliveryRestrictions mode component duration writtenUpid back subSegments segmentation number bit reserved part remaining list viewed checkOf readOf walkOf _then_ plainOf lengthOf isText reportedOf
+unfolding flatStep refusalIn valuesIn flatItem stepOf completeAt readAt items.numberOf items.valuesOf upids.numberOf upids.valuesOf descriptorOf isCuei segmentationOf insertOf inserted head front parts deliveryRestrictions mode component duration writtenUpid back subSegments segmentation number bit reserved part remaining list viewed checkOf readOf walkOf _then_ plainOf lengthOf isText reportedOf
 behind-the-flags-over-c-are-refused-with-21 = (refl, refl, refl, refl, refl, refl, refl)
 
 -- ---- 2, 21, 23, 24, 25 of a UPID: `scte35_read_upid`; and 24 of an item's, where its bytes stand in the loop: `scte35_read_item`
@@ -115,36 +115,36 @@ unfolding flatUpid flatUpidRead upids.numberOf upids.valuesOf upidOf checkOf rea
 upids-over-c-are-refused-with-2-and-21-to-25 = (refl, refl, refl, refl, refl)
 
 pub an-item-over-c-is-refused-with-24 : flatStep (stepOf (segment (0xBF ∷ 3 ∷ 12 ∷ 0xFF ∷ replicate 11 0x41 ++ (0x10 ∷ 1 ∷ 1 ∷ []))) 0) ≡ stepRefused 24 3 14 12 29
-unfolding flatStep refusalIn valuesIn flatItem stepOf wholeAt readAt items.numberOf items.valuesOf upids.numberOf upids.valuesOf descriptorOf isCuei segmentationOf insertOf inserted head front parts deliveryRestrictions mode component duration writtenUpid back subSegments segmentation number bit reserved part remaining list viewed checkOf readOf walkOf _then_ plainOf lengthOf isText reportedOf textOf done text.step text.within
+unfolding flatStep refusalIn valuesIn flatItem stepOf completeAt readAt items.numberOf items.valuesOf upids.numberOf upids.valuesOf descriptorOf isCuei segmentationOf insertOf inserted head front parts deliveryRestrictions mode component duration writtenUpid back subSegments segmentation number bit reserved part remaining list viewed checkOf readOf walkOf _then_ plainOf lengthOf isText reportedOf textOf done text.step text.within
 an-item-over-c-is-refused-with-24 = refl
 
 -- ---- 31 to 36: the writers over words
 
 -- 31: of a null whose view is (5, 1), with nothing lent; 33 where it lies in what is lent
 pub a-null-with-a-view-over-c : WriteRefused 31 (commandWordsMade (commandHanded 0 0 0 5 1) [] []) (7 ∷ []) × WriteRefused 33 (commandWordsMade (commandHanded 0 0 0 5 1) [] (replicate 6 0)) (7 ∷ [])
-unfolding flatWritten answerOf laterOf commandWordsMade commandRefusal wordsRefusal commandSeen commandIn commandFrom insertIn insertionFrom modeIn breakIn componentsFrom splicesWithin ownSplices eachPlace placesOf within same commandWidths commandWords flatCommand noCommand insertHead wholeInsert flatMode flatBreak array commandMade noLess
+unfolding flatWritten answerOf laterOf commandWordsMade commandRefusal wordsRefusal commandSeen commandIn commandFrom insertIn insertionFrom modeIn breakIn componentsFrom insertComponentsWithin ownInsertComponents eachPlace placesOf within same commandWidths commandWords flatCommand noCommand insertHead activeInsert flatMode flatBreak array commandMade noLess
 a-null-with-a-view-over-c = ((refl, refl), (refl, refl))
 
 -- 32: a time of 34 bits; 33: an immediate one in a time signal; 36: a payload of one byte, and no room
 pub time-signals-over-c-are-refused-with-32-33-and-36 : WriteRefused 32 (commandWordsMade (commandHanded 6 3 (2 ^ 33) 0 0) [] []) (7 ∷ []) × WriteRefused 33 (commandWordsMade (commandHanded 6 1 0 0 0) [] []) (7 ∷ [])
     × WriteRefused 36 (commandWordsMade (commandHanded 6 2 0 0 0) [] []) []
-unfolding flatWritten answerOf laterOf commandWordsMade commandRefusal wordsRefusal commandSeen commandIn commandFrom insertIn insertionFrom modeIn breakIn componentsFrom splicesWithin ownSplices eachPlace placesOf within same commandWidths commandWords flatCommand noCommand insertHead wholeInsert flatMode flatBreak array commandMade noLess spliceTime number bit reserved
+unfolding flatWritten answerOf laterOf commandWordsMade commandRefusal wordsRefusal commandSeen commandIn commandFrom insertIn insertionFrom modeIn breakIn componentsFrom insertComponentsWithin ownInsertComponents eachPlace placesOf within same commandWidths commandWords flatCommand noCommand insertHead activeInsert flatMode flatBreak array commandMade noLess spliceTime number bit reserved
 time-signals-over-c-are-refused-with-32-33-and-36 = ((refl, refl), (refl, refl), (refl, refl))
 
 -- 31: of an avail whose view is (5, 1), with nothing lent; 34: a reserved descriptor of 251 bytes
 pub descriptors-over-c-are-refused-with-31-and-34 : WriteRefused 31 (descriptorWordsMade (itemHanded 0 1 0 5 1) [] []) (7 ∷ [])
     × WriteRefused 34 (descriptorWordsMade (itemHanded 0x41424344 6 9 0 251) [] (replicate 251 0)) (replicate 300 7)
-unfolding flatWritten answerOf laterOf descriptorWordsMade descriptorRefusal item.wordsRefusal itemSeen besideThere ownItem itemIn segmentationIn restrictionsIn subSegmentsIn descriptorFrom identifierFrom placesFrom eidrFrom besideFrom placeFrom placesWithin besideWithin eachPlace placesOf within same itemWidths placeWidths itemWords flatDescriptor segmentationHead flatRestrictions flatSubSegments filled noLess descriptorMade payloadMade framedMade framed allZero alone writableReserved isCuei avail privateBytes number bit reserved part remaining list
+unfolding flatWritten answerOf laterOf descriptorWordsMade descriptorRefusal item.wordsRefusal itemSeen besideThere ownItem itemIn segmentationIn restrictionsIn subSegmentsIn descriptorFrom identifierFrom placesFrom eidrFrom besideFrom placeFrom placesWithin besideWithin eachPlace placesOf within same itemWidths placeWidths itemWords flatDescriptor segmentationHead flatRestrictions flatSubSegments filled noLess descriptorMade payloadMade envelopedMade enveloped allZero alone writableReserved isCuei avail privateBytes number bit reserved part remaining list
 descriptors-over-c-are-refused-with-31-and-34 = ((refl, refl), (refl, refl))
 
 -- 33: a segmentation with a component, or with an EIDR, and nothing beside it. The same with zeros beside it is written
 pub descriptors-over-c-are-refused-with-33 : WriteRefused 33 (descriptorWordsMade (segmentHanded 0 1 0) [] []) (replicate 40 7) × WriteRefused 33 (descriptorWordsMade (segmentHanded 1 0 10) [] []) (replicate 40 7)
     × (flatWritten (answerOf (descriptorWordsMade (segmentHanded 0 1 0) (replicate 7 0) []) (replicate 40 7)) ≡ record { refusal = 0; length = 24 })
     × (flatWritten (answerOf (descriptorWordsMade (segmentHanded 1 0 10) (replicate 527 0) []) (replicate 40 7)) ≡ record { refusal = 0; length = 29 })
-unfolding flatWritten answerOf laterOf descriptorWordsMade descriptorRefusal item.wordsRefusal itemSeen besideThere ownItem itemIn segmentationIn restrictionsIn subSegmentsIn restrictionsFrom insertFrom descriptorFrom identifierFrom placesFrom eidrFrom besideFrom placeFrom placesWithin besideWithin eachPlace placesOf within same itemWidths placeWidths itemWords flatDescriptor wholeSegmentation segmentationItem flatRestrictions flatSubSegments filled noLess descriptorMade payloadMade framedMade framed allZero segmentationMade writableSegment writableUpid writableDetail writableFront writing.writtenUpid writtenType upidSource segmentation head front parts deliveryRestrictions mode component duration writtenUpid back subSegments number bit reserved part remaining list viewed checkOf readOf walkOf _then_ plainOf lengthOf isText reportedOf deviceOf types.segmentationOf types.writableSegmentation
+unfolding flatWritten answerOf laterOf descriptorWordsMade descriptorRefusal item.wordsRefusal itemSeen besideThere ownItem itemIn segmentationIn restrictionsIn subSegmentsIn restrictionsFrom insertFrom descriptorFrom identifierFrom placesFrom eidrFrom besideFrom placeFrom placesWithin besideWithin eachPlace placesOf within same itemWidths placeWidths itemWords flatDescriptor activeSegmentation segmentationItem flatRestrictions flatSubSegments filled noLess descriptorMade payloadMade envelopedMade enveloped allZero segmentationMade writableSegment writableUpid writableDetail writableFront writing.writtenUpid writtenType upidSource segmentation head front parts deliveryRestrictions mode component duration writtenUpid back subSegments number bit reserved part remaining list viewed checkOf readOf walkOf _then_ plainOf lengthOf isText reportedOf deviceOf types.segmentationOf types.writableSegmentation
 descriptors-over-c-are-refused-with-33 = ((refl, refl), (refl, refl), refl, refl)
 
 -- 35: a loop of one byte around a null; header and command are all 0
 pub a-section-over-c-is-refused-with-35 : WriteRefused 35 (sectionWordsMade [] [] [] [] (0 ∷ [])) (replicate 30 7)
-unfolding flatWritten answerOf laterOf sectionWordsMade headerRefusal headerFrom headerWords headerWidths flatHeader commandRefusal wordsRefusal commandSeen commandIn commandFrom insertIn insertionFrom modeIn breakIn componentsFrom splicesWithin ownSplices eachPlace placesOf within same commandWidths commandWords flatCommand noCommand insertHead wholeInsert flatMode flatBreak array commandMade noLess sectionMade numbersFit writableHead headed spliceHeader number bit canonicalLoop canonicalFrom canonicalDescriptor algorithmOf writableAlgorithm types-of-commands.commandTypeOf bytesIn
+unfolding flatWritten answerOf laterOf sectionWordsMade headerRefusal headerFrom headerWords headerWidths flatHeader commandRefusal wordsRefusal commandSeen commandIn commandFrom insertIn insertionFrom modeIn breakIn componentsFrom insertComponentsWithin ownInsertComponents eachPlace placesOf within same commandWidths commandWords flatCommand noCommand insertHead activeInsert flatMode flatBreak array commandMade noLess sectionMade numbersFit writableHead headed spliceHeader number bit canonicalLoop canonicalFrom canonicalDescriptor algorithmOf writableAlgorithm types-of-commands.commandTypeOf bytesIn
 a-section-over-c-is-refused-with-35 = (refl, refl)

@@ -11,7 +11,7 @@ use lib.ListN.{length, take}
 use Rattle.command.specs.Command.{private, componentsOf, countIn}
 use Rattle.command.specs.declared.Private.{Private}
 use Rattle.command.specs.declared.SpliceCommand.{SpliceCommand}
-use Rattle.command.specs.declared.components.ComponentSplice.{ComponentSplice}
+use Rattle.command.specs.declared.components.InsertComponent.{InsertComponent}
 use Rattle.command_measure.specs.Made.{insertMade, commandMade}
 use Rattle.header.specs.declared.header.SpliceInfoHeader.{SpliceInfoHeader}
 use Rattle.splice_time.specs.Time.{spliceTime, notImmediate}
@@ -39,7 +39,7 @@ use Rattle.theorems_writer.proofs.ItemsWritten.{each-item, one-loop}
 use Rattle.theorems_writer.proofs.WrittenBack.{payload-read-write}
 
 -- ---- a command's type and payload, of the command without its view's place, its components and the bytes of its view
-commandPayload : SpliceCommand → List ComponentSplice → List ℕ → List ℕ
+commandPayload : SpliceCommand → List InsertComponent → List ℕ → List ℕ
 commandPayload SpliceCommand.SpliceNull components bytes = []
 commandPayload (SpliceCommand.SpliceInsert i) components bytes = bytesIn (insertMade (record { value = i; components = components }))
 commandPayload (SpliceCommand.TimeSignal t) components bytes = bytesIn (make spliceTime (notImmediate t) [] t)
@@ -76,7 +76,7 @@ payload-in : (s : List ℕ) (x : Section) → AllBytes s → sectionOf s ≡ Sec
     → commandBytes s ≡ commandPayload (withoutPlace (x .command)) (take (countIn (x .command)) (componentsOf (commandBytes s))) (viewed s (privateView (x .command)))
 payload-in s x a e c = payload-of (x .command) (commandBytes s) s (commandBytes s) (payload-read-write s x a e c .1)
 
-same-payload : {c d : SpliceCommand} {cs ds : List ComponentSplice} {p q : List ℕ} → c ≡ d → cs ≡ ds → p ≡ q → commandPayload c cs p ≡ commandPayload d ds q
+same-payload : {c d : SpliceCommand} {cs ds : List InsertComponent} {p q : List ℕ} → c ≡ d → cs ≡ ds → p ≡ q → commandPayload c cs p ≡ commandPayload d ds q
 same-payload e f g = rw (e, f, g)
 
 -- equal headers, with 0 in place of the command's length and type

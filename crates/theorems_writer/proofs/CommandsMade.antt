@@ -18,7 +18,7 @@ use Rattle.command.specs.Writable.{writableInsert}
 use Rattle.command.specs.Insert.{insert, insertOf, count}
 use Rattle.command.specs.declared.Private.{Private}
 use Rattle.command.specs.declared.SpliceCommand.{SpliceCommand}
-use Rattle.command.specs.declared.components.ComponentSplice.{ComponentSplice}
+use Rattle.command.specs.declared.components.InsertComponent.{InsertComponent}
 use Rattle.command.specs.declared.insert.SpliceDetail.{SpliceDetail}
 use Rattle.command_measure.proofs.Making.{plain-seen, plain-active, private-fields}
 use Rattle.command_measure.proofs.Ties.{time-fields, insert-fields}
@@ -30,7 +30,7 @@ use Rattle.command.proofs.Arrays.{array-take}
 use Rattle.splice_time.specs.Time.{spliceTime, notImmediate}
 use Rattle.splice_time.specs.declared.SpliceTime.{SpliceTime}
 use Rattle.section.specs.Section.{privateView}
-use Rattle.section_writer.proofs.Whole.{Held, command-write-read}
+use Rattle.section_writer.proofs.FullTrips.{Held, command-write-read}
 use Rattle.section_writer.specs.Trips.{ownOf}
 use Rattle.section_writer.specs.Writing.{typeOf}
 use Rattle.table.proofs.Bits.{all-bytesN}
@@ -59,7 +59,7 @@ answer lies fits writable b =
     (refused 31)
 
 -- `writable` is what 33 asks, and `payload` what is made where nothing is refused
-record Tested (c : SpliceCommand) (places : List ComponentSplice) (lent : List ℕ) : Type 0 where
+record Tested (c : SpliceCommand) (places : List InsertComponent) (lent : List ℕ) : Type 0 where
   pub writable : Bool
   pub payload : List ℕ
   pub bytes : AllBytes payload
@@ -80,7 +80,7 @@ time-seen t = ap (seen []) (time-fields t 0) ∙ go t
     go SpliceTime.Unspecified = refl
     go (SpliceTime.At n) = refl
 
-insert-seen : (event kept : ℕ) (d : SpliceDetail) (cs : List ComponentSplice) → length cs ≡ count (insertOf d .«splice_mode»)
+insert-seen : (event kept : ℕ) (d : SpliceDetail) (cs : List InsertComponent) → length cs ≡ count (insertOf d .«splice_mode»)
     → seen [] (walk insert (record { value = record { «splice_event_id» = event; reserved = kept; «splice_detail» = d }; components = cs }) 0 .fields) ≡ true
 insert-seen event kept SpliceDetail.Cancel cs e = ap (seen []) (insert-fields event kept SpliceDetail.Cancel cs e)
 insert-seen event kept (SpliceDetail.Insert i) cs e =
@@ -92,7 +92,7 @@ both : (times fits writable : Bool) (b : List ℕ) → pick times (pick fits (pi
 both true fits writable b = refl
 both false fits writable b = refl
 
-tested : (c : SpliceCommand) (places : List ComponentSplice) (lent : List ℕ) → Held c places → Tested c places lent
+tested : (c : SpliceCommand) (places : List InsertComponent) (lent : List ℕ) → Held c places → Tested c places lent
 unfolding commandMade insertMade
 tested SpliceCommand.SpliceNull places lent h = record { writable = true; payload = []; bytes = tt; is = rw (blank-lies lent) }
 tested (SpliceCommand.SpliceInsert i) places lent h =
@@ -129,14 +129,14 @@ tested (SpliceCommand.PrivateCommand p) places lent h =
     }
 
 -- what 33 asks of a command
-abbrev pub writableOf : SpliceCommand → List ComponentSplice → Bool
+abbrev pub writableOf : SpliceCommand → List InsertComponent → Bool
 writableOf SpliceCommand.SpliceNull places = true
 writableOf (SpliceCommand.SpliceInsert i) places = writableInsert (counted i places)
 writableOf (SpliceCommand.TimeSignal t) places = notImmediate t
 writableOf SpliceCommand.BandwidthReservation places = true
 writableOf (SpliceCommand.PrivateCommand p) places = true
 
-writable-is : (c : SpliceCommand) (places : List ComponentSplice) (lent : List ℕ) (h : Held c places) → tested c places lent h .writable ≡ writableOf c places
+writable-is : (c : SpliceCommand) (places : List InsertComponent) (lent : List ℕ) (h : Held c places) → tested c places lent h .writable ≡ writableOf c places
 unfolding tested
 writable-is SpliceCommand.SpliceNull places lent h = refl
 writable-is (SpliceCommand.SpliceInsert i) places lent h = refl
@@ -145,7 +145,7 @@ writable-is SpliceCommand.BandwidthReservation places lent h = refl
 writable-is (SpliceCommand.PrivateCommand p) places lent h = refl
 
 -- where none of 31, 32, 33 applies, bytes are made
-pub writable-made : (c : SpliceCommand) (places : List ComponentSplice) (lent : List ℕ) → Held c places → liesIn lent (privateView c) ≡ true → fit (commandNumbers c places) ≡ true → writableOf c places ≡ true
+pub writable-made : (c : SpliceCommand) (places : List InsertComponent) (lent : List ℕ) → Held c places → liesIn lent (privateView c) ≡ true → fit (commandNumbers c places) ≡ true → writableOf c places ≡ true
     → (p : List ℕ) × (commandMade c places lent ≡ made p)
 writable-made c places lent h l f g =
     let t = tested c places lent h in
@@ -166,7 +166,7 @@ answer-else : (writable : Bool) (b : List ℕ) → (answer true true writable b 
 answer-else true b = inr (b, refl)
 answer-else false b = inl refl
 
-module _ (c : SpliceCommand) (places : List ComponentSplice) (lent : List ℕ) (h : Held c places) where
+module _ (c : SpliceCommand) (places : List InsertComponent) (lent : List ℕ) (h : Held c places) where
   pub is-outside : liesIn lent (privateView c) ≡ false → commandMade c places lent ≡ refused 31
   is-outside l = let t = tested c places lent h in t .is ∙ ap (λ (s : Bool). answer s (fit (commandNumbers c places)) (t .writable) (t .payload)) l
 
@@ -200,7 +200,7 @@ own-values (SpliceCommand.TimeSignal t) = refl
 own-values SpliceCommand.BandwidthReservation = refl
 own-values (SpliceCommand.PrivateCommand p) = refl
 
-module _ (places : List ComponentSplice) (lent p : List ℕ) where
+module _ (places : List InsertComponent) (lent p : List ℕ) where
   own-components : (c : SpliceCommand) → length places ≡ 255 → countIn c ≤ 255 → commandMade c places lent ≡ made p → take (countIn (ownOf c)) (componentsOf p) ≡ take (countIn c) places
   own-components SpliceCommand.SpliceNull n k e = refl
   own-components (SpliceCommand.SpliceInsert i) n k e =
@@ -233,7 +233,7 @@ module _ (places : List ComponentSplice) (lent p : List ℕ) where
   own-view SpliceCommand.BandwidthReservation a b e = no-view
   own-view (SpliceCommand.PrivateCommand own) a b e = private-view own a b e
 
-pub payload-made : (c : SpliceCommand) (places : List ComponentSplice) (lent p : List ℕ) → length places ≡ 255 → countIn c ≤ 255 → AllBytes lent → commandMade c places lent ≡ made p
+pub payload-made : (c : SpliceCommand) (places : List InsertComponent) (lent p : List ℕ) → length places ≡ 255 → countIn c ≤ 255 → AllBytes lent → commandMade c places lent ≡ made p
     → CommandPayload c places lent p
 payload-made c places lent p n k a e =
     let h = held c places n k in
@@ -260,7 +260,7 @@ with-own-view SpliceCommand.BandwidthReservation = refl
 with-own-view (SpliceCommand.PrivateCommand p) = refl
 
 -- with another view, that has the same bytes
-module _ (v : View) (there places : List ComponentSplice) (s lent b : List ℕ) where
+module _ (v : View) (there places : List InsertComponent) (s lent b : List ℕ) where
   private-again : (p : Private) → liesIn lent (p .«private_bytes») ≡ true → make private true s (record { identifier = p .identifier; «private_bytes» = v }) ≡ made b
       → viewed s v ≡ viewed lent (p .«private_bytes») → make private true lent p ≡ made b
   unfolding private number remaining part viewed
@@ -276,12 +276,12 @@ module _ (v : View) (there places : List ComponentSplice) (s lent b : List ℕ) 
       → commandMade c places lent ≡ made b
   unfolding commandMade
   again SpliceCommand.SpliceNull l e f g = e
-  again (SpliceCommand.SpliceInsert i) l e f g = ap (λ (cs : List ComponentSplice). insertMade (record { value = i; components = cs })) (sym f) ∙ e
+  again (SpliceCommand.SpliceInsert i) l e f g = ap (λ (cs : List InsertComponent). insertMade (record { value = i; components = cs })) (sym f) ∙ e
   again (SpliceCommand.TimeSignal t) l e f g = e
   again SpliceCommand.BandwidthReservation l e f g = e
   again (SpliceCommand.PrivateCommand p) l e f g = private-again p l e g
 
-pub made-if-read : (c : SpliceCommand) (places : List ComponentSplice) (lent p : List ℕ) → liesIn lent (privateView c) ≡ true → CommandPayload c places lent p → commandMade c places lent ≡ made p
+pub made-if-read : (c : SpliceCommand) (places : List InsertComponent) (lent p : List ℕ) → liesIn lent (privateView c) ≡ true → CommandPayload c places lent p → commandMade c places lent ≡ made p
 made-if-read c places lent p l q =
     let v = privateView (q .again) in
     let is : q .again ≡ withView (λ u. v) (withoutPlace c) = with-own-view (q .again) ∙ ap (withView (λ u. v)) (q .values) in
@@ -291,7 +291,7 @@ made-if-read c places lent p l q =
     (ap (λ (d : SpliceCommand). viewed p (privateView d)) (sym is) ∙ q .view)
 
 -- ---- the relation
-module _ (c : SpliceCommand) (places : List ComponentSplice) (lent : List ℕ) (n : length places ≡ 255) (k : countIn c ≤ 255) (a : AllBytes lent) where
+module _ (c : SpliceCommand) (places : List InsertComponent) (lent : List ℕ) (n : length places ≡ 255) (k : countIn c ≤ 255) (a : AllBytes lent) where
   pub command-makes : CommandMakes c places lent (commandMade c places lent)
   command-makes = go (liesIn lent (privateView c)) refl (fit (commandNumbers c places)) refl
     where

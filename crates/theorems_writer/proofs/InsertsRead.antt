@@ -9,7 +9,7 @@ use lib.ListN.{length}
 use borrow.Author.Tests.{lt-ltb}
 use Rattle.command.proofs.InsertLeads.{Counted}
 use Rattle.command.specs.Insert.{WithComponents, timeUnless, component, blank, moded, count, breakDuration, ending, active, activeOf, insert}
-use Rattle.command.specs.declared.components.ComponentSplice.{ComponentSplice}
+use Rattle.command.specs.declared.components.InsertComponent.{InsertComponent}
 use Rattle.command.specs.declared.insert.InsertDetail.{InsertDetail}
 use Rattle.command.specs.declared.insert.SpliceInsert.{SpliceInsert}
 use Rattle.command.specs.declared.insert.SpliceDetail.{SpliceDetail}
@@ -26,7 +26,7 @@ use Rattle.table.specs.Table.{Table, done, must, inside, uimsbf, ones, list, An
 pub got-same : {X : Type 0} {x y : X} {m n : ℕ} → got x m ≡ got y n → x ≡ y
 got-same e = cc
 
-carried : {a b : SpliceMode} {cs ds : List ComponentSplice} → a ≡ b → cs ≡ ds → (length ds ≡ count b) × (timesFit ds ≡ true) → (length cs ≡ count a) × (timesFit cs ≡ true)
+carried : {a b : SpliceMode} {cs ds : List InsertComponent} → a ≡ b → cs ≡ ds → (length ds ≡ count b) × (timesFit ds ≡ true) → (length cs ≡ count a) × (timesFit cs ≡ true)
 carried e f h = rw (e, f) h
 
 module _ (s : List ℕ) where
@@ -49,7 +49,7 @@ module _ (s : List ℕ) where
   unless-fits true at t m e = let z : t ≡ Immediate = cc in rw z (omega arith)
   unless-fits false at t m e = time-fits at t m e
 
-  component-fits : (b : Bool) (at : ℕ) (c : ComponentSplice) (m : ℕ) → parse (component b) (bitsOf s) at ≡ got c m → ticks (c .«splice_time») < 2 ^ 33
+  component-fits : (b : Bool) (at : ℕ) (c : InsertComponent) (m : ℕ) → parse (component b) (bitsOf s) at ≡ got c m → ticks (c .«splice_time») < 2 ^ 33
   unfolding component
   component-fits b at c m e =
       let r = reads-in (timeUnless b) _ _ (bitsOf s) (at + 8) c m (reads-number s at 8 _ _ c m e .1) in
@@ -58,7 +58,7 @@ module _ (s : List ℕ) where
       rw z (unless-fits b (at + 8) (r .inner) (r .seam) (r .front))
 
   -- as many as the list says, each with a time that fits
-  list-has : (b : Bool) (n at : ℕ) (cs : List ComponentSplice) (m : ℕ) → parse (list n blank (component b)) (bitsOf s) at ≡ got cs m → (length cs ≡ n) × (timesFit cs ≡ true)
+  list-has : (b : Bool) (n at : ℕ) (cs : List InsertComponent) (m : ℕ) → parse (list n blank (component b)) (bitsOf s) at ≡ got cs m → (length cs ≡ n) × (timesFit cs ≡ true)
   unfolding list
   list-has b zero at cs m e = let z : cs ≡ [] = cc in rw z (refl, refl)
   list-has b (suc n) at cs m e =

@@ -12,11 +12,11 @@ use lib.Dec.{leb}
 use lib.ListN.{length, take, drop}
 use Rattle.descriptor.specs.declared.Descriptor.{Descriptor}
 use Rattle.descriptor.specs.declared.segmentation.DescriptorDetail.{DescriptorDetail}
-use Rattle.descriptor.specs.declared.whole.Beside.{Beside}
+use Rattle.descriptor.specs.declared.full.Beside.{Beside}
 use Rattle.canonical_form.specs.Descriptor.{canonicalLoop}
 use Rattle.descriptor_round_trips.proofs.Alike.{SameView, detailView}
 use Rattle.descriptor_round_trips.specs.Making.{viewIn}
-use Rattle.descriptor_round_trips.specs.Trips.{wholeIn, Handed}
+use Rattle.descriptor_round_trips.specs.Trips.{fullIn, Handed}
 use Rattle.descriptor_loop.specs.Cover.{joined, runOf}
 use Rattle.descriptor_loop.specs.Items.{Listed, listed, itemsOf}
 use Rattle.descriptor_loop.specs.Place.{movedDescriptor}
@@ -91,11 +91,11 @@ keeps-upid loop fits offset t a all =
     record {
       written = written-at loop fits offset t a all;
       again = b .own;
-      reading = ap (λ (p : List ℕ). wholeIn p .read) r ∙ b .alone;
+      reading = ap (λ (p : List ℕ). fullIn p .read) r ∙ b .alone;
       upids =
           ap (λ (p : List ℕ). map (heldIn (drop 6 p)) (upidsOf (Item.Is (b .own)))) r
           ∙ descriptor-held (drop 6 t) loop (offset + 6) (b .own) (b .view) ∙ ap (λ (i : Item). map (heldIn loop) (upidsOf i)) (sym (b .is ∙ ap Item.Is (b .moves)));
-      eidr = ap (λ (p : List ℕ). wholeIn p .beside .eidr) r ∙ sym (ap (λ (c : Beside). c .eidr) (beside-is loop offset t a));
+      eidr = ap (λ (p : List ℕ). fullIn p .beside .eidr) r ∙ sym (ap (λ (c : Beside). c .eidr) (beside-is loop offset t a));
     }
 
 -- what holds of each item where a canonical descriptor stands holds of all of a canonical section

@@ -13,7 +13,7 @@ use Rattle.command.specs.Command.{private, countIn}
 use Rattle.command.specs.Insert.{insert, insertOf, byProgram, programTime, count, allImmediate, breakTicks, lasting, outOfNetwork}
 use Rattle.command.specs.declared.Private.{Private}
 use Rattle.command.specs.declared.SpliceCommand.{SpliceCommand}
-use Rattle.command.specs.declared.components.ComponentSplice.{ComponentSplice}
+use Rattle.command.specs.declared.components.InsertComponent.{InsertComponent}
 use Rattle.command.specs.declared.insert.InsertDetail.{InsertDetail}
 use Rattle.command.specs.declared.insert.SpliceInsert.{SpliceInsert}
 use Rattle.command.specs.declared.insert.SpliceDetail.{SpliceDetail}
@@ -28,7 +28,7 @@ use Rattle.splice_time.specs.Time.{spliceTime, ticks}
 use Rattle.header.specs.declared.header.SpliceInfoHeader.{SpliceInfoHeader}
 use Rattle.splice_time.specs.declared.SpliceTime.{SpliceTime}
 use Rattle.names.specs.Command.{commandTypeOf}
-use Rattle.section_writer.proofs.Whole.{Held}
+use Rattle.section_writer.proofs.FullTrips.{Held}
 use Rattle.section_writer.specs.Frame.{headed, numbersFit}
 use Rattle.table.specs.Table.{number, bit}
 use Rattle.table.specs.Writing.{walk, within}
@@ -67,7 +67,7 @@ timed false (SpliceTime.At n) = twice (ltb n (2 ^ 33))
     twice true = refl
     twice false = refl
 
-list-fits : (b : Bool) (cs : List ComponentSplice) → timesFit cs && within (listFields b cs) ≡ fit (componentNumbers cs)
+list-fits : (b : Bool) (cs : List InsertComponent) → timesFit cs && within (listFields b cs) ≡ fit (componentNumbers cs)
 list-fits b [] = refl
 list-fits b (c ∷ cs) =
     let t = ltb (ticks (c .«splice_time»)) (2 ^ 33) in
@@ -82,7 +82,7 @@ list-fits b (c ∷ cs) =
     paired true s true false l = and-none s
     paired true s true true l = refl
 
-mode-fits : (k : SpliceMode) (places : List ComponentSplice) → (let cs = take (count k) places in
+mode-fits : (k : SpliceMode) (places : List InsertComponent) → (let cs = take (count k) places in
     timesFit cs && within (modeFields (allImmediate (record { value = k; components = cs })) k cs)
     ≡ ltb (ticks (programTime k)) (2 ^ 33) && (ltb (count k) (2 ^ 8) && fit (componentNumbers cs)))
 mode-fits (SpliceMode.Program t) places = within-unless t ∙ sym (and-one (ltb (ticks t) (2 ^ 33)))
@@ -95,8 +95,8 @@ mode-fits (SpliceMode.Components n) places =
     swap s true l = refl
     swap s false l = and-none s
 
-module _ (i : InsertDetail) (places : List ComponentSplice) where
-  abbrev cs : List ComponentSplice
+module _ (i : InsertDetail) (places : List InsertComponent) where
+  abbrev cs : List InsertComponent
   cs = take (count (i .«splice_mode»)) places
 
   abbrev m : Bool
@@ -136,7 +136,7 @@ turned s e k m t n d p a x c h =
     last true true c true true true false = and-none c
     last true true c true true true true = and-one c
 
-pub insert-fits : (i : SpliceInsert) (places : List ComponentSplice) → Held (SpliceCommand.SpliceInsert i) places
+pub insert-fits : (i : SpliceInsert) (places : List InsertComponent) → Held (SpliceCommand.SpliceInsert i) places
     → timesFit (counted i places .components) && within (walk insert (counted i places) 0 .fields) ≡ fit (commandNumbers (SpliceCommand.SpliceInsert i) places)
 insert-fits i places h =
     ap (λ (w : Bool). timesFit (counted i places .components) && w) (ap within (insert-fields (i .«splice_event_id») (i .reserved) (i .«splice_detail») (counted i places .components) h))

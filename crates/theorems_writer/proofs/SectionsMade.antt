@@ -15,7 +15,7 @@ use lib.ListN.{length}
 use borrow.Author.Tests.{ltb-true, ltb-false, lt-ltb, le-ltb}
 use Rattle.command.specs.Command.{countIn}
 use Rattle.command.specs.declared.SpliceCommand.{SpliceCommand}
-use Rattle.command.specs.declared.components.ComponentSplice.{ComponentSplice}
+use Rattle.command.specs.declared.components.InsertComponent.{InsertComponent}
 use Rattle.command_measure.specs.Made.{commandMade}
 use Rattle.command_writer.proofs.Theorems.{null-command-write-read}
 use Rattle.crc.specs.Crc.{crcBytesOf}
@@ -30,7 +30,7 @@ use Rattle.section_writer.proofs.Commands.{null-canonical}
 use Rattle.section_writer.proofs.Frames.{frame-command-type, frame-command-bytes}
 use Rattle.section_writer.proofs.Theorems.{section-read-write, section-write-read, section-is-canonical}
 use Rattle.section_writer.proofs.Trips.{section-wrote}
-use Rattle.section_writer.proofs.Whole.{Held}
+use Rattle.section_writer.proofs.FullTrips.{Held}
 use Rattle.section_writer.specs.Frame.{headed, headerBytes, opening, head, withLength, body, frame, numbersFit, writableHead}
 use Rattle.section_writer.specs.Writing.{typeOf, unless, sectionMade}
 use Rattle.table.proofs.Bits.{all-num, all-bytesN}
@@ -172,12 +172,12 @@ type-is-byte (SpliceCommand.TimeSignal t) = omega arith
 type-is-byte SpliceCommand.BandwidthReservation = omega arith
 type-is-byte (SpliceCommand.PrivateCommand p) = omega arith
 
-module _ (h : SpliceInfoHeader) (c : SpliceCommand) (places : List ComponentSplice) (lent loop : List ℕ) (n : length places ≡ 255) (k : countIn c ≤ 255) where
+module _ (h : SpliceInfoHeader) (c : SpliceCommand) (places : List InsertComponent) (lent loop : List ℕ) (n : length places ≡ 255) (k : countIn c ≤ 255) where
   abbrev command : Made
   command = commandMade c places lent
 
-  abbrev whole : Made
-  whole = sectionMade h command (typeOf c) loop
+  abbrev overall : Made
+  overall = sectionMade h command (typeOf c) loop
 
   abbrev lies : Bool
   lies = liesIn lent (privateView c)
@@ -191,44 +191,44 @@ module _ (h : SpliceInfoHeader) (c : SpliceCommand) (places : List ComponentSpli
   places-held : Held c places
   places-held = held c places n k
 
-  of-command : (m : Made) → command ≡ m → whole ≡ sectionMade h m (typeOf c) loop
+  of-command : (m : Made) → command ≡ m → overall ≡ sectionMade h m (typeOf c) loop
   of-command m e = ap (λ (x : Made). sectionMade h x (typeOf c) loop) e
 
-  as-31 : lies ≡ false → whole ≡ refused 31
+  as-31 : lies ≡ false → overall ≡ refused 31
   as-31 l = of-command (refused 31) (is-outside c places lent places-held l) ∙ of-31 h (typeOf c) loop
 
   -- the header's numbers, where the command's fit
-  head-over : fit (headerNumbers h) ≡ false → (command ≡ refused 33) ⊎ ((p : List ℕ) × (command ≡ made p)) → whole ≡ refused 32
+  head-over : fit (headerNumbers h) ≡ false → (command ≡ refused 33) ⊎ ((p : List ℕ) × (command ≡ made p)) → overall ≡ refused 32
   head-over w (inl e) = of-command (refused 33) e ∙ of-33 h (typeOf c) loop ∙ rw w
   head-over w (inr r) = of-command (made (r .0)) (r .1) ∙ of-made h (typeOf c) loop (r .0) ∙ rw w
 
-  as-32 : lies ≡ true → fits ≡ false → whole ≡ refused 32
+  as-32 : lies ≡ true → fits ≡ false → overall ≡ refused 32
   as-32 l w = go (fit (headerNumbers h)) refl (fit (commandNumbers c places)) refl w
     where
-      go : (u : Bool) → fit (headerNumbers h) ≡ u → (v : Bool) → fit (commandNumbers c places) ≡ v → u && v ≡ false → whole ≡ refused 32
+      go : (u : Bool) → fit (headerNumbers h) ≡ u → (v : Bool) → fit (commandNumbers c places) ≡ v → u && v ≡ false → overall ≡ refused 32
       go u f false g w = of-command (refused 32) (is-over c places lent places-held l g) ∙ of-32 h (typeOf c) loop
       go false f true g w = head-over f (made-or-not c places lent places-held l g)
       go true f true g w = zero-one cc
 
-  as-33 : fit (headerNumbers h) ≡ true → command ≡ refused 33 → whole ≡ refused 33
+  as-33 : fit (headerNumbers h) ≡ true → command ≡ refused 33 → overall ≡ refused 33
   as-33 f e = of-command (refused 33) e ∙ of-33 h (typeOf c) loop ∙ rw f
 
   module _ (p : List ℕ) (e : command ≡ made p) (f : fit (headerNumbers h) ≡ true) where
-    tested : whole ≡ answer (fit (headerNumbers h)) (writableHead h) (ltb 4096 (size p)) (canonicalLoop loop) (frame h (typeOf c) p loop)
+    tested : overall ≡ answer (fit (headerNumbers h)) (writableHead h) (ltb 4096 (size p)) (canonicalLoop loop) (frame h (typeOf c) p loop)
     tested = of-command (made p) e ∙ of-made h (typeOf c) loop p
 
-    head-unwritable : writableHead h ≡ false → whole ≡ refused 33
+    head-unwritable : writableHead h ≡ false → overall ≡ refused 33
     head-unwritable g = tested ∙ rw (f, g)
 
     module _ (g : writableHead h ≡ true) where
-      as-34 : 4096 < size p → whole ≡ refused 34
+      as-34 : 4096 < size p → overall ≡ refused 34
       as-34 s = tested ∙ rw (f, g, lt-ltb 4096 (size p) s)
 
       module _ (s : size p ≤ 4096) where
-        as-35 : canonicalLoop loop ≡ false → whole ≡ refused 35
+        as-35 : canonicalLoop loop ≡ false → overall ≡ refused 35
         as-35 o = tested ∙ rw (f, g, le-ltb 4096 (size p) s, o)
 
-        as-made : canonicalLoop loop ≡ true → whole ≡ made (frame h (typeOf c) p loop)
+        as-made : canonicalLoop loop ≡ true → overall ≡ made (frame h (typeOf c) p loop)
         as-made o = tested ∙ rw (f, g, le-ltb 4096 (size p) s, o)
 
         bytes-made : AllBytes lent → AllBytes loop → canonicalLoop loop ≡ true → SectionBytes h c places lent loop (frame h (typeOf c) p loop)
@@ -243,30 +243,30 @@ module _ (h : SpliceInfoHeader) (c : SpliceCommand) (places : List ComponentSpli
             }
 
   module _ (a : AllBytes lent) (b : AllBytes loop) where
-    pub section-makes : SectionMakes h c places lent loop whole
+    pub section-makes : SectionMakes h c places lent loop overall
     section-makes = go lies refl fits refl
       where
-        formed : lies ≡ true → fit (headerNumbers h) ≡ true → writableHead h ≡ true → (p : List ℕ) → command ≡ made p → size p ≤ 4096 → (form : Bool) → canonicalLoop loop ≡ form → SectionMakes h c places lent loop whole
+        formed : lies ≡ true → fit (headerNumbers h) ≡ true → writableHead h ≡ true → (p : List ℕ) → command ≡ made p → size p ≤ 4096 → (form : Bool) → canonicalLoop loop ≡ form → SectionMakes h c places lent loop overall
         formed l f g p e s false o = rw (as-35 p e f g s o) (SectionMakes.other l _ p (header-of h f g) (payload-made c places lent p n k a e) s o)
         formed l f g p e s true o = rw (as-made p e f g s o) (SectionMakes.its l (frame h (typeOf c) p loop) (bytes-made p e f g s a b o))
 
-        sized : lies ≡ true → fit (headerNumbers h) ≡ true → writableHead h ≡ true → (p : List ℕ) → command ≡ made p → (big : Bool) → ltb 4096 (size p) ≡ big → SectionMakes h c places lent loop whole
+        sized : lies ≡ true → fit (headerNumbers h) ≡ true → writableHead h ≡ true → (p : List ℕ) → command ≡ made p → (big : Bool) → ltb 4096 (size p) ≡ big → SectionMakes h c places lent loop overall
         sized l f g p e true s = rw (as-34 p e f g (ltb-true _ _ s)) (SectionMakes.long l _ p (header-of h f g) (payload-made c places lent p n k a e) (ltb-true _ _ s))
         sized l f g p e false s = formed l f g p e (ltb-false _ _ s) (canonicalLoop loop) refl
 
-        judged : lies ≡ true → fits ≡ true → (p : List ℕ) → command ≡ made p → (writable : Bool) → writableHead h ≡ writable → SectionMakes h c places lent loop whole
+        judged : lies ≡ true → fits ≡ true → (p : List ℕ) → command ≡ made p → (writable : Bool) → writableHead h ≡ writable → SectionMakes h c places lent loop overall
         judged l w p e false g =
             rw (head-unwritable p e (and-true (fit (headerNumbers h)) (fit (commandNumbers c places)) w .0) g)
             (SectionMakes.nobodys l w λ x y o q. zero-one (let z = of-header h x o .1 in cc))
         judged l w p e true g = sized l (and-true (fit (headerNumbers h)) (fit (commandNumbers c places)) w .0) g p e (ltb 4096 (size p)) refl
 
-        fitting : lies ≡ true → fits ≡ true → (command ≡ refused 33) ⊎ ((p : List ℕ) × (command ≡ made p)) → SectionMakes h c places lent loop whole
+        fitting : lies ≡ true → fits ≡ true → (command ≡ refused 33) ⊎ ((p : List ℕ) × (command ≡ made p)) → SectionMakes h c places lent loop overall
         fitting l w (inl e) =
             rw (as-33 (and-true (fit (headerNumbers h)) (fit (commandNumbers c places)) w .0) e)
             (SectionMakes.nobodys l w λ x p o q. zero-one (let z : refused 33 ≡ made p = sym e ∙ made-if-read c places lent p l q in cc))
         fitting l w (inr r) = judged l w (r .0) (r .1) (writableHead h) refl
 
-        go : (u : Bool) → lies ≡ u → (v : Bool) → fits ≡ v → SectionMakes h c places lent loop whole
+        go : (u : Bool) → lies ≡ u → (v : Bool) → fits ≡ v → SectionMakes h c places lent loop overall
         go false l v w = rw (as-31 l) (SectionMakes.outside l)
         go true l false w = rw (as-32 l w) (SectionMakes.over l w)
         go true l true w = fitting l w (made-or-not c places lent places-held l (and-true (fit (headerNumbers h)) (fit (commandNumbers c places)) w .1))
@@ -282,11 +282,11 @@ module _ (h : SpliceInfoHeader) (c : SpliceCommand) (places : List ComponentSpli
         subst (SectionBytes h c places lent loop) z q
 
     -- what is written reads as what was handed in
-    pub section-reads-as : (t : List ℕ) → whole ≡ made t → SectionBytes h c places lent loop t
-    section-reads-as t e = made-reads whole t section-makes e
+    pub section-reads-as : (t : List ℕ) → overall ≡ made t → SectionBytes h c places lent loop t
+    section-reads-as t e = made-reads overall t section-makes e
 
     -- no other answer is in the relation
-    only-made : (m : Made) → SectionMakes h c places lent loop m → m ≡ whole
+    only-made : (m : Made) → SectionMakes h c places lent loop m → m ≡ overall
     only-made _ (SectionMakes.outside l) = sym (as-31 l)
     only-made _ (SectionMakes.over l w) = sym (as-32 l w)
     only-made _ (SectionMakes.nobodys l w none) = go (made-or-not c places lent places-held l (v .1)) (writableHead h) refl
@@ -294,7 +294,7 @@ module _ (h : SpliceInfoHeader) (c : SpliceCommand) (places : List ComponentSpli
         v : (fit (headerNumbers h) ≡ true) × (fit (commandNumbers c places) ≡ true)
         v = and-true (fit (headerNumbers h)) (fit (commandNumbers c places)) w
 
-        go : (command ≡ refused 33) ⊎ ((p : List ℕ) × (command ≡ made p)) → (writable : Bool) → writableHead h ≡ writable → refused 33 ≡ whole
+        go : (command ≡ refused 33) ⊎ ((p : List ℕ) × (command ≡ made p)) → (writable : Bool) → writableHead h ≡ writable → refused 33 ≡ overall
         go (inl e) writable g = sym (as-33 (v .0) e)
         go (inr r) false g = sym (head-unwritable (r .0) (r .1) (v .0) g)
         go (inr r) true g = absurd (none _ (r .0) (header-of h (v .0) g) (payload-made c places lent (r .0) n k a (r .1)))

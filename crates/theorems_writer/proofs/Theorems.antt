@@ -7,12 +7,12 @@ use mathlib.Core.Path.{_≡_}
 use lib.ListN.{length}
 use Rattle.command.specs.Command.{componentsOf, countIn}
 use Rattle.command.specs.declared.SpliceCommand.{SpliceCommand}
-use Rattle.command.specs.declared.components.ComponentSplice.{ComponentSplice}
+use Rattle.command.specs.declared.components.InsertComponent.{InsertComponent}
 use Rattle.command.specs.declared.insert.SpliceInsert.{SpliceInsert}
 use Rattle.command.specs.declared.insert.SpliceDetail.{SpliceDetail}
 use Rattle.command_measure.specs.Made.{commandMade}
 use Rattle.descriptor.specs.declared.Descriptor.{Descriptor}
-use Rattle.descriptor.specs.declared.whole.Beside.{Beside}
+use Rattle.descriptor.specs.declared.full.Beside.{Beside}
 use Rattle.canonical_form.specs.Descriptor.{canonicalDescriptor, canonicalLoop}
 use Rattle.descriptor_measure.specs.Writing.{descriptorMade}
 use Rattle.descriptor_round_trips.proofs.Theorems as descriptors
@@ -64,23 +64,23 @@ an-accepted-write-changes-only-its-result = targets.changed
 -- What is made of a command, by what the command reader answers and the widths of the fields: 31 and 32 by their rows, 33 exactly where the command is "a value that no
 -- canonical reading has", and else the canonical payload that reads as it (`CommandMakes`, specs/Making.antt). So the cases of 33 in `commandMade`, which are 01's list, are no more and no less than that.
 -- (An array has 255 places, and a count is a byte.)
-pub what-is-made-of-a-command : (c : SpliceCommand) (places : List ComponentSplice) (lent : List ℕ) → length places ≡ 255 → countIn c ≤ 255 → AllBytes lent
+pub what-is-made-of-a-command : (c : SpliceCommand) (places : List InsertComponent) (lent : List ℕ) → length places ≡ 255 → countIn c ≤ 255 → AllBytes lent
     → CommandMakes c places lent (commandMade c places lent)
 what-is-made-of-a-command = commands-made.command-makes
 
 -- and that leaves one answer
-pub what-is-made-of-a-command-is-one : (c : SpliceCommand) (places : List ComponentSplice) (lent : List ℕ) → length places ≡ 255 → countIn c ≤ 255 → AllBytes lent → (m n : Made)
+pub what-is-made-of-a-command-is-one : (c : SpliceCommand) (places : List InsertComponent) (lent : List ℕ) → length places ≡ 255 → countIn c ≤ 255 → AllBytes lent → (m n : Made)
     → CommandMakes c places lent m → CommandMakes c places lent n → m ≡ n
 what-is-made-of-a-command-is-one = commands-made.one-command-made
 
 -- What is made of a header, a command and a loop, by the same: 33 exactly where no canonical section has the header or no canonical payload the command, "a value that no
 -- canonical reading has"; 34 and 35 by their rows; and else the canonical section that reads as the three (`SectionMakes`, specs/Making.antt)
-pub what-is-made-of-a-section : (h : SpliceInfoHeader) (c : SpliceCommand) (places : List ComponentSplice) (lent loop : List ℕ) → length places ≡ 255 → countIn c ≤ 255 → AllBytes lent → AllBytes loop
+pub what-is-made-of-a-section : (h : SpliceInfoHeader) (c : SpliceCommand) (places : List InsertComponent) (lent loop : List ℕ) → length places ≡ 255 → countIn c ≤ 255 → AllBytes lent → AllBytes loop
     → SectionMakes h c places lent loop (sectionMade h (commandMade c places lent) (typeOf c) loop)
 what-is-made-of-a-section = sections-made.section-makes
 
 -- and that leaves one answer
-pub what-is-made-of-a-section-is-one : (h : SpliceInfoHeader) (c : SpliceCommand) (places : List ComponentSplice) (lent loop : List ℕ) → length places ≡ 255 → countIn c ≤ 255 → AllBytes lent
+pub what-is-made-of-a-section-is-one : (h : SpliceInfoHeader) (c : SpliceCommand) (places : List InsertComponent) (lent loop : List ℕ) → length places ≡ 255 → countIn c ≤ 255 → AllBytes lent
     → AllBytes loop → (m n : Made) → SectionMakes h c places lent loop m → SectionMakes h c places lent loop n → m ≡ n
 what-is-made-of-a-section-is-one = sections-made.one-section-made
 
@@ -94,7 +94,7 @@ pub a-canonical-section-has-no-other-header : (h : SpliceInfoHeader) (b : List �
 a-canonical-section-has-no-other-header = sections-made.header-only
 
 -- "33 .. a value that no canonical reading has (list below)". What is made of a descriptor that is handed in is told by what is read, and by the widths of the fields (`DescriptorMakes`,
--- descriptor_round_trips/specs/Making.antt): 33 where no canonical payload reads as it, and else that payload in its frame. So the cases of 33 in `descriptorMade` need no belief for what is written; that they are 01's list is read there.
+-- descriptor_round_trips/specs/Making.antt): 33 where no canonical payload reads as it, and else that payload in its envelope. So the cases of 33 in `descriptorMade` need no belief for what is written; that they are 01's list is read there.
 -- (What the types say of a descriptor that is handed in: `Handed`.)
 pub what-is-made-of-a-descriptor-is-told-by-what-is-read : (d : Descriptor) (identifier : List ℕ) (beside : Beside) (lent : List ℕ) → Handed d identifier beside lent
     → DescriptorMakes d identifier beside lent (descriptorMade d identifier beside lent)
@@ -141,7 +141,7 @@ pub what-is-read-of-a-section-can-be-written : (s : List ℕ) (x : Section) → 
 what-is-read-of-a-section-can-be-written = writable-sections.section-written
 
 -- "reading what the writer wrote gives what it was handed": the header; the command, with its components and the bytes of its view; and the loop. And what is written is canonical.
-pub what-is-written-reads-back : (h : SpliceInfoHeader) (c : SpliceCommand) (places : List ComponentSplice) (lent loop : List ℕ) → length places ≡ 255 → countIn c ≤ 255 → AllBytes lent → AllBytes loop
+pub what-is-written-reads-back : (h : SpliceInfoHeader) (c : SpliceCommand) (places : List InsertComponent) (lent loop : List ℕ) → length places ≡ 255 → countIn c ≤ 255 → AllBytes lent → AllBytes loop
     → (b : List ℕ) → sectionMade h (commandMade c places lent) (typeOf c) loop ≡ made b → SectionBytes h c places lent loop b
 what-is-written-reads-back = sections-made.section-reads-as
 

@@ -10,18 +10,18 @@ use Rattle.table.specs.Bits.{AllBytes}
 use Rattle.table.specs.Writing.{made}
 use Rattle.table.proofs.Structure.{bytes-take, bytes-drop}
 use Rattle.descriptor.specs.Descriptor.{descriptorOf}
-use Rattle.descriptor.specs.Whole.{besideRead, identifierRead}
+use Rattle.descriptor.specs.Full.{besideRead, identifierRead}
 use Rattle.descriptor.specs.declared.Descriptor.{Descriptor}
 use Rattle.descriptor.specs.declared.Descriptor.the-variants.{Avail, Dtmf, Segmentation, Time, Reserved}
 use Rattle.descriptor.specs.declared.DescriptorRead.{DescriptorRead}
-use Rattle.descriptor.specs.declared.whole.Beside.{Beside}
+use Rattle.descriptor.specs.declared.full.Beside.{Beside}
 use Rattle.descriptor_measure.specs.Writing.{countBeside, descriptorMade}
 use Rattle.descriptor_round_trips.proofs.Alike.{SameView, alike-made, made-told}
 use Rattle.descriptor_round_trips.proofs.Theorems.{descriptor-write-read}
 use Rattle.descriptor_round_trips.specs.Making.{viewIn}
 use Rattle.descriptor_round_trips.specs.Trips.{Handed}
 use Rattle.descriptor_loop.proofs.Steps.{Stands, Clause, long, ended, last, small, entire, clause}
-use Rattle.descriptor_loop.specs.Items.{itemAt, readAt, wholeAt, stepOf, besideItem, readingOf}
+use Rattle.descriptor_loop.specs.Items.{itemAt, readAt, completeAt, stepOf, besideItem, readingOf}
 use Rattle.descriptor_loop.specs.Place.{movedDescriptor}
 use Rattle.descriptor_loop.specs.declared.Item.{Item}
 use Rattle.descriptor_loop.specs.declared.Step.{Step}
@@ -98,7 +98,7 @@ module _ (loop : List ℕ) (a : AllBytes loop) (offset L : ℕ) (st : Stands loo
 module _ (loop : List ℕ) (a : AllBytes loop) (offset : ℕ) where
   makes-by : {st : Step} → Clause loop offset st → (d : Descriptor) → st .item ≡ Item.Is d
       → Makes loop (st .identifier) (besideItem (st .item) (take (st .next - (offset + 6)) (drop (offset + 6) loop))) d
-  unfolding wholeAt readAt
+  unfolding completeAt readAt
   makes-by (long h) d e = zero-one cc
   makes-by (ended h) d e = zero-one cc
   makes-by (last q v n) d e = zero-one cc

@@ -12,7 +12,7 @@ use Rattle.command.specs.Insert.{insert}
 use Rattle.command.specs.declared.CommandRead.{CommandRead}
 use Rattle.command.specs.declared.Private.{Private}
 use Rattle.command.specs.declared.SpliceCommand.{SpliceCommand}
-use Rattle.command.specs.declared.components.ComponentSplice.{ComponentSplice}
+use Rattle.command.specs.declared.components.InsertComponent.{InsertComponent}
 use Rattle.command_measure.specs.Made.{commandMade}
 use Rattle.descriptor_round_trips.specs.Making.{fit}
 use Rattle.splice_time.specs.Time.{spliceTime, ticks, notImmediate}
@@ -21,7 +21,7 @@ use Rattle.splice_time.specs.declared.SpliceTime.the-variants.{Immediate, Unspe
 use Rattle.section.specs.Section.{commandType, commandBytes, moved, privateView, sectionOf}
 use Rattle.section.specs.declared.Section.{Section}
 use Rattle.section.specs.declared.SectionRead.{SectionRead}
-use Rattle.section_writer.proofs.Whole.{Held}
+use Rattle.section_writer.proofs.FullTrips.{Held}
 use Rattle.table.proofs.Reading.{field-lt}
 use Rattle.table.proofs.Steps.{reads-number, reads-flag, reads-ones, reads-part, takes-remaining}
 use Rattle.table.specs.Bits.{pick, bitsOf, field, AllBytes}
@@ -103,7 +103,7 @@ module _ (s : List ℕ) where
 
 -- ---- so it is written, in a section
 
-module _ (s : List ℕ) (places : List ComponentSplice) where
+module _ (s : List ℕ) (places : List InsertComponent) where
   nothing-seen : liesIn s noView ≡ true
   nothing-seen = le-leb 0 (length s) (omega arith)
 
@@ -141,7 +141,7 @@ counts-none (SpliceCommand.TimeSignal t) n = omega arith
 counts-none SpliceCommand.BandwidthReservation n = omega arith
 counts-none (SpliceCommand.PrivateCommand p) n = omega arith
 
-pub command-written : (s : List ℕ) (x : Section) (places : List ComponentSplice) → AllBytes s → length places ≡ 255 → sectionOf s ≡ SectionRead.Is x → (typeOf (x .command) ≡ 0x05 → ⊥)
+pub command-written : (s : List ℕ) (x : Section) (places : List InsertComponent) → AllBytes s → length places ≡ 255 → sectionOf s ≡ SectionRead.Is x → (typeOf (x .command) ≡ 0x05 → ⊥)
     → (p : List ℕ) × (commandMade (x .command) places s ≡ made p) × CommandPayload (x .command) places s p
 command-written s x places a n e o =
     let i : NoInsert (x .command) = of-another-type (x .command) o in

@@ -16,9 +16,9 @@ use Rattle.table.proofs.Reading.{field-lt}
 use Rattle.table.proofs.Steps.{reads-in, reads-number, reads-flag, reads-ones, reads-part, takes-remaining}
 use Rattle.table.specs.Bits.{pick, bitsOf, field}
 use Rattle.table.specs.Table.{done, must, uimsbf, list, Answer, got, short, parse}
-use Rattle.descriptor.specs.Segmentation.{deliveryRestrictions, unrestricted, component, blankComponent, Moded, mode, modeSize, byProgram, countOf, duration, durationSize, ticks, lasting, writtenUpid, Fore, parts, front, blankFront, subSegments, subSegment, subBytes, back, blankBack, agrees, writableFront}
+use Rattle.descriptor.specs.Segmentation.{deliveryRestrictions, unrestricted, component, blankComponent, Moded, mode, modeSize, byProgram, countOf, duration, durationSize, ticks, lasting, writtenUpid, ListedFront, parts, front, blankFront, subSegments, subSegment, subBytes, back, blankBack, agrees, writableFront}
 use Rattle.descriptor.specs.declared.segmentation.DeliveryRestrictionFlags.{DeliveryRestrictionFlags}
-use Rattle.descriptor.specs.declared.segmentation.ModeComponent.{ModeComponent}
+use Rattle.descriptor.specs.declared.segmentation.SegmentationComponent.{SegmentationComponent}
 use Rattle.descriptor.specs.declared.segmentation.SegmentationDuration.{SegmentationDuration}
 use Rattle.descriptor.specs.declared.segmentation.SegmentationMode.{SegmentationMode}
 use Rattle.descriptor.specs.declared.segmentation.SegmentationUpid.{SegmentationUpid}
@@ -27,7 +27,7 @@ use Rattle.descriptor_round_trips.specs.Making.{fit, componentNumbers}
 use Rattle.descriptor.proofs.Heads.{mode-ends, duration-ends, delivery-ends, place}
 
 module _ (s : List ℕ) where
-  component-kept : (at : ℕ) (y : ModeComponent) (m : ℕ) → parse component (bitsOf s) at ≡ got y m → (y .«component_tag» < 2 ^ 8) × (y .«pts_offset» < 2 ^ 33)
+  component-kept : (at : ℕ) (y : SegmentationComponent) (m : ℕ) → parse component (bitsOf s) at ≡ got y m → (y .«component_tag» < 2 ^ 8) × (y .«pts_offset» < 2 ^ 33)
   unfolding component
   component-kept at y m e =
       let e₁ = reads-number s at 8 _ _ y m e .1 in
@@ -36,7 +36,7 @@ module _ (s : List ℕ) where
       let z : y ≡ record { «component_tag» = field (bitsOf s) at 8; «pts_offset» = field (bitsOf s) (at + 8 + 7) 33 } = cc e₃ in
       rw z (field-lt s at 8, field-lt s (at + 8 + 7) 33)
 
-  components-kept : (n at : ℕ) (ys : List ModeComponent) (m : ℕ) → parse (list n blankComponent component) (bitsOf s) at ≡ got ys m
+  components-kept : (n at : ℕ) (ys : List SegmentationComponent) (m : ℕ) → parse (list n blankComponent component) (bitsOf s) at ≡ got ys m
       → (length ys ≡ n) × (fit (componentNumbers ys) ≡ true)
   unfolding list
   components-kept zero at ys m e = let z : ys ≡ [] = cc in rw z (refl, refl)
@@ -111,11 +111,11 @@ module _ (s : List ℕ) where
   agrees-same true = refl
   agrees-same false = refl
 
-  abbrev readIn : Answer Fore → Fore
+  abbrev readIn : Answer ListedFront → ListedFront
   readIn (got x m) = x
   readIn (short e a) = record { front = blankFront; components = [] }
 
-  pub record FrontKept (x : Fore) (m : ℕ) : Type 0 where
+  pub record FrontKept (x : ListedFront) (m : ℕ) : Type 0 where
     pub writable : writableFront (x .front) ≡ true
     pub count : countOf (x .front .«segmentation_mode») < 2 ^ 8
     pub counted : length (x .components) ≡ countOf (x .front .«segmentation_mode»)
@@ -123,7 +123,7 @@ module _ (s : List ℕ) where
     pub lasts : ticks (x .front .«segmentation_duration») < 2 ^ 40
     pub ends : m ≡ (place x + 2 + x .front .«segmentation_upid» .bytes .len) * 8
 
-  parts-kept : (p l g : Bool) (x : Fore) (m : ℕ) → parse (parts p l g) (bitsOf s) 43 ≡ got x m → FrontKept x m
+  parts-kept : (p l g : Bool) (x : ListedFront) (m : ℕ) → parse (parts p l g) (bitsOf s) 43 ≡ got x m → FrontKept x m
   unfolding parts writableFront
   parts-kept p l g x m e =
       let i = reads-in (deliveryRestrictions g) _ _ (bitsOf s) 43 x m e in
@@ -151,7 +151,7 @@ module _ (s : List ℕ) where
             );
       })
 
-  pub front-kept : (x : Fore) (m : ℕ) → parse front (bitsOf s) 40 ≡ got x m → FrontKept x m
+  pub front-kept : (x : ListedFront) (m : ℕ) → parse front (bitsOf s) 40 ≡ got x m → FrontKept x m
   unfolding front
   front-kept x m e =
       let e₁ = reads-flag s 40 _ _ x m e .1 in

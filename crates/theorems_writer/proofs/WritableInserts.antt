@@ -16,7 +16,7 @@ use Rattle.command.specs.Writable.{alike, unmixed, writableInsert}
 use Rattle.command.specs.Insert.{WithComponents, timeUnless, component, blank, moded, programTime, count, breakTicks, breakDuration, ending, active, activeOf, insert}
 use Rattle.command.specs.declared.CommandRead.{CommandRead}
 use Rattle.command.specs.declared.SpliceCommand.{SpliceCommand}
-use Rattle.command.specs.declared.components.ComponentSplice.{ComponentSplice}
+use Rattle.command.specs.declared.components.InsertComponent.{InsertComponent}
 use Rattle.command.specs.declared.insert.Break.{Break}
 use Rattle.command.specs.declared.insert.InsertDetail.{InsertDetail}
 use Rattle.command.specs.declared.insert.SpliceInsert.{SpliceInsert}
@@ -59,7 +59,7 @@ agreed true i e = e
 agreed false i e = not-true i e
 
 -- those that are alike one bit are alike the first
-unmixed-of : (b : Bool) (cs : List ComponentSplice) → alike b cs ≡ true → unmixed cs ≡ true
+unmixed-of : (b : Bool) (cs : List InsertComponent) → alike b cs ≡ true → unmixed cs ≡ true
 unmixed-of b [] e = refl
 unmixed-of b (c ∷ cs) e =
     let i = and-true (pick b (immediate (c .«splice_time»)) (not (immediate (c .«splice_time»)))) (alike b cs) e in
@@ -89,7 +89,7 @@ module _ (s : List ℕ) where
   unless-immediate true at t m e = let z : t ≡ Immediate = cc in rw z refl
   unless-immediate false at t m e = not-true (immediate t) (not-immediate s at t m e)
 
-  component-kept : (b : Bool) (at : ℕ) (c : ComponentSplice) (m : ℕ) → parse (component b) (bitsOf s) at ≡ got c m
+  component-kept : (b : Bool) (at : ℕ) (c : InsertComponent) (m : ℕ) → parse (component b) (bitsOf s) at ≡ got c m
       → (c .«component_tag» < 2 ^ 8) × (ticks (c .«splice_time») < 2 ^ 33) × (immediate (c .«splice_time») ≡ b)
   unfolding component
   component-kept b at c m e =
@@ -99,7 +99,7 @@ module _ (s : List ℕ) where
       let z : c ≡ record { «component_tag» = field (bitsOf s) at 8; «splice_time» = r .inner } = cc in
       rw z (field-lt s at 8, unless-fits s b (at + 8) (r .inner) (r .seam) (r .front), unless-immediate b (at + 8) (r .inner) (r .seam) (r .front))
 
-  list-kept : (b : Bool) (n at : ℕ) (cs : List ComponentSplice) (m : ℕ) → parse (list n blank (component b)) (bitsOf s) at ≡ got cs m → (fit (componentNumbers cs) ≡ true) × (alike b cs ≡ true)
+  list-kept : (b : Bool) (n at : ℕ) (cs : List InsertComponent) (m : ℕ) → parse (list n blank (component b)) (bitsOf s) at ≡ got cs m → (fit (componentNumbers cs) ≡ true) × (alike b cs ≡ true)
   unfolding list
   list-kept b zero at cs m e = let z : cs ≡ [] = cc in rw z (refl, refl)
   list-kept b (suc n) at cs m e =
@@ -163,7 +163,7 @@ module _ (s : List ℕ) where
       let r = reads-in (moded (eqb (field (bitsOf s) (at + 1) 1) 1) (eqb (field (bitsOf s) (at + 1 + 1 + 1) 1) 1)) _ _ (bitsOf s) (at + 1 + 1 + 1 + 1 + 4) y m f in
       ending-kept _ (r .inner) _ (r .seam) y m (moded-kept _ _ (at + 1 + 1 + 1 + 1 + 4) (r .inner) (r .seam) (r .front)) (r .back)
 
-  abbrev DetailKept : SpliceDetail → List ComponentSplice → Type 0
+  abbrev DetailKept : SpliceDetail → List InsertComponent → Type 0
   DetailKept SpliceDetail.Cancel cs = cs ≡ []
   DetailKept (SpliceDetail.Insert i) cs = ActiveKept (record { value = i; components = cs })
 
@@ -195,25 +195,25 @@ module _ (s : List ℕ) where
 
 -- ---- so it is written
 
-numbers-fit : (s : List ℕ) (event kept : ℕ) (d : SpliceDetail) (cs places : List ComponentSplice) → event < 2 ^ 32 → kept < 2 ^ 7 → DetailKept s d cs
+numbers-fit : (s : List ℕ) (event kept : ℕ) (d : SpliceDetail) (cs places : List InsertComponent) → event < 2 ^ 32 → kept < 2 ^ 7 → DetailKept s d cs
     → take (countIn (SpliceCommand.SpliceInsert (record { «splice_event_id» = event; reserved = kept; «splice_detail» = d }))) places ≡ cs
     → fit (commandNumbers (SpliceCommand.SpliceInsert (record { «splice_event_id» = event; reserved = kept; «splice_detail» = d })) places) ≡ true
 numbers-fit s event kept SpliceDetail.Cancel cs places i k d t = and-both _ _ (lt-ltb _ _ i) (and-both _ _ (lt-ltb _ _ k) refl)
 numbers-fit s event kept (SpliceDetail.Insert j) cs places i k d t =
-    let n : fit (componentNumbers (take (count (j .«splice_mode»)) places)) ≡ true = ap (λ (l : List ComponentSplice). fit (componentNumbers l)) t ∙ d .numbers in
+    let n : fit (componentNumbers (take (count (j .«splice_mode»)) places)) ≡ true = ap (λ (l : List InsertComponent). fit (componentNumbers l)) t ∙ d .numbers in
     and-both _ _ (lt-ltb _ _ i) (and-both _ _ (lt-ltb _ _ k) (and-both _ _ (lt-ltb _ _ (d .time)) (and-both _ _ (lt-ltb _ _ (d .counts)) (and-both _ _ (lt-ltb _ _ (d .lasts))
     (and-both _ _ (lt-ltb _ _ (d .id)) (and-both _ _ (lt-ltb _ _ (d .num)) (and-both _ _ (lt-ltb _ _ (d .expected)) n)))))))
 
-all-like : (s : List ℕ) (d : SpliceDetail) (cs : List ComponentSplice) → DetailKept s d cs → unmixed cs ≡ true
+all-like : (s : List ℕ) (d : SpliceDetail) (cs : List InsertComponent) → DetailKept s d cs → unmixed cs ≡ true
 all-like s SpliceDetail.Cancel cs e = rw e refl
 all-like s (SpliceDetail.Insert j) cs k = k .like
 
-few : (s : List ℕ) (event kept : ℕ) (d : SpliceDetail) (cs : List ComponentSplice) → DetailKept s d cs
+few : (s : List ℕ) (event kept : ℕ) (d : SpliceDetail) (cs : List InsertComponent) → DetailKept s d cs
     → Counted (record { value = record { «splice_event_id» = event; reserved = kept; «splice_detail» = d }; components = cs }) → length cs ≤ 255
 few s event kept SpliceDetail.Cancel cs e c = rw e (omega arith)
 few s event kept (SpliceDetail.Insert j) cs k c = let n = k .counts in omega (arith, c, n)
 
-array-255 : (cs : List ComponentSplice) → length cs ≤ 255 → length (array cs) ≡ 255
+array-255 : (cs : List InsertComponent) → length cs ≤ 255 → length (array cs) ≡ 255
 unfolding array
 array-255 cs h = length-append cs (replicate (255 - length cs) blank) ∙ omega (arith, length-replicate (255 - length cs) blank)
 
@@ -277,7 +277,7 @@ module _ (s : List ℕ) where
       (picked (eqb k 0xff) _ _ (reading SpliceCommand.PrivateCommand (parse private (bitsOf s) 0) (λ p m e. tt)) tt))))
 
 module _ (s : List ℕ) (x : Section) (a : AllBytes s) (e : sectionOf s ≡ SectionRead.Is x) where
-  abbrev places : List ComponentSplice
+  abbrev places : List InsertComponent
   places = componentsOf (commandBytes s)
 
   abbrev Rewrites : SpliceCommand → Type 0

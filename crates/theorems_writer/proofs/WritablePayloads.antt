@@ -26,22 +26,22 @@ use Rattle.descriptor.proofs.Plains.{reserved-is}
 use Rattle.descriptor.proofs.Structures.{availStructure, dtmfStructure, timeStructure, privateStructure}
 use Rattle.descriptor.specs.Descriptor.{_andThen_, reportedUpid, ifFine, availOf, dtmfOf, timeOf, reservedOf, inserted, insertOf, segmentationOf, isCuei, descriptorOf}
 use Rattle.descriptor.specs.Plain.{avail, dtmf, time, privateBytes}
-use Rattle.descriptor.specs.Segmentation.{blankComponent, Fore, Head, head, front, back, insertFrom, segmentation, writableFront, writableDetail, countOf, modeSize, durationSize, subBytes}
-use Rattle.descriptor.specs.Whole.{filled, blankBeside, besideIn, besideOf, besideRead, identifierRead}
+use Rattle.descriptor.specs.Segmentation.{blankComponent, ListedFront, Head, head, front, back, insertFrom, segmentation, writableFront, writableDetail, countOf, modeSize, durationSize, subBytes}
+use Rattle.descriptor.specs.Full.{filled, blankBeside, besideIn, besideOf, besideRead, identifierRead}
 use Rattle.descriptor.specs.declared.Descriptor.{Descriptor}
 use Rattle.descriptor.specs.declared.Descriptor.the-variants.{Avail, Dtmf, Segmentation, Time, Reserved}
 use Rattle.descriptor.specs.declared.DescriptorRead.{DescriptorRead}
 use Rattle.descriptor.specs.declared.plain.AvailDescriptor.{AvailDescriptor}
 use Rattle.descriptor.specs.declared.plain.DTMFDescriptor.{DTMFDescriptor}
 use Rattle.descriptor.specs.declared.plain.TimeDescriptor.{TimeDescriptor}
-use Rattle.descriptor.specs.declared.segmentation.ModeComponent.{ModeComponent}
+use Rattle.descriptor.specs.declared.segmentation.SegmentationComponent.{SegmentationComponent}
 use Rattle.descriptor.specs.declared.segmentation.SegmentationDescriptor.{SegmentationDescriptor}
 use Rattle.descriptor.specs.declared.segmentation.DescriptorDetail.{DescriptorDetail}
 use Rattle.descriptor.specs.declared.segmentation.SegmentationDetail.{SegmentationDetail}
 use Rattle.descriptor.specs.declared.segmentation.SegmentationUpid.{SegmentationUpid}
-use Rattle.descriptor.specs.declared.whole.Beside.{Beside}
+use Rattle.descriptor.specs.declared.full.Beside.{Beside}
 use Rattle.descriptor_measure.proofs.Making.{made-size}
-use Rattle.descriptor_measure.specs.Writing.{countBeside, framed, framedMade, allZero, alone, writableReserved, writableUpid, writtenType, writableSegment, segmentationMade, payloadMade, descriptorMade, tagOf, identifierOf, upidSource, written, upidIn}
+use Rattle.descriptor_measure.specs.Writing.{countBeside, enveloped, envelopedMade, allZero, alone, writableReserved, writableUpid, writtenType, writableSegment, segmentationMade, payloadMade, descriptorMade, tagOf, identifierOf, upidSource, written, upidIn}
 use Rattle.descriptor_measure.specs.Private.{payloadSize}
 use Rattle.descriptor_round_trips.proofs.MadeSo.{what-is-made}
 use Rattle.descriptor_round_trips.proofs.Payloads.{written-if-read}
@@ -91,12 +91,12 @@ not-33 {A} (Segmentation x) id beside lent f e = go (liesIn lent (upidIn x .byte
 not-33 (Time x) id beside lent f e = make-33 (alone id (beside .eidr)) lent (walk time x 0 .fields) f e
 not-33 (Reserved tag v) id beside lent f e = make-33 (writableReserved tag id (beside .eidr)) lent (walk privateBytes v 0 .fields) f e
 
-framed-33 : (tag : ℕ) (id : List ℕ) (m : Made) → framedMade tag id m ≡ refused 33 → m ≡ refused 33
-unfolding framedMade
-framed-33 tag id (refused n) e = e
-framed-33 tag id (made p) e = go (leb (length p + 4) 254) e
+enveloped-33 : (tag : ℕ) (id : List ℕ) (m : Made) → envelopedMade tag id m ≡ refused 33 → m ≡ refused 33
+unfolding envelopedMade
+enveloped-33 tag id (refused n) e = e
+enveloped-33 tag id (made p) e = go (leb (length p + 4) 254) e
   where
-    go : (b : Bool) → pick b (made (framed tag id p)) (refused 34) ≡ refused 33 → made p ≡ refused 33
+    go : (b : Bool) → pick b (made (enveloped tag id p)) (refused 34) ≡ refused 33 → made p ≡ refused 33
     go true e = zero-one cc
     go false e = apart 34 33 (ap refusalIn e) (λ z. omega arith)
 
@@ -116,13 +116,13 @@ is-written d id beside lent n fits r = go (descriptorMade d id beside lent) refl
     go : (m : Made) → descriptorMade d id beside lent ≡ m → DescriptorMakes d id beside lent m → (b : List ℕ) × (m ≡ made b)
     go m e (outside s) = let z : true ≡ false = sym (le-leb (viewIn d .at + viewIn d .len) (length lent) (r .sees)) ∙ s in zero-one cc
     go m e (over s w) = let z : true ≡ false = sym (r .numbers) ∙ w in zero-one cc
-    go m e (nobodys s w none) = not-33 d id beside lent (r .writable) (framed-33 (tagOf d) (identifierOf d id) (payloadMade d id beside lent) e)
+    go m e (nobodys s w none) = not-33 d id beside lent (r .writable) (enveloped-33 (tagOf d) (identifierOf d id) (payloadMade d id beside lent) e)
     go m e (long s tag own p q l) = absurd (omega (arith, r .size p (written-if-read d id beside lent (r .sees) tag own p q .0)))
     go m e (its s tag own p q l) = (_, refl)
 
 -- ---- of a payload s, under an identifier
 
-filled-length : (cs : List ModeComponent) → length cs ≤ 255 → length (filled cs) ≡ 255
+filled-length : (cs : List SegmentationComponent) → length cs ≤ 255 → length (filled cs) ≡ 255
 unfolding filled
 filled-length cs h = length-append cs (replicate (255 - length cs) blankComponent) ∙ omega (arith, length-replicate (255 - length cs) blankComponent)
 
@@ -281,7 +281,7 @@ module _ (s id : List ℕ) (four : length id ≡ 4) (a : AllBytes s) where
   bytes = byte-in s a
 
   module _ (h : Head) (m : ℕ) (eh : parse head (bitsOf s) 0 ≡ got h m) (off : h .cancel ≡ false) where
-    module _ (f : Fore) (m₁ : ℕ) (ef : parse front (bitsOf s) m ≡ got f m₁) (q : ℕ)
+    module _ (f : ListedFront) (m₁ : ℕ) (ef : parse front (bitsOf s) m ≡ got f m₁) (q : ℕ)
         (ec : checkOf (f .front .«segmentation_upid» .«upid_type») (viewed s (f .front .«segmentation_upid» .bytes)) ≡ Fine q) where
       abbrev w : SegmentationUpid
       w = f .front .«segmentation_upid»
@@ -316,7 +316,7 @@ module _ (s id : List ℕ) (four : length id ≡ 4) (a : AllBytes s) where
           let few : length (f .components) ≤ 255 = omega (arith, kept .count, kept .counted) in
           let held = eidr-held (w .«upid_type») (viewed s (w .bytes)) (all-viewed s (w .bytes) a) in
           let all : n ≤ length (filled (f .components)) = omega (arith, kept .count, filled-length (f .components) few) in
-          let last : fit (componentNumbers (take n (filled (f .components)))) ≡ true = ap (λ (cs : List ModeComponent). fit (componentNumbers cs)) c ∙ kept .numbers in
+          let last : fit (componentNumbers (take n (filled (f .components)))) ≡ true = ap (λ (cs : List SegmentationComponent). fit (componentNumbers cs)) c ∙ kept .numbers in
           let l : u .bytes .len < 2 ^ 8 = omega (arith, writable .shorter, upid-there .1) in
           record {
             handed = record { four = refl; twelve = held .0; held = held .1; places = filled-length (f .components) few; count = omega (arith, kept .count); are = a };

@@ -14,7 +14,7 @@ use Rattle.command.specs.Command.{private, read, empty, commandOf, countIn, arr
 use Rattle.command.specs.Insert.{WithComponents, insert, blank, count, insertOf}
 use Rattle.command.specs.declared.CommandRead.{CommandRead}
 use Rattle.command.specs.declared.SpliceCommand.{SpliceCommand}
-use Rattle.command.specs.declared.components.ComponentSplice.{ComponentSplice}
+use Rattle.command.specs.declared.components.InsertComponent.{InsertComponent}
 use Rattle.command.specs.declared.insert.SpliceInsert.{SpliceInsert}
 use Rattle.command_measure.specs.Made.{counted, insertMade, commandMade}
 use Rattle.command_writer.proofs.Theorems.{insert-command-write-read, time-command-read-write, private-command-read-write, insert-command-read-write}
@@ -27,7 +27,7 @@ use Rattle.section.specs.declared.SectionRead.{SectionRead}
 use Rattle.section_writer.proofs.Commands.{Read, read-by}
 use Rattle.section.proofs.Parts.{parts-of}
 use Rattle.section_writer.proofs.Theorems.{canonical-parts, section-read-write}
-use Rattle.section_writer.proofs.Whole.{Held, whole-section-write-read}
+use Rattle.section_writer.proofs.FullTrips.{Held, full-section-write-read}
 use Rattle.canonical_form.specs.Section.{canonicalSection}
 use Rattle.section_writer.specs.Trips.{ReadsBack}
 use Rattle.section_writer.specs.Writing.{typeOf, sectionMade}
@@ -57,7 +57,7 @@ read-is f r x m c e g =
 pub counted-is : (x : WithComponents SpliceInsert) → Counted x → counted (x .value) (array (x .components)) ≡ x
 unfolding array
 counted-is x h =
-    ap (λ (cs : List ComponentSplice). record { value = x .value; components = cs })
+    ap (λ (cs : List InsertComponent). record { value = x .value; components = cs })
     (take-at (x .components) (replicate (255 - length (x .components)) blank) _ h)
 
 pub components-are : (p : List ℕ) (x : WithComponents SpliceInsert) (m : ℕ) → parse insert (bitsOf p) 0 ≡ got x m → componentsOf p ≡ array (x .components)
@@ -138,7 +138,7 @@ private-stays s n id at len h e =
     let same : take len (drop at payload) ≡ take len (drop (14 + at) s) = run-of-run s 14 n at len b in
     rw (there, ← same) (rw here at e)
 
-made-stays : (c : SpliceCommand) (places : List ComponentSplice) (s : List ℕ) (n : ℕ) → 14 ≤ length s → commandMade c places (take n (drop 14 s)) ≡ made (take n (drop 14 s))
+made-stays : (c : SpliceCommand) (places : List InsertComponent) (s : List ℕ) (n : ℕ) → 14 ≤ length s → commandMade c places (take n (drop 14 s)) ≡ made (take n (drop 14 s))
     → commandMade (moved 14 c) places s ≡ made (take n (drop 14 s))
 unfolding moved commandMade
 made-stays SpliceCommand.SpliceNull places s n h e = e
@@ -147,7 +147,7 @@ made-stays (SpliceCommand.TimeSignal t) places s n h e = e
 made-stays SpliceCommand.BandwidthReservation places s n h e = e
 made-stays (SpliceCommand.PrivateCommand p) places s n h e = private-stays s n (p .identifier) (p .«private_bytes» .at) (p .«private_bytes» .len) h e
 
-made-there : (c : SpliceCommand) (places : List ComponentSplice) (s : List ℕ) → 14 ≤ length s → commandMade c places (commandBytes s) ≡ made (commandBytes s)
+made-there : (c : SpliceCommand) (places : List InsertComponent) (s : List ℕ) → 14 ≤ length s → commandMade c places (commandBytes s) ≡ made (commandBytes s)
     → commandMade (moved 14 c) places s ≡ made (commandBytes s)
 unfolding commandBytes
 made-there c places s h e = made-stays c places s (commandLength s) h e
@@ -175,19 +175,19 @@ section-back s x a e c =
     same-made (x .header) s (b .1) (b .0) (ap (viewed s) (parts-of s x e .loop)) (section-read-write s x a e c)
 
 -- ---- written, then read: an array of 255 places holds as many components as a count of one byte says
-pub held : (c : SpliceCommand) (places : List ComponentSplice) → length places ≡ 255 → countIn c ≤ 255 → Held c places
+pub held : (c : SpliceCommand) (places : List InsertComponent) → length places ≡ 255 → countIn c ≤ 255 → Held c places
 held SpliceCommand.SpliceNull places n k = tt
 held (SpliceCommand.SpliceInsert i) places n k = length-take-le (count (insertOf (i .«splice_detail») .«splice_mode»)) places (omega (arith, n, k))
 held (SpliceCommand.TimeSignal t) places n k = tt
 held SpliceCommand.BandwidthReservation places n k = tt
 held (SpliceCommand.PrivateCommand p) places n k = tt
 
-pub section-reads : (h : SpliceInfoHeader) (c : SpliceCommand) (places : List ComponentSplice) (lent loop b : List ℕ) → length places ≡ 255 → countIn c ≤ 255
+pub section-reads : (h : SpliceInfoHeader) (c : SpliceCommand) (places : List InsertComponent) (lent loop b : List ℕ) → length places ≡ 255 → countIn c ≤ 255
     → sectionMade h (commandMade c places lent) (typeOf c) loop ≡ made b → ReadsBack h c places lent loop b
-section-reads h c places lent loop b n k e = whole-section-write-read h c places lent loop b (held c places n k) e
+section-reads h c places lent loop b n k e = full-section-write-read h c places lent loop b (held c places n k) e
 
 -- an insert's components, in the array that is read of its payload
-pub components-read : (i : SpliceInsert) (places : List ComponentSplice) (lent b : List ℕ) → length places ≡ 255 → countIn (SpliceCommand.SpliceInsert i) ≤ 255
+pub components-read : (i : SpliceInsert) (places : List InsertComponent) (lent b : List ℕ) → length places ≡ 255 → countIn (SpliceCommand.SpliceInsert i) ≤ 255
     → commandMade (SpliceCommand.SpliceInsert i) places lent ≡ made b → componentsOf b ≡ array (counted i places .components)
 components-read i places lent b n k e =
     components-are b (counted i places) (length b * 8) (insert-command-write-read i places lent b (held (SpliceCommand.SpliceInsert i) places n k) e .1)

@@ -10,7 +10,7 @@ use Rattle.command.specs.Command.{countIn, typeOf, commandOf, componentsOf}
 use Rattle.command.specs.Insert.{programTime, count, breakTicks}
 use Rattle.command.specs.declared.CommandRead.{CommandRead}
 use Rattle.command.specs.declared.SpliceCommand.{SpliceCommand}
-use Rattle.command.specs.declared.components.ComponentSplice.{ComponentSplice}
+use Rattle.command.specs.declared.components.InsertComponent.{InsertComponent}
 use Rattle.command.specs.declared.insert.SpliceDetail.{SpliceDetail}
 use Rattle.canonical_form.specs.Descriptor.{canonicalLoop}
 use Rattle.descriptor_round_trips.specs.Making.{fit}
@@ -34,19 +34,19 @@ headerNumbers h =
     (8, h .«protocol_version») ∷ (6, algorithmNumber (h .«encryption_algorithm»)) ∷ (33, h .«pts_adjustment») ∷ (8, h .«cw_index») ∷ (12, h .tier) ∷ []
 
 -- 01, "Commands". A component's time counts also beside an immediate one
-abbrev pub componentNumbers : List ComponentSplice → List (ℕ × ℕ)
+abbrev pub componentNumbers : List InsertComponent → List (ℕ × ℕ)
 componentNumbers [] = []
 componentNumbers (c ∷ cs) = (8, c .«component_tag») ∷ (33, ticks (c .«splice_time»)) ∷ componentNumbers cs
 
 -- what is absent counts as 0; of the places the components up to the count
-abbrev pub insertNumbers : SpliceDetail → List ComponentSplice → List (ℕ × ℕ)
+abbrev pub insertNumbers : SpliceDetail → List InsertComponent → List (ℕ × ℕ)
 insertNumbers SpliceDetail.Cancel places = []
 insertNumbers (SpliceDetail.Insert i) places =
     (33, ticks (programTime (i .«splice_mode»))) ∷ (8, count (i .«splice_mode»)) ∷ (33, breakTicks (i .duration))
     ∷ (16, i .«unique_program_id») ∷ (8, i .«avail_num») ∷ (8, i .«avails_expected»)
     ∷ componentNumbers (take (count (i .«splice_mode»)) places)
 
-abbrev pub commandNumbers : SpliceCommand → List ComponentSplice → List (ℕ × ℕ)
+abbrev pub commandNumbers : SpliceCommand → List InsertComponent → List (ℕ × ℕ)
 commandNumbers SpliceCommand.SpliceNull places = []
 commandNumbers (SpliceCommand.SpliceInsert i) places = (32, i .«splice_event_id») ∷ (7, i .reserved) ∷ insertNumbers (i .«splice_detail») places
 commandNumbers (SpliceCommand.TimeSignal t) places = (33, ticks t) ∷ []
@@ -56,7 +56,7 @@ commandNumbers (SpliceCommand.PrivateCommand p) places = (32, p .identifier) ∷
 -- ---- a command c, its components in the first of the places, its view of the lent bytes
 
 -- p is a canonical payload that reads as the command: "equal values and equal bytes in the views; .. the views' places and array places past a count are left out"
-pub record CommandPayload (c : SpliceCommand) (places : List ComponentSplice) (lent p : List ℕ) : Type 0 where
+pub record CommandPayload (c : SpliceCommand) (places : List InsertComponent) (lent p : List ℕ) : Type 0 where
   pub bytes : AllBytes p
   pub form : canonicalCommand (typeOf c) p ≡ true
   pub again : SpliceCommand
@@ -66,7 +66,7 @@ pub record CommandPayload (c : SpliceCommand) (places : List ComponentSplice) (l
   pub view : viewed p (privateView again) ≡ viewed lent (privateView c)
 
 -- (Where there is a payload, each number was read of its field, so that 32 does not apply.)
-pub data CommandMakes (c : SpliceCommand) (places : List ComponentSplice) (lent : List ℕ) : Made → Type 0 where
+pub data CommandMakes (c : SpliceCommand) (places : List InsertComponent) (lent : List ℕ) : Made → Type 0 where
   -- "a view reaches outside the lent bytes"
   outside : liesIn lent (privateView c) ≡ false → CommandMakes c places lent (refused 31)
   -- "a number or count handed in exceeds its field"
@@ -87,14 +87,14 @@ pub record HasHeader (h : SpliceInfoHeader) (b : List ℕ) : Type 0 where
   pub same : SameHeader (reading .header) h
 
 -- and with this command and this loop. (The reading's command is this payload's, its view moved: `what-an-accepted-section-says`.)
-pub record SectionBytes (h : SpliceInfoHeader) (c : SpliceCommand) (places : List ComponentSplice) (lent loop b : List ℕ) : Type 0 where
+pub record SectionBytes (h : SpliceInfoHeader) (c : SpliceCommand) (places : List InsertComponent) (lent loop b : List ℕ) : Type 0 where
   pub header : HasHeader h b
   -- a null and a bandwidth reservation have the same payload
   pub type : commandType b ≡ typeOf c
   pub command : CommandPayload c places lent (commandBytes b)
   pub loops : loopBytes b ≡ loop
 
-pub data SectionMakes (h : SpliceInfoHeader) (c : SpliceCommand) (places : List ComponentSplice) (lent loop : List ℕ) : Made → Type 0 where
+pub data SectionMakes (h : SpliceInfoHeader) (c : SpliceCommand) (places : List InsertComponent) (lent loop : List ℕ) : Made → Type 0 where
   outside : liesIn lent (privateView c) ≡ false → SectionMakes h c places lent loop (refused 31)
   over : liesIn lent (privateView c) ≡ true → fit (headerNumbers h) && fit (commandNumbers c places) ≡ false → SectionMakes h c places lent loop (refused 32)
   -- no canonical section has the header, or no canonical payload the command

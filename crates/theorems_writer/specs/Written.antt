@@ -6,7 +6,7 @@ use lib.ListN.{length, take, drop}
 use Rattle.descriptor.specs.declared.Descriptor.{Descriptor}
 use Rattle.descriptor.specs.declared.DescriptorRead.{DescriptorRead}
 use Rattle.descriptor.specs.declared.segmentation.SegmentationUpid.{SegmentationUpid}
-use Rattle.descriptor_round_trips.specs.Trips.{wholeIn}
+use Rattle.descriptor_round_trips.specs.Trips.{fullIn}
 use Rattle.descriptor_loop.specs.Cover.{runOf}
 use Rattle.descriptor_loop.specs.Items.{readingOf, Listed}
 use Rattle.loop_round_trips.specs.Loops.{WrittenAgain}
@@ -30,9 +30,9 @@ heldIn lent u = record { «upid_type» = u .«upid_type»; bytes = viewed lent (
 pub record KeepsUpid (loop : List ℕ) (y : Listed) : Type 0 where
   pub written : WrittenAgain loop y
   pub again : Descriptor
-  pub reading : wholeIn (runOf loop y) .read ≡ DescriptorRead.Is again
+  pub reading : fullIn (runOf loop y) .read ≡ DescriptorRead.Is again
   pub upids : map (heldIn (drop 6 (runOf loop y))) (upidsOf (Item.Is again)) ≡ map (heldIn loop) (upidsOf (y .step .item))
-  pub eidr : wholeIn (runOf loop y) .beside .eidr ≡ readingOf loop (y .offset) .beside .eidr
+  pub eidr : fullIn (runOf loop y) .beside .eidr ≡ readingOf loop (y .offset) .beside .eidr
 
 -- "an accepted one changes only the bytes of its result, which start at 0, and gives their number"
 pub record ChangesOnlyResult (m : Made) (target : List ℕ) (n : ℕ) : Type 0 where

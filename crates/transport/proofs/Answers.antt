@@ -10,7 +10,7 @@ use lib.Seq.{length-take-le, take-all, take-take, take-append-le, take-append-ad
 use borrow.Author.Tests.{eq-eqb, ne-eqb, eqb-true}
 use Rattle.table.specs.Lent.{stored}
 use Rattle.transport_packet.specs.declared.sections.Next.{Next}
-use Rattle.transport_packet.specs.declared.sections.Next.the-variants.{Nothing, Long, Part, Whole}
+use Rattle.transport_packet.specs.declared.sections.Next.the-variants.{Nothing, Long, Part, Complete}
 use Rattle.transport.specs.declared.Assembler.{Assembler}
 use Rattle.transport.specs.declared.Fed.the-variants as fed
 use Rattle.transport.specs.declared.Taken.{Taken}
@@ -21,8 +21,8 @@ use Rattle.transport_packet.specs.declared.packet.Head.the-variants as head
 use Rattle.transport_packet.specs.Packet.{headOf}
 use Rattle.transport_packet.specs.Sections.{nextOf, cutFrom, cut}
 use Rattle.transport.specs.Step.{goesOn, cutOf, before}
-use Rattle.transport.specs.Assembler.{TakenTo, atRest, holding, giving, wholeIn, found, takenFrom, takenOf, kept, keeping, answering, underFor, fedBy, fedWith, fedOf}
-use Rattle.transport_packet.proofs.Next.{whole-shown}
+use Rattle.transport.specs.Assembler.{TakenTo, atRest, holding, giving, completeIn, found, takenFrom, takenOf, kept, keeping, answering, underFor, fedBy, fedWith, fedOf}
+use Rattle.transport_packet.proofs.Next.{complete-shown}
 use Rattle.transport.proofs.Buffer.{stored-on, stored-same}
 use Rattle.table.proofs.Stores.{stored-nil}
 
@@ -39,9 +39,9 @@ module _ (a : Assembler) (s b : List ℕ) where
   unfolding takenFrom
   from-part e = rw e
 
-  pub from-whole : (size : ℕ) → nextOf s ≡ Whole size → takenFrom a s b ≡ giving (taken.Section size (holding a 0 (a .at + size))) (stored b 0 (take size s))
+  pub from-complete : (size : ℕ) → nextOf s ≡ Complete size → takenFrom a s b ≡ giving (taken.Section size (holding a 0 (a .at + size))) (stored b 0 (take size s))
   unfolding takenFrom
-  from-whole size e = rw e
+  from-complete size e = rw e
 
 module _ (a : Assembler) (p b : List ℕ) where
   pub taken-nothing : nextOf (take (a .held) b) ≡ Nothing → takenOf a p b ≡ takenFrom a (drop (a .at) p) b
@@ -56,9 +56,9 @@ module _ (a : Assembler) (p b : List ℕ) where
   unfolding takenOf
   taken-part e = rw e
 
-  pub taken-whole : (size : ℕ) → nextOf (take (a .held) b) ≡ Whole size → takenOf a p b ≡ giving (taken.Section size (holding a 0 (a .at))) b
+  pub taken-complete : (size : ℕ) → nextOf (take (a .held) b) ≡ Complete size → takenOf a p b ≡ giving (taken.Section size (holding a 0 (a .at))) b
   unfolding takenOf
-  taken-whole size e = rw e
+  taken-complete size e = rw e
 
 -- ---- `take`, as the code has it
 
@@ -69,31 +69,31 @@ module _ (a : Assembler) (p b : List ℕ) where
       let n : length (drop (a .at) p) ≡ length p - a .at = length-drop (a .at) p in
       rw (← n, take-all (length (drop (a .at) p)) (drop (a .at) p) (omega arith)) (sym (from-part a (drop (a .at) p) b e))
 
-  pub at-whole : (size : ℕ) → nextOf (drop (a .at) p) ≡ Whole size
+  pub at-complete : (size : ℕ) → nextOf (drop (a .at) p) ≡ Complete size
       → giving (found a size 0 (a .at + size)) (stored b 0 (take (a .at + size - a .at) (drop (a .at) p))) ≡ takenFrom a (drop (a .at) p) b
-  at-whole size e =
+  at-complete size e =
       let n : a .at + size - a .at ≡ size = omega arith in
-      rw (n, ne-eqb size 0 (λ z. omega (arith, whole-shown (drop (a .at) p) size e .is))) (sym (from-whole a (drop (a .at) p) b size e))
+      rw (n, ne-eqb size 0 (λ z. omega (arith, complete-shown (drop (a .at) p) size e .is))) (sym (from-complete a (drop (a .at) p) b size e))
 
   -- the section under way, if it is whole
-  pub taken-held : 0 < wholeIn (take (a .held) b) → giving (taken.Section (wholeIn (take (a .held) b)) (holding a 0 (a .at))) b ≡ takenOf a p b
+  pub taken-held : 0 < completeIn (take (a .held) b) → giving (taken.Section (completeIn (take (a .held) b)) (holding a 0 (a .at))) b ≡ takenOf a p b
   taken-held h = go (nextOf (take (a .held) b)) refl
     where
-      go : (k : Next) → nextOf (take (a .held) b) ≡ k → giving (taken.Section (wholeIn (take (a .held) b)) (holding a 0 (a .at))) b ≡ takenOf a p b
+      go : (k : Next) → nextOf (take (a .held) b) ≡ k → giving (taken.Section (completeIn (take (a .held) b)) (holding a 0 (a .at))) b ≡ takenOf a p b
       go Nothing e = let n : 0 < 0 = rw e at h in absurd (omega arith)
       go Long e = let n : 0 < 0 = rw e at h in absurd (omega arith)
       go Part e = let n : 0 < 0 = rw e at h in absurd (omega arith)
-      go (Whole size) e = rw e (sym (taken-whole a p b size e))
+      go (Complete size) e = rw e (sym (taken-complete a p b size e))
 
   -- and else the packet's
-  pub taken-next : wholeIn (take (a .held) b) ≤ 0 → takenFrom a (drop (a .at) p) b ≡ takenOf a p b
+  pub taken-next : completeIn (take (a .held) b) ≤ 0 → takenFrom a (drop (a .at) p) b ≡ takenOf a p b
   taken-next h = go (nextOf (take (a .held) b)) refl
     where
       go : (k : Next) → nextOf (take (a .held) b) ≡ k → takenFrom a (drop (a .at) p) b ≡ takenOf a p b
       go Nothing e = sym (taken-nothing a p b e)
       go Long e = sym (taken-long a p b e)
       go Part e = sym (taken-part a p b e)
-      go (Whole size) e = let n : size ≤ 0 = rw e at h in absurd (omega (arith, whole-shown (take (a .held) b) size e .is))
+      go (Complete size) e = let n : size ≤ 0 = rw e at h in absurd (omega (arith, complete-shown (take (a .held) b) size e .is))
 
 -- the state behind what was taken
 abbrev pub later : Taken → Assembler
@@ -112,7 +112,7 @@ from-keeps a s b = go (nextOf s) refl
     go Nothing e = rw e
     go Long e = rw e
     go Part e = rw e
-    go (Whole size) e = rw e
+    go (Complete size) e = rw e
 
 -- neither the PID nor the counter is another
 pub take-keeps : (a : Assembler) (p b : List ℕ) → Keeps a (takenOf a p b)
@@ -122,7 +122,7 @@ take-keeps a p b = go (nextOf (take (a .held) b)) refl
     go Nothing e = rw (taken-nothing a p b e) (from-keeps a (drop (a .at) p) b)
     go Long e = rw (taken-long a p b e) (from-keeps a (drop (a .at) p) b)
     go Part e = rw (taken-part a p b e) (from-keeps a (drop (a .at) p) b)
-    go (Whole size) e = rw (taken-whole a p b size e)
+    go (Complete size) e = rw (taken-complete a p b size e)
 
 -- ---- `feed`, by the head
 
@@ -152,11 +152,11 @@ cut-none [] h = refl
 cut-none (x ∷ s) h = absurd (omega arith)
 
 module _ (under x : List ℕ) where
-  pub goes-whole : (size : ℕ) → goesOn under x ≡ Whole size → nextOf (under ++ x) ≡ Whole size
-  goes-whole size e = go (eqb (length under) 0) refl
+  pub goes-complete : (size : ℕ) → goesOn under x ≡ Complete size → nextOf (under ++ x) ≡ Complete size
+  goes-complete size e = go (eqb (length under) 0) refl
     where
-      go : (f : Bool) → eqb (length under) 0 ≡ f → nextOf (under ++ x) ≡ Whole size
-      go true f = let n : Nothing ≡ Whole size = rw f at e in let z : _≡_ {A = ℕ} 0 1 = cc in absurd (omega arith)
+      go : (f : Bool) → eqb (length under) 0 ≡ f → nextOf (under ++ x) ≡ Complete size
+      go true f = let n : Nothing ≡ Complete size = rw f at e in let z : _≡_ {A = ℕ} 0 1 = cc in absurd (omega arith)
       go false f = rw f at e
 
   pub goes-part : goesOn under x ≡ Part → nextOf (under ++ x) ≡ Part
@@ -176,7 +176,7 @@ long-behind under x from h = go (goesOn under x) refl (eqb (length from) 0) refl
     go Long e f g = rw e
     go Part e true g = let n : true ≡ false = sym h ∙ cut-none from (eqb-true _ _ g) in let z : _≡_ {A = ℕ} 0 1 = cc in absurd (omega arith)
     go Part e false g = rw (e, g) h
-    go (Whole size) e f g = rw e h
+    go (Complete size) e f g = rw e h
 
 module _ (a : Assembler) (counter first : ℕ) (under x from b : List ℕ) where
   pub by-long-behind : cut from .long ≡ true → answering (fed.Refused SectionLengthTooLarge) b ≡ fedBy a counter first under x from b
@@ -202,9 +202,9 @@ module _ (a : Assembler) (counter first : ℕ) (under x from b : List ℕ) where
     unfolding fedBy cutOf kept
     by-part e n = rw (e, eq-eqb (length from) 0 n)
 
-    pub by-whole : (size : ℕ) → goesOn under x ≡ Whole size → keeping a counter first (take size (under ++ x)) b ≡ fedBy a counter first under x from b
+    pub by-complete : (size : ℕ) → goesOn under x ≡ Complete size → keeping a counter first (take size (under ++ x)) b ≡ fedBy a counter first under x from b
     unfolding fedBy cutOf kept
-    by-whole size e = rw (e, h)
+    by-complete size e = rw (e, h)
 
 -- ---- the same, as the code has it
 
@@ -219,8 +219,8 @@ module _ (b p : List ℕ) (held at first : ℕ) (h : held ≤ length b) (m : at 
   on-long = length-append (take held b) (before p at first) ∙ omega (arith, held-long, before-long)
 
   -- a section that is whole now ends in the packet
-  pub on-ends : (size : ℕ) → goesOn (take held b) (before p at first) ≡ Whole size → size ≤ held + (first - at)
-  on-ends size e = omega (arith, on-long, whole-shown (take held b ++ before p at first) size (goes-whole (take held b) (before p at first) size e) .fits)
+  pub on-ends : (size : ℕ) → goesOn (take held b) (before p at first) ≡ Complete size → size ≤ held + (first - at)
+  on-ends size e = omega (arith, on-long, complete-shown (take held b ++ before p at first) size (goes-complete (take held b) (before p at first) size e) .fits)
 
   module _ (a : Assembler) (counter : ℕ) (n : cut (drop first p) .long ≡ false) where
     pub goes-on : goesOn (take held b) (before p at first) ≡ Part → length p ≤ first
@@ -230,7 +230,7 @@ module _ (b p : List ℕ) (held at first : ℕ) (h : held ≤ length b) (m : at 
         rw (← stored-on b held h (before p at first), ← on-long)
         (by-part a counter first (take held b) (before p at first) (drop first p) b n e (omega (arith, length-drop first p)))
 
-    pub ends-before : (size : ℕ) → goesOn (take held b) (before p at first) ≡ Whole size → size ≤ held
+    pub ends-before : (size : ℕ) → goesOn (take held b) (before p at first) ≡ Complete size → size ≤ held
         → answering (fed.Is (record { pid = a .pid; counter = counter; held = size; at = first })) b
         ≡ fedBy a counter first (take held b) (before p at first) (drop first p) b
     ends-before size e l =
@@ -238,9 +238,9 @@ module _ (b p : List ℕ) (held at first : ℕ) (h : held ≤ length b) (m : at 
         let q : length (take size b) ≡ size = length-take-le size b (omega arith) in
         ap₂ (λ (y : ℕ) (z : List ℕ). answering (fed.Is (record { pid = a .pid; counter = counter; held = y; at = first })) z) (sym q) (sym (stored-same b size (omega arith)))
         ∙ ap (λ (y : List ℕ). keeping a counter first y b) (sym k)
-        ∙ by-whole a counter first (take held b) (before p at first) (drop first p) b n size e
+        ∙ by-complete a counter first (take held b) (before p at first) (drop first p) b n size e
 
-    pub ends-here : (size : ℕ) → goesOn (take held b) (before p at first) ≡ Whole size → held < size
+    pub ends-here : (size : ℕ) → goesOn (take held b) (before p at first) ≡ Complete size → held < size
         → answering (fed.Is (record { pid = a .pid; counter = counter; held = size; at = first })) (stored b held (take (at + (size - held) - at) (drop at p)))
         ≡ fedBy a counter first (take held b) (before p at first) (drop first p) b
     ends-here size e l =
@@ -255,4 +255,4 @@ module _ (b p : List ℕ) (held at first : ℕ) (h : held ≤ length b) (m : at 
         ap₂ (λ (y : ℕ) (z : List ℕ). answering (fed.Is (record { pid = a .pid; counter = counter; held = y; at = first })) z) (sym q)
         (ap (λ (y : ℕ). stored b held (take y (drop at p))) j ∙ sym (stored-on b held h (take (size - held) (drop at p))))
         ∙ ap (λ (y : List ℕ). keeping a counter first y b) (sym k)
-        ∙ by-whole a counter first (take held b) (before p at first) (drop first p) b n size e
+        ∙ by-complete a counter first (take held b) (before p at first) (drop first p) b n size e

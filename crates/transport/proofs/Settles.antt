@@ -7,7 +7,7 @@ use native.Mathlib.Omega.{arith}
 use lib.Dec.{eqb}
 use lib.ListN.{length, drop}
 use Rattle.transport_packet.specs.declared.sections.Next.{Next}
-use Rattle.transport_packet.specs.declared.sections.Next.the-variants.{Nothing, Long, Part, Whole}
+use Rattle.transport_packet.specs.declared.sections.Next.the-variants.{Nothing, Long, Part, Complete}
 use Rattle.transport_packet.specs.Sections.{nextOf, cutFrom}
 use Rattle.transport.specs.Step.{goesOn, cutOf, Settled}
 use Rattle.transport.specs.Step.Settled.{none, going}
@@ -21,7 +21,7 @@ cut-settled (suc n) s = go (λ size. cut-settled n (drop size s)) (nextOf s) ref
     go less Nothing e = rw e none
     go less Long e = rw e none
     go less Part e = rw e (going e)
-    go less (Whole size) e = rw e (less size)
+    go less (Complete size) e = rw e (less size)
 
 pub of-settled : (under x from : List ℕ) → Settled (cutOf under x from .under)
 unfolding cutOf
@@ -33,4 +33,4 @@ of-settled under x from = go (goesOn under x) refl (eqb (length from) 0) refl (e
     go Part e true h true w = let z : Nothing ≡ Part = rw w at e in let o : _≡_ {A = ℕ} 0 1 = cc in absurd (omega arith)
     go Part e true h false w = rw (e, h) (going (rw w at e))
     go Part e false h g w = rw (e, h) (cut-settled (length from) from)
-    go (Whole size) e f h g w = rw e (cut-settled (length from) from)
+    go (Complete size) e f h g w = rw e (cut-settled (length from) from)

@@ -34,7 +34,7 @@ pub record FedTo : Type 0 where
   pub answer : Fed
   pub buffer : List ℕ
 
--- what a payload leaves at the buffer's start: the section under way, now whole or going on
+-- what a payload leaves at the buffer's start: the section under way, now complete or going on
 unfoldable pub kept : List ℕ → List ℕ → List ℕ → List ℕ
 kept under before from =
     byNext (goesOn under before) [] []
@@ -78,15 +78,15 @@ pub record TakenTo : Type 0 where
 abbrev pub giving : Taken → List ℕ → TakenTo
 giving x b = record { answer = x; buffer = b }
 
--- the size of the section that is whole in these bytes; 0 where none is
-abbrev pub wholeIn : List ℕ → ℕ
-wholeIn s = byNext (nextOf s) 0 0 0 (λ size. size)
+-- the size of the section that is complete in these bytes; 0 where none is
+abbrev pub completeIn : List ℕ → ℕ
+completeIn s = byNext (nextOf s) 0 0 0 (λ size. size)
 
 -- a section of so many bytes, or none, and what is then under way
 abbrev pub found : Assembler → ℕ → ℕ → ℕ → Taken
 found a size held at = pick (eqb size 0) (taken.Done (holding a held at)) (taken.Section size (holding a held at))
 
--- from the packet, once the buffer has no whole section
+-- from the packet, once the buffer has no complete section
 unfoldable pub takenFrom : Assembler → List ℕ → List ℕ → TakenTo
 takenFrom a s b =
     byNext (nextOf s) (giving (taken.Done (atRest a)) b) (giving (taken.Done (atRest a)) b)

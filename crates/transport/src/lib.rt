@@ -6,7 +6,7 @@ ghost use mathlib.Core.Path.{_≡_};
 ghost use Prim.Native.Nat.{_≤_};
 ghost use lib.ListN.{length, take, drop};
 ghost use Rattle.transport.specs.Step.{follows, before};
-ghost use Rattle.transport.specs.Assembler.{freshAssembler, holding, underFor, fedBy, fedOf, giving, wholeIn, found, takenFrom, takenOf};
+ghost use Rattle.transport.specs.Assembler.{freshAssembler, holding, underFor, fedBy, fedOf, giving, completeIn, found, takenFrom, takenOf};
 use table::store::put_bytes;
 use transport_packet::packet::Head;
 use transport_packet::packet::Refusal;
@@ -130,7 +130,7 @@ fn go_on(
             put_bytes(buffer, held, &packet[at..first]);
             return fed_to(a, counter, held + (first - at), first);
         }
-        Next::Whole(size) => {
+        Next::Complete(size) => {
             if size <= held {
                 return fed_to(a, counter, size, first);
             }
@@ -166,9 +166,9 @@ struct Found {
     at: usize,
 }
 
-// How many bytes the section has that is whole in these at the buffer's start; 0 where none is.
-fn whole_in(buffer: &[u8], held: usize) -> usize
-    ensures { λ r. ⌜ r ≡ wholeIn (take held (now (buffer .entry))) ⌝ }
+// How many bytes the section has that is complete in these at the buffer's start; 0 where none is.
+fn complete_in(buffer: &[u8], held: usize) -> usize
+    ensures { λ r. ⌜ r ≡ completeIn (take held (now (buffer .entry))) ⌝ }
 {
     let count = held_in(buffer, held);
     let next = next_at(&buffer[..count], 0);
@@ -176,7 +176,7 @@ fn whole_in(buffer: &[u8], held: usize) -> usize
         Next::Nothing => return 0,
         Next::Long => return 0,
         Next::Part => return 0,
-        Next::Whole(size) => return size,
+        Next::Complete(size) => return size,
     }
 }
 
@@ -205,7 +205,7 @@ fn take_from(a: Assembler, packet: &[u8], buffer: &mut [u8]) -> Found
                 at: 188,
             };
         }
-        Next::Whole(size) => {
+        Next::Complete(size) => {
             let end = at + size;
             put_bytes(buffer, 0, &packet[at..end]);
             return Found {
@@ -217,11 +217,11 @@ fn take_from(a: Assembler, packet: &[u8], buffer: &mut [u8]) -> Found
     }
 }
 
-// The next section that the packet finishes: the one under way, if it is whole, and then those that begin in the packet.
+// The next section that the packet finishes: the one under way, if it is complete, and then those that begin in the packet.
 pub fn take(a: Assembler, packet: &[u8], buffer: &mut [u8]) -> Taken
     ensures { λ r. ⌜ record { answer = r; buffer = now (buffer .exit) } ≡ takenOf a (now (packet .entry)) (now (buffer .entry)) ⌝ }
 {
-    let size = whole_in(buffer, a.held);
+    let size = complete_in(buffer, a.held);
     if 0 < size {
         return Taken::Section(size, hold(a, 0, a.at));
     }

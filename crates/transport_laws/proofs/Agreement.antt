@@ -51,7 +51,7 @@ module _ (a : Assembler) (p b : List ℕ) (ready : Ready a b) where
       → Leaves (takesOf 190 (record { pid = a .pid; counter = counter; held = length bytes; at = first }) p (stored b 0 bytes))
       (record { pid = a .pid; counter = counter; held = length bytes; at = first }) b c
       → Agrees a p b
-  keeps whole counter first bytes c l e s v =
+  keeps complete counter first bytes c l e s v =
       both-take
       {later = record { pid = a .pid; counter = counter; held = length bytes; at = first }}
       {b′ = stored b 0 bytes}
@@ -61,7 +61,7 @@ module _ (a : Assembler) (p b : List ℕ) (ready : Ready a b) where
       (s ∙ rw l (ap₂ took (ap₂ (λ (y : ℕ) (z : List ℕ). record { counter = y; under = z }) (sym (v .counter)) (sym (v .under))) (sym (v .sections))))
       (v .pid)
       (v .room)
-      whole
+      complete
 
   goes-on : (counter at first : ℕ) → headOf (a .pid) p ≡ Payload counter at first → (counter ≡ a .counter → ⊥) → Agrees a p b
   unfolding fedBy tellsOf
@@ -74,10 +74,10 @@ module _ (a : Assembler) (p b : List ℕ) (ready : Ready a b) where
       go true l = both-refuse {r = SectionLengthTooLarge} (fed-goes a p b counter at first h n ∙ rw l) (s ∙ rw l)
       go false l =
           let w : Placed p counter at first = payload-placed (a .pid) p counter at first h in
-          keeps (w .whole) counter first (kept (underFor a counter b) (before p at first) (drop first p)) (cutOf (underFor a counter b) (before p at first) (drop first p)) l
+          keeps (w .complete) counter first (kept (underFor a counter b) (before p at first) (drop first p)) (cutOf (underFor a counter b) (before p at first) (drop first p)) l
           (fed-goes a p b counter at first h n ∙ rw l)
           s
-          (kept-taken a counter first (underFor a counter b) (before p at first) p b (omega (arith, length-drop first p, w .whole)) (ready .room) l)
+          (kept-taken a counter first (underFor a counter b) (before p at first) p b (omega (arith, length-drop first p, w .complete)) (ready .room) l)
 
   pub agrees : Agrees a p b
   unfolding tellsOf
@@ -89,7 +89,7 @@ module _ (a : Assembler) (p b : List ℕ) (ready : Ready a b) where
       byHead (Payload counter at first) h = byRepeat (eqb counter (a .counter)) refl
         where
           byRepeat : (f : Bool) → eqb counter (a .counter) ≡ f → Agrees a p b
-          byRepeat true f = at-rest (payload-placed (a .pid) p counter at first h .whole) (fed-repeat a p b counter at first h (eqb-true _ _ f)) (rw (h, f))
+          byRepeat true f = at-rest (payload-placed (a .pid) p counter at first h .complete) (fed-repeat a p b counter at first h (eqb-true _ _ f)) (rw (h, f))
           byRepeat false f = goes-on counter at first h (eqb-false _ _ f)
 
   -- `feed`, and `take` until it is done, are the step

@@ -10,13 +10,13 @@ use lib.Seq.{drop-append-le, take-at}
 use borrow.Author.Tests.{eqb-true, eqb-false, ne-eqb, leb-true, leb-false}
 use Rattle.table.proofs.Lists.{append-nil}
 use Rattle.transport_packet.specs.declared.sections.Next.{Next}
-use Rattle.transport_packet.specs.declared.sections.Next.the-variants.{Nothing, Long, Part, Whole}
+use Rattle.transport_packet.specs.declared.sections.Next.the-variants.{Nothing, Long, Part, Complete}
 use Rattle.transport_packet.specs.Sections.{sectionLength, nextOf}
 use Rattle.transport_laws.specs.Concatenation.{Load, joined, Run, runsOf, runsJoined, sectionsFrom, sectionsOf, flat, Begins, Laid, Idle, Carries, Multiplex}
 use Rattle.transport_laws.specs.Concatenation.Idle.{over, stuffing}
 use Rattle.transport_laws.specs.Concatenation.Carries.{idle, section}
 use Rattle.transport_laws.specs.Concatenation.Multiplex.{noRun, run}
-use Rattle.transport_packet.proofs.Next.{whole-by, stuffing-by, whole-longer}
+use Rattle.transport_packet.proofs.Next.{complete-by, stuffing-by, complete-longer}
 use Rattle.transport_laws.proofs.Joined.{no-head}
 
 -- ---- the concatenation's cutting
@@ -52,7 +52,7 @@ run-in-order (suc n) head rest = go (λ size. run-in-order n (drop size head) re
     go less false f Nothing e = rw (f, e) all
     go less false f Long e = rw (f, e) all
     go less false f Part e = rw (f, e) all
-    go less false f (Whole size) e = rw (f, e) (behind (leb size (length head)) refl)
+    go less false f (Complete size) e = rw (f, e) (behind (leb size (length head)) refl)
       where
         behind : (b : Bool) → leb size (length head) ≡ b → Begins (take size (head ++ rest) ++ flat (sectionsFrom n (drop size head) rest)) (head ++ rest)
         behind true b =
@@ -71,10 +71,10 @@ run-in-order (suc n) head rest = go (λ size. run-in-order n (drop size head) re
 
 -- ---- what a multiplexer laid comes back
 
-laid-whole : (s bytes : List ℕ) → Laid s → Begins s bytes → nextOf bytes ≡ Whole (length s)
-laid-whole s bytes l b =
-    let e : nextOf s ≡ Whole (3 + sectionLength s) = whole-by (length s) (getD s 0 0) (sectionLength s) (omega (arith, l .right .size)) (l .right .short) (l .begun) in
-    ap nextOf (sym (b .is)) ∙ whole-longer s (b .left) (length s) (e ∙ ap Whole (sym (l .right .size)))
+laid-complete : (s bytes : List ℕ) → Laid s → Begins s bytes → nextOf bytes ≡ Complete (length s)
+laid-complete s bytes l b =
+    let e : nextOf s ≡ Complete (3 + sectionLength s) = complete-by (length s) (getD s 0 0) (sectionLength s) (omega (arith, l .right .size)) (l .right .short) (l .begun) in
+    ap nextOf (sym (b .is)) ∙ complete-longer s (b .left) (length s) (e ∙ ap Complete (sym (l .right .size)))
 
 laid-taken : (s bytes : List ℕ) → Begins s bytes → take (length s) bytes ≡ s
 laid-taken s bytes b = ap (take (length s)) (sym (b .is)) ∙ take-at s (b .left) (length s) refl
@@ -98,7 +98,7 @@ carried-given n head rest [] h (idle i) = idle-none n head rest i
 carried-given zero head rest (s ∷ ss) h (section l m b c) = absurd (omega arith)
 carried-given (suc n) head rest (s ∷ ss) h (section l m b c) =
     let less : length (drop (length s) head) ≤ n = omega (arith, length-drop (length s) head, l .right .size) in
-    rw (ne-eqb (length head) 0 (λ z. omega arith), laid-whole s (head ++ rest) l b, laid-taken s (head ++ rest) b, carried-given n (drop (length s) head) rest ss less c)
+    rw (ne-eqb (length head) 0 (λ z. omega arith), laid-complete s (head ++ rest) l b, laid-taken s (head ++ rest) b, carried-given n (drop (length s) head) rest ss less c)
 
 pub multiplexed-given : (rs : List Run) (ss : List (List ℕ)) → Multiplex rs ss → sectionsOf rs ≡ ss
 unfolding sectionsOf

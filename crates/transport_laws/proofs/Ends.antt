@@ -7,15 +7,15 @@ use lib.ListN.{length, take, drop, getD, length-drop}
 use lib.Seq.{drop-drop}
 use Rattle.table.specs.Lent.{stored}
 use Rattle.transport_packet.specs.declared.sections.Next.{Next}
-use Rattle.transport_packet.specs.declared.sections.Next.the-variants.{Nothing, Long, Part, Whole}
+use Rattle.transport_packet.specs.declared.sections.Next.the-variants.{Nothing, Long, Part, Complete}
 use Rattle.transport.specs.declared.Assembler.{Assembler}
 use Rattle.transport.specs.declared.Taken.the-variants.{Section, Done}
 use Rattle.transport_packet.specs.Sections.{sectionLength, nextBy, nextOf}
 use Rattle.transport.specs.Assembler.{atRest, holding, TakenTo, giving, takenFrom, takenOf}
 use Rattle.transport_laws.specs.Takes.{Takes, takesOf, Ends}
 use Rattle.transport_laws.specs.Takes.Ends.{done, gives}
-use Rattle.transport_packet.proofs.Next.{IsWhole, whole-shown}
-use Rattle.transport.proofs.Answers.{from-nothing, from-long, from-part, from-whole, taken-nothing, taken-long, taken-part, taken-whole}
+use Rattle.transport_packet.proofs.Next.{IsComplete, complete-shown}
+use Rattle.transport.proofs.Answers.{from-nothing, from-long, from-part, from-complete, taken-nothing, taken-long, taken-part, taken-complete}
 use Rattle.transport_laws.proofs.Takes.{takes-done, takes-gives}
 
 module _ (n : ℕ) (a later : Assembler) (p b b′ : List ℕ) where
@@ -26,14 +26,14 @@ module _ (n : ℕ) (a later : Assembler) (p b b′ : List ℕ) where
   goes size e more = rw (takes-gives n a p b size later b′ e) (gives e more)
 
 -- what is left of the packet is shorter after a section of it
-shorter : (p : List ℕ) (at size n : ℕ) → nextOf (drop at p) ≡ Whole size → length (drop at p) < suc n → length (drop (at + size) p) < n
+shorter : (p : List ℕ) (at size n : ℕ) → nextOf (drop at p) ≡ Complete size → length (drop at p) < suc n → length (drop (at + size) p) < n
 shorter p at size n e h =
-    let w : IsWhole (length (drop at p)) (getD (drop at p) 0 0) (sectionLength (drop at p)) size = whole-shown (drop at p) size e in
+    let w : IsComplete (length (drop at p)) (getD (drop at p) 0 0) (sectionLength (drop at p)) size = complete-shown (drop at p) size e in
     omega (arith, ap length (drop-drop size at p), length-drop size (drop at p), w .is, w .fits)
 
 -- the rest of the packet, once the buffer holds no whole section
 module _ (n : ℕ) (a : Assembler) (p b : List ℕ) (t : takenOf a p b ≡ takenFrom a (drop (a .at) p) b) where
-  ends-from : ((size : ℕ) → nextOf (drop (a .at) p) ≡ Whole size
+  ends-from : ((size : ℕ) → nextOf (drop (a .at) p) ≡ Complete size
       → Ends (holding a 0 (a .at + size)) p (stored b 0 (take size (drop (a .at) p))) (takesOf n (holding a 0 (a .at + size)) p (stored b 0 (take size (drop (a .at) p)))))
       → Ends a p b (takesOf (suc n) a p b)
   ends-from more = go (nextOf (drop (a .at) p)) refl
@@ -42,7 +42,7 @@ module _ (n : ℕ) (a : Assembler) (p b : List ℕ) (t : takenOf a p b ≡ taken
       go Nothing e = is-done n a (atRest a) p b b (t ∙ from-nothing a (drop (a .at) p) b e)
       go Long e = is-done n a (atRest a) p b b (t ∙ from-long a (drop (a .at) p) b e)
       go Part e = is-done n a (holding a (length (drop (a .at) p)) 188) p b (stored b 0 (drop (a .at) p)) (t ∙ from-part a (drop (a .at) p) b e)
-      go (Whole size) e = goes n a (holding a 0 (a .at + size)) p b (stored b 0 (take size (drop (a .at) p))) size (t ∙ from-whole a (drop (a .at) p) b size e) (more size e)
+      go (Complete size) e = goes n a (holding a 0 (a .at + size)) p b (stored b 0 (take size (drop (a .at) p))) size (t ∙ from-complete a (drop (a .at) p) b size e) (more size e)
 
 ends-empty : (n : ℕ) (a : Assembler) (p b : List ℕ) → a .held ≡ 0 → length (drop (a .at) p) < n → Ends a p b (takesOf n a p b)
 unfolding nextBy
@@ -64,7 +64,7 @@ take-ends n a p b f = go (nextOf (take (a .held) b)) refl
     go Nothing e = rest (taken-nothing a p b e)
     go Long e = rest (taken-long a p b e)
     go Part e = rest (taken-part a p b e)
-    go (Whole size) e = goes n a (holding a 0 (a .at)) p b b size (taken-whole a p b size e) (ends-empty n (holding a 0 (a .at)) p b refl f)
+    go (Complete size) e = goes n a (holding a 0 (a .at)) p b b size (taken-complete a p b size e) (ends-empty n (holding a 0 (a .at)) p b refl f)
 
 -- ---- what it gives is one thing
 

@@ -9,11 +9,11 @@ use lib.ListN.{length, take, drop, length-append, drop-of-length-le}
 use lib.Seq.{take-append-le}
 use borrow.Author.Tests.{eqb-true, eqb-false, eq-eqb, ne-eqb}
 use Rattle.transport_packet.specs.declared.sections.Next.{Next}
-use Rattle.transport_packet.specs.declared.sections.Next.the-variants.{Nothing, Long, Part, Whole}
+use Rattle.transport_packet.specs.declared.sections.Next.the-variants.{Nothing, Long, Part, Complete}
 use Rattle.transport_packet.specs.Sections.{nextOf, byNext, nothingCut, cutFrom, cut}
 use Rattle.transport.specs.Step.{goesOn, cutOf}
 use Rattle.transport_laws.specs.Concatenation.{sectionsFrom}
-use Rattle.transport_packet.proofs.Next.{whole-shown, whole-longer, nothing-longer, part-longer}
+use Rattle.transport_packet.proofs.Next.{complete-shown, complete-longer, nothing-longer, part-longer}
 use Rattle.transport_packet.proofs.Cuts.{left-shorter}
 
 -- the section under way, if the bytes behind it finish it
@@ -42,18 +42,18 @@ module _ (under x rest : List ℕ) where
           let h : length under ≡ 0 → ⊥ = eqb-false _ _ f in
           rw (f, ← append-assoc under x rest) (nothing-longer (under ++ x) rest (omega (arith, length-append under x)) (rw f at e))
 
-  more-whole : (size : ℕ) → goesOn under x ≡ Whole size → goesOn under (x ++ rest) ≡ Whole size
-  more-whole size e =
-      let b = begun (Whole size) e (λ n. let z : _≡_ {A = ℕ} 0 1 = cc in omega arith) in
-      rw (b .0, ← append-assoc under x rest) (whole-longer (under ++ x) rest size (b .1))
+  more-complete : (size : ℕ) → goesOn under x ≡ Complete size → goesOn under (x ++ rest) ≡ Complete size
+  more-complete size e =
+      let b = begun (Complete size) e (λ n. let z : _≡_ {A = ℕ} 0 1 = cc in omega arith) in
+      rw (b .0, ← append-assoc under x rest) (complete-longer (under ++ x) rest size (b .1))
 
   pub finish-nothing : goesOn under x ≡ Nothing → finish under (x ++ rest) ≡ []
   finish-nothing e = rw (more-nothing e)
 
-  pub finish-whole : (size : ℕ) → goesOn under x ≡ Whole size → finish under (x ++ rest) ≡ take size (under ++ x) ∷ []
-  finish-whole size e =
-      let b = begun (Whole size) e (λ n. let z : _≡_ {A = ℕ} 0 1 = cc in omega arith) in
-      rw (more-whole size e, ← append-assoc under x rest, take-append-le size (under ++ x) rest (whole-shown (under ++ x) size (b .1) .fits))
+  pub finish-complete : (size : ℕ) → goesOn under x ≡ Complete size → finish under (x ++ rest) ≡ take size (under ++ x) ∷ []
+  finish-complete size e =
+      let b = begun (Complete size) e (λ n. let z : _≡_ {A = ℕ} 0 1 = cc in omega arith) in
+      rw (more-complete size e, ← append-assoc under x rest, take-append-le size (under ++ x) rest (complete-shown (under ++ x) size (b .1) .fits))
 
   pub finish-part : goesOn under x ≡ Part → finish (under ++ x) rest ≡ finish under (x ++ rest)
   finish-part e =
@@ -76,7 +76,7 @@ run-cut (suc n) head rest h l =
     go (λ size e. run-cut n (drop size head) rest (left-shorter head size n e h)) (nextOf head) refl (eqb (length head) 0) refl
   where
     go :
-        ((size : ℕ) → nextOf head ≡ Whole size → cutFrom n (drop size head) .long ≡ false
+        ((size : ℕ) → nextOf head ≡ Complete size → cutFrom n (drop size head) .long ≡ false
         → cutFrom n (drop size head) .sections ++ finish (cutFrom n (drop size head) .under) rest ≡ sectionsFrom n (drop size head) rest)
         → (k : Next) → nextOf head ≡ k → (f : Bool) → eqb (length head) 0 ≡ f
         → cutFrom (suc n) head .sections ++ finish (cutFrom (suc n) head .under) rest ≡ sectionsFrom (suc n) head rest
@@ -94,16 +94,16 @@ run-cut (suc n) head rest h l =
         ended Nothing x = rw x
         ended Long x = rw x
         ended Part x = rw x
-        ended (Whole size) x =
+        ended (Complete size) x =
             let m : length head ≤ size = omega (arith, part-longer head rest size e x) in
             let none : drop size head ≡ [] = drop-of-length-le head m in
             rw (x, none, no-head n rest)
-    go less (Whole size) e true f =
-        let w = whole-shown head size e in
+    go less (Complete size) e true f =
+        let w = complete-shown head size e in
         let z : length head ≡ 0 = eqb-true _ _ f in
         absurd (omega (arith, w .is, w .fits))
-    go less (Whole size) e false f =
-        rw (e, f, whole-longer head rest size e, take-append-le size head rest (whole-shown head size e .fits))
+    go less (Complete size) e false f =
+        rw (e, f, complete-longer head rest size e, take-append-le size head rest (complete-shown head size e .fits))
         (ap (λ (x : List (List ℕ)). take size head ∷ x) (less size e (rw e at l)))
 
 -- ---- a payload
@@ -126,7 +126,7 @@ module _ (under x from rest : List ℕ) (l : cutOf under x from .long ≡ false)
       go Nothing e = rw (finish-nothing under x rest e, e, c)
       go Long e = absurd (never (rw e at l))
       go Part e = rw (e, eq-eqb (length from) 0 h) (finish-part under x rest e)
-      go (Whole size) e = rw (finish-whole under x rest size e, e, c)
+      go (Complete size) e = rw (finish-complete under x rest size e, e, c)
 
   pub load-starts : (length from ≡ 0 → ⊥)
       → cutOf under x from .sections ++ finish (cutOf under x from .under) rest ≡ finish under x ++ sectionsFrom (length from) from rest
@@ -141,4 +141,4 @@ module _ (under x from rest : List ℕ) (l : cutOf under x from .long ≡ false)
       go Nothing e = rw e (run (rw e at l))
       go Long e = absurd (never (rw e at l))
       go Part e = rw (e, ne-eqb (length from) 0 h) (run (rw (e, ne-eqb (length from) 0 h) at l))
-      go (Whole size) e = rw e (ap (λ (y : List (List ℕ)). take size (under ++ x) ∷ y) (run (rw e at l)))
+      go (Complete size) e = rw e (ap (λ (y : List (List ℕ)). take size (under ++ x) ∷ y) (run (rw e at l)))

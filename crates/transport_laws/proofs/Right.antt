@@ -12,7 +12,7 @@ use Rattle.table.specs.Lent.{stored}
 use Rattle.transport_packet.specs.declared.packet.Head.{Head}
 use Rattle.transport_packet.specs.declared.packet.Head.the-variants.{Refused, NoPayload, Payload}
 use Rattle.transport_packet.specs.declared.sections.Next.{Next}
-use Rattle.transport_packet.specs.declared.sections.Next.the-variants.{Nothing, Long, Part, Whole}
+use Rattle.transport_packet.specs.declared.sections.Next.the-variants.{Nothing, Long, Part, Complete}
 use Rattle.transport.specs.declared.Assembler.{Assembler}
 use Rattle.transport.specs.declared.Taken.the-variants.{Section, Done}
 use Rattle.transport_packet.specs.Packet.{headOf}
@@ -21,18 +21,18 @@ use Rattle.transport.specs.Step.{State, told, follows, goesOn, cutOf, before, t
 use Rattle.transport.specs.Step.Told.{took}
 use Rattle.transport.specs.Assembler.{atRest, holding, TakenTo, giving, takenFrom, takenOf}
 use Rattle.transport_laws.specs.Runs.{sectionsIn}
-use Rattle.transport_packet.proofs.Next.{IsWhole, whole-shown, whole-itself}
+use Rattle.transport_packet.proofs.Next.{IsComplete, complete-shown, complete-itself}
 use Rattle.transport.proofs.Buffer.{taken-back}
-use Rattle.transport.proofs.Answers.{goes-whole, from-nothing, from-long, from-part, from-whole, taken-nothing, taken-long, taken-part, taken-whole}
+use Rattle.transport.proofs.Answers.{goes-complete, from-nothing, from-long, from-part, from-complete, taken-nothing, taken-long, taken-part, taken-complete}
 
 pub each-append : (xs ys : List (List ℕ)) → Each Right xs → Each Right ys → Each Right (xs ++ ys)
 each-append [] ys p q = q
 each-append (x ∷ xs) ys p q = (p .0, each-append xs ys (p .1) q)
 
-pub right-whole : (s : List ℕ) (size : ℕ) → nextOf s ≡ Whole size → Right (take size s)
-right-whole s size e =
-    let w : IsWhole (length (take size s)) (getD (take size s) 0 0) (sectionLength (take size s)) size = whole-shown (take size s) size (whole-itself s size e) in
-    let n : length (take size s) ≡ size = length-take-le size s (whole-shown s size e .fits) in
+pub right-complete : (s : List ℕ) (size : ℕ) → nextOf s ≡ Complete size → Right (take size s)
+right-complete s size e =
+    let w : IsComplete (length (take size s)) (getD (take size s) 0 0) (sectionLength (take size s)) size = complete-shown (take size s) size (complete-itself s size e) in
+    let n : length (take size s) ≡ size = length-take-le size s (complete-shown s size e .fits) in
     record { size = n ∙ w .is; short = w .short }
 
 cut-right : (n : ℕ) (s : List ℕ) → Each Right (cutFrom n s .sections)
@@ -44,7 +44,7 @@ cut-right (suc n) s = go (λ size. cut-right n (drop size s)) (nextOf s) refl
     go less Nothing e = rw e tt
     go less Long e = rw e tt
     go less Part e = rw e tt
-    go less (Whole size) e = rw e (right-whole s size e, less size)
+    go less (Complete size) e = rw e (right-complete s size e, less size)
 
 of-right : (under x from : List ℕ) → Each Right (cutOf under x from .sections)
 unfolding cutOf
@@ -55,7 +55,7 @@ of-right under x from = go (goesOn under x) refl (eqb (length from) 0) refl
     go Long e f h = rw e tt
     go Part e true h = rw (e, h) tt
     go Part e false h = rw (e, h) (cut-right (length from) from)
-    go (Whole size) e f h = rw e (right-whole (under ++ x) size (goes-whole under x size e), cut-right (length from) from)
+    go (Complete size) e f h = rw e (right-complete (under ++ x) size (goes-complete under x size e), cut-right (length from) from)
 
 told-right : (counter : ℕ) (c : Cut) → Each Right (c .sections) → Each Right (sectionsIn (told counter c))
 told-right counter c k = go (c .long) refl
@@ -92,17 +92,17 @@ taken-right a later p b size r e = go (nextOf (take (a .held) b)) refl
     from q Nothing f = ended (atRest a) b (q ∙ from-nothing a (drop (a .at) p) b f)
     from q Long f = ended (atRest a) b (q ∙ from-long a (drop (a .at) p) b f)
     from q Part f = ended (holding a (length (drop (a .at) p)) 188) (stored b 0 (drop (a .at) p)) (q ∙ from-part a (drop (a .at) p) b f)
-    from q (Whole n) f =
-        let w : IsWhole (length (drop (a .at) p)) (getD (drop (a .at) p) 0 0) (sectionLength (drop (a .at) p)) n = whole-shown (drop (a .at) p) n f in
+    from q (Complete n) f =
+        let w : IsComplete (length (drop (a .at) p)) (getD (drop (a .at) p) 0 0) (sectionLength (drop (a .at) p)) n = complete-shown (drop (a .at) p) n f in
         let k : length (take n (drop (a .at) p)) ≡ n = length-take-le n (drop (a .at) p) (w .fits) in
         let y : take n (stored b 0 (take n (drop (a .at) p))) ≡ take n (drop (a .at) p) = rw k at (taken-back b (take n (drop (a .at) p)) (omega (arith, k, w .is, w .short))) in
-        other n (holding a 0 (a .at + n)) (stored b 0 (take n (drop (a .at) p))) (q ∙ from-whole a (drop (a .at) p) b n f) (rw y (right-whole (drop (a .at) p) n f))
+        other n (holding a 0 (a .at + n)) (stored b 0 (take n (drop (a .at) p))) (q ∙ from-complete a (drop (a .at) p) b n f) (rw y (right-complete (drop (a .at) p) n f))
 
     go : (k : Next) → nextOf (take (a .held) b) ≡ k → Right (take size (takenOf a p b .buffer))
     go Nothing f = from (taken-nothing a p b f) (nextOf (drop (a .at) p)) refl
     go Long f = from (taken-long a p b f) (nextOf (drop (a .at) p)) refl
     go Part f = from (taken-part a p b f) (nextOf (drop (a .at) p)) refl
-    go (Whole n) f =
-        let w : IsWhole (length (take (a .held) b)) (getD (take (a .held) b) 0 0) (sectionLength (take (a .held) b)) n = whole-shown (take (a .held) b) n f in
+    go (Complete n) f =
+        let w : IsComplete (length (take (a .held) b)) (getD (take (a .held) b) 0 0) (sectionLength (take (a .held) b)) n = complete-shown (take (a .held) b) n f in
         let m : n ≤ a .held = omega (arith, w .fits, length-take (a .held) b) in
-        other n (holding a 0 (a .at)) b (taken-whole a p b n f) (rw (take-take n (a .held) b m) at (right-whole (take (a .held) b) n f))
+        other n (holding a 0 (a .at)) b (taken-complete a p b n f) (rw (take-take n (a .held) b m) at (right-complete (take (a .held) b) n f))

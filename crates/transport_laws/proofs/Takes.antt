@@ -11,7 +11,7 @@ use borrow.Author.Tests.{eqb-true}
 use Rattle.table.specs.Lent.{stored}
 use Rattle.table.proofs.Stores.{length-stored}
 use Rattle.transport_packet.specs.declared.sections.Next.{Next}
-use Rattle.transport_packet.specs.declared.sections.Next.the-variants.{Nothing, Long, Part, Whole}
+use Rattle.transport_packet.specs.declared.sections.Next.the-variants.{Nothing, Long, Part, Complete}
 use Rattle.transport.specs.declared.Assembler.{Assembler}
 use Rattle.transport.specs.declared.Taken.the-variants.{Section, Done}
 use Rattle.transport_packet.specs.Sections.{sectionLength, nextBy, nextOf, Cut, underWay, andThen, cut}
@@ -19,10 +19,10 @@ use Rattle.transport.specs.Step.{goesOn, cutOf, Settled}
 use Rattle.transport.specs.Step.Settled.{none, going}
 use Rattle.transport.specs.Assembler.{kept, atRest, holding, giving, takenFrom, takenOf}
 use Rattle.transport_laws.specs.Takes.{Takes, takesOf}
-use Rattle.transport_packet.proofs.Next.{IsWhole, whole-shown, part-shown, whole-itself}
-use Rattle.transport_packet.proofs.Cuts.{cut-nothing, cut-long, cut-part, cut-whole}
+use Rattle.transport_packet.proofs.Next.{IsComplete, complete-shown, part-shown, complete-itself}
+use Rattle.transport_packet.proofs.Cuts.{cut-nothing, cut-long, cut-part, cut-complete}
 use Rattle.transport.proofs.Buffer.{taken-back}
-use Rattle.transport.proofs.Answers.{from-nothing, from-part, from-whole, taken-nothing, taken-part, taken-whole, goes-part, goes-whole}
+use Rattle.transport.proofs.Answers.{from-nothing, from-part, from-complete, taken-nothing, taken-part, taken-complete, goes-part, goes-complete}
 
 -- what is left says the same as the cut
 pub record Leaves (t : Takes) (a : Assembler) (b : List ℕ) (c : Cut) : Type 0 where
@@ -64,7 +64,7 @@ takes-from (suc n) a p b h f r l = go (λ size e. takes-from n (holding a 0 (a .
     s = drop (a .at) p
 
     go :
-        ((size : ℕ) → nextOf (drop (a .at) p) ≡ Whole size → length (drop (a .at + size) p) < n → 4096 ≤ length (stored b 0 (take size (drop (a .at) p)))
+        ((size : ℕ) → nextOf (drop (a .at) p) ≡ Complete size → length (drop (a .at + size) p) < n → 4096 ≤ length (stored b 0 (take size (drop (a .at) p)))
         → cut (drop (a .at + size) p) .long ≡ false
         → Leaves (takesOf n (holding a 0 (a .at + size)) p (stored b 0 (take size (drop (a .at) p)))) (holding a 0 (a .at + size)) (stored b 0 (take size (drop (a .at) p))) (cut (drop (a .at + size) p)))
         → (k : Next) → nextOf (drop (a .at) p) ≡ k → Leaves (takesOf (suc n) a p b) a b (cut (drop (a .at) p))
@@ -76,16 +76,16 @@ takes-from (suc n) a p b h f r l = go (λ size e. takes-from n (holding a 0 (a .
         let q : length (drop (a .at) p) ≤ length b = omega (arith, part-shown (drop (a .at) p) e .few) in
         rw (takes-done n a p b (holding a (length (drop (a .at) p)) 188) (stored b 0 (drop (a .at) p)) (empty-taken a p b h ∙ from-part a (drop (a .at) p) b e), cut-part (drop (a .at) p) e)
         (record { sections = refl; under = taken-back b (drop (a .at) p) q; counter = refl; pid = refl; room = length-stored b 0 (drop (a .at) p) })
-    go less (Whole size) e =
+    go less (Complete size) e =
         let t = take size (drop (a .at) p) in
-        let w : IsWhole (length (drop (a .at) p)) (getD (drop (a .at) p) 0 0) (sectionLength (drop (a .at) p)) size = whole-shown (drop (a .at) p) size e in
+        let w : IsComplete (length (drop (a .at) p)) (getD (drop (a .at) p) 0 0) (sectionLength (drop (a .at) p)) size = complete-shown (drop (a .at) p) size e in
         let k : length (take size (drop (a .at) p)) ≡ size = length-take-le size (drop (a .at) p) (w .fits) in
         let d : drop (a .at + size) p ≡ drop size (drop (a .at) p) = sym (drop-drop size (a .at) p) in
-        let c : cut (drop (a .at) p) ≡ andThen (take size (drop (a .at) p)) (cut (drop (a .at + size) p)) = cut-whole (drop (a .at) p) size e ∙ ap (λ (x : List ℕ). andThen (take size (drop (a .at) p)) (cut x)) (sym d) in
+        let c : cut (drop (a .at) p) ≡ andThen (take size (drop (a .at) p)) (cut (drop (a .at + size) p)) = cut-complete (drop (a .at) p) size e ∙ ap (λ (x : List ℕ). andThen (take size (drop (a .at) p)) (cut x)) (sym d) in
         let m : length (stored b 0 (take size (drop (a .at) p))) ≡ length b = length-stored b 0 (take size (drop (a .at) p)) in
         let i = less size e (omega (arith, ap length d, length-drop size (drop (a .at) p), w .is, w .fits)) (omega (arith, m)) (ap (λ (x : Cut). x .long) (sym c) ∙ l) in
         let y : take size (stored b 0 (take size (drop (a .at) p))) ≡ take size (drop (a .at) p) = rw k at (taken-back b (take size (drop (a .at) p)) (omega (arith, k, w .is, w .short))) in
-        rw (takes-gives n a p b size (holding a 0 (a .at + size)) (stored b 0 (take size (drop (a .at) p))) (empty-taken a p b h ∙ from-whole a (drop (a .at) p) b size e), c)
+        rw (takes-gives n a p b size (holding a 0 (a .at + size)) (stored b 0 (take size (drop (a .at) p))) (empty-taken a p b h ∙ from-complete a (drop (a .at) p) b size e), c)
         (record { sections = ap₂ (λ (x : List ℕ) (xs : List (List ℕ)). x ∷ xs) y (i .sections); under = i .under; counter = i .counter; pid = i .pid; room = i .room ∙ m })
 
 -- ---- after `feed`
@@ -122,15 +122,15 @@ module _ (a : Assembler) (counter first : ℕ) (under x p b : List ℕ) (f : len
       rw (takes-done 189 (fedTo s) p (stored b 0 s) (atRest (fedTo s)) (stored b 0 s) t)
       (record { sections = refl; under = y; counter = refl; pid = refl; room = length-stored b 0 s })
 
-  ended : (s : List ℕ) (size : ℕ) → nextOf s ≡ Whole size → length s ≡ size → cut (drop first p) .long ≡ false
+  ended : (s : List ℕ) (size : ℕ) → nextOf s ≡ Complete size → length s ≡ size → cut (drop first p) .long ≡ false
       → Leaves (takesOf 190 (fedTo s) p (stored b 0 s)) (fedTo s) b (andThen s (cut (drop first p)))
   ended s size e n l =
-      let w : IsWhole (length s) (getD s 0 0) (sectionLength s) size = whole-shown s size e in
+      let w : IsComplete (length s) (getD s 0 0) (sectionLength s) size = complete-shown s size e in
       let y : take (length s) (stored b 0 s) ≡ s = taken-back b s (omega (arith, w .is, w .short)) in
       let z : take size (stored b 0 s) ≡ s = rw n at y in
       let m : length (stored b 0 s) ≡ length b = length-stored b 0 s in
       let i = takes-from 189 (holding (fedTo s) 0 first) p (stored b 0 s) refl f (omega (arith, m)) l in
-      rw (takes-gives 189 (fedTo s) p (stored b 0 s) size (holding (fedTo s) 0 first) (stored b 0 s) (taken-whole (fedTo s) p (stored b 0 s) size (ap nextOf y ∙ e)))
+      rw (takes-gives 189 (fedTo s) p (stored b 0 s) size (holding (fedTo s) 0 first) (stored b 0 s) (taken-complete (fedTo s) p (stored b 0 s) size (ap nextOf y ∙ e)))
       (record { sections = ap₂ (λ (v : List ℕ) (vs : List (List ℕ)). v ∷ vs) z (i .sections); under = i .under; counter = i .counter; pid = i .pid; room = i .room ∙ m })
 
   pub kept-taken : cutOf under x (drop first p) .long ≡ false
@@ -144,6 +144,6 @@ module _ (a : Assembler) (counter first : ℕ) (under x p b : List ℕ) (f : len
       go Long e g h = absurd (never (rw e at l))
       go Part e true h = rw (e, h) (keeps (under ++ x) (goes-part under x e) (eqb-true _ _ h))
       go Part e false h = rw (e, h) (drops (rw (e, h) at l))
-      go (Whole size) e g h =
-          let q : nextOf (under ++ x) ≡ Whole size = goes-whole under x size e in
-          rw e (ended (take size (under ++ x)) size (whole-itself (under ++ x) size q) (length-take-le size (under ++ x) (whole-shown (under ++ x) size q .fits)) (rw e at l))
+      go (Complete size) e g h =
+          let q : nextOf (under ++ x) ≡ Complete size = goes-complete under x size e in
+          rw e (ended (take size (under ++ x)) size (complete-itself (under ++ x) size q) (length-take-le size (under ++ x) (complete-shown (under ++ x) size q .fits)) (rw e at l))

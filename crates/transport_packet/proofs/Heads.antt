@@ -60,7 +60,7 @@ module _ (pid : ℕ) (p : List ℕ) where
 -- where the payload and the first section stand
 pub record Placed (p : List ℕ) (counter at first : ℕ) : Type 0 where
   pub counts : counter < 16
-  pub whole : length p ≡ 188
+  pub complete : length p ≡ 188
   pub order : at ≤ first
   pub inside : first ≤ 188
 
@@ -90,9 +90,9 @@ placed pid p =
     go true e true true true false f y u t g = tt
     go true e true true true true f true u t g = eqb-true _ _ e
     go true e true true true true f false true t g =
-        let m : payloadAt p + hasPayload p ≤ 188 = leb-true _ _ f in record { counts = omega arith; whole = eqb-true _ _ e; order = omega arith; inside = omega arith }
+        let m : payloadAt p + hasPayload p ≤ 188 = leb-true _ _ f in record { counts = omega arith; complete = eqb-true _ _ e; order = omega arith; inside = omega arith }
     go true e true true true true f false false true g =
-        let m : target p < 188 = ltb-true _ _ g in record { counts = omega arith; whole = eqb-true _ _ e; order = omega arith; inside = omega arith }
+        let m : target p < 188 = ltb-true _ _ g in record { counts = omega arith; complete = eqb-true _ _ e; order = omega arith; inside = omega arith }
     go true e true true true true f false false false g = tt
 
 pub payload-placed : (pid : ℕ) (p : List ℕ) (counter at first : ℕ) → headOf pid p ≡ Payload counter at first → Placed p counter at first

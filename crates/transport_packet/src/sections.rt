@@ -5,12 +5,12 @@ ghost use lib.ListN.{drop};
 ghost use Rattle.transport_packet.specs.Sections.{nextBy, nextOf, cut};
 
 // What stands where a section would begin: no byte or stuffing; a section_length over 4,093; a section that goes on behind the bytes; or a
-// whole one, of so many bytes.
+// complete one, of so many bytes.
 pub enum Next {
     Nothing,
     Long,
     Part,
-    Whole(usize),
+    Complete(usize),
 }
 
 // So many bytes, of which this is the first, and this their section_length if three are there.
@@ -30,7 +30,7 @@ pub fn next_by(count: usize, first: u8, len: usize) -> Next
         return Next::Long;
     }
     if 3 + len <= count {
-        return Next::Whole(3 + len);
+        return Next::Complete(3 + len);
     }
     Next::Part
 }
@@ -68,7 +68,7 @@ pub fn any_long(s: &[u8], at: usize) -> bool
             Next::Nothing => return false,
             Next::Long => return true,
             Next::Part => return false,
-            Next::Whole(size) => i += size,
+            Next::Complete(size) => i += size,
         }
     }
 }

@@ -10,7 +10,7 @@ use lib.Seq.{take-append-seam, drop-append-seam, take-length}
 use borrow.Author.Tests.{le-ltb, ltb-false, eqb-true, eqb-false}
 use Rattle.upid.specs.Upid.{upidOf, checkOf, readOf, walkOf, plainOf, _then_, listOf, reportedOf, lengthOf, isText, listed, blankPart, unlessRefused, eidrOf, partsIn}
 use Rattle.upid.specs.Text.{textOf}
-use Rattle.upid.specs.Cover.{All, none, more, Cut, joined, placed, whole, bytesOf, directOf, Covered, Ascending, Owned, Once}
+use Rattle.upid.specs.Cover.{All, none, more, Cut, joined, placed, topPart, bytesOf, directOf, Covered, Ascending, Owned, Once}
 use Rattle.table.specs.declared.View.{View}
 use Rattle.upid.specs.Private.{Accepted, Announced}
 use Rattle.upid.specs.declared.Part.{Part}
@@ -21,7 +21,7 @@ use Rattle.upid.specs.declared.UpidRead.the-variants.{Fine, Refused}
 use Rattle.upid.proofs.Laws.{few, then-both, read-nil, read-more, list-nil, list-more, list-plain}
 use Rattle.upid.proofs.Walks.{check-short, check-mid}
 use Rattle.upid.proofs.Cutting.{one-cutting, placed-once, placed-runs}
-use Rattle.upid.proofs.Tree.{Forest, cuts, records, Grown, size, grow, Piece, whole-piece, inner-pieces, announced, shallow, ascending, owned, all-map}
+use Rattle.upid.proofs.Tree.{Forest, cuts, records, Grown, size, grow, Piece, top-piece, inner-pieces, announced, shallow, ascending, owned, all-map}
 
 -- ---- the parts in an answer
 
@@ -56,23 +56,23 @@ once top ps m h i low high = rw (h .pieces) (placed-once (m .level + 1) (m .star
 
 -- what holds of each piece holds of every MID in what is accepted
 module _ (P : List ℕ → List Part → Part → Type 0) (of-piece : (top : List ℕ) (ps : List Part) (m : Part) → Piece top ps m → P top ps m) where
-  in-forest : (f : Forest) → Grown f → All (λ (m : Part). m .«upid_type» ≡ 13 → P (joined (cuts f)) (records 1 0 f) m) (whole (joined (cuts f)) ∷ records 1 0 f)
+  in-forest : (f : Forest) → Grown f → All (λ (m : Part). m .«upid_type» ≡ 13 → P (joined (cuts f)) (records 1 0 f) m) (topPart (joined (cuts f)) ∷ records 1 0 f)
   in-forest f g =
       all-map (λ m h e. of-piece (joined (cuts f)) (records 1 0 f) m (h e))
-      (more (λ e. whole-piece f g) (inner-pieces (joined (cuts f)) f 1 0 [] g (sym (append-nil _))))
+      (more (λ e. top-piece f g) (inner-pieces (joined (cuts f)) f 1 0 [] g (sym (append-nil _))))
 
-  in-tree : (top : List ℕ) (ps : List Part) (f : Forest) → Grown f → joined (cuts f) ≡ top → ps ≡ records 1 0 f → All (λ (m : Part). m .«upid_type» ≡ 13 → P top ps m) (whole top ∷ ps)
+  in-tree : (top : List ℕ) (ps : List Part) (f : Forest) → Grown f → joined (cuts f) ≡ top → ps ≡ records 1 0 f → All (λ (m : Part). m .«upid_type» ≡ 13 → P top ps m) (topPart top ∷ ps)
   in-tree top ps f g j r = rw (r, ← j) (in-forest f g)
 
-  of-every-mid : (top : List ℕ) → Accepted (checkOf 13 top) → All (λ (m : Part). m .«upid_type» ≡ 13 → P top (partsIn (upidOf 13 top)) m) (whole top ∷ partsIn (upidOf 13 top))
+  of-every-mid : (top : List ℕ) → Accepted (checkOf 13 top) → All (λ (m : Part). m .«upid_type» ≡ 13 → P top (partsIn (upidOf 13 top)) m) (topPart top ∷ partsIn (upidOf 13 top))
   of-every-mid top a =
       let (f, g, j, r) = grow (length top) 1 0 top (omega arith) (check-mid top a) in
       in-tree top _ f g j (parts-of-mid top a ∙ r)
 
-pub covered : (top : List ℕ) → Accepted (checkOf 13 top) → All (λ (m : Part). m .«upid_type» ≡ 13 → Covered top (partsIn (upidOf 13 top)) m) (whole top ∷ partsIn (upidOf 13 top))
+pub covered : (top : List ℕ) → Accepted (checkOf 13 top) → All (λ (m : Part). m .«upid_type» ≡ 13 → Covered top (partsIn (upidOf 13 top)) m) (topPart top ∷ partsIn (upidOf 13 top))
 covered = of-every-mid Covered cover
 
-pub all-once : (top : List ℕ) → Accepted (checkOf 13 top) → All (λ (m : Part). m .«upid_type» ≡ 13 → Once (partsIn (upidOf 13 top)) m) (whole top ∷ partsIn (upidOf 13 top))
+pub all-once : (top : List ℕ) → Accepted (checkOf 13 top) → All (λ (m : Part). m .«upid_type» ≡ 13 → Once (partsIn (upidOf 13 top)) m) (topPart top ∷ partsIn (upidOf 13 top))
 all-once = of-every-mid (λ top. Once) once
 
 pub announced-all : (top : List ℕ) → Accepted (checkOf 13 top) → All (Announced top) (partsIn (upidOf 13 top))
@@ -85,11 +85,11 @@ in-byte-order top a =
     let (f, g, j, r) = grow (length top) 1 0 top (omega arith) (check-mid top a) in
     rw (parts-of-mid top a, r) (ascending f 1 0 g)
 
-owned-tree : (top : List ℕ) (ps : List Part) (f : Forest) → Grown f → joined (cuts f) ≡ top → ps ≡ records 1 0 f → All (Owned (whole top ∷ ps)) ps
+owned-tree : (top : List ℕ) (ps : List Part) (f : Forest) → Grown f → joined (cuts f) ≡ top → ps ≡ records 1 0 f → All (Owned (topPart top ∷ ps)) ps
 unfolding size
-owned-tree top ps f g j r = rw (r, ← j) (owned f 1 0 (whole (joined (cuts f))) g refl refl (omega arith) (omega arith))
+owned-tree top ps f g j r = rw (r, ← j) (owned f 1 0 (topPart (joined (cuts f))) g refl refl (omega arith) (omega arith))
 
-pub no-part-of-nothing : (top : List ℕ) → Accepted (checkOf 13 top) → All (Owned (whole top ∷ partsIn (upidOf 13 top))) (partsIn (upidOf 13 top))
+pub no-part-of-nothing : (top : List ℕ) → Accepted (checkOf 13 top) → All (Owned (topPart top ∷ partsIn (upidOf 13 top))) (partsIn (upidOf 13 top))
 no-part-of-nothing top a =
     let (f, g, j, r) = grow (length top) 1 0 top (omega arith) (check-mid top a) in
     owned-tree top _ f g j (parts-of-mid top a ∙ r)
@@ -205,14 +205,14 @@ join-checked : (cs : List Cut) → length (joined cs) ≤ 255 → All (λ (c : C
 join-checked cs n h = check-of-read 13 (joined cs) n (join-read 0 cs h)
 
 pub pieces-write-read : (cs : List Cut) → length (joined cs) ≤ 255 → All (λ (c : Cut). Accepted (readOf (c .«upid_type») 0 (c .payload))) cs
-    → Accepted (checkOf 13 (joined cs)) × (directOf (whole (joined cs)) (partsIn (upidOf 13 (joined cs))) ≡ placed 1 0 cs)
+    → Accepted (checkOf 13 (joined cs)) × (directOf (topPart (joined cs)) (partsIn (upidOf 13 (joined cs))) ≡ placed 1 0 cs)
 pieces-write-read cs n h = (join-checked cs n h, found (covered (joined cs) (join-checked cs n h)))
   where
     top : List ℕ
     top = joined cs
 
-    found : All (λ (m : Part). m .«upid_type» ≡ 13 → Covered top (partsIn (upidOf 13 top)) m) (whole top ∷ partsIn (upidOf 13 top))
-        → directOf (whole top) (partsIn (upidOf 13 top)) ≡ placed 1 0 cs
+    found : All (λ (m : Part). m .«upid_type» ≡ 13 → Covered top (partsIn (upidOf 13 top)) m) (topPart top ∷ partsIn (upidOf 13 top))
+        → directOf (topPart top) (partsIn (upidOf 13 top)) ≡ placed 1 0 cs
     found (more c rest) =
         let own : cs ≡ c refl .cutting = c refl .only cs (sym (take-length top)) in
         c refl .pieces ∙ rw (← own)

@@ -1,7 +1,7 @@
 -- Laws of the walk that lists the parts of a MID, over bytes that were accepted: which MIDs are open at a place, and what parts are left.
 --     open-first            the walk begins in the top MID
 --     closed                it leaves a MID
---     part-whole            it meets a part: the head is whole, and so is the payload
+--     part-complete            it meets a part: the head is whole, and so is the payload
 --     passed, entered       it passes a part that is no MID, and goes into one that is
 --     begun, store, ended   the list that it fills
 use Prim.Native.Nat.{ℕ, zero, suc, _+_, _-_, _≤_, _<_}
@@ -25,8 +25,8 @@ module _ (s : List ℕ) (end at : ℕ) (inside : at < end) (within : end ≤ len
   cut : length (take end s) ≡ end
   cut = length-take-le end s within
 
-  whole-head : Accepted (readOf 13 at (drop at (take end s))) → (2 ≤ end - at) × (getD s (at + 1) 0 ≤ end - (at + 2))
-  whole-head a =
+  complete-head : Accepted (readOf 13 at (drop at (take end s))) → (2 ≤ end - at) × (getD s (at + 1) 0 ≤ end - (at + 2))
+  complete-head a =
       let l = cut in
       let h = sound at at (take end s) (omega arith) a in
       let e : getD (take end s) (at + 1) 0 ≡ getD s (at + 1) 0 = getD-take end s (at + 1) 0 (omega arith) in
@@ -136,12 +136,12 @@ module _ (s ends : List ℕ) (level at end : ℕ) (some : 0 < level) (e : end �
     inside : at < end
     inside = let h = o1 in omega arith
 
-    pub part-whole : (at + 2 ≤ end) × (getD s (at + 1) 0 ≤ end - (at + 2)) × (end ≤ length s)
-    part-whole = let h = whole-head s end at inside (o1 .1) (o1 .2) in (omega arith, h .1, o1 .1)
+    pub part-complete : (at + 2 ≤ end) × (getD s (at + 1) 0 ≤ end - (at + 2)) × (end ≤ length s)
+    part-complete = let h = complete-head s end at inside (o1 .1) (o1 .2) in (omega arith, h .1, o1 .1)
 
   module _ (more : at ≡ end → ⊥) (n : ℕ) (en : n ≡ getD s (at + 1) 0) where
     fits : at + 2 + n ≤ end
-    fits = let h = part-whole more in omega arith
+    fits = let h = part-complete more in omega arith
 
     both : Accepted (readOf (getD s at 0) (at + 2) (drop (at + 2) (take (at + 2 + n) s))) × Accepted (readOf 13 (at + 2 + n) (drop (at + 2 + n) (take end s)))
     both = turn-read s end at (inside more) (o1 .1) n en fits (o1 .2)

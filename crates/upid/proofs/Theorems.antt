@@ -9,7 +9,7 @@ use Rattle.table.specs.declared.View.{View}
 use Rattle.upid.specs.Private.{Accepted, Announced}
 use Rattle.upid.specs.Upid.{upidOf, checkOf, readOf, reportedOf, blankPart, walkOf, plainOf, _then_, listOf, partsOf, listed, unlessRefused, partsIn}
 use Rattle.upid.specs.Text.{characters, begun, Octets, textOf}
-use Rattle.upid.specs.Cover.{All, Cut, joined, placed, whole, bytesOf, directOf, Covered, Ascending, Owned, Once}
+use Rattle.upid.specs.Cover.{All, Cut, joined, placed, topPart, bytesOf, directOf, Covered, Ascending, Owned, Once}
 use Rattle.upid.specs.declared.Part.{Part}
 use Rattle.upid.specs.declared.Refusal.{Refusal}
 use Rattle.upid.specs.declared.Refusal.the-variants.{InvalidUpidContent}
@@ -23,12 +23,12 @@ use Rattle.upid.proofs.Utf8 as utf8
 -- The top MID, and every part of it that is a MID, at whatever level: its direct parts, heads included, are the pieces of one cutting of its
 -- bytes, and it can be cut in no other way.
 pub every-mid-is-covered : (top : List ℕ) → Accepted (upidOf 13 top .read)
-    → All (λ (m : Part). m .«upid_type» ≡ 13 → Covered top (partsIn (upidOf 13 top)) m) (whole top ∷ partsIn (upidOf 13 top))
+    → All (λ (m : Part). m .«upid_type» ≡ 13 → Covered top (partsIn (upidOf 13 top)) m) (topPart top ∷ partsIn (upidOf 13 top))
 unfolding upidOf
 every-mid-is-covered = answers.covered
 
 -- Every byte of such a MID lies in exactly one of its direct parts.
-pub every-byte-lies-in-one-part : (top : List ℕ) → Accepted (upidOf 13 top .read) → All (λ (m : Part). m .«upid_type» ≡ 13 → Once (partsIn (upidOf 13 top)) m) (whole top ∷ partsIn (upidOf 13 top))
+pub every-byte-lies-in-one-part : (top : List ℕ) → Accepted (upidOf 13 top .read) → All (λ (m : Part). m .«upid_type» ≡ 13 → Once (partsIn (upidOf 13 top)) m) (topPart top ∷ partsIn (upidOf 13 top))
 unfolding upidOf
 every-byte-lies-in-one-part = answers.all-once
 
@@ -43,7 +43,7 @@ unfolding upidOf
 parts-are-in-order = answers.in-byte-order
 
 -- No part is invented: each is a direct part of the top MID or of a MID in the list.
-pub every-part-has-its-mid : (top : List ℕ) → Accepted (upidOf 13 top .read) → All (Owned (whole top ∷ partsIn (upidOf 13 top))) (partsIn (upidOf 13 top))
+pub every-part-has-its-mid : (top : List ℕ) → Accepted (upidOf 13 top .read) → All (Owned (topPart top ∷ partsIn (upidOf 13 top))) (partsIn (upidOf 13 top))
 unfolding upidOf
 every-part-has-its-mid = answers.no-part-of-nothing
 
@@ -53,7 +53,7 @@ no-other-cutting = cutting.one-cutting
 
 -- Pieces that are accepted, joined to at most 255 bytes, are accepted as a MID whose direct parts are those pieces.
 pub pieces-write-read : (cs : List Cut) → length (joined cs) ≤ 255 → All (λ (c : Cut). Accepted (readOf (c .«upid_type») 0 (c .payload))) cs
-    → Accepted (upidOf 13 (joined cs) .read) × (directOf (whole (joined cs)) (partsIn (upidOf 13 (joined cs))) ≡ placed 1 0 cs)
+    → Accepted (upidOf 13 (joined cs) .read) × (directOf (topPart (joined cs)) (partsIn (upidOf 13 (joined cs))) ≡ placed 1 0 cs)
 unfolding upidOf
 pieces-write-read = answers.pieces-write-read
 
@@ -93,7 +93,7 @@ nested (suc n) = 13 ∷ (length (nested n) ∷ nested n)
 
 -- 127 parts and 128 levels are reached
 pub deepest : (upidOf 13 (nested 127) .read ≡ Fine 13) × (upidOf 13 (nested 127) .list .count ≡ 127)
-    × (getD (upidOf 13 (nested 127) .list .parts) 126 (whole []) .level ≡ 127)
+    × (getD (upidOf 13 (nested 127) .list .parts) 126 (topPart []) .level ≡ 127)
 unfolding nested upidOf checkOf readOf walkOf plainOf _then_ listOf partsOf listed unlessRefused
 deepest = (refl, refl, refl)
 

@@ -1,6 +1,6 @@
 -- An accepted MID as a tree of parts, and what its records say of it.
 --     grow         an accepted MID is a tree's bytes, and its list of parts that tree's records
---     whole-piece, inner-pieces    the top MID, and each MID inside it, is cut into its direct parts
+--     top-piece, inner-pieces    the top MID, and each MID inside it, is cut into its direct parts
 --     announced, shallow           each record has a head before it, and is not too deep
 use Prim.Native.Nat.{ℕ, zero, suc, _+_, _*_, _-_, _≤_, _<_}
 use mathlib.Core.Path.{_≡_, refl, sym, ap, _∙_}
@@ -13,7 +13,7 @@ use lib.Seq.{take-length, take-append-seam, getD-drop}
 use borrow.Author.Tests.{lt-ltb, le-ltb, le-leb, lt-leb, eq-eqb, ne-eqb, eqb-true, eqb-false}
 use Rattle.upid.specs.Private.{Accepted, Announced}
 use Rattle.upid.specs.Upid.{readOf, listOf, reportedOf}
-use Rattle.upid.specs.Cover.{All, none, more, Ascending, nothing, before, Owned, Cut, joined, placed, whole, bytesOf, directly, directOf}
+use Rattle.upid.specs.Cover.{All, none, more, Ascending, nothing, before, Owned, Cut, joined, placed, topPart, bytesOf, directly, directOf}
 use Rattle.upid.specs.declared.Part.{Part}
 use Rattle.upid.proofs.Laws.{read-one, read-more, list-nil, list-more, list-plain, list-mid, accepted-mid, then-both, by-cases}
 use Rattle.upid.proofs.Cutting.{length-joined, after-head, after-part}
@@ -77,8 +77,8 @@ grow-more level start k l rest h inner after = go (eqb k 13) refl
     go true e =
         let h13 : k ≡ 13 = eqb-true k 13 e in
         let (f, g, j, r) = inner h13 in
-        let whole : take l rest ≡ joined (cuts f) ++ [] = sym j ∙ sym (append-nil (joined (cuts f))) in
-        build f (record { spare = []; inside = whole; mid = λ _. refl; plain = λ no. absurd (no h13) }) g (list-mid k _ _ _ h13 ∙ r)
+        let overall : take l rest ≡ joined (cuts f) ++ [] = sym j ∙ sym (append-nil (joined (cuts f))) in
+        build f (record { spare = []; inside = overall; mid = λ _. refl; plain = λ no. absurd (no h13) }) g (list-mid k _ _ _ h13 ∙ r)
     go false e =
         let no : k ≡ 13 → ⊥ = eqb-false k 13 e in
         build no-tree (record { spare = take l rest; inside = refl; mid = λ h13. absurd (no h13); plain = λ _. refl }) tt (list-plain k _ _ _ no)
@@ -325,14 +325,14 @@ shallow (part k p i a) level start low high g l h =
     (shallow a level (start + (2 + length p)) low high (g .2) l (omega arith)))
 
 -- the top MID
-pub whole-piece : (f : Forest) → Grown f → Piece (joined (cuts f)) (records 1 0 f) (whole (joined (cuts f)))
+pub top-piece : (f : Forest) → Grown f → Piece (joined (cuts f)) (records 1 0 f) (topPart (joined (cuts f)))
 unfolding size
-whole-piece f g =
+top-piece f g =
     record {
       cutting = cuts f;
       joins = sym (take-length (joined (cuts f)));
       size = refl;
-      pieces = direct-placed f 1 0 (whole (joined (cuts f))) g refl (omega arith) (omega arith);
+      pieces = direct-placed f 1 0 (topPart (joined (cuts f))) g refl (omega arith) (omega arith);
     }
 
 -- ---- each record follows those before it, and has a MID that it is a direct part of

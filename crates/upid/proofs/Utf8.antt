@@ -135,10 +135,10 @@ left (b ∷ s) (wants []) e = ([], b ∷ s, refl, none, first-left b s (begin ch
 left (b ∷ s) (wants (r ∷ more)) e = next-left b s r more (within r b) refl (left s (pick (within r b) (wants more) broken) e)
 left (b ∷ s) broken e = left s broken e
 
-whole : (s : List ℕ) → Left (wants []) s → Octets s
+overall : (s : List ℕ) → Left (wants []) s → Octets s
 unfolding Left
-whole s (c, rest, e, none, os) = rw e os
+overall s (c, rest, e, none, os) = rw e os
 
 pub text-is-utf8 : (s : List ℕ) → textOf s ≡ true → Octets s
 unfolding textOf
-text-is-utf8 s e = whole s (left s (wants []) e)
+text-is-utf8 s e = overall s (left s (wants []) e)

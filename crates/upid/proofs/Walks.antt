@@ -61,8 +61,8 @@ module _ (start at n : ℕ) (s : List ℕ) (inside : at < length s) (head : 2 �
     there : start + at + (2 + n) ≡ start + (at + 2 + n)
     there = omega arith
 
-    whole : at + 2 + n - (at + 2) ≡ n
-    whole = omega arith
+    overall : at + 2 + n - (at + 2) ≡ n
+    overall = omega arith
 
     pub inner-length : length (take (at + 2 + n - (at + 2)) (drop (at + 2) s)) ≡ n
     inner-length = simp (length-take, length-drop) (omega arith)
@@ -70,7 +70,7 @@ module _ (start at n : ℕ) (s : List ℕ) (inside : at < length s) (head : 2 �
     pub read-turn : readOf 13 (start + at) (drop at s) ≡
         (readOf (getD s at 0) (start + (at + 2)) (take (at + 2 + n - (at + 2)) (drop (at + 2) s))
         then readOf 13 (start + (at + 2 + n)) (drop (at + 2 + n) s))
-    read-turn = rw (at-more s at inside head, read-more, ← en, ends, le-ltb _ _ present, here, there, whole, drop-drop)
+    read-turn = rw (at-more s at inside head, read-more, ← en, ends, le-ltb _ _ present, here, there, overall, drop-drop)
 
     pub read-stop : (inner : UpidRead) (r : Refusal) → inner ≡ readOf (getD s at 0) (start + (at + 2)) (take (at + 2 + n - (at + 2)) (drop (at + 2) s))
         → inner ≡ Refused r → readOf 13 (start + at) (drop at s) ≡ Refused r

@@ -28,8 +28,8 @@ joined (c ∷ cs) = c .«upid_type» ∷ (length (c .payload) ∷ (c .payload ++
 -- ---- a MID and its direct parts
 
 -- the top MID as a record beside those of its parts
-abbrev pub whole : List ℕ → Part
-whole top = record { «upid_type» = 13; level = 0; start = 0; len = length top }
+abbrev pub topPart : List ℕ → Part
+topPart top = record { «upid_type» = 13; level = 0; start = 0; len = length top }
 
 -- the bytes of a part are one run of the top UPID
 abbrev pub bytesOf : List ℕ → Part → List ℕ

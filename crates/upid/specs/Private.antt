@@ -1,4 +1,4 @@
--- What the contracts of private functions and the laws of this crate say. No public contract cites this. Assumes nothing: these are definitions.
+-- What the contracts of private functions and the laws of this crate say. No public contract cites this.
 use Prim.Native.Nat.{ℕ, zero, suc, _+_, _-_, _≤_}
 use mathlib.Core.List.{List, [], _∷_, _++_}
 use mathlib.Core.Path.{_≡_}

@@ -69,24 +69,24 @@ pub struct Upid {
 }
 
 // What the bytes are read as under the type `upid_type`, without the list of parts.
-pub fn check_upid(upid_type: u8, bytes: &[u8]) -> UpidRead
-    ensures { λ r. ⌜ r ≡ checkOf «upid_type» (now (bytes .entry)) ⌝ }
+pub fn check_upid(upid_type: u8, upid: &[u8]) -> UpidRead
+    ensures { λ r. ⌜ r ≡ checkOf «upid_type» (now (upid .entry)) ⌝ }
 {
-    if MAX_UPID < bytes.len() {
+    if MAX_UPID < upid.len() {
         return UpidRead::Refused(Refusal::InputTooLong);
     }
-    if bytes.len() == 0 {
+    if upid.len() == 0 {
         return UpidRead::Fine(0);
     }
-    check_payload(upid_type, bytes, 0)
+    check_payload(upid_type, upid, 0)
 }
 
-// The same, with the list of parts.
-pub fn read_upid(upid_type: u8, bytes: &[u8]) -> Upid
-    ensures { λ r. ⌜ r ≡ upidOf «upid_type» (now (bytes .entry)) ⌝ }
+// What the bytes are read as under the type `upid_type`, with the list of parts.
+pub fn read_upid(upid_type: u8, upid: &[u8]) -> Upid
+    ensures { λ r. ⌜ r ≡ upidOf «upid_type» (now (upid .entry)) ⌝ }
 {
-    let held = eidr(upid_type, bytes);
-    let read = check_upid(upid_type, bytes);
+    let held = eidr(upid_type, upid);
+    let read = check_upid(upid_type, upid);
     match read {
         UpidRead::Refused(_) => Upid {
             read,
@@ -96,37 +96,37 @@ pub fn read_upid(upid_type: u8, bytes: &[u8]) -> Upid
         UpidRead::Fine(_) => Upid {
             read,
             eidr: held,
-            list: list_parts(upid_type, bytes),
+            list: list_parts(upid_type, upid),
         },
     }
 }
 
 // The EIDR identifier by value; all zero where the UPID is no EIDR.
-pub fn eidr(upid_type: u8, bytes: &[u8]) -> [u8; 12]
-    ensures { λ r. ⌜ r ≡ eidrOf «upid_type» (now (bytes .entry)) ⌝ }
+pub fn eidr(upid_type: u8, upid: &[u8]) -> [u8; 12]
+    ensures { λ r. ⌜ r ≡ eidrOf «upid_type» (now (upid .entry)) ⌝ }
 {
     let mut out = [0u8; 12];
     if upid_type != UPID_EIDR {
         return out;
     }
-    if bytes.len() != 12 {
+    if upid.len() != 12 {
         return out;
     }
     let mut i: usize = 0;
     while i < 12 {
-        out[i] = bytes[i];
+        out[i] = upid[i];
         i += 1;
     }
     out
 }
 
 // The bytes of a part, as a part of the lent top UPID.
-pub fn part_bytes(top: &[u8], part: Part) -> &[u8]
-    ensures { λ r. ⌜ now r ≡ viewed (now (top .entry)) (partView part) ⌝ }
+pub fn part_bytes(upid: &[u8], part: Part) -> &[u8]
+    ensures { λ r. ⌜ now r ≡ viewed (now (upid .entry)) (partView part) ⌝ }
 {
     let place = View {
         at: part.start as usize,
         len: part.len as usize,
     };
-    view(top, place)
+    view(upid, place)
 }

@@ -60,12 +60,12 @@ pub enum SpliceMode {
     /// the whole program
     Program(SpliceTime),
     /// these components; 255 at most, all immediate or none
-    Components(Vec<ComponentSplice>),
+    Components(Vec<InsertComponent>),
 }
 
 /// A component of an insert.
 #[derive(Debug, Clone, Copy, PartialEq, Eq, Hash)]
-pub struct ComponentSplice {
+pub struct InsertComponent {
     /// which component
     pub component_tag: u8,
     /// its time
@@ -130,7 +130,7 @@ fn mode(m: &raw::Mode, lent: &[u8], at: usize) -> SpliceMode {
         return SpliceMode::Components(vec![]);
     }
     let list = raw::read_insert_components(lent, at);
-    let component = |c: &raw::ComponentSplice| ComponentSplice { component_tag: c.component_tag as u8, splice_time: SpliceTime::of(&c.splice_time) };
+    let component = |c: &raw::InsertComponent| InsertComponent { component_tag: c.component_tag as u8, splice_time: SpliceTime::of(&c.splice_time) };
     SpliceMode::Components(list.components[..list.count as usize].iter().map(component).collect())
 }
 

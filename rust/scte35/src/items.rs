@@ -57,7 +57,7 @@ pub struct SegmentationDetail<'a> {
     /// none: delivery is not restricted
     pub delivery_restrictions: Option<DeliveryRestrictions>,
     /// none: the whole program
-    pub components: Option<Vec<ModeComponent>>,
+    pub components: Option<Vec<SegmentationComponent>>,
     /// 40 bits, in ticks of 90 kHz
     pub segmentation_duration: Option<u64>,
     /// the identifier
@@ -87,7 +87,7 @@ pub struct DeliveryRestrictions {
 
 /// A component of a segmentation descriptor.
 #[derive(Debug, Clone, Copy, PartialEq, Eq, Hash)]
-pub struct ModeComponent {
+pub struct SegmentationComponent {
     /// which component
     pub component_tag: u8,
     /// 33 bits, in ticks of 90 kHz
@@ -198,9 +198,9 @@ fn detail<'a>(s: &raw::Segmentation, bytes: &'a [u8], lent: &[u8], offset: usize
 
 /// The components and the EIDR of the item at an offset. By itself, since the answer takes 4 KB of the stack and most items have neither.
 #[inline(never)]
-fn beside(lent: &[u8], offset: usize) -> (Vec<ModeComponent>, [u8; 12]) {
-    let list = raw::read_item_components(lent, offset);
-    let component = |c: &raw::Component| ModeComponent { component_tag: c.component_tag as u8, pts_offset: c.pts_offset };
+fn beside(lent: &[u8], offset: usize) -> (Vec<SegmentationComponent>, [u8; 12]) {
+    let list = raw::read_segmentation_components(lent, offset);
+    let component = |c: &raw::SegmentationComponent| SegmentationComponent { component_tag: c.component_tag as u8, pts_offset: c.pts_offset };
     (list.components[..list.count as usize].iter().map(component).collect(), list.eidr.map(|b| b as u8))
 }
 

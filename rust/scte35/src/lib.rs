@@ -90,13 +90,13 @@ mod upid;
 mod write;
 
 pub use adjust::{adjust_section, adjust_section_to_vec, chain_adjustments, undo_adjustment};
-pub use command::{read_command, ComponentSplice, InsertDetail, SpliceCommand, SpliceDuration, SpliceInsert, SpliceMode};
+pub use command::{read_command, InsertComponent, InsertDetail, SpliceCommand, SpliceDuration, SpliceInsert, SpliceMode};
 pub use daterange::{read_daterange, read_daterange_to_vec, write_daterange, write_daterange_to_vec, CueName, Daterange};
 pub use flags::{DeviceRestrictions, NetworkIndicator, ReturnMode};
 pub use header::{read_header, SpliceInfoHeader, SpliceTime};
 pub use identifiers::{Identifier, IdentifierKind};
 pub use items::{
-    read_item, DeliveryRestrictions, Item, Items, ModeComponent, SegmentationDetail, SpliceDescriptor, SpliceDescriptors, Step, SubSegments,
+    read_item, DeliveryRestrictions, Item, Items, SegmentationComponent, SegmentationDetail, SpliceDescriptor, SpliceDescriptors, Step, SubSegments,
 };
 pub use names::{EncryptionAlgorithm, SegmentationTypeId, SegmentationUpidType, SpliceCommandType};
 pub use refusal::Refusal;

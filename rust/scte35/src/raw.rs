@@ -64,8 +64,8 @@ words! {
         identifier: u64,
         private_bytes: View,
     }
-    ComponentSplice { component_tag: u64, splice_time: Time }
-    InsertComponents { refusal: u64, count: u64, components: [ComponentSplice; 255] }
+    InsertComponent { component_tag: u64, splice_time: Time }
+    InsertComponents { refusal: u64, count: u64, components: [InsertComponent; 255] }
     Section { refusal: u64, header: Header, command: Command, descriptors: View, payload: View }
     Restrictions {
         web_delivery_allowed_flag: u64,
@@ -100,8 +100,8 @@ words! {
         bytes: View,
     }
     Step { refusal: u64, values: [u64; 3], next: u64, identifier: u64, item: Item }
-    Component { component_tag: u64, pts_offset: u64 }
-    ItemComponents { refusal: u64, values: [u64; 3], count: u64, components: [Component; 255], eidr: [u64; 12] }
+    SegmentationComponent { component_tag: u64, pts_offset: u64 }
+    SegmentationComponents { refusal: u64, values: [u64; 3], count: u64, components: [SegmentationComponent; 255], eidr: [u64; 12] }
     Part { upid_type: u64, level: u64, start: u64, len: u64 }
     Upid { refusal: u64, values: [u64; 3], upid_type: u64, eidr: [u64; 12], count: u64, parts: [Part; 127] }
     AdjustedTime { refusal: u64, kind: u64, ticks: u64 }
@@ -114,20 +114,20 @@ words! {
 extern "C" {
     fn scte35_abi() -> u32;
     fn scte35_read_header(s: *const u8, n: usize, at: usize) -> Header;
-    fn scte35_read_section(s: *const u8, n: usize, at: usize) -> Section;
-    fn scte35_read_command(command_type: u8, s: *const u8, n: usize, at: usize) -> Command;
-    fn scte35_read_insert_components(s: *const u8, n: usize, at: usize) -> InsertComponents;
-    fn scte35_read_item(s: *const u8, n: usize, offset: usize) -> Step;
-    fn scte35_read_item_components(s: *const u8, n: usize, offset: usize) -> ItemComponents;
-    fn scte35_read_upid(upid_type: u8, s: *const u8, n: usize, at: usize) -> Upid;
+    fn scte35_read_section(section: *const u8, n: usize, at: usize) -> Section;
+    fn scte35_read_command(command_type: u8, payload: *const u8, n: usize, at: usize) -> Command;
+    fn scte35_read_insert_components(payload: *const u8, n: usize, at: usize) -> InsertComponents;
+    fn scte35_read_item(descriptors: *const u8, n: usize, offset: usize) -> Step;
+    fn scte35_read_segmentation_components(descriptors: *const u8, n: usize, offset: usize) -> SegmentationComponents;
+    fn scte35_read_upid(upid_type: u8, upid: *const u8, n: usize, at: usize) -> Upid;
     fn scte35_crc(s: *const u8, n: usize, at: usize) -> u32;
     fn scte35_adjust_time(kind: u64, ticks: u64, pts_adjustment: u64) -> AdjustedTime;
     fn scte35_move_time(kind: u64, ticks: u64, adjustment: u64) -> AdjustedTime;
     fn scte35_chain_adjustments(a: u64, b: u64) -> Adjustment;
     fn scte35_undo_adjustment(a: u64) -> Adjustment;
-    fn scte35_adjust_section(s: *const u8, n: usize, at: usize, adjustment: u64, target: *mut u8, target_length: usize) -> Written;
+    fn scte35_adjust_section(section: *const u8, n: usize, at: usize, adjustment: u64, target: *mut u8, target_length: usize) -> Written;
     fn scte35_relabel(
-        s: *const u8,
+        section: *const u8,
         n: usize,
         offset: usize,
         part: usize,
@@ -138,7 +138,7 @@ extern "C" {
         target_length: usize,
     ) -> Written;
     fn scte35_write_daterange(
-        s: *const u8,
+        section: *const u8,
         n: usize,
         at: usize,
         id: *const u8,
@@ -148,7 +148,7 @@ extern "C" {
         target: *mut u8,
         target_length: usize,
     ) -> Written;
-    fn scte35_read_daterange(s: *const u8, n: usize, at: usize, target: *mut u8, target_length: usize) -> Daterange;
+    fn scte35_read_daterange(line: *const u8, n: usize, at: usize, target: *mut u8, target_length: usize) -> Daterange;
     fn scte35_write_command_words(
         command: *const u64,
         command_words: usize,
@@ -183,9 +183,9 @@ extern "C" {
         target: *mut u8,
         target_length: usize,
     ) -> Written;
-    fn scte35_is_canonical_section(s: *const u8, n: usize, at: usize) -> bool;
-    fn scte35_is_canonical_loop(s: *const u8, n: usize, at: usize) -> bool;
-    fn scte35_is_canonical_descriptor(s: *const u8, n: usize, at: usize) -> bool;
+    fn scte35_is_canonical_section(section: *const u8, n: usize, at: usize) -> bool;
+    fn scte35_is_canonical_loop(descriptors: *const u8, n: usize, at: usize) -> bool;
+    fn scte35_is_canonical_descriptor(descriptor: *const u8, n: usize, at: usize) -> bool;
     fn scte35_classify_algorithm(n: u8) -> Number;
     fn scte35_classify_command_type(n: u8) -> Number;
     fn scte35_classify_upid_type(n: u8) -> Number;
@@ -223,7 +223,7 @@ over_bytes! {
     read_section = scte35_read_section -> Section;
     read_insert_components = scte35_read_insert_components -> InsertComponents;
     read_item = scte35_read_item -> Step;
-    read_item_components = scte35_read_item_components -> ItemComponents;
+    read_segmentation_components = scte35_read_segmentation_components -> SegmentationComponents;
     crc = scte35_crc -> u32;
     is_canonical_section = scte35_is_canonical_section -> bool;
     is_canonical_loop = scte35_is_canonical_loop -> bool;
@@ -378,7 +378,7 @@ const _: () = {
     assert!(words::<Segmentation>() == 18);
     assert!(words::<Item>() == 27);
     assert!(words::<Step>() == 6 + 27);
-    assert!(words::<ItemComponents>() == 5 + 255 * 2 + 12);
+    assert!(words::<SegmentationComponents>() == 5 + 255 * 2 + 12);
     assert!(words::<Upid>() == 18 + 127 * 4);
     assert!(words::<AdjustedTime>() == 3);
     assert!(words::<Adjustment>() == 2);

@@ -2,7 +2,7 @@
 //! them.
 use crate::command::{InsertDetail, SpliceCommand, SpliceInsert, SpliceMode};
 use crate::header::{SpliceInfoHeader, SpliceTime};
-use crate::items::{ModeComponent, SegmentationDetail, SpliceDescriptor, SpliceDescriptors};
+use crate::items::{SegmentationComponent, SegmentationDetail, SpliceDescriptor, SpliceDescriptors};
 use crate::names::{EncryptionAlgorithm, SegmentationTypeId};
 use crate::raw;
 use crate::refusal::Refusal;
@@ -23,7 +23,7 @@ pub fn write_command_to_vec(command: &SpliceCommand<'_>) -> Result<Vec<u8>, Refu
 /// Writes a whole descriptor from the target's first byte on; says how many bytes that are.
 pub fn write_descriptor(descriptor: &SpliceDescriptor<'_>, target: &mut [u8]) -> Result<usize, Refusal> {
     let mut step = raw::Step::ZERO;
-    let mut beside = raw::ItemComponents::ZERO;
+    let mut beside = raw::SegmentationComponents::ZERO;
     let lent = of_descriptor(descriptor, &mut step, &mut beside);
     written(is_read(descriptor), target, |target| raw::write_descriptor_words(step.words(), beside.words(), lent, target))
 }
@@ -209,7 +209,7 @@ fn of_detail(detail: &InsertDetail, i: &mut raw::Insert) -> Vec<u64> {
 // ---- descriptors
 
 /// A descriptor's words, and its bytes.
-fn of_descriptor<'a>(descriptor: &'a SpliceDescriptor<'_>, step: &mut raw::Step, beside: &mut raw::ItemComponents) -> &'a [u8] {
+fn of_descriptor<'a>(descriptor: &'a SpliceDescriptor<'_>, step: &mut raw::Step, beside: &mut raw::SegmentationComponents) -> &'a [u8] {
     let i = &mut step.item;
     let (kind, lent): (_, &[u8]) = match descriptor {
         SpliceDescriptor::Avail { provider_avail_id } => {
@@ -241,7 +241,7 @@ fn of_descriptor<'a>(descriptor: &'a SpliceDescriptor<'_>, step: &mut raw::Step,
 }
 
 /// The words of a segmentation descriptor that is not cancelled, and the bytes of its UPID's view.
-fn of_segmentation<'a>(detail: &'a SegmentationDetail<'_>, s: &mut raw::Segmentation, beside: &mut raw::ItemComponents) -> &'a [u8] {
+fn of_segmentation<'a>(detail: &'a SegmentationDetail<'_>, s: &mut raw::Segmentation, beside: &mut raw::SegmentationComponents) -> &'a [u8] {
     s.program_segmentation_flag = detail.components.is_none().into();
     s.segmentation_duration_flag = detail.segmentation_duration.is_some().into();
     s.delivery_not_restricted_flag = detail.delivery_restrictions.is_none().into();
@@ -255,8 +255,8 @@ fn of_segmentation<'a>(detail: &'a SegmentationDetail<'_>, s: &mut raw::Segmenta
     }
     let components = detail.components.as_deref().unwrap_or(&[]);
     s.component_count = components.len() as u64;
-    for (place, ModeComponent { component_tag, pts_offset }) in beside.components.iter_mut().zip(components) {
-        *place = raw::Component { component_tag: (*component_tag).into(), pts_offset: *pts_offset };
+    for (place, SegmentationComponent { component_tag, pts_offset }) in beside.components.iter_mut().zip(components) {
+        *place = raw::SegmentationComponent { component_tag: (*component_tag).into(), pts_offset: *pts_offset };
     }
     s.segmentation_duration = detail.segmentation_duration.unwrap_or(0);
     s.segmentation_type_id = detail.segmentation_type_id.id().into();

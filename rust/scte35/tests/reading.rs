@@ -99,7 +99,7 @@ fn commands() {
     assert_eq!(insert(&one), insert(&other));
     let components = [0, 0, 0, 9, 0x7F, 0x0F, 2, 5, 0x7F, 6, 0xFE, 0, 0, 0, 1, 0, 3, 4, 5];
     let Ok(SpliceCommand::SpliceInsert(SpliceInsert { detail: Some(detail), .. })) = insert(&components) else { panic!("an insert") };
-    let tagged = |component_tag, splice_time| ComponentSplice { component_tag, splice_time };
+    let tagged = |component_tag, splice_time| InsertComponent { component_tag, splice_time };
     assert_eq!(detail.splice_mode, SpliceMode::Components(vec![tagged(5, SpliceTime::Unspecified), tagged(6, SpliceTime::At(1))]));
     assert_eq!((detail.unique_program_id, detail.avail_num, detail.avails_expected), (3, 4, 5));
     assert_eq!(read_command(SpliceCommandType::SpliceSchedule, &[]), Err(Refusal::UnknownCommand));
@@ -121,7 +121,7 @@ fn segmentation() {
     assert_eq!(detail(&framed(&[&plain[..], &[1, 2]].concat())), Ok((SegmentationTypeId::ProgramStart, Some(subs))));
     let full = framed(&unhex("00 00 00 07 7F 55 01 09 FF 00 00 00 05 00 00 00 00 63 0A 0C 01 02 03 04 05 06 07 08 09 0A 0B 0C 34 02 03"));
     let Ok(SpliceDescriptor::Segmentation { detail: Some(d), .. }) = items(&full).remove(0) else { panic!("a segmentation") };
-    assert_eq!(d.components, Some(vec![ModeComponent { component_tag: 9, pts_offset: 4_294_967_301 }]));
+    assert_eq!(d.components, Some(vec![SegmentationComponent { component_tag: 9, pts_offset: 4_294_967_301 }]));
     assert_eq!(d.segmentation_duration, Some(99));
     assert_eq!(d.segmentation_upid, Upid::Eidr([1, 2, 3, 4, 5, 6, 7, 8, 9, 10, 11, 12]));
     let allowed = DeliveryRestrictions {

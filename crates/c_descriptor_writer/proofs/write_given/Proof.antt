@@ -3,9 +3,9 @@ use borrow.Author.Needs.{needs}
 use Prim.Native.Nat.{ℕ}
 use mathlib.Core.List.{List, []}
 use mathlib.Core.Path.{_≡_, refl}
-use Rattle.descriptor.specs.Whole.{filled}
+use Rattle.descriptor.specs.Full.{filled}
 use Rattle.descriptor.specs.declared.Descriptor.{Descriptor}
-use Rattle.descriptor.specs.declared.whole.Beside.{Beside}
+use Rattle.descriptor.specs.declared.full.Beside.{Beside}
 use Rattle.descriptor_measure.specs.Writing.{descriptorMade}
 use Rattle.descriptor_writer.specs.Stores.{Writes}
 use Rattle.bit_stores.specs.declared.Written.{Written}

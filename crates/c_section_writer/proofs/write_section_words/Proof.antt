@@ -6,7 +6,7 @@ use mathlib.Core.Path.{_≡_, refl, ap, sym, _∙_}
 use native.Mathlib.Omega.{arith}
 use Rattle.command.specs.Command.{array, countIn}
 use Rattle.command.specs.declared.SpliceCommand.{SpliceCommand}
-use Rattle.command.specs.declared.components.ComponentSplice.{ComponentSplice}
+use Rattle.command.specs.declared.components.InsertComponent.{InsertComponent}
 use Rattle.command_measure.specs.Made.{commandMade}
 use Rattle.header.specs.declared.header.SpliceInfoHeader.{SpliceInfoHeader}
 use Rattle.bit_stores.specs.Written.{answerOf, laterOf}
@@ -21,13 +21,13 @@ use Rattle.c_section_writer.proofs.Refusals.{header-small, either-small
 use Rattle.c_section_writer.proofs.write_section_words.Statement.{statement}
 use Rattle.c_section_writer.proofs.write_section_words.Tie as tie
 
-parts : (header command components lent loop : List ℕ) (h : SpliceInfoHeader) (g : SpliceCommand) (p : List ComponentSplice) (m n r : ℕ)
+parts : (header command components lent loop : List ℕ) (h : SpliceInfoHeader) (g : SpliceCommand) (p : List InsertComponent) (m n r : ℕ)
     → h ≡ headerFrom header → g ≡ commandGiven command → p ≡ componentsFrom (countIn g) components → m ≡ headerRefusal header → n ≡ commandRefusal g command components lent → r ≡ either m n
     → noLess r (sectionMade h (commandMade g p lent) (typeOf g) loop) ≡ sectionWordsMade header command components lent loop
 unfolding sectionWordsMade
 parts header command components lent loop h g p m n r e f i j l o = rw (o, l, j, i, f, e)
 
-made : (k : tie.After-either-refusal) (p : List ComponentSplice) →
+made : (k : tie.After-either-refusal) (p : List InsertComponent) →
     let g = k .before .before .before .command-given .result in
     let h = k .before .before .before .before .header-from .result in
     let a = k .before .before .before .before .before .before .before .before .before .before .before .args in

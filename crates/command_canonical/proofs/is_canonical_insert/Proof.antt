@@ -2,7 +2,7 @@
 use mathlib.Core.Path.{_∙_}
 use Rattle.command.specs.Insert.{insert}
 use Rattle.command_canonical.proofs.Inserts.{no-cancel, insert-reserved, a-cancel, an-insert}
-use Rattle.command_canonical.proofs.Walks.{by-table, not-by-table, whole-is}
+use Rattle.command_canonical.proofs.Walks.{by-table, not-by-table, exact-is}
 use borrow.Author.Needs.{needs}
 use Rattle.command_canonical.proofs.is_canonical_insert.Statement.{statement}
 use Rattle.command_canonical.proofs.is_canonical_insert.Tie as tie
@@ -34,8 +34,8 @@ returns-3 c =
 pass-active-requires : tie.Need-pass-active-requires
 pass-active-requires c κs = search needs
 
-is-whole-requires : tie.Need-is-whole-requires
-is-whole-requires c κs = search needs
+is-exact-requires : tie.Need-is-exact-requires
+is-exact-requires c κs = search needs
 
 returns-4 : tie.Need-returns-4
 returns-4 c =
@@ -44,8 +44,8 @@ returns-4 c =
     let k = i .before .before .before in
     let l = k .before in
     let s = l .before .before .args .s .now in
-    c .is-whole .ensures
-    ∙ whole-is insert s (p .pass-active .result) (an-insert s (l .if1 .left) (k .shared-slice-known2 .given 4 .fits) (p .pass-active .result) (i .if3 .left) (p .pass-active .ensures))
+    c .is-exact .ensures
+    ∙ exact-is insert s (p .pass-active .result) (an-insert s (l .if1 .left) (k .shared-slice-known2 .given 4 .fits) (p .pass-active .result) (i .if3 .left) (p .pass-active .ensures))
 
 pub is-canonical-insert-spec : {M : Type 1} → statement M
 is-canonical-insert-spec =
@@ -57,5 +57,5 @@ is-canonical-insert-spec =
     shared-slice-read-if3
     returns-3
     pass-active-requires
-    is-whole-requires
+    is-exact-requires
     returns-4)

@@ -10,7 +10,7 @@ use Rattle.table.proofs.Bits.{bytes-all}
 use Rattle.table.proofs.Walks.{print-bits}
 use Rattle.command_measure.specs.Fields.{ink, insertFields}
 use Rattle.command_measure.specs.Made.{counted, insertMade}
-use Rattle.command_writer.proofs.Payloads.{Payload, counted-payload, store-room, store-whole, room-there, room-none}
+use Rattle.command_writer.proofs.Payloads.{Payload, counted-payload, store-room, store-all, room-there, room-none}
 use borrow.Author.Needs.{needs}
 use Rattle.command_writer.proofs.put_insert.Statement.{statement}
 use Rattle.command_writer.proofs.put_insert.Tie as tie
@@ -57,7 +57,7 @@ returns c =
     let t = q .before .before in
     let s = t .before .before .before .before in
     let a = s .args in
-    store-whole (a .out .now) (a .at) _ _ (payload t) (there t .1) (bytes-all (a .out .now) (λ j. t .before .before .before .slice-known .given j .fits)) (print-bits (contents [] (insertFields (counted (a .i) (a .components))))) _ _ (q .store-insert .ensures)
+    store-all (a .out .now) (a .at) _ _ (payload t) (there t .1) (bytes-all (a .out .now) (λ j. t .before .before .before .slice-known .given j .fits)) (print-bits (contents [] (insertFields (counted (a .i) (a .components))))) _ _ (q .store-insert .ensures)
 
 returns-2 : tie.Need-returns-2
 returns-2 c =

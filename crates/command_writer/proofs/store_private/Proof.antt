@@ -32,7 +32,7 @@ returns c =
     let a = s .args in
     let b = bitsOf (viewed (a .lent .now) (a .p .«private_bytes»)) in
     let r = pens-same _ _ _ b _ _ (ap bitsOf (q .before .view .ensures)) (q .put-run .ensures) in
-    pens-append (a .out .now) (a .c) (bitsOfNum 32 (a .p .identifier)) _ _ b (all-num 32 (a .p .identifier)) (s .pre) (p .put-bits .ensures) .whole _ _ r
+    pens-append (a .out .now) (a .c) (bitsOfNum 32 (a .p .identifier)) _ _ b (all-num 32 (a .p .identifier)) (s .pre) (p .put-bits .ensures) .both _ _ r
 
 pub store-private-spec : {M : Type 1} → statement M
 store-private-spec =

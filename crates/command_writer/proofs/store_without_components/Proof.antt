@@ -14,7 +14,7 @@ use Rattle.command_measure.specs.Fields.{ink, timeFields, insertFields, private
 use Rattle.command_measure.specs.Made.{counted, commandMade}
 use Rattle.command.specs.declared.SpliceCommand.{SpliceCommand}
 use Rattle.command_measure.proofs.Making.{countable}
-use Rattle.command_writer.proofs.Payloads.{Payload, command-insert-payload, command-time-payload, command-private-payload, null-bytes, bandwidth-bytes, store-room, store-whole, private-bits}
+use Rattle.command_writer.proofs.Payloads.{Payload, command-insert-payload, command-time-payload, command-private-payload, null-bytes, bandwidth-bytes, store-room, store-all, private-bits}
 use borrow.Author.Needs.{needs}
 use Rattle.command_writer.proofs.store_without_components.Statement.{statement}
 use Rattle.command_writer.proofs.store_without_components.Tie as tie
@@ -74,13 +74,13 @@ same-length : tie.Need-same-length
 same-length c = search needs
 
 returns-2 : tie.Need-returns-2
-returns-2 c = let q = c .before .before in let s = q .before .before .before .before .before .before .before in store-whole (s .args .out .now) (s .args .at) _ _ (inserted (q .before .before .before)) (s .pre .2) (s .pre .0) (print-bits (contents [] (insertFields (counted (q .before .before .before .command .given .0 .0) (array []))))) _ _ (q .store-insert-without-components .ensures)
+returns-2 c = let q = c .before .before in let s = q .before .before .before .before .before .before .before in store-all (s .args .out .now) (s .args .at) _ _ (inserted (q .before .before .before)) (s .pre .2) (s .pre .0) (print-bits (contents [] (insertFields (counted (q .before .before .before .command .given .0 .0) (array []))))) _ _ (q .store-insert-without-components .ensures)
 
 same-length-2 : tie.Need-same-length-2
 same-length-2 c = search needs
 
 returns-3 : tie.Need-returns-3
-returns-3 c = let q = c .before .before in let s = q .before .before .before .before .before .before .before in store-whole (s .args .out .now) (s .args .at) _ _ (timed (q .before .before .before)) (s .pre .2) (s .pre .0) (print-bits (contents [] (timeFields (q .before .before .before .command2 .given .0 .0)))) _ _ (q .store-time .ensures)
+returns-3 c = let q = c .before .before in let s = q .before .before .before .before .before .before .before in store-all (s .args .out .now) (s .args .at) _ _ (timed (q .before .before .before)) (s .pre .2) (s .pre .0) (print-bits (contents [] (timeFields (q .before .before .before .command2 .given .0 .0)))) _ _ (q .store-time .ensures)
 
 returns-4 : tie.Need-returns-4
 returns-4 c = let a = c .before .before .before .before .args in sym (ap (stored (a .out .now) (a .at)) (bandwidth-bytes (a .command) (array []) (a .lent .now) (c .enum-told2 .given .1)) ∙ stored-nil (a .out .now) (a .at))
@@ -89,7 +89,7 @@ same-length-3 : tie.Need-same-length-3
 same-length-3 c = search needs
 
 returns-5 : tie.Need-returns-5
-returns-5 c = let q = c .before .before in let s = q .before .before .before .before .before .before .before in store-whole (s .args .out .now) (s .args .at) _ _ (own (q .before .before .before)) (s .pre .2) (s .pre .0) (private-bits (q .before .before .before .command3 .given .0 .0) (s .args .lent .now)) _ _ (q .store-private .ensures)
+returns-5 c = let q = c .before .before in let s = q .before .before .before .before .before .before .before in store-all (s .args .out .now) (s .args .at) _ _ (own (q .before .before .before)) (s .pre .2) (s .pre .0) (private-bits (q .before .before .before .command3 .given .0 .0) (s .args .lent .now)) _ _ (q .store-private .ensures)
 
 pub store-without-components-spec : {M : Type 1} → statement M
 store-without-components-spec =

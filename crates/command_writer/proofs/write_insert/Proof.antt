@@ -11,7 +11,7 @@ use Rattle.table.proofs.Bits.{bytes-all}
 use Rattle.table.proofs.Walks.{print-bits}
 use Rattle.command_measure.specs.Fields.{ink, insertFields}
 use Rattle.command_measure.specs.Made.{counted, insertMade}
-use Rattle.command_writer.proofs.Payloads.{Payload, counted-payload, store-room, store-whole, answered, wrote-there, refused-later}
+use Rattle.command_writer.proofs.Payloads.{Payload, counted-payload, store-room, store-all, answered, wrote-there, refused-later}
 use borrow.Author.Needs.{needs}
 use Rattle.command_writer.proofs.write_insert.Statement.{statement}
 use Rattle.command_writer.proofs.write_insert.Tie as tie
@@ -78,7 +78,7 @@ returns c =
     let w = t .before .before in
     let k = w .before in
     let a = k .before .before .args in
-    let s = store-whole (a .target .now) 0 _ _ (payload t) (room t) (bytes-all (a .target .now) (λ j. k .before .slice-known .given j .fits)) (print-bits (contents [] (insertFields (counted (a .i) (a .components))))) _ _ (q .store-insert .ensures) in
+    let s = store-all (a .target .now) 0 _ _ (payload t) (room t) (bytes-all (a .target .now) (λ j. k .before .slice-known .given j .fits)) (print-bits (contents [] (insertFields (counted (a .i) (a .components))))) _ _ (q .store-insert .ensures) in
     (is w, s ∙ there t .2)
 
 returns-2 : tie.Need-returns-2

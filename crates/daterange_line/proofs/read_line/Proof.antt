@@ -1,7 +1,7 @@
 -- `daterange_line::read_line`: refused, too little room, or the section stands in the target.
 use native.Mathlib.Omega.{arith}
 use Rattle.daterange_line.proofs.Values.{stands-inside}
-use Rattle.daterange_line.proofs.Answers.{held, refused-read, ready, short-read, whole-read}
+use Rattle.daterange_line.proofs.Answers.{held, refused-read, ready, short-read, enough-read}
 use borrow.Author.Needs.{needs}
 use Rattle.daterange_line.proofs.read_line.Statement.{statement}
 use Rattle.daterange_line.proofs.read_line.Tie as tie
@@ -55,7 +55,7 @@ same-length c = search needs
 
 returns-3 : tie.Need-returns-3
 returns-3 c = let h = held (c .before .before .before .before .before .before .before .before .before .before .before .before .before .before .before .before .before .args .line .now) _ _ (c .before .before .before .before .before .before .before .before .before .before .before .before .before .before .find-cue .ensures) (c .before .before .before .before .before .before .before .before .before .before .before .before .f .given .1) in
-    whole-read _ _ _ h _ (c .before .before .before .before .before .if1 .left) (c .before .before .decode .ensures)
+    enough-read _ _ _ h _ (c .before .before .before .before .before .if1 .left) (c .before .before .decode .ensures)
 
 pub read-line-spec : {M : Type 1} → statement M
 read-line-spec =

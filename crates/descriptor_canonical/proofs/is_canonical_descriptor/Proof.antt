@@ -1,11 +1,11 @@
 -- `descriptor_canonical::is_canonical_descriptor`, test by test.
-use Rattle.descriptor_canonical.proofs.Tests.{frame-short, frame-other, frame-long, frame-is}
+use Rattle.descriptor_canonical.proofs.Tests.{envelope-short, envelope-other, envelope-long, envelope-is}
 use borrow.Author.Needs.{needs}
 use Rattle.descriptor_canonical.proofs.is_canonical_descriptor.Statement.{statement}
 use Rattle.descriptor_canonical.proofs.is_canonical_descriptor.Tie as tie
 
 returns : tie.Need-returns
-returns c = frame-short (c .before .before .args .s .now) (c .if1 .taken)
+returns c = envelope-short (c .before .before .args .descriptor .now) (c .if1 .taken)
 
 shared-slice-read-size : tie.Need-shared-slice-read-size
 shared-slice-read-size c = search needs
@@ -20,14 +20,14 @@ returns-2 : tie.Need-returns-2
 returns-2 c =
     let z = c .before in
     let e = z .before .before in
-    frame-other (e .before .before .args .s .now) (e .if1 .left) _ (z .size .ensures .0) (c .if2 .taken)
+    envelope-other (e .before .before .args .descriptor .now) (e .if1 .left) _ (z .size .ensures .0) (c .if2 .taken)
 
 returns-3 : tie.Need-returns-3
 returns-3 c =
     let f = c .before in
     let z = f .before in
     let e = z .before .before in
-    frame-long (e .before .before .args .s .now) (e .if1 .left) _ (z .size .ensures .0) (f .if2 .left) (c .if3 .taken)
+    envelope-long (e .before .before .args .descriptor .now) (e .if1 .left) _ (z .size .ensures .0) (f .if2 .left) (c .if3 .taken)
 
 shared-slice-read-is-canonical-payload : tie.Need-shared-slice-read-is-canonical-payload
 shared-slice-read-is-canonical-payload c = search needs
@@ -59,7 +59,7 @@ returns-4 c =
     let f = g .before in
     let z = f .before in
     let e = z .before .before in
-    frame-is (e .before .before .args .s .now) (e .if1 .left) _ (z .size .ensures .0) (f .if2 .left) (g .if3 .left) _ (c .is-canonical-payload .ensures)
+    envelope-is (e .before .before .args .descriptor .now) (e .if1 .left) _ (z .size .ensures .0) (f .if2 .left) (g .if3 .left) _ (c .is-canonical-payload .ensures)
 
 pub is-canonical-descriptor-spec : {M : Type 1} → statement M
 is-canonical-descriptor-spec =

@@ -24,7 +24,7 @@ sub-left c = omega arith
 returns : tie.Need-returns Inv-loop μ-loop
 returns c =
     let l = c .before .before in
-    loop-few (l .before .before .args .s .now) (l .loop .at) (c .before .loop-test .taken) _ refl (l .loop .inv .1) (c .if1 .taken)
+    loop-few (l .before .before .args .descriptors .now) (l .loop .at) (c .before .loop-test .taken) _ refl (l .loop .inv .1) (c .if1 .taken)
 
 add-size : tie.Need-add-size Inv-loop μ-loop
 add-size c = omega arith
@@ -42,7 +42,7 @@ returns-2 : tie.Need-returns-2 Inv-loop μ-loop
 returns-2 c =
     let z = c .before in
     let l = z .before .before .before .before in
-    loop-over (l .before .before .args .s .now) (l .loop .at) (omega arith) _ (ap (λ n. n + 2) (z .size .ensures .0)) (l .loop .inv .1) (c .if2 .taken)
+    loop-over (l .before .before .args .descriptors .now) (l .loop .at) (omega arith) _ (ap (λ n. n + 2) (z .size .ensures .0)) (l .loop .inv .1) (c .if2 .taken)
 
 add-next : tie.Need-add-next Inv-loop μ-loop
 add-next c = omega arith
@@ -64,7 +64,7 @@ returns-3 c =
     let r = c .before in
     let z = r .before .before .before in
     let l = z .before .before .before .before in
-    loop-spoilt (l .before .before .args .s .now) (l .loop .at) (omega arith) _ (ap (λ n. n + 2) (z .size .ensures .0)) (l .loop .inv .1) _ (r .is-canonical-descriptor .ensures) (c .if3 .taken)
+    loop-spoilt (l .before .before .args .descriptors .now) (l .loop .at) (omega arith) _ (ap (λ n. n + 2) (z .size .ensures .0)) (l .loop .inv .1) _ (r .is-canonical-descriptor .ensures) (c .if3 .taken)
 
 loop-less : tie.Need-loop-less Inv-loop μ-loop
 loop-less c = omega arith
@@ -74,12 +74,12 @@ loop-again c =
     let r = c .before in
     let z = r .before .before .before in
     let l = z .before .before .before .before in
-    (omega arith, loop-turn (l .before .before .args .s .now) (l .loop .at) (omega arith) _ (ap (λ n. n + 2) (z .size .ensures .0)) (l .loop .inv .1) _ (r .is-canonical-descriptor .ensures) (c .if3 .left))
+    (omega arith, loop-turn (l .before .before .args .descriptors .now) (l .loop .at) (omega arith) _ (ap (λ n. n + 2) (z .size .ensures .0)) (l .loop .inv .1) _ (r .is-canonical-descriptor .ensures) (c .if3 .left))
 
 returns-4 : tie.Need-returns-4 Inv-loop μ-loop
 returns-4 c =
     let l = c .before in
-    loop-end (l .before .before .args .s .now) (l .loop .at) (c .loop-test .left) (l .loop .inv .1)
+    loop-end (l .before .before .args .descriptors .now) (l .loop .at) (c .loop-test .left) (l .loop .inv .1)
 
 pub is-canonical-loop-spec : {M : Type 1} → statement M
 is-canonical-loop-spec =

@@ -3,7 +3,7 @@ use Prim.Native.Nat.{ℕ, _+_, _-_, _≤_, _<_}
 use native.Mathlib.Omega.{arith}
 use lib.ListN.{length, drop}
 use Rattle.relabel_upid.specs.Private.{heads}
-use Rattle.relabel_upid.proofs.Heads.{Rest, begun, found, none-left, whole, onward}
+use Rattle.relabel_upid.proofs.Heads.{Rest, begun, found, none-left, complete, onward}
 use Rattle.relabel_upid.proofs.head_of.Statement.{statement}
 use Rattle.relabel_upid.proofs.head_of.Tie as tie
 
@@ -26,7 +26,7 @@ next-head-requires : tie.Need-next-head-requires Inv-loop μ-loop
 next-head-requires c κs =
     let loop = c .before .before in
     let start = loop .before .before in
-    let w = whole (start .args .upid .now) (start .args .i) (loop .loop .ahead) (loop .loop .at) (loop .loop .inv .0) (loop .loop .inv .1) (c .before .loop-test .taken) in
+    let w = complete (start .args .upid .now) (start .args .i) (loop .loop .ahead) (loop .loop .at) (loop .loop .inv .0) (loop .loop .inv .1) (c .before .loop-test .taken) in
     (omega (arith, w .0), start .pre .short)
 
 sub-ahead : tie.Need-sub-ahead Inv-loop μ-loop
@@ -36,7 +36,7 @@ loop-less : tie.Need-loop-less Inv-loop μ-loop
 loop-less c =
     let loop = c .before .before .before in
     let start = loop .before .before in
-    let w = whole (start .args .upid .now) (start .args .i) (loop .loop .ahead) (loop .loop .at) (loop .loop .inv .0) (loop .loop .inv .1) (c .before .before .loop-test .taken) in
+    let w = complete (start .args .upid .now) (start .args .i) (loop .loop .ahead) (loop .loop .at) (loop .loop .inv .0) (loop .loop .inv .1) (c .before .before .loop-test .taken) in
     omega (arith, w .1, c .next-head .ensures, c .before .before .loop-test .taken)
 
 loop-again : tie.Need-loop-again Inv-loop μ-loop

@@ -27,7 +27,7 @@ returns : tie.Need-returns
 returns c =
     let w = c .before .before in
     let st = w .before .before .before in
-    let s = st .args .s .now in
+    let s = st .args .section .now in
     (size-of s _ _ (st .pre) (w .wide .ensures .0) (w .wide .ensures .1) (c .wide2 .ensures .0) (c .wide2 .ensures .1), omega (arith, w .wide .ensures .1, c .wide2 .ensures .1))
 
 pub command-length-spec : {M : Type 1} → statement M

@@ -1,6 +1,6 @@
 -- `section::read_layout`, refusal by refusal.
 use native.Mathlib.Omega.{arith}
-use Rattle.section.proofs.Framing.{extent-is, is-encrypted, is-command-long, is-loopless, is-loop-long, is-whole}
+use Rattle.section.proofs.Framing.{extent-is, is-encrypted, is-command-long, is-loopless, is-loop-long, is-laid}
 use borrow.Author.Needs.{needs}
 use Rattle.section.proofs.read_layout.Statement.{statement}
 use Rattle.section.proofs.read_layout.Tie as tie
@@ -12,7 +12,7 @@ returns : tie.Need-returns
 returns c =
     let k = c .before in
     let st = k .before .before in
-    is-encrypted (st .args .s .now) (st .pre .0) (k .shared-slice-known2 .given 4 .fits) (c .if1 .taken)
+    is-encrypted (st .args .section .now) (st .pre .0) (k .shared-slice-known2 .given 4 .fits) (c .if1 .taken)
 
 command-length-requires : tie.Need-command-length-requires
 command-length-requires c κs = search needs
@@ -26,7 +26,7 @@ returns-2 c =
     let i₁ = n .before in
     let k = i₁ .before in
     let st = k .before .before in
-    is-command-long (st .args .s .now) (st .pre .0) (k .shared-slice-known2 .given 4 .fits) (i₁ .if1 .left) _ (n .command-length .ensures .0) (c .if2 .taken)
+    is-command-long (st .args .section .now) (st .pre .0) (k .shared-slice-known2 .given 4 .fits) (i₁ .if1 .left) _ (n .command-length .ensures .0) (c .if2 .taken)
 
 sub-room : tie.Need-sub-room
 sub-room c = search needs
@@ -41,7 +41,7 @@ returns-3 c =
     let i₁ = n .before in
     let k = i₁ .before in
     let st = k .before .before in
-    is-loopless (st .args .s .now) (st .pre .0) (k .shared-slice-known2 .given 4 .fits) (i₁ .if1 .left) _ (n .command-length .ensures .0) (i₂ .if2 .left) (c .if3 .taken)
+    is-loopless (st .args .section .now) (st .pre .0) (k .shared-slice-known2 .given 4 .fits) (i₁ .if1 .left) _ (n .command-length .ensures .0) (i₂ .if2 .left) (c .if3 .taken)
 
 add-two-bytes : tie.Need-add-two-bytes
 add-two-bytes c = search needs
@@ -61,7 +61,7 @@ returns-4 c =
     let i₁ = n .before in
     let k = i₁ .before in
     let st = k .before .before in
-    let s = st .args .s .now in
+    let s = st .args .section .now in
     is-loop-long s (st .pre .0) (k .shared-slice-known2 .given 4 .fits) (i₁ .if1 .left) _ (n .command-length .ensures .0) (i₂ .if2 .left) (i₃ .if3 .left) _ (extent-is s _ _ (n .command-length .ensures .0) (m .two-bytes .ensures .0)) (c .if4 .taken)
 
 add-t10 : tie.Need-add-t10
@@ -76,8 +76,8 @@ returns-5 c =
     let i₁ = n .before in
     let k = i₁ .before in
     let st = k .before .before in
-    let s = st .args .s .now in
-    is-whole s (st .pre .0) (k .shared-slice-known2 .given 4 .fits) (i₁ .if1 .left) _ (n .command-length .ensures .0) (i₂ .if2 .left) (i₃ .if3 .left) _ (extent-is s _ _ (n .command-length .ensures .0) (m .two-bytes .ensures .0)) (c .if4 .left)
+    let s = st .args .section .now in
+    is-laid s (st .pre .0) (k .shared-slice-known2 .given 4 .fits) (i₁ .if1 .left) _ (n .command-length .ensures .0) (i₂ .if2 .left) (i₃ .if3 .left) _ (extent-is s _ _ (n .command-length .ensures .0) (m .two-bytes .ensures .0)) (c .if4 .left)
 
 pub read-layout-spec : {M : Type 1} → statement M
 read-layout-spec =

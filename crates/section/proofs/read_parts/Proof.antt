@@ -31,13 +31,13 @@ returns c =
     let g = c .before .before in
     let st = g .before .before .before in
     let a = st .args in
-    no-header _ _ _ (sym (header-at (a .s .now)) ∙ sym (g .read-header .ensures) ∙ c .enum-told .given .1)
+    no-header _ _ _ (sym (header-at (a .section .now)) ∙ sym (g .read-header .ensures) ∙ c .enum-told .given .1)
 
 add-end : tie.Need-add-end
 add-end c =
     let st = c .before .before .before .before .before .before .before .before .before in
     let a = st .args in
-    omega (arith, size-at (a .s .now) (a .frame) (st .pre .0))
+    omega (arith, size-at (a .section .now) (a .frame) (st .pre .0))
 
 shared-slice-read-read-command : tie.Need-shared-slice-read-read-command
 shared-slice-read-read-command c = search needs
@@ -46,19 +46,19 @@ sub-read-command : tie.Need-sub-read-command
 sub-read-command c =
     let st = c .before .before .before .before .before .before .before .before .before .before in
     let a = st .args in
-    omega (arith, size-at (a .s .now) (a .frame) (st .pre .0), st .pre .1)
+    omega (arith, size-at (a .section .now) (a .frame) (st .pre .0), st .pre .1)
 
 part-read-command-start : tie.Need-part-read-command-start
 part-read-command-start c =
     let st = c .before .before .before .before .before .before .before .before .before .before in
     let a = st .args in
-    omega (arith, size-at (a .s .now) (a .frame) (st .pre .0), st .pre .1)
+    omega (arith, size-at (a .section .now) (a .frame) (st .pre .0), st .pre .1)
 
 part-read-command-end : tie.Need-part-read-command-end
 part-read-command-end c =
     let st = c .before .before .before .before .before .before .before .before .before .before in
     let a = st .args in
-    omega (arith, size-at (a .s .now) (a .frame) (st .pre .0), st .pre .1)
+    omega (arith, size-at (a .section .now) (a .frame) (st .pre .0), st .pre .1)
 
 read-command-requires : tie.Need-read-command-requires
 read-command-requires c κs = search needs
@@ -86,8 +86,8 @@ returns-2 c =
     let g = h .before .before in
     let st = g .before .before .before in
     let a = st .args in
-    let read : commandRead (a .s .now) ≡ _ = sym (command-at (a .s .now) (a .frame) (st .pre .0)) ∙ sym (r .read-command .ensures) ∙ c .before .before .c .given .1 in
-    section-is (a .s .now) (a .frame) _ _ (sym (header-at (a .s .now)) ∙ sym (g .read-header .ensures) ∙ h .h .given .1) (is-moved _ _ _ read (c .move-command .ensures)) (st .pre .0)
+    let read : commandRead (a .section .now) ≡ _ = sym (command-at (a .section .now) (a .frame) (st .pre .0)) ∙ sym (r .read-command .ensures) ∙ c .before .before .c .given .1 in
+    section-is (a .section .now) (a .frame) _ _ (sym (header-at (a .section .now)) ∙ sym (g .read-header .ensures) ∙ h .h .given .1) (is-moved _ _ _ read (c .move-command .ensures)) (st .pre .0)
 
 returns-3 : tie.Need-returns-3
 unfolding accepted
@@ -97,8 +97,8 @@ returns-3 c =
     let g = h .before .before in
     let st = g .before .before .before in
     let a = st .args in
-    let read : commandRead (a .s .now) ≡ _ = sym (command-at (a .s .now) (a .frame) (st .pre .0)) ∙ sym (r .read-command .ensures) ∙ c .enum-told2 .given .1 in
-    section-is (a .s .now) (a .frame) _ _ (sym (header-at (a .s .now)) ∙ sym (g .read-header .ensures) ∙ h .h .given .1) (unknown-moved _ read) (st .pre .0)
+    let read : commandRead (a .section .now) ≡ _ = sym (command-at (a .section .now) (a .frame) (st .pre .0)) ∙ sym (r .read-command .ensures) ∙ c .enum-told2 .given .1 in
+    section-is (a .section .now) (a .frame) _ _ (sym (header-at (a .section .now)) ∙ sym (g .read-header .ensures) ∙ h .h .given .1) (unknown-moved _ read) (st .pre .0)
 
 returns-4 : tie.Need-returns-4
 unfolding accepted
@@ -108,8 +108,8 @@ returns-4 c =
     let g = h .before .before in
     let st = g .before .before .before in
     let a = st .args in
-    let read : commandRead (a .s .now) ≡ _ = sym (command-at (a .s .now) (a .frame) (st .pre .0)) ∙ sym (r .read-command .ensures) ∙ c .enum-told3 .given .1 in
-    section-is (a .s .now) (a .frame) _ _ (sym (header-at (a .s .now)) ∙ sym (g .read-header .ensures) ∙ h .h .given .1) (malformed-moved _ read) (st .pre .0)
+    let read : commandRead (a .section .now) ≡ _ = sym (command-at (a .section .now) (a .frame) (st .pre .0)) ∙ sym (r .read-command .ensures) ∙ c .enum-told3 .given .1 in
+    section-is (a .section .now) (a .frame) _ _ (sym (header-at (a .section .now)) ∙ sym (g .read-header .ensures) ∙ h .h .given .1) (malformed-moved _ read) (st .pre .0)
 
 pub read-parts-spec : {M : Type 1} → statement M
 read-parts-spec =

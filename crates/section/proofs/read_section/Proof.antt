@@ -17,7 +17,7 @@ read-parts-requires : tie.Need-read-parts-requires
 read-parts-requires c κs =
     let p = c .before in
     let r = p .before .before in
-    let s = r .before .before .args .s .now in
+    let s = r .before .before .args .section .now in
     let f = framed s _ (sym (p .frame .given .1) ∙ r .read-frame .ensures) in
     (f .place, omega (arith, f .fits))
 
@@ -25,9 +25,9 @@ returns : tie.Need-returns
 returns c =
     let p = c .before .before in
     let r = p .before .before in
-    let s = r .before .before .args .s .now in
-    let whole = sym (p .frame .given .1) ∙ r .read-frame .ensures in
-    is-accepted s _ _ whole (c .read-parts .ensures ∙ ap (accepted _ _) (sym (framed s _ whole .place)))
+    let s = r .before .before .args .section .now in
+    let laid = sym (p .frame .given .1) ∙ r .read-frame .ensures in
+    is-accepted s _ _ laid (c .read-parts .ensures ∙ ap (accepted _ _) (sym (framed s _ laid .place)))
 
 enum-known-r : tie.Need-enum-known-r
 enum-known-r c = search needs
@@ -36,7 +36,7 @@ returns-2 : tie.Need-returns-2
 returns-2 c =
     let p = c .before in
     let r = p .before .before in
-    let s = r .before .before .args .s .now in
+    let s = r .before .before .args .section .now in
     is-refused s _ (sym (p .r .given .1) ∙ r .read-frame .ensures)
 
 pub read-section-spec : {M : Type 1} → statement M

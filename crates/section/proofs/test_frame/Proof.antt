@@ -9,14 +9,14 @@ returns : tie.Need-returns
 returns c =
     let i₁ = c in
     let a = i₁ .before .before .args in
-    is-short (a .s .now) (i₁ .if1 .taken)
+    is-short (a .section .now) (i₁ .if1 .taken)
 
 returns-2 : tie.Need-returns-2
 returns-2 c =
     let i₂ = c in
     let i₁ = i₂ .before in
     let a = i₁ .before .before .args in
-    is-long (a .s .now) (i₁ .if1 .left) (i₂ .if2 .taken)
+    is-long (a .section .now) (i₁ .if1 .left) (i₂ .if2 .taken)
 
 shared-slice-read-if3 : tie.Need-shared-slice-read-if3
 shared-slice-read-if3 c = search needs
@@ -27,7 +27,7 @@ returns-3 c =
     let i₂ = i₃ .before .before in
     let i₁ = i₂ .before in
     let a = i₁ .before .before .args in
-    is-other (a .s .now) (i₁ .if1 .left) (i₂ .if2 .left) (i₃ .if3 .taken)
+    is-other (a .section .now) (i₁ .if1 .left) (i₂ .if2 .left) (i₃ .if3 .taken)
 
 crc32-requires : tie.Need-crc32-requires
 crc32-requires c κs = search needs
@@ -40,7 +40,7 @@ returns-4 c =
     let i₂ = i₃ .before .before in
     let i₁ = i₂ .before in
     let a = i₁ .before .before .args in
-    is-wrong (a .s .now) (i₁ .if1 .left) (i₂ .if2 .left) (i₃ .if3 .left) (λ e. i₄ .if4 .taken (k .crc32 .ensures ∙ e))
+    is-wrong (a .section .now) (i₁ .if1 .left) (i₂ .if2 .left) (i₃ .if3 .left) (λ e. i₄ .if4 .taken (k .crc32 .ensures ∙ e))
 
 returns-5 : tie.Need-returns-5
 returns-5 c =
@@ -51,7 +51,7 @@ returns-5 c =
     let i₂ = i₃ .before .before in
     let i₁ = i₂ .before in
     let a = i₁ .before .before .args in
-    is-headless (a .s .now) (i₁ .if1 .left) (i₂ .if2 .left) (i₃ .if3 .left) (sym (k .crc32 .ensures) ∙ i₄ .if4 .left) (i₅ .if5 .taken)
+    is-headless (a .section .now) (i₁ .if1 .left) (i₂ .if2 .left) (i₃ .if3 .left) (sym (k .crc32 .ensures) ∙ i₄ .if4 .left) (i₅ .if5 .taken)
 
 read-layout-requires : tie.Need-read-layout-requires
 read-layout-requires c κs = search needs
@@ -65,7 +65,7 @@ returns-6 c =
     let i₂ = i₃ .before .before in
     let i₁ = i₂ .before in
     let a = i₁ .before .before .args in
-    is-framed (a .s .now) (i₁ .if1 .left) (i₂ .if2 .left) (i₃ .if3 .left) (sym (k .crc32 .ensures) ∙ i₄ .if4 .left) _ (i₅ .if5 .left) (c .read-layout .ensures)
+    is-framed (a .section .now) (i₁ .if1 .left) (i₂ .if2 .left) (i₃ .if3 .left) (sym (k .crc32 .ensures) ∙ i₄ .if4 .left) _ (i₅ .if5 .left) (c .read-layout .ensures)
 
 pub test-frame-spec : {M : Type 1} → statement M
 test-frame-spec =

@@ -31,7 +31,7 @@ returns c =
     let w = c .before .before in
     let st = w .before .before .before in
     let a = st .args in
-    (number-of (a .s .now) (a .at) _ _ (st .pre) (w .wide .ensures .0) (w .wide .ensures .1) (c .wide2 .ensures .0) (c .wide2 .ensures .1), omega (arith, w .wide .ensures .1, c .wide2 .ensures .1))
+    (number-of (a .section .now) (a .at) _ _ (st .pre) (w .wide .ensures .0) (w .wide .ensures .1) (c .wide2 .ensures .0) (c .wide2 .ensures .1), omega (arith, w .wide .ensures .1, c .wide2 .ensures .1))
 
 pub two-bytes-spec : {M : Type 1} → statement M
 two-bytes-spec =

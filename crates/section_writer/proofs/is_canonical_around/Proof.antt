@@ -18,22 +18,22 @@ use Rattle.section_writer.proofs.is_canonical_around.Tie as tie
 
 -- the bytes and the frame; with its command it is the section
 abbrev bytes : tie.Start → List ℕ
-bytes v = v .args .s .now
+bytes v = v .args .section .now
 
 abbrev place : tie.Start → Frame
 place v = v .args .frame
 
-whole : (v : tie.Start) → FrameRead.Whole (place v) ≡ frameOf (bytes v)
-whole v = v .pre
+laid : (v : tie.Start) → FrameRead.Is (place v) ≡ frameOf (bytes v)
+laid v = v .pre
 
 frame-of : (v : tie.Start) → frame.Framed (bytes v) (place v)
-frame-of v = frame.framed (bytes v) (place v) (whole v)
+frame-of v = frame.framed (bytes v) (place v) (laid v)
 
 abbrev at-start : tie.After-enum-told → tie.Start
 at-start e = e .before .before .before .before .before .before .before .before
 
 read : (e : tie.After-enum-told) → (x : SpliceInfoHeader) × (d : SpliceCommand) × (sectionOf (bytes (at-start e)) ≡ SectionRead.Is (readAs x d (place (at-start e))))
-read e = let v = at-start e in is-read (bytes v) (place v) (whole v) _ (sym (e .before .before .read-command .ensures) ∙ e .enum-told .given .1)
+read e = let v = at-start e in is-read (bytes v) (place v) (laid v) _ (sym (e .before .before .read-command .ensures) ∙ e .enum-told .given .1)
 
 add-end : tie.Need-add-end
 add-end c = let f = frame-of (c .before .before .before) in omega (arith, f .size, f .short, f .fits)
@@ -66,13 +66,13 @@ returns : tie.Need-returns
 returns c =
     let r = c .before .before in
     let v = c .before .before .before .before .before .before .before .before in
-    is-unknown (bytes v) (place v) (whole v) (sym (r .read-command .ensures) ∙ c .enum-told2 .given .1)
+    is-unknown (bytes v) (place v) (laid v) (sym (r .read-command .ensures) ∙ c .enum-told2 .given .1)
 
 returns-2 : tie.Need-returns-2
 returns-2 c =
     let r = c .before .before in
     let v = c .before .before .before .before .before .before .before .before in
-    is-malformed (bytes v) (place v) (whole v) (sym (r .read-command .ensures) ∙ c .enum-told3 .given .1)
+    is-malformed (bytes v) (place v) (laid v) (sym (r .read-command .ensures) ∙ c .enum-told3 .given .1)
 
 bits-requires : tie.Need-bits-requires
 bits-requires c κs = search needs

@@ -24,7 +24,7 @@ enum-told c = search needs
 returns-2 : tie.Need-returns-2
 returns-2 c =
     let r = c .before .before in
-    let s = r .before .before .args .s .now in
+    let s = r .before .before .args .section .now in
     not-accepted s _ (sym (is-refused s _ (sym (c .enum-told .given .1) ∙ r .read-frame .ensures)))
 
 pub is-canonical-frame-spec : {M : Type 1} → statement M

@@ -17,10 +17,10 @@ use Rattle.section_writer.proofs.is_canonical_section.Tie as tie
 
 -- the bytes; the frame is whole
 abbrev bytes : tie.After-f → List ℕ
-bytes v = v .before .before .before .before .args .s .now
+bytes v = v .before .before .before .before .args .section .now
 
-whole : (v : tie.After-f) → FrameRead.Whole (v .f .given .0 .0) ≡ frameOf (bytes v)
-whole v = sym (v .f .given .1) ∙ v .before .before .read-frame .ensures
+laid : (v : tie.After-f) → FrameRead.Is (v .f .given .0 .0) ≡ frameOf (bytes v)
+laid v = sym (v .f .given .1) ∙ v .before .before .read-frame .ensures
 
 read-frame-requires : tie.Need-read-frame-requires
 read-frame-requires c κs = search needs
@@ -34,17 +34,17 @@ enum-told c = search needs
 returns : tie.Need-returns
 returns c =
     let r = c .before .before in
-    let s = r .before .before .args .s .now in
+    let s = r .before .before .args .section .now in
     unframed s (not-accepted s _ (sym (is-refused s _ (sym (c .enum-told .given .1) ∙ r .read-frame .ensures))))
 
 is-canonical-around-requires : tie.Need-is-canonical-around-requires
-is-canonical-around-requires c κs = whole (c .before)
+is-canonical-around-requires c κs = laid (c .before)
 
 returns-2 : tie.Need-returns-2
 returns-2 c = no-frame _ _ (c .before .is-canonical-around .ensures) (c .if1 .taken)
 
 shared-slice-read-is-canonical-command : tie.Need-shared-slice-read-is-canonical-command
-shared-slice-read-is-canonical-command c = let v = c .before .before .before .before .before in omega (arith, framed (bytes v) _ (whole v) .long)
+shared-slice-read-is-canonical-command c = let v = c .before .before .before .before .before in omega (arith, framed (bytes v) _ (laid v) .long)
 
 view-requires : tie.Need-view-requires
 view-requires c κs = search needs
@@ -59,7 +59,7 @@ returns-3 c =
     let i₁ = w .before .before .before in
     let a = i₁ .before in
     let v = a .before .before in
-    no-command (bytes v) _ (a .is-canonical-around .ensures) (i₁ .if1 .left) _ (whole v) _ (k .is-canonical-command .ensures ∙ ap (canonicalCommand (getD (bytes v) 13 0)) (w .view .ensures)) (c .if2 .taken)
+    no-command (bytes v) _ (a .is-canonical-around .ensures) (i₁ .if1 .left) _ (laid v) _ (k .is-canonical-command .ensures ∙ ap (canonicalCommand (getD (bytes v) 13 0)) (w .view .ensures)) (c .if2 .taken)
 
 view-requires-2 : tie.Need-view-requires-2
 view-requires-2 c κs = search needs
@@ -76,7 +76,7 @@ returns-4 c =
     let i₁ = w₁ .before .before .before in
     let a = i₁ .before in
     let v = a .before .before in
-    is-section (bytes v) _ (a .is-canonical-around .ensures) (i₁ .if1 .left) _ (whole v) _ (k .is-canonical-command .ensures ∙ ap (canonicalCommand (getD (bytes v) 13 0)) (w₁ .view .ensures)) _ (i₂ .if2 .left)
+    is-section (bytes v) _ (a .is-canonical-around .ensures) (i₁ .if1 .left) _ (laid v) _ (k .is-canonical-command .ensures ∙ ap (canonicalCommand (getD (bytes v) 13 0)) (w₁ .view .ensures)) _ (i₂ .if2 .left)
     (c .is-canonical-loop .ensures ∙ ap canonicalLoop (w₂ .view2 .ensures))
 
 pub is-canonical-section-spec : {M : Type 1} → statement M

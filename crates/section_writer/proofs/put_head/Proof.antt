@@ -17,14 +17,14 @@ add-put-number-3 c = search needs
 put-number-requires : tie.Need-put-number-requires
 put-number-requires c κs = search needs
 
-front-number-requires : tie.Need-front-number-requires
-front-number-requires c κs = search needs
+first-number-requires : tie.Need-first-number-requires
+first-number-requires c κs = search needs
 
 put-number-requires-2 : tie.Need-put-number-requires-2
 put-number-requires-2 c κs = search needs
 
-back-number-requires : tie.Need-back-number-requires
-back-number-requires c κs = search needs
+last-number-requires : tie.Need-last-number-requires
+last-number-requires c κs = search needs
 
 put-number-requires-3 : tie.Need-put-number-requires-3
 put-number-requires-3 c κs = search needs
@@ -42,7 +42,7 @@ returns c =
     let st = p₁ .before .before .before in
     let a = st .args in
     head-stored (a .out .now) _ _ _ (a .header) (a .command-type) (a .size) (a .extent) _ _ (p₁ .put-number .ensures) (p₂ .put-number2 .ensures) (p₃ .put-number3 .ensures)
-    (f .front-number .ensures) (b .back-number .ensures) (st .pre .0) (st .pre .1) (omega arith) (st .pre .2) (st .pre .3)
+    (f .first-number .ensures) (b .last-number .ensures) (st .pre .0) (st .pre .1) (omega arith) (st .pre .2) (st .pre .3)
 
 pub put-head-spec : {M : Type 1} → statement M
 put-head-spec =
@@ -52,9 +52,9 @@ put-head-spec =
     add-put-number-2
     add-put-number-3
     put-number-requires
-    front-number-requires
+    first-number-requires
     put-number-requires-2
-    back-number-requires
+    last-number-requires
     put-number-requires-3
     same-length
     returns)

@@ -16,14 +16,14 @@ start c = c .before .before .before .before .before .before .before .before
 flagged : (c : tie.After-next) → let a = start c .args in Flagged.Got (c .before .before .f .given .0 .0) ≡ flaggedOf (parse bit (bitsOf (a .s .now)) (place (a .c)))
 flagged c = let f = c .before .before in sym (f .f .given .1) ∙ f .before .before .flag .ensures
 
-read-whole-time-requires : tie.Need-read-whole-time-requires
-read-whole-time-requires c κs = search needs
+read-aligned-time-requires : tie.Need-read-aligned-time-requires
+read-aligned-time-requires c κs = search needs
 
 returns : tie.Need-returns
 returns c =
     let e = c .before in
     let a = e .before .before .before .args in
-    at-byte (a .s .now) (a .c) _ (e .if1 .taken) (c .read-whole-time .ensures)
+    at-byte (a .s .now) (a .c) _ (e .if1 .taken) (c .read-aligned-time .ensures)
 
 flag-requires : tie.Need-flag-requires
 flag-requires c κs = search needs
@@ -116,7 +116,7 @@ pub read-splice-time-spec : {M : Type 1} → statement M
 read-splice-time-spec =
     tie.close
     (tie.spec
-    read-whole-time-requires
+    read-aligned-time-requires
     returns
     flag-requires
     enum-known-f

@@ -42,7 +42,7 @@ unfolding eidrOf
 returns-2 c = rw (eq-eqb _ _ (c .before .if1 .left), ne-eqb _ _ (c .if2 .taken))
 
 loop-holds : tie.Need-loop-holds Inv-loop μ-loop
-loop-holds c = (omega arith, c .if2 .left, c .before .if1 .left, paste-zero (replicate 12 0) 0 (c .before .before .args .bytes .now))
+loop-holds c = (omega arith, c .if2 .left, c .before .if1 .left, paste-zero (replicate 12 0) 0 (c .before .before .args .upid .now))
 
 shared-slice-read-out : tie.Need-shared-slice-read-out Inv-loop μ-loop
 shared-slice-read-out c = omega arith

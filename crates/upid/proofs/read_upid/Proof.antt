@@ -24,7 +24,7 @@ enum-told-2 c = search needs
 list-parts-requires : tie.Need-list-parts-requires
 list-parts-requires c κs =
     let start = c .before .before .before .before .before in
-    let a : Accepted (checkOf (start .args .upid-type) (start .args .bytes .now)) = rw (← (c .before .before .check-upid .ensures), c .enum-told2 .given .1) tt in
+    let a : Accepted (checkOf (start .args .upid-type) (start .args .upid .now)) = rw (← (c .before .before .check-upid .ensures), c .enum-told2 .given .1) tt in
     record {
       accepted = λ e. rw e (check-mid _ (rw e at a));
       short = check-short _ _ a;

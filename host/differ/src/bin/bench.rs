@@ -92,7 +92,7 @@ struct Read {
     section: Vec<u8>,
     head: scte35::raw::Section,
     components: scte35::raw::InsertComponents,
-    items: Vec<(scte35::raw::Step, scte35::raw::ItemComponents)>,
+    items: Vec<(scte35::raw::Step, scte35::raw::SegmentationComponents)>,
 }
 
 impl Read {
@@ -102,7 +102,8 @@ impl Read {
         let mut read = Read { section, head, components, items: vec![] };
         let mut offset = 0;
         while offset < read.descriptors().len() {
-            let (step, beside) = (scte35::raw::read_item(read.descriptors(), offset), scte35::raw::read_item_components(read.descriptors(), offset));
+            let (step, beside) =
+                (scte35::raw::read_item(read.descriptors(), offset), scte35::raw::read_segmentation_components(read.descriptors(), offset));
             offset = step.next as usize;
             read.items.push((step, beside));
         }

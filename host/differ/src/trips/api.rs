@@ -1,9 +1,9 @@
 //! Values as those of the Rust interface.
 use crate::answer::*;
 use scte35::{
-    ComponentSplice, DeliveryRestrictions, DeviceRestrictions, EncryptionAlgorithm, InsertDetail, ModeComponent, NetworkIndicator, ReturnMode,
-    SegmentationDetail, SegmentationTypeId, SegmentationUpidType, SpliceCommand, SpliceCommandType, SpliceDescriptor, SpliceDuration,
-    SpliceInfoHeader, SpliceInsert, SpliceTime, SubSegments,
+    DeliveryRestrictions, DeviceRestrictions, EncryptionAlgorithm, InsertComponent, InsertDetail, NetworkIndicator, ReturnMode,
+    SegmentationComponent, SegmentationDetail, SegmentationTypeId, SegmentationUpidType, SpliceCommand, SpliceCommandType, SpliceDescriptor,
+    SpliceDuration, SpliceInfoHeader, SpliceInsert, SpliceTime, SubSegments,
 };
 
 pub fn header(h: &Header) -> SpliceInfoHeader {
@@ -33,7 +33,7 @@ fn insert(x: &Insert) -> InsertDetail {
         splice_mode: match &x.mode {
             SpliceMode::Program(t) => scte35::SpliceMode::Program(time(*t)),
             SpliceMode::Components(list) => {
-                let component = |(tag, t): &(u8, Time)| ComponentSplice { component_tag: *tag, splice_time: time(*t) };
+                let component = |(tag, t): &(u8, Time)| InsertComponent { component_tag: *tag, splice_time: time(*t) };
                 scte35::SpliceMode::Components(list.iter().map(component).collect())
             }
         },
@@ -83,7 +83,7 @@ fn segmentation(s: &Segmentation) -> SegmentationDetail<'_> {
         components: s
             .components
             .as_ref()
-            .map(|list| list.iter().map(|(tag, offset)| ModeComponent { component_tag: *tag, pts_offset: *offset }).collect()),
+            .map(|list| list.iter().map(|(tag, offset)| SegmentationComponent { component_tag: *tag, pts_offset: *offset }).collect()),
         segmentation_duration: s.duration,
         segmentation_upid: upid(&s.upid),
         segmentation_type_id: SegmentationTypeId::from_id(s.type_id),

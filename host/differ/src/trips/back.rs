@@ -102,7 +102,7 @@ impl Trips {
         let mut target = [0x55; 4096];
         let (mut joined, mut offset) = (vec![], 0);
         while offset < descriptors.len() {
-            let (step, beside) = (raw::read_item(descriptors, offset), raw::read_item_components(descriptors, offset));
+            let (step, beside) = (raw::read_item(descriptors, offset), raw::read_segmentation_components(descriptors, offset));
             let answer = raw::write_descriptor_words(step.words(), beside.words(), descriptors, &mut target);
             if answer.refusal != 0 {
                 return Err(answer.refusal);

@@ -55,7 +55,7 @@ pub fn header(h: &raw::Header) -> (Judged<()>, Judged<Header>) {
 // ---- commands
 
 /// The components that the words have: of an insert by components that is not cancelled.
-fn splices<'a>(c: &raw::Command, list: &'a raw::InsertComponents) -> &'a [raw::ComponentSplice] {
+fn splices<'a>(c: &raw::Command, list: &'a raw::InsertComponents) -> &'a [raw::InsertComponent] {
     let i = &c.insert;
     if c.splice_command_type != 5 || i.splice_event_cancel_indicator == 1 || i.mode.program_splice_flag == 1 {
         return &[];
@@ -65,7 +65,7 @@ fn splices<'a>(c: &raw::Command, list: &'a raw::InsertComponents) -> &'a [raw::C
 
 /// An insert, where its words are those of a reading: "insert reserved other than 127; mixed immediate and timed components"; what cancel bit and
 /// mode leave out is blank.
-fn insert(i: &raw::Insert, list: &[raw::ComponentSplice]) -> Option<Command> {
+fn insert(i: &raw::Insert, list: &[raw::InsertComponent]) -> Option<Command> {
     let event = i.splice_event_id as u32;
     if i.reserved != 127 {
         return None;
@@ -173,7 +173,7 @@ fn upid(kind: u8, bytes: Vec<u8>, eidr: &[u64; 12]) -> Option<Upid> {
 }
 
 /// The components that the words have: of a segmentation by components.
-fn places<'a>(i: &raw::Item, beside: &'a raw::ItemComponents) -> &'a [raw::Component] {
+fn places<'a>(i: &raw::Item, beside: &'a raw::SegmentationComponents) -> &'a [raw::SegmentationComponent] {
     let s = &i.segmentation;
     if i.kind != 4 || s.program_segmentation_flag == 1 {
         return &[];
@@ -182,7 +182,7 @@ fn places<'a>(i: &raw::Item, beside: &'a raw::ItemComponents) -> &'a [raw::Compo
 }
 
 /// A segmentation, where its words are those of a reading: "a flag that contradicts its optional part".
-fn segmentation(s: &raw::Segmentation, list: &[raw::Component], bytes: Vec<u8>, eidr: &[u64; 12]) -> Option<Segmentation> {
+fn segmentation(s: &raw::Segmentation, list: &[raw::SegmentationComponent], bytes: Vec<u8>, eidr: &[u64; 12]) -> Option<Segmentation> {
     let [program, lasts, free] = [s.program_segmentation_flag, s.segmentation_duration_flag, s.delivery_not_restricted_flag].map(|flag| flag == 1);
     let contradicted = program && s.component_count != 0
         || !lasts && s.segmentation_duration != 0

@@ -15,7 +15,7 @@ pub struct CommandWords {
 #[derive(Debug, Clone)]
 pub struct ItemWords {
     pub step: raw::Step,
-    pub beside: raw::ItemComponents,
+    pub beside: raw::SegmentationComponents,
     pub lent: Vec<u8>,
 }
 
@@ -61,7 +61,7 @@ fn insert(rng: &mut Rng, x: &Insert, i: &mut raw::Insert, components: &mut raw::
             i.mode.component_count = list.len() as u64;
             noise(rng, components.words_mut());
             for (place, (tag, t)) in components.components.iter_mut().zip(list) {
-                *place = raw::ComponentSplice { component_tag: (*tag).into(), splice_time: time(*t) };
+                *place = raw::InsertComponent { component_tag: (*tag).into(), splice_time: time(*t) };
             }
         }
     }
@@ -96,7 +96,7 @@ pub fn command(rng: &mut Rng, c: &Command) -> CommandWords {
     out
 }
 
-fn segmentation(rng: &mut Rng, x: &Segmentation, s: &mut raw::Segmentation, beside: &mut raw::ItemComponents) {
+fn segmentation(rng: &mut Rng, x: &Segmentation, s: &mut raw::Segmentation, beside: &mut raw::SegmentationComponents) {
     [s.program_segmentation_flag, s.segmentation_duration_flag, s.delivery_not_restricted_flag] = x.flags.map(u64::from);
     if let Some(r) = &x.restrictions {
         s.delivery_restrictions = raw::Restrictions {
@@ -111,7 +111,7 @@ fn segmentation(rng: &mut Rng, x: &Segmentation, s: &mut raw::Segmentation, besi
     // all but the EIDR
     noise(rng, &mut beside.words_mut()[..515]);
     for (place, (tag, offset)) in beside.components.iter_mut().zip(list) {
-        *place = raw::Component { component_tag: (*tag).into(), pts_offset: *offset };
+        *place = raw::SegmentationComponent { component_tag: (*tag).into(), pts_offset: *offset };
     }
     s.segmentation_duration = x.duration.unwrap_or(0);
     s.segmentation_upid_type = x.upid.kind.into();
@@ -124,7 +124,7 @@ fn segmentation(rng: &mut Rng, x: &Segmentation, s: &mut raw::Segmentation, besi
 }
 
 pub fn item(rng: &mut Rng, x: &Item) -> ItemWords {
-    let mut out = ItemWords { step: raw::Step::ZERO, beside: raw::ItemComponents::ZERO, lent: vec![] };
+    let mut out = ItemWords { step: raw::Step::ZERO, beside: raw::SegmentationComponents::ZERO, lent: vec![] };
     noise(rng, &mut out.step.words_mut()[..5]);
     let i = &mut out.step.item;
     let mut bytes: &[u8] = &[];

@@ -1,8 +1,8 @@
 //! A section made of JSON as `write.rs` makes it. Every name is looked at: one that is missing, unknown or of another kind is an error that names it.
 //! What the library works out or only reports (lengths, places, types, adjusted times, the parts of a MID) may be there or not.
 use scte35::{
-    ComponentSplice, DeliveryRestrictions, DeviceRestrictions, EncryptionAlgorithm, InsertDetail, ModeComponent, NetworkIndicator, Refusal,
-    ReturnMode, Section, SegmentationDetail, SegmentationTypeId, SegmentationUpidType, SpliceCommand, SpliceDescriptor, SpliceDescriptors,
+    DeliveryRestrictions, DeviceRestrictions, EncryptionAlgorithm, InsertComponent, InsertDetail, NetworkIndicator, Refusal, ReturnMode, Section,
+    SegmentationComponent, SegmentationDetail, SegmentationTypeId, SegmentationUpidType, SpliceCommand, SpliceDescriptor, SpliceDescriptors,
     SpliceDuration, SpliceInfoHeader, SpliceInsert, SpliceMode, SpliceTime, SubSegments, Upid,
 };
 use serde_json::{Map, Value};
@@ -119,11 +119,11 @@ fn insert_detail(x: &mut Object) -> Made<InsertDetail> {
     })
 }
 
-fn splice_components(x: &mut Object, immediate: bool) -> Made<Vec<ComponentSplice>> {
+fn splice_components(x: &mut Object, immediate: bool) -> Made<Vec<InsertComponent>> {
     x.objects("components", |c| {
         let component_tag = c.number("component_tag")?;
         let splice_time = if immediate { SpliceTime::Immediate } else { splice_time(c)? };
-        Ok(ComponentSplice { component_tag, splice_time })
+        Ok(InsertComponent { component_tag, splice_time })
     })
 }
 
@@ -191,7 +191,7 @@ fn segmentation<'a>(x: &mut Object, segmentation_upid: Upid<'a>) -> Made<Segment
     let has_duration = x.flag("segmentation_duration_flag")?;
     let not_restricted = x.flag("delivery_not_restricted_flag")?;
     let delivery_restrictions = if not_restricted { None } else { Some(restrictions(x)?) };
-    let component = |c: &mut Object| Ok(ModeComponent { component_tag: c.number("component_tag")?, pts_offset: c.number("pts_offset")? });
+    let component = |c: &mut Object| Ok(SegmentationComponent { component_tag: c.number("component_tag")?, pts_offset: c.number("pts_offset")? });
     let components = if program { None } else { Some(x.objects("components", component)?) };
     let segmentation_duration = if has_duration { Some(x.number("segmentation_duration")?) } else { None };
     let segmentation_type_id = SegmentationTypeId::from_id(x.number("segmentation_type_id")?);

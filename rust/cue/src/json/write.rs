@@ -3,8 +3,8 @@ use crate::layout;
 use crate::names;
 use crate::text::{plain, Hex};
 use scte35::{
-    ComponentSplice, Identifier, InsertDetail, Item, ModeComponent, Refusal, Section, SegmentationDetail, SegmentationUpidType, SpliceCommand,
-    SpliceDescriptor, SpliceInsert, SpliceMode, SpliceTime,
+    Identifier, InsertComponent, InsertDetail, Item, Refusal, Section, SegmentationComponent, SegmentationDetail, SegmentationUpidType,
+    SpliceCommand, SpliceDescriptor, SpliceInsert, SpliceMode, SpliceTime,
 };
 use serde::ser::SerializeMap;
 use serde::{Serialize, Serializer};
@@ -156,7 +156,7 @@ fn insert_detail<M: SerializeMap>(m: &mut M, x: &InsertDetail, adjustment: u64) 
     m.serialize_entry("avails_expected", &x.avails_expected)
 }
 
-struct SpliceComponents<'a>(&'a [ComponentSplice], u64);
+struct SpliceComponents<'a>(&'a [InsertComponent], u64);
 
 impl Serialize for SpliceComponents<'_> {
     fn serialize<S: Serializer>(&self, serializer: S) -> Result<S::Ok, S::Error> {
@@ -164,7 +164,7 @@ impl Serialize for SpliceComponents<'_> {
     }
 }
 
-struct SpliceComponent(ComponentSplice, u64);
+struct SpliceComponent(InsertComponent, u64);
 
 impl Serialize for SpliceComponent {
     fn serialize<S: Serializer>(&self, serializer: S) -> Result<S::Ok, S::Error> {
@@ -375,7 +375,7 @@ fn segmentation<M: SerializeMap>(m: &mut M, x: &SegmentationDetail<'_>, of: &OfI
     Ok(())
 }
 
-struct ModeComponents<'a>(&'a [ModeComponent]);
+struct ModeComponents<'a>(&'a [SegmentationComponent]);
 
 impl Serialize for ModeComponents<'_> {
     fn serialize<S: Serializer>(&self, serializer: S) -> Result<S::Ok, S::Error> {
@@ -383,7 +383,7 @@ impl Serialize for ModeComponents<'_> {
     }
 }
 
-struct OfModeComponent<'a>(&'a ModeComponent);
+struct OfModeComponent<'a>(&'a SegmentationComponent);
 
 impl Serialize for OfModeComponent<'_> {
     fn serialize<S: Serializer>(&self, serializer: S) -> Result<S::Ok, S::Error> {

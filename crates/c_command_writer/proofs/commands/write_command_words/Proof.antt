@@ -6,7 +6,7 @@ use mathlib.Core.Path.{_≡_, refl, ap, sym, _∙_}
 use native.Mathlib.Omega.{arith}
 use Rattle.command.specs.Command.{array, countIn}
 use Rattle.command.specs.declared.SpliceCommand.{SpliceCommand}
-use Rattle.command.specs.declared.components.ComponentSplice.{ComponentSplice}
+use Rattle.command.specs.declared.components.InsertComponent.{InsertComponent}
 use Rattle.command_measure.specs.Made.{commandMade}
 use Rattle.bit_stores.specs.Written.{answerOf, laterOf}
 use Rattle.table.specs.Writing.{Made}
@@ -17,13 +17,13 @@ use Rattle.c_command_writer.proofs.Refusals.{command-small}
 use Rattle.c_command_writer.proofs.commands.write_command_words.Statement.{statement}
 use Rattle.c_command_writer.proofs.commands.write_command_words.Tie as tie
 
-parts : (words components lent : List ℕ) (g : SpliceCommand) (p : List ComponentSplice) (r : ℕ)
+parts : (words components lent : List ℕ) (g : SpliceCommand) (p : List InsertComponent) (r : ℕ)
     → g ≡ commandGiven words → p ≡ componentsFrom (countIn g) components → r ≡ commandRefusal g words components lent
     → noLess r (commandMade g p lent) ≡ commandWordsMade words components lent
 unfolding commandWordsMade
 parts words components lent g p r e h i = rw (i, h, e)
 
-made : (k : tie.After-command-refusal) (p : List ComponentSplice) →
+made : (k : tie.After-command-refusal) (p : List InsertComponent) →
     let g = k .before .command-given .result in
     let a = k .before .before .before .before .before .before .args in
     p ≡ componentsFrom (countIn g) (a .components .now)

@@ -5,8 +5,8 @@ use native.Mathlib.Omega.{arith}
 use lib.ListN.{length, replicate, length-replicate, length-set}
 use lib.Seq.{paste, paste-zero, drop-drop}
 use Rattle.descriptor.specs.Segmentation.{blankComponent}
-use Rattle.descriptor.specs.Whole.{filled, blankBeside}
-use Rattle.descriptor.specs.declared.whole.Beside.{Beside}
+use Rattle.descriptor.specs.Full.{filled, blankBeside}
+use Rattle.descriptor.specs.declared.full.Beside.{Beside}
 use Rattle.c_section.proofs.Arrays.{filled-turn}
 use Rattle.c_command_writer.specs.Words.{placesOf}
 use Rattle.c_descriptor_writer.specs.ItemGiven.{placeFrom, placesFrom}

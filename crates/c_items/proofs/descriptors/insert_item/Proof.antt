@@ -7,16 +7,16 @@ use Rattle.c_items.proofs.descriptors.insert_item.Tie as tie
 blank-item-requires : tie.Need-blank-item-requires
 blank-item-requires c κs = search needs
 
-whole-segmentation-requires : tie.Need-whole-segmentation-requires
-whole-segmentation-requires c κs = search needs
+active-segmentation-requires : tie.Need-active-segmentation-requires
+active-segmentation-requires c κs = search needs
 
 flat-view-requires : tie.Need-flat-view-requires
 flat-view-requires c κs = search needs
 
 returns : tie.Need-returns
 unfolding blankItem segmentationItem
-returns c = rw (c .before .before .blank-item .ensures, c .before .whole-segmentation .ensures, c .flat-view .ensures)
+returns c = rw (c .before .before .blank-item .ensures, c .before .active-segmentation .ensures, c .flat-view .ensures)
 
 pub insert-item-spec : {M : Type 1} → statement M
 insert-item-spec =
-    tie.close (tie.spec blank-item-requires whole-segmentation-requires flat-view-requires returns)
+    tie.close (tie.spec blank-item-requires active-segmentation-requires flat-view-requires returns)

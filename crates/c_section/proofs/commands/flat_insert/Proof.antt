@@ -19,14 +19,14 @@ insert-head-requires c κs = search needs
 enum-known-detail : tie.Need-enum-known-detail
 enum-known-detail c = search needs
 
-cast-whole-insert : tie.Need-cast-whole-insert
-cast-whole-insert c = search needs
+cast-active-insert : tie.Need-cast-active-insert
+cast-active-insert c = search needs
 
-cast-whole-insert-2 : tie.Need-cast-whole-insert-2
-cast-whole-insert-2 c = search needs
+cast-active-insert-2 : tie.Need-cast-active-insert-2
+cast-active-insert-2 c = search needs
 
-whole-insert-requires : tie.Need-whole-insert-requires
-whole-insert-requires c κs = search needs
+active-insert-requires : tie.Need-active-insert-requires
+active-insert-requires c κs = search needs
 
 returns : tie.Need-returns
 unfolding flatInsertion
@@ -34,7 +34,7 @@ returns c = rw (c .before .before .before .enum-told .given .1) (c .insert-head 
 
 returns-2 : tie.Need-returns-2
 unfolding flatInsertion
-returns-2 c = rw (c .before .before .before .before .detail .given .1) (c .whole-insert .ensures)
+returns-2 c = rw (c .before .before .before .before .detail .given .1) (c .active-insert .ensures)
 
 pub flat-insert-spec : {M : Type 1} → statement M
 flat-insert-spec =
@@ -45,8 +45,8 @@ flat-insert-spec =
     cast-insert-head-2
     insert-head-requires
     enum-known-detail
-    cast-whole-insert
-    cast-whole-insert-2
-    whole-insert-requires
+    cast-active-insert
+    cast-active-insert-2
+    active-insert-requires
     returns
     returns-2)

@@ -1,6 +1,6 @@
 -- `c_section::commands::insert_head` meets its contract.
 use borrow.Author.Needs.{needs}
-use Rattle.c_section.specs.FlatCommand.{flatMode, wholeInsert, insertHead}
+use Rattle.c_section.specs.FlatCommand.{flatMode, activeInsert, insertHead}
 use Rattle.c_section.proofs.commands.insert_head.Statement.{statement}
 use Rattle.c_section.proofs.commands.insert_head.Tie as tie
 
@@ -8,7 +8,7 @@ flat-break-requires : tie.Need-flat-break-requires
 flat-break-requires c κs = search needs
 
 returns : tie.Need-returns
-unfolding insertHead wholeInsert flatMode
+unfolding insertHead activeInsert flatMode
 returns c = rw (c .flat-break .ensures)
 
 pub insert-head-spec : {M : Type 1} → statement M

@@ -6,7 +6,7 @@ use Rattle.command.proofs.insert.read_active.Statement.{statement}
 use Rattle.command.proofs.insert.read_active.Tie as tie
 
 returns : tie.Need-returns
-returns c = let a = c .before .before .args in no-flags (a .s .now) (a .at) (c .if1 .taken)
+returns c = let a = c .before .before .args in no-flags (a .payload .now) (a .at) (c .if1 .taken)
 
 shared-slice-read-wide : tie.Need-shared-slice-read-wide
 shared-slice-read-wide c = search needs
@@ -33,7 +33,7 @@ returns-2 c =
     let w = r .before in
     let e = w .before .before in
     let a = e .before .before .args in
-    no-mode (a .s .now) (a .at) (w .wide .result) (e .if1 .left) (w .wide .ensures .0) (w .wide .ensures .1) _ (sym (x .e .given .1) ∙ r .read-mode .ensures)
+    no-mode (a .payload .now) (a .at) (w .wide .result) (e .if1 .left) (w .wide .ensures .0) (w .wide .ensures .1) _ (sym (x .e .given .1) ∙ r .read-mode .ensures)
 
 read-ending-requires : tie.Need-read-ending-requires
 read-ending-requires c κs =
@@ -42,7 +42,7 @@ read-ending-requires c κs =
     let w = r .before in
     let e = w .before .before in
     let a = e .before .before .args in
-    mode-within (a .s .now) (a .at) (w .wide .result) (e .if1 .left) (w .wide .ensures .0) (w .wide .ensures .1) _ (sym (m .m .given .1) ∙ r .read-mode .ensures)
+    mode-within (a .payload .now) (a .at) (w .wide .result) (e .if1 .left) (w .wide .ensures .0) (w .wide .ensures .1) _ (sym (m .m .given .1) ∙ r .read-mode .ensures)
 
 returns-3 : tie.Need-returns-3
 returns-3 c =
@@ -51,7 +51,7 @@ returns-3 c =
     let w = r .before in
     let e = w .before .before in
     let a = e .before .before .args in
-    an-active (a .s .now) (a .at) (w .wide .result) (e .if1 .left) (w .wide .ensures .0) (w .wide .ensures .1) _ (sym (m .m .given .1) ∙ r .read-mode .ensures) _ (c .read-ending .ensures)
+    an-active (a .payload .now) (a .at) (w .wide .result) (e .if1 .left) (w .wide .ensures .0) (w .wide .ensures .1) _ (sym (m .m .given .1) ∙ r .read-mode .ensures) _ (c .read-ending .ensures)
 
 pub read-active-spec : {M : Type 1} → statement M
 read-active-spec =

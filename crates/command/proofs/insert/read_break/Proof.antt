@@ -11,7 +11,7 @@ returns : tie.Need-returns
 returns c = rw (c .before .if1 .taken) (c .read-lasting .ensures)
 
 returns-2 : tie.Need-returns-2
-returns-2 c = let a = c .before .before .args in rw (c .if1 .left) (no-break (a .s .now) (a .at))
+returns-2 c = let a = c .before .before .args in rw (c .if1 .left) (no-break (a .payload .now) (a .at))
 
 pub read-break-spec : {M : Type 1} → statement M
 read-break-spec = tie.close (tie.spec read-lasting-requires returns returns-2)

@@ -23,7 +23,7 @@ returns c cs =
     let r = e .before .before in
     let st = r .before .before in
     let a = st .args in
-    no-ending (a .s .now) (a .at) (st .pre) (a .out) _ (a .flagged) _ (sym (e .e .given .1) ∙ r .read-break .ensures)
+    no-ending (a .payload .now) (a .at) (st .pre) (a .out) _ (a .flagged) _ (sym (e .e .given .1) ∙ r .read-break .ensures)
 
 sub-left : tie.Need-sub-left
 sub-left c =
@@ -32,7 +32,7 @@ sub-left c =
     let st = r .before .before in
     let a = st .args in
     let ed = (sym (b .b .given .1) ∙ r .read-break .ensures) in
-    break-within (a .s .now) (a .at) (st .pre) (a .flagged) _ ed
+    break-within (a .payload .now) (a .at) (st .pre) (a .flagged) _ ed
 
 returns-2 : tie.Need-returns-2
 returns-2 c cs =
@@ -41,7 +41,7 @@ returns-2 c cs =
     let st = r .before .before in
     let a = st .args in
     let ed = (sym (b .b .given .1) ∙ r .read-break .ensures) in
-    no-program-id (a .s .now) (a .at) (st .pre) (a .out) _ (a .flagged) _ ed _ refl (c .if1 .taken)
+    no-program-id (a .payload .now) (a .at) (st .pre) (a .out) _ (a .flagged) _ ed _ refl (c .if1 .taken)
 
 returns-3 : tie.Need-returns-3
 returns-3 c cs =
@@ -51,7 +51,7 @@ returns-3 c cs =
     let st = r .before .before in
     let a = st .args in
     let ed = (sym (b .b .given .1) ∙ r .read-break .ensures) in
-    no-avails (a .s .now) (a .at) (st .pre) (a .out) _ (a .flagged) _ ed _ refl (i .if1 .left) (c .if2 .taken)
+    no-avails (a .payload .now) (a .at) (st .pre) (a .out) _ (a .flagged) _ ed _ refl (i .if1 .left) (c .if2 .taken)
 
 indicator-requires : tie.Need-indicator-requires
 indicator-requires c κs = search needs
@@ -62,7 +62,7 @@ big-endian-requires c κs = search needs
 cast-t20 : tie.Need-cast-t20
 cast-t20 c =
     let b = c .before .before .before .before .before in
-    let s = b .before .before .before .before .args .s .now in
+    let s = b .before .before .before .before .args .payload .now in
     omega (arith, bits-are s (b .b .given .0 .0 .next * 8) 16 _ (omega arith) (c .big-endian .ensures) .1)
 
 add-t14 : tie.Need-add-t14
@@ -88,9 +88,9 @@ returns-4 c cs =
     let st = r .before .before in
     let a = st .args in
     let ed = (sym (b .b .given .1) ∙ r .read-break .ensures) in
-    let w = break-within (a .s .now) (a .at) (st .pre) (a .flagged) _ ed in
-    an-ending (a .s .now) (a .at) (st .pre) (a .out) _ (a .flagged) _ ed (n .big-endian .result) (i .indicator .result) (omega (arith, e .if2 .left, w))
-    (bits-are (a .s .now) (b .b .given .0 .0 .next * 8) 16 _ (omega arith) (n .big-endian .ensures) .0) (g .shared-slice-known2 .given _ .fits) (c .shared-slice-known3 .given _ .fits) (i .indicator .ensures)
+    let w = break-within (a .payload .now) (a .at) (st .pre) (a .flagged) _ ed in
+    an-ending (a .payload .now) (a .at) (st .pre) (a .out) _ (a .flagged) _ ed (n .big-endian .result) (i .indicator .result) (omega (arith, e .if2 .left, w))
+    (bits-are (a .payload .now) (b .b .given .0 .0 .next * 8) 16 _ (omega arith) (n .big-endian .ensures) .0) (g .shared-slice-known2 .given _ .fits) (c .shared-slice-known3 .given _ .fits) (i .indicator .ensures)
 
 pub read-ending-spec : {M : Type 1} → statement M
 read-ending-spec =

@@ -21,7 +21,7 @@ returns c =
     let u = t .before .before in
     let i = u .before in
     let a = i .before .before .args in
-    rw (i .if1 .taken) (by-program (a .s .now) (a .at) (a .immediate) _ (sym (t .t .given .1) ∙ u .read-time-unless .ensures))
+    rw (i .if1 .taken) (by-program (a .payload .now) (a .at) (a .immediate) _ (sym (t .t .given .1) ∙ u .read-time-unless .ensures))
 
 returns-2 : tie.Need-returns-2
 returns-2 c =
@@ -29,13 +29,13 @@ returns-2 c =
     let u = e .before .before in
     let i = u .before in
     let a = i .before .before .args in
-    rw (i .if1 .taken) (no-program-time (a .s .now) (a .at) (a .immediate) _ (sym (e .e .given .1) ∙ u .read-time-unless .ensures))
+    rw (i .if1 .taken) (no-program-time (a .payload .now) (a .at) (a .immediate) _ (sym (e .e .given .1) ∙ u .read-time-unless .ensures))
 
 returns-3 : tie.Need-returns-3
 returns-3 c =
     let i = c .before in
     let a = i .before .before .args in
-    rw (i .if1 .left) (no-count (a .s .now) (a .at) (a .immediate) (c .if2 .taken))
+    rw (i .if1 .left) (no-count (a .payload .now) (a .at) (a .immediate) (c .if2 .taken))
 
 shared-slice-read-count : tie.Need-shared-slice-read-count
 shared-slice-read-count c = search needs
@@ -64,7 +64,7 @@ returns-4 c =
     let k = q .before in
     let i = k .before .before in
     let a = i .before .before .args in
-    rw (i .if1 .left) (by-components (a .s .now) (a .at) (a .immediate) (k .before .if2 .left) (k .shared-slice-known2 .given (a .at) .fits) _ (sym (n .next2 .given .1) ∙ q .skim .ensures))
+    rw (i .if1 .left) (by-components (a .payload .now) (a .at) (a .immediate) (k .before .if2 .left) (k .shared-slice-known2 .given (a .at) .fits) _ (sym (n .next2 .given .1) ∙ q .skim .ensures))
 
 returns-5 : tie.Need-returns-5
 returns-5 c =
@@ -73,7 +73,7 @@ returns-5 c =
     let k = q .before in
     let i = k .before .before in
     let a = i .before .before .args in
-    rw (i .if1 .left) (no-components (a .s .now) (a .at) (a .immediate) (k .before .if2 .left) (k .shared-slice-known2 .given (a .at) .fits) _ (sym (e .e2 .given .1) ∙ q .skim .ensures))
+    rw (i .if1 .left) (no-components (a .payload .now) (a .at) (a .immediate) (k .before .if2 .left) (k .shared-slice-known2 .given (a .at) .fits) _ (sym (e .e2 .given .1) ∙ q .skim .ensures))
 
 pub read-mode-spec : {M : Type 1} → statement M
 read-mode-spec =

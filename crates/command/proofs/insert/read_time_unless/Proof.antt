@@ -5,14 +5,14 @@ use Rattle.command.proofs.insert.read_time_unless.Statement.{statement}
 use Rattle.command.proofs.insert.read_time_unless.Tie as tie
 
 returns : tie.Need-returns
-returns c = let a = c .before .before .args in rw (c .if1 .taken) (at-once (a .s .now) (a .at))
+returns c = let a = c .before .before .args in rw (c .if1 .taken) (at-once (a .payload .now) (a .at))
 
-read-whole-time-requires : tie.Need-read-whole-time-requires
-read-whole-time-requires c κs = search needs
+read-aligned-time-requires : tie.Need-read-aligned-time-requires
+read-aligned-time-requires c κs = search needs
 
 returns-2 : tie.Need-returns-2
 returns-2 c =
-    let a = c .before .before .before .args in rw (c .before .if1 .left) (at-a-time (a .s .now) (a .at) _ (c .read-whole-time .ensures))
+    let a = c .before .before .before .args in rw (c .before .if1 .left) (at-a-time (a .payload .now) (a .at) _ (c .read-aligned-time .ensures))
 
 pub read-time-unless-spec : {M : Type 1} → statement M
-read-time-unless-spec = tie.close (tie.spec returns read-whole-time-requires returns-2)
+read-time-unless-spec = tie.close (tie.spec returns read-aligned-time-requires returns-2)

@@ -5,7 +5,7 @@ use native.Mathlib.Omega.{arith}
 use lib.ListN.{length}
 use borrow.Author.Tests.{lt-ltb}
 use Rattle.command.specs.Insert.{immediate, blank}
-use Rattle.command.specs.declared.components.ComponentSplice.{ComponentSplice}
+use Rattle.command.specs.declared.components.InsertComponent.{InsertComponent}
 use Rattle.splice_time.specs.declared.SpliceTime.the-variants.{Immediate}
 use Rattle.command_measure.proofs.Making.{getD-any}
 use borrow.Author.Needs.{needs}
@@ -27,9 +27,9 @@ is-immediate-requires c κs = search needs
 returns-2 : tie.Need-returns-2
 returns-2 c =
     let s = c .before .before .before in
-    let d : ComponentSplice = record { «component_tag» = 0; «splice_time» = Immediate } in
+    let d : InsertComponent = record { «component_tag» = 0; «splice_time» = Immediate } in
     let some : 0 < s .args .n = omega arith in
-    rw (lt-ltb 0 (s .args .n) some) (c .is-immediate .ensures ∙ ap (λ (x : ComponentSplice). immediate (x .«splice_time»)) (getD-any (s .args .t2) 0 d blank (omega (arith, full s))))
+    rw (lt-ltb 0 (s .args .n) some) (c .is-immediate .ensures ∙ ap (λ (x : InsertComponent). immediate (x .«splice_time»)) (getD-any (s .args .t2) 0 d blank (omega (arith, full s))))
 
 pub are-immediate-spec : {M : Type 1} → statement M
 are-immediate-spec =

@@ -6,7 +6,7 @@ use native.Mathlib.Omega.{arith}
 use lib.ListN.{length, take, drop, getD, length-drop, drop-of-length-le}
 use lib.Seq.{length-take-le, getD-take}
 use Rattle.command.specs.Command.{Tags}
-use Rattle.command.specs.declared.components.ComponentSplice.{ComponentSplice}
+use Rattle.command.specs.declared.components.InsertComponent.{InsertComponent}
 use Rattle.splice_time.specs.declared.SpliceTime.the-variants.{Immediate}
 use Rattle.command_measure.specs.Survey.{adding, surveyed}
 use Rattle.command_measure.specs.declared.measure.Survey.{Survey}
@@ -58,14 +58,14 @@ loop-again c =
     let a = l .before .args in
     let j = l .loop .i - 1 in
     let cs = take (a .count) (a .t1) in
-    let d : ComponentSplice = record { «component_tag» = 0; «splice_time» = Immediate } in
+    let d : InsertComponent = record { «component_tag» = 0; «splice_time» = Immediate } in
     let z : suc j ≡ l .loop .i = omega arith in
     let h : j < length cs = omega (arith, counted (l .before)) in
     let same : getD cs j d ≡ getD (a .t1) j d = getD-take (a .count) (a .t1) j d (omega arith) in
     let one = c .add-component .ensures in
     let s : c .add-component .result ≡ surveyed (a .at-once) (drop j cs) =
     one .0
-    ∙ ap₂ (λ (x : ComponentSplice) (y : Survey). adding (a .at-once) (x .«splice_time») y) (sym same) (l .loop .inv .1 ∙ ap (λ (k : ℕ). surveyed (a .at-once) (drop k cs)) (sym z))
+    ∙ ap₂ (λ (x : InsertComponent) (y : Survey). adding (a .at-once) (x .«splice_time») y) (sym same) (l .loop .inv .1 ∙ ap (λ (k : ℕ). surveyed (a .at-once) (drop k cs)) (sym z))
     ∙ surveyed-at (a .at-once) cs j d h in
     (omega arith, s, tags-at cs j d h (rw same (one .1)) (rw z (l .loop .inv .2)))
 

@@ -3,7 +3,7 @@ use mathlib.Core.List.{List, []}
 use mathlib.Core.Path.{_≡_, ap, sym, _∙_}
 use Rattle.command.specs.Command.{array}
 use Rattle.command.specs.Insert.{count}
-use Rattle.command.specs.declared.components.ComponentSplice.{ComponentSplice}
+use Rattle.command.specs.declared.components.InsertComponent.{InsertComponent}
 use Rattle.command.specs.declared.insert.SpliceMode.{SpliceMode}
 use Rattle.bit_stores.proofs.Tables.{pens-same}
 use Rattle.command_measure.specs.Fields.{ink, placesOf, activeFields}
@@ -53,7 +53,7 @@ store-listed-requires c κs =
     let m = c .before .before .before .before in
     let s = m .before .before .before in
     let a = s .args in
-    (m .mode2 .given .1, fits-same (a .out .now) (a .c) _ _ (ap (λ (cs : List ComponentSplice). activeFields (a .insert) (placesOf (a .insert) cs)) (sym (c .blanks .ensures))) (s .pre))
+    (m .mode2 .given .1, fits-same (a .out .now) (a .c) _ _ (ap (λ (cs : List InsertComponent). activeFields (a .insert) (placesOf (a .insert) cs)) (sym (c .blanks .ensures))) (s .pre))
 
 same-length-2 : tie.Need-same-length-2
 same-length-2 c = search needs
@@ -73,7 +73,7 @@ returns-3 c =
     let q = c .before .before in
     let b = q .before in
     let a = b .before .before .before .before .before .before .before .args in
-    pens-same (a .out .now) (a .c) _ _ _ _ (ap (λ (cs : List ComponentSplice). ink (activeFields (a .insert) (placesOf (a .insert) cs))) (b .blanks .ensures)) (q .store-listed .ensures)
+    pens-same (a .out .now) (a .c) _ _ _ _ (ap (λ (cs : List InsertComponent). ink (activeFields (a .insert) (placesOf (a .insert) cs))) (b .blanks .ensures)) (q .store-listed .ensures)
 
 pub store-active-spec : {M : Type 1} → statement M
 store-active-spec =

@@ -46,7 +46,7 @@ returns : tie.Need-returns
 returns c =
     let q = c .before .before in
     let p = q .before .before .before .before in
-    after-flags (p .before .before .before .before) .whole _ _ (after-count p .whole _ _ (q .store-end .ensures))
+    after-flags (p .before .before .before .before) .both _ _ (after-count p .both _ _ (q .store-end .ensures))
 
 pub store-by-none-spec : {M : Type 1} → statement M
 store-by-none-spec =

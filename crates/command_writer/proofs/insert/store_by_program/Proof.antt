@@ -77,7 +77,7 @@ same-length : tie.Need-same-length
 same-length c = search needs
 
 returns : tie.Need-returns
-returns c = let q = c .before .before in at-once (q .before .before) .whole _ _ (q .store-end .ensures)
+returns c = let q = c .before .before in at-once (q .before .before) .both _ _ (q .store-end .ensures)
 
 store-time-requires : tie.Need-store-time-requires
 store-time-requires c κs =
@@ -96,7 +96,7 @@ returns-2 : tie.Need-returns-2
 returns-2 c =
     let q = c .before .before in
     let p = q .before .before .before .before in
-    timed (p .before .before) .whole _ _ (after-time p .whole _ _ (q .store-end2 .ensures))
+    timed (p .before .before) .both _ _ (after-time p .both _ _ (q .store-end2 .ensures))
 
 pub store-by-program-spec : {M : Type 1} → statement M
 store-by-program-spec =

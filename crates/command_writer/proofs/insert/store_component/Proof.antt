@@ -41,7 +41,7 @@ same-length-2 c = search needs
 returns-2 : tie.Need-returns-2
 returns-2 c =
     let q = c .before .before in
-    next (q .before .before) .whole _ _ (q .store-time .ensures)
+    next (q .before .before) .both _ _ (q .store-time .ensures)
 
 pub store-component-spec : {M : Type 1} → statement M
 store-component-spec =

@@ -6,7 +6,7 @@ use mathlib.Core.Path.{_≡_, refl, ap, sym, _∙_}
 use native.Mathlib.Omega.{arith}
 use lib.ListN.{length, take, getD}
 use lib.Seq.{take-take}
-use Rattle.command.specs.declared.components.ComponentSplice.{ComponentSplice}
+use Rattle.command.specs.declared.components.InsertComponent.{InsertComponent}
 use Rattle.splice_time.specs.declared.SpliceTime.the-variants.{Immediate}
 use Rattle.bit_stores.specs.Pen.{Pens}
 use Rattle.bit_stores.specs.Private.{Fits}
@@ -48,7 +48,7 @@ next c v z =
     let l = c .before in
     let s = l .before .before in
     let a = s .args in
-    let d : ComponentSplice = record { «component_tag» = 0; «splice_time» = Immediate } in
+    let d : InsertComponent = record { «component_tag» = 0; «splice_time» = Immediate } in
     let i = l .loop .i in
     let e : take (i + 1) (take (a .count) (a .t3)) ≡ take (i + 1) (a .t3) = take-take (i + 1) (a .count) (a .t3) (omega arith) in
     let f : Fits (a .out .now) (a .c) (ink (listFields (a .at-once) (take (i + 1) (a .t3)))) = rw e at (fits-fewer (a .out .now) (a .c) (a .at-once) (take (a .count) (a .t3)) (i + 1) (s .pre .3)) in

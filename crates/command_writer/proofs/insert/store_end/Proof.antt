@@ -42,7 +42,7 @@ returns-2 c =
     let s = p .before .before .before .before .before .before in
     let i = s .args .insert in
     break-goes (s .args .out .now) (s .args .c) _ _ (i .duration) _ (tailFields (i .«unique_program_id») (i .«avail_num») (i .«avails_expected»)) (p .before .before .before .duration .given .1) (s .pre) (p .store-break .ensures)
-    .whole _ _ (q .store-tail2 .ensures)
+    .both _ _ (q .store-tail2 .ensures)
 
 pub store-end-spec : {M : Type 1} → statement M
 store-end-spec =

@@ -102,7 +102,7 @@ returns-3 c =
     let p = q .before .before .before .before in
     let d = p .before .before .before .before .before .before .before in
     let a = d .before .before .before .args in
-    pens-same (a .out .now) (a .c) _ _ _ _ (ap ink (sym (active-insert (a .i) _ (a .components) (d .detail .given .1)))) (one p .whole _ _ (q .store-listed .ensures))
+    pens-same (a .out .now) (a .c) _ _ _ _ (ap ink (sym (active-insert (a .i) _ (a .components) (d .detail .given .1)))) (one p .both _ _ (q .store-listed .ensures))
 
 pub store-insert-spec : {M : Type 1} → statement M
 store-insert-spec =

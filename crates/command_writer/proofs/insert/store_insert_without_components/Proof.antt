@@ -70,7 +70,7 @@ returns-2 c =
     let p = q .before .before .before .before in
     let d = p .before .before .before in
     let a = d .before .before .before .before .args in
-    pens-same (a .out .now) (a .c) _ _ _ _ (ap ink (sym (active-insert (a .i) _ (array []) (d .detail .given .1)))) (one p .whole _ _ (q .store-active .ensures))
+    pens-same (a .out .now) (a .c) _ _ _ _ (ap ink (sym (active-insert (a .i) _ (array []) (d .detail .given .1)))) (one p .both _ _ (q .store-active .ensures))
 
 pub store-insert-without-components-spec : {M : Type 1} → statement M
 store-insert-without-components-spec =

@@ -117,7 +117,7 @@ returns c =
     let q = c .before .before in
     let r = q .before .before .before .before in
     let p = r .before .before .before .before in
-    after-flags (p .before .before .before .before .before) .whole _ _ (after-count p .whole _ _ (after-list r .whole _ _ (q .store-end .ensures)))
+    after-flags (p .before .before .before .before .before) .both _ _ (after-count p .both _ _ (after-list r .both _ _ (q .store-end .ensures)))
 
 pub store-listed-spec : {M : Type 1} → statement M
 store-listed-spec =

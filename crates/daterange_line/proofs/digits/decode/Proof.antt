@@ -7,7 +7,7 @@ use Rattle.table.specs.Lent.{stored}
 use Rattle.table.proofs.Stores.{stored-nil, length-stored}
 use Rattle.attribute_list.specs.Grammar.{hexByte}
 use Rattle.daterange_line.specs.Reading.{octets}
-use Rattle.daterange_line.proofs.Octets.{all-at, octets-store, octets-whole}
+use Rattle.daterange_line.proofs.Octets.{all-at, octets-store, octets-all}
 use Rattle.daterange_line.proofs.digits.decode.Statement.{statement}
 use Rattle.daterange_line.proofs.digits.decode.Tie as tie
 
@@ -60,7 +60,7 @@ same-length : tie.Need-same-length Inv-loop μ-loop
 same-length c = kept (c .before)
 
 returns : tie.Need-returns Inv-loop μ-loop
-returns c = c .before .loop .inv .1 ∙ ap (stored (c .before .before .before .before .args .target .now) 0) (octets-whole (c .before .before .before .before .args .digits .now) (c .before .loop .i) (c .before .before .before .before .pre .1) (c .loop-test .left))
+returns c = c .before .loop .inv .1 ∙ ap (stored (c .before .before .before .before .args .target .now) 0) (octets-all (c .before .before .before .before .args .digits .now) (c .before .loop .i) (c .before .before .before .before .pre .1) (c .loop-test .left))
 
 pub decode-spec : {M : Type 1} → statement M
 decode-spec =

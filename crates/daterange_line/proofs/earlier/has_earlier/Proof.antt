@@ -3,7 +3,7 @@ use mathlib.Core.Path.{_≡_, refl, sym, _∙_}
 use native.Mathlib.Omega.{arith}
 use lib.ListN.{length}
 use Rattle.daterange_line.specs.Private.{earlier}
-use Rattle.attribute_list.proofs.Wholes.{within-line}
+use Rattle.attribute_list.proofs.Completes.{within-line}
 use Rattle.daterange_line.proofs.Searches.{earlier-end, earlier-none, earlier-fault, earlier-found, earlier-next}
 use borrow.Author.Needs.{needs}
 use Rattle.daterange_line.proofs.earlier.has_earlier.Statement.{statement}

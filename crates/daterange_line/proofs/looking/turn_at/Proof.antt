@@ -1,7 +1,7 @@
 -- `daterange_line::looking::turn_at`, test by test.
 use native.Mathlib.Omega.{arith}
 use borrow.Author.Tests.{not-true, not-false}
-use Rattle.attribute_list.proofs.Wholes.{within-line}
+use Rattle.attribute_list.proofs.Completes.{within-line}
 use Rattle.daterange_line.proofs.Turns.{turn-nothing, turn-earlier, turn-unfit, turn-done, turn-more}
 use borrow.Author.Needs.{needs}
 use Rattle.daterange_line.proofs.looking.turn_at.Statement.{statement}

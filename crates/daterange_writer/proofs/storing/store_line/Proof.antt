@@ -4,7 +4,7 @@ use mathlib.Core.Path.{sym, _∙_}
 use native.Mathlib.Omega.{arith}
 use lib.ListN.{length}
 use borrow.Author.Tests.{not-true, not-false, leb-true}
-use Rattle.daterange_writer.proofs.Stored.{store-short, store-whole}
+use Rattle.daterange_writer.proofs.Stored.{store-short, store-all}
 use borrow.Author.Needs.{needs}
 use Rattle.daterange_writer.proofs.storing.store_line.Statement.{statement}
 use Rattle.daterange_writer.proofs.storing.store_line.Tie as tie
@@ -37,7 +37,7 @@ same-length : tie.Need-same-length
 same-length c = search needs
 
 returns-2 : tie.Need-returns-2
-returns-2 c = store-whole _ _ _ _ _ _ (sym (c .before .before .before .before .before .has-room .ensures) ∙ not-false _ (c .before .before .before .before .if1 .left)) (c .before .before .put-line .ensures)
+returns-2 c = store-all _ _ _ _ _ _ (sym (c .before .before .before .before .before .has-room .ensures) ∙ not-false _ (c .before .before .before .before .if1 .left)) (c .before .before .put-line .ensures)
 
 pub store-line-spec : {M : Type 1} → statement M
 store-line-spec =

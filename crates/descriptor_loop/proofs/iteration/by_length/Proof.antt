@@ -3,7 +3,7 @@ use Prim.Native.Nat.{_-_, _≤_, _<_}
 use mathlib.Core.Path.{sym, _∙_}
 use native.Mathlib.Omega.{arith}
 use lib.ListN.{length}
-use Rattle.descriptor_loop.proofs.Steps.{step-over, step-full, step-small, step-whole}
+use Rattle.descriptor_loop.proofs.Steps.{step-over, step-full, step-small, step-complete}
 use borrow.Author.Needs.{needs}
 use Rattle.descriptor_loop.proofs.iteration.by_length.Statement.{statement}
 use Rattle.descriptor_loop.proofs.iteration.by_length.Tie as tie
@@ -12,10 +12,10 @@ abbrev start : tie.After-size → tie.Start
 start w = w .before .before .before
 
 -- what is asked for
-inside : (w : tie.After-size) → let a = start w .args in a .offset < length (a .bytes .now)
+inside : (w : tie.After-size) → let a = start w .args in a .offset < length (a .descriptors .now)
 inside w = omega (arith, start w .pre .0)
 
-six : (w : tie.After-size) → let a = start w .args in 6 ≤ length (a .bytes .now) - a .offset
+six : (w : tie.After-size) → let a = start w .args in 6 ≤ length (a .descriptors .now) - a .offset
 six w = omega (arith, start w .pre .0)
 
 sub-left : tie.Need-sub-left
@@ -75,13 +75,13 @@ returns-3 c =
     let w = c .before .before .before .before .before in
     c .plain3 .ensures ∙ rw (c .before .lacks2 .ensures) (sym (step-small _ _ (start w .pre .1) (inside w) _ (w .size .ensures .0) (six w) (c .before .before .before .before .if1 .left) (c .before .before .before .if2 .left) (c .before .before .if3 .taken)))
 
-whole-requires : tie.Need-whole-requires
-whole-requires c κs = search needs
+read-complete-requires : tie.Need-read-complete-requires
+read-complete-requires c κs = search needs
 
 returns-4 : tie.Need-returns-4
 returns-4 c =
     let w = c .before .before .before .before in
-    c .whole .ensures ∙ sym (step-whole _ _ (start w .pre .1) (inside w) _ (w .size .ensures .0) (six w) (c .before .before .before .if1 .left) (c .before .before .if2 .left) (c .before .if3 .left))
+    c .read-complete .ensures ∙ sym (step-complete _ _ (start w .pre .1) (inside w) _ (w .size .ensures .0) (six w) (c .before .before .before .if1 .left) (c .before .before .if2 .left) (c .before .if3 .left))
 
 pub by-length-spec : {M : Type 1} → statement M
 by-length-spec =
@@ -104,5 +104,5 @@ by-length-spec =
     add-plain-2
     plain-requires-3
     returns-3
-    whole-requires
+    read-complete-requires
     returns-4)

@@ -28,28 +28,28 @@ add-start c =
     let item = c .before in
     let step = item .before .before in
     let a = step .before .before .args in
-    omega (arith, payload-there (a .bytes .now) (a .offset) _ (step .step .ensures) _ (item .item .given .1))
+    omega (arith, payload-there (a .descriptors .now) (a .offset) _ (step .step .ensures) _ (item .item .given .1))
 
 sub-beside-of : tie.Need-sub-beside-of
 sub-beside-of c =
     let item = c .before in
     let step = item .before .before in
     let a = step .before .before .args in
-    omega (arith, payload-there (a .bytes .now) (a .offset) _ (step .step .ensures) _ (item .item .given .1))
+    omega (arith, payload-there (a .descriptors .now) (a .offset) _ (step .step .ensures) _ (item .item .given .1))
 
 part-beside-of-start : tie.Need-part-beside-of-start
 part-beside-of-start c =
     let item = c .before in
     let step = item .before .before in
     let a = step .before .before .args in
-    omega (arith, payload-there (a .bytes .now) (a .offset) _ (step .step .ensures) _ (item .item .given .1))
+    omega (arith, payload-there (a .descriptors .now) (a .offset) _ (step .step .ensures) _ (item .item .given .1))
 
 part-beside-of-end : tie.Need-part-beside-of-end
 part-beside-of-end c =
     let item = c .before in
     let step = item .before .before in
     let a = step .before .before .args in
-    omega (arith, payload-there (a .bytes .now) (a .offset) _ (step .step .ensures) _ (item .item .given .1))
+    omega (arith, payload-there (a .descriptors .now) (a .offset) _ (step .step .ensures) _ (item .item .given .1))
 
 beside-of-requires : tie.Need-beside-of-requires
 beside-of-requires c κs = search needs
@@ -59,21 +59,21 @@ returns c =
     let told = c .before in
     let step = told .before .before in
     let a = step .before .before .args in
-    reading-is (a .bytes .now) (a .offset) _ (step .step .ensures) _ (told .enum-told .given .1) _ (c .blank-beside .ensures)
+    reading-is (a .descriptors .now) (a .offset) _ (step .step .ensures) _ (told .enum-told .given .1) _ (c .blank-beside .ensures)
 
 returns-2 : tie.Need-returns-2
 returns-2 c =
     let told = c .before in
     let step = told .before .before in
     let a = step .before .before .args in
-    reading-is (a .bytes .now) (a .offset) _ (step .step .ensures) _ (told .enum-told2 .given .1) _ (c .blank-beside2 .ensures)
+    reading-is (a .descriptors .now) (a .offset) _ (step .step .ensures) _ (told .enum-told2 .given .1) _ (c .blank-beside2 .ensures)
 
 returns-3 : tie.Need-returns-3
 returns-3 c =
     let item = c .before .before .before in
     let step = item .before .before in
     let a = step .before .before .args in
-    reading-is (a .bytes .now) (a .offset) _ (step .step .ensures) _ (item .item .given .1) _ (c .beside-of .ensures)
+    reading-is (a .descriptors .now) (a .offset) _ (step .step .ensures) _ (item .item .given .1) _ (c .beside-of .ensures)
 
 pub read-item-spec : {M : Type 1} → statement M
 read-item-spec =

@@ -22,11 +22,11 @@ returns-2 c =
 cuei-requires : tie.Need-cuei-requires
 cuei-requires c κs = search needs
 
-slice-aggregate-store-frame : tie.Need-slice-aggregate-store-frame
-slice-aggregate-store-frame c = search needs
+slice-aggregate-store-envelope : tie.Need-slice-aggregate-store-envelope
+slice-aggregate-store-envelope c = search needs
 
-store-frame-requires : tie.Need-store-frame-requires
-store-frame-requires c κs = search needs
+store-envelope-requires : tie.Need-store-envelope-requires
+store-envelope-requires c κs = search needs
 
 cast-put-bits : tie.Need-cast-put-bits
 cast-put-bits c = search needs
@@ -40,7 +40,7 @@ same-length c = search needs
 returns-3 : tie.Need-returns-3
 returns-3 c =
     let a = c .before .before .before .before .before .before .before .before .before .before .before .before .before .before .before .args in
-    avail-writes (a .x) _ _ (a .target .now) _ (c .before .before .before .before .before .before .before .before .before .before .before .before .before .is-alone .ensures) (omega (arith, c .before .before .before .before .before .before .before .before .before .before .before .before .before .before .before)) (c .before .before .before .before .before .before .before .before .before .before .before .before .if1 .left) _ _ _ _ _ _ (c .before .before .before .before .before .before .before .before .before .before .before .if2 .left) (c .before .before .before .before .before .before .before .before .before .before .cuei .ensures) (c .before .before .before .before .before .before .before .store-frame .ensures) refl (c .before .before .put-bits .ensures)
+    avail-writes (a .x) _ _ (a .target .now) _ (c .before .before .before .before .before .before .before .before .before .before .before .before .before .is-alone .ensures) (omega (arith, c .before .before .before .before .before .before .before .before .before .before .before .before .before .before .before)) (c .before .before .before .before .before .before .before .before .before .before .before .before .if1 .left) _ _ _ _ _ _ (c .before .before .before .before .before .before .before .before .before .before .before .if2 .left) (c .before .before .before .before .before .before .before .before .before .before .cuei .ensures) (c .before .before .before .before .before .before .before .store-envelope .ensures) refl (c .before .before .put-bits .ensures)
 
 pub write-avail-spec : {M : Type 1} → statement M
 write-avail-spec =
@@ -50,8 +50,8 @@ write-avail-spec =
     returns
     returns-2
     cuei-requires
-    slice-aggregate-store-frame
-    store-frame-requires
+    slice-aggregate-store-envelope
+    store-envelope-requires
     cast-put-bits
     put-bits-requires
     same-length

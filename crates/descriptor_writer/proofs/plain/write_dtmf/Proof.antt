@@ -38,14 +38,14 @@ returns-4 c =
 cuei-requires : tie.Need-cuei-requires
 cuei-requires c κs = search needs
 
-add-store-frame : tie.Need-add-store-frame
-add-store-frame c = search needs
+add-store-envelope : tie.Need-add-store-envelope
+add-store-envelope c = search needs
 
-slice-aggregate-store-frame : tie.Need-slice-aggregate-store-frame
-slice-aggregate-store-frame c = search needs
+slice-aggregate-store-envelope : tie.Need-slice-aggregate-store-envelope
+slice-aggregate-store-envelope c = search needs
 
-store-frame-requires : tie.Need-store-frame-requires
-store-frame-requires c κs = search needs
+store-envelope-requires : tie.Need-store-envelope-requires
+store-envelope-requires c κs = search needs
 
 wide-requires : tie.Need-wide-requires
 wide-requires c κs = search needs
@@ -74,7 +74,7 @@ same-length c = search needs
 returns-5 : tie.Need-returns-5
 returns-5 c =
     let a = c .before .before .before .before .before .before .before .before .before .before .before .before .before .before .before .before .before .before .before .before .before .before .before .before .before .before .before .before .before .before .before .before .before .before .before .before .before .args in
-    dtmf-writes (a .x) _ _ (a .lent .now) (a .target .now) _ (c .before .before .before .before .before .before .before .before .before .before .before .before .before .before .before .before .before .before .before .before .before .before .before .before .before .before .before .before .before .before .before .before .before .lies-in .ensures) (omega (arith, c .before .before .before .before .before .before .before .before .before .before .before .before .before .before .before .before .before .before .before .before .before .before .before .before .before .before .before .before .before .before .before .before .before .before .before .before .before)) (c .before .before .before .before .before .before .before .before .before .before .before .before .before .before .before .before .before .before .before .before .before .before .before .before .before .before .before .before .before .before .before .before .if1 .left) (c .before .before .before .before .before .before .before .before .before .before .before .before .before .before .before .before .before .before .before .before .before .before .before .before .before .before .before .before .before .before .if2 .left) _ (c .before .before .before .before .before .before .before .before .before .before .before .before .before .before .before .before .before .before .before .before .before .before .before .before .before .before .before .before .before .is-alone .ensures) (c .before .before .before .before .before .before .before .before .before .before .before .before .before .before .before .before .before .before .before .before .before .before .before .before .before .before .before .before .if3 .left) _ _ _ _ _ _ _ _ _ _ _ _ _ (c .before .before .before .before .before .before .before .before .before .before .before .before .before .before .before .before .before .before .before .before .before .before .before .before .before .before .if4 .left) (c .before .before .before .before .before .before .before .before .before .before .before .before .before .before .before .before .before .before .before .before .before .before .before .before .before .cuei .ensures) (c .before .before .before .before .before .before .before .before .before .before .before .before .before .before .before .before .before .before .before .before .before .store-frame .ensures) (c .before .before .before .before .before .before .before .before .before .before .before .before .before .before .before .before .before .wide .ensures .0) (c .before .before .before .before .before .before .before .before .before .before .before .before .before .before .before .before .put-bits .ensures) (c .before .before .before .before .before .before .before .before .before .before .before .before .put-bits2 .ensures) (c .before .before .before .before .before .before .before .before .put-bits3 .ensures) (c .before .before .before .before .before .view .ensures) (c .before .before .before .put-run .ensures)
+    dtmf-writes (a .x) _ _ (a .lent .now) (a .target .now) _ (c .before .before .before .before .before .before .before .before .before .before .before .before .before .before .before .before .before .before .before .before .before .before .before .before .before .before .before .before .before .before .before .before .before .lies-in .ensures) (omega (arith, c .before .before .before .before .before .before .before .before .before .before .before .before .before .before .before .before .before .before .before .before .before .before .before .before .before .before .before .before .before .before .before .before .before .before .before .before .before)) (c .before .before .before .before .before .before .before .before .before .before .before .before .before .before .before .before .before .before .before .before .before .before .before .before .before .before .before .before .before .before .before .before .if1 .left) (c .before .before .before .before .before .before .before .before .before .before .before .before .before .before .before .before .before .before .before .before .before .before .before .before .before .before .before .before .before .before .if2 .left) _ (c .before .before .before .before .before .before .before .before .before .before .before .before .before .before .before .before .before .before .before .before .before .before .before .before .before .before .before .before .before .is-alone .ensures) (c .before .before .before .before .before .before .before .before .before .before .before .before .before .before .before .before .before .before .before .before .before .before .before .before .before .before .before .before .if3 .left) _ _ _ _ _ _ _ _ _ _ _ _ _ (c .before .before .before .before .before .before .before .before .before .before .before .before .before .before .before .before .before .before .before .before .before .before .before .before .before .before .if4 .left) (c .before .before .before .before .before .before .before .before .before .before .before .before .before .before .before .before .before .before .before .before .before .before .before .before .before .cuei .ensures) (c .before .before .before .before .before .before .before .before .before .before .before .before .before .before .before .before .before .before .before .before .before .store-envelope .ensures) (c .before .before .before .before .before .before .before .before .before .before .before .before .before .before .before .before .before .wide .ensures .0) (c .before .before .before .before .before .before .before .before .before .before .before .before .before .before .before .before .put-bits .ensures) (c .before .before .before .before .before .before .before .before .before .before .before .before .put-bits2 .ensures) (c .before .before .before .before .before .before .before .before .put-bits3 .ensures) (c .before .before .before .before .before .view .ensures) (c .before .before .before .put-run .ensures)
 
 pub write-dtmf-spec : {M : Type 1} → statement M
 write-dtmf-spec =
@@ -88,9 +88,9 @@ write-dtmf-spec =
     add-if4
     returns-4
     cuei-requires
-    add-store-frame
-    slice-aggregate-store-frame
-    store-frame-requires
+    add-store-envelope
+    slice-aggregate-store-envelope
+    store-envelope-requires
     wide-requires
     put-bits-requires
     put-bits-requires-2

@@ -34,14 +34,14 @@ returns-4 c =
     let a = c .before .before .before .before .before .before .before .before .before .before .args in
     reserved-36 (a .tag) (a .private-bytes) _ _ (a .lent .now) (a .target .now) _ (c .before .before .before .before .before .before .before .lies-in .ensures) (omega (arith, c .before .before .before .before .before .before .before .before .before .before)) (c .before .before .before .before .before .before .if1 .left) _ (c .before .before .before .before .before .is-writable-reserved .ensures) (c .before .before .before .before .if2 .left) (c .before .before .if3 .left) (c .if4 .taken)
 
-add-store-frame : tie.Need-add-store-frame
-add-store-frame c = search needs
+add-store-envelope : tie.Need-add-store-envelope
+add-store-envelope c = search needs
 
-slice-aggregate-store-frame : tie.Need-slice-aggregate-store-frame
-slice-aggregate-store-frame c = search needs
+slice-aggregate-store-envelope : tie.Need-slice-aggregate-store-envelope
+slice-aggregate-store-envelope c = search needs
 
-store-frame-requires : tie.Need-store-frame-requires
-store-frame-requires c κs = search needs
+store-envelope-requires : tie.Need-store-envelope-requires
+store-envelope-requires c κs = search needs
 
 view-requires : tie.Need-view-requires
 view-requires c κs = search needs
@@ -58,7 +58,7 @@ same-length c = search needs
 returns-5 : tie.Need-returns-5
 returns-5 c =
     let a = c .before .before .before .before .before .before .before .before .before .before .before .before .before .before .before .before .before .before .before .before .before .before .args in
-    reserved-writes (a .tag) (a .private-bytes) _ _ (a .lent .now) (a .target .now) _ (c .before .before .before .before .before .before .before .before .before .before .before .before .before .before .before .before .before .before .before .lies-in .ensures) (omega (arith, c .before .before .before .before .before .before .before .before .before .before .before .before .before .before .before .before .before .before .before .before .before .before)) (c .before .before .before .before .before .before .before .before .before .before .before .before .before .before .before .before .before .before .if1 .left) _ (c .before .before .before .before .before .before .before .before .before .before .before .before .before .before .before .before .before .is-writable-reserved .ensures) (c .before .before .before .before .before .before .before .before .before .before .before .before .before .before .before .before .if2 .left) (c .before .before .before .before .before .before .before .before .before .before .before .before .before .before .if3 .left) _ _ _ _ _ (c .before .before .before .before .before .before .before .before .before .before .before .before .if4 .left) (c .before .before .before .before .before .before .before .before .store-frame .ensures) (c .before .before .before .before .before .view .ensures) (c .before .before .before .put-run .ensures)
+    reserved-writes (a .tag) (a .private-bytes) _ _ (a .lent .now) (a .target .now) _ (c .before .before .before .before .before .before .before .before .before .before .before .before .before .before .before .before .before .before .before .lies-in .ensures) (omega (arith, c .before .before .before .before .before .before .before .before .before .before .before .before .before .before .before .before .before .before .before .before .before .before)) (c .before .before .before .before .before .before .before .before .before .before .before .before .before .before .before .before .before .before .if1 .left) _ (c .before .before .before .before .before .before .before .before .before .before .before .before .before .before .before .before .before .is-writable-reserved .ensures) (c .before .before .before .before .before .before .before .before .before .before .before .before .before .before .before .before .if2 .left) (c .before .before .before .before .before .before .before .before .before .before .before .before .before .before .if3 .left) _ _ _ _ _ (c .before .before .before .before .before .before .before .before .before .before .before .before .if4 .left) (c .before .before .before .before .before .before .before .before .store-envelope .ensures) (c .before .before .before .before .before .view .ensures) (c .before .before .before .put-run .ensures)
 
 pub write-reserved-spec : {M : Type 1} → statement M
 write-reserved-spec =
@@ -71,9 +71,9 @@ write-reserved-spec =
     returns-3
     add-if4
     returns-4
-    add-store-frame
-    slice-aggregate-store-frame
-    store-frame-requires
+    add-store-envelope
+    slice-aggregate-store-envelope
+    store-envelope-requires
     view-requires
     put-run-requires
     add-t15

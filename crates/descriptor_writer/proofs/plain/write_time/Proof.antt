@@ -26,11 +26,11 @@ returns-3 c =
 cuei-requires : tie.Need-cuei-requires
 cuei-requires c κs = search needs
 
-slice-aggregate-store-frame : tie.Need-slice-aggregate-store-frame
-slice-aggregate-store-frame c = search needs
+slice-aggregate-store-envelope : tie.Need-slice-aggregate-store-envelope
+slice-aggregate-store-envelope c = search needs
 
-store-frame-requires : tie.Need-store-frame-requires
-store-frame-requires c κs = search needs
+store-envelope-requires : tie.Need-store-envelope-requires
+store-envelope-requires c κs = search needs
 
 put-bits-requires : tie.Need-put-bits-requires
 put-bits-requires c κs = search needs
@@ -53,7 +53,7 @@ same-length c = search needs
 returns-4 : tie.Need-returns-4
 returns-4 c =
     let a = c .before .before .before .before .before .before .before .before .before .before .before .before .before .before .before .before .before .before .before .before .before .before .before .before .before .before .args in
-    time-writes (a .x) _ _ (a .target .now) (omega (arith, c .before .before .before .before .before .before .before .before .before .before .before .before .before .before .before .before .before .before .before .before .before .before .before .before .before .before)) (omega (arith, c .before .before .before .before .before .before .before .before .before .before .before .before .before .before .before .before .before .before .before .before .before .before .before .before .before .before)) (c .before .before .before .before .before .before .before .before .before .before .before .before .before .before .before .before .before .before .before .before .before .before .before .if1 .left) _ (c .before .before .before .before .before .before .before .before .before .before .before .before .before .before .before .before .before .before .before .before .before .before .is-alone .ensures) (c .before .before .before .before .before .before .before .before .before .before .before .before .before .before .before .before .before .before .before .before .before .if2 .left) _ _ _ _ _ _ _ _ _ (c .before .before .before .before .before .before .before .before .before .before .before .before .before .before .before .before .before .before .before .before .if3 .left) (c .before .before .before .before .before .before .before .before .before .before .before .before .before .before .before .before .before .before .before .cuei .ensures) (c .before .before .before .before .before .before .before .before .before .before .before .before .before .before .before .before .store-frame .ensures) (c .before .before .before .before .before .before .before .before .before .before .before .before .put-bits .ensures) (c .before .before .before .before .before .before .before .put-bits2 .ensures) (c .before .before .put-bits3 .ensures)
+    time-writes (a .x) _ _ (a .target .now) (omega (arith, c .before .before .before .before .before .before .before .before .before .before .before .before .before .before .before .before .before .before .before .before .before .before .before .before .before .before)) (omega (arith, c .before .before .before .before .before .before .before .before .before .before .before .before .before .before .before .before .before .before .before .before .before .before .before .before .before .before)) (c .before .before .before .before .before .before .before .before .before .before .before .before .before .before .before .before .before .before .before .before .before .before .before .if1 .left) _ (c .before .before .before .before .before .before .before .before .before .before .before .before .before .before .before .before .before .before .before .before .before .before .is-alone .ensures) (c .before .before .before .before .before .before .before .before .before .before .before .before .before .before .before .before .before .before .before .before .before .if2 .left) _ _ _ _ _ _ _ _ _ (c .before .before .before .before .before .before .before .before .before .before .before .before .before .before .before .before .before .before .before .before .if3 .left) (c .before .before .before .before .before .before .before .before .before .before .before .before .before .before .before .before .before .before .before .cuei .ensures) (c .before .before .before .before .before .before .before .before .before .before .before .before .before .before .before .before .store-envelope .ensures) (c .before .before .before .before .before .before .before .before .before .before .before .before .put-bits .ensures) (c .before .before .before .before .before .before .before .put-bits2 .ensures) (c .before .before .put-bits3 .ensures)
 
 pub write-time-spec : {M : Type 1} → statement M
 write-time-spec =
@@ -64,8 +64,8 @@ write-time-spec =
     returns-2
     returns-3
     cuei-requires
-    slice-aggregate-store-frame
-    store-frame-requires
+    slice-aggregate-store-envelope
+    store-envelope-requires
     put-bits-requires
     cast-put-bits
     put-bits-requires-2

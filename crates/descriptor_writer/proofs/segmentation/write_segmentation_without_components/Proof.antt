@@ -3,7 +3,7 @@ use Prim.Native.Nat.{_<_}
 use mathlib.Core.List.{[]}
 use mathlib.Core.Path.{_≡_, sym, _∙_}
 use native.Mathlib.Omega.{arith}
-use Rattle.descriptor.specs.Whole.{filled}
+use Rattle.descriptor.specs.Full.{filled}
 use Rattle.descriptor_measure.proofs.Tests.{blanks-length}
 use Rattle.descriptor_writer.proofs.Listing.{none-listed}
 use Rattle.descriptor_writer.proofs.Segmenting.{segment-refused, segment-view, with-blanks}

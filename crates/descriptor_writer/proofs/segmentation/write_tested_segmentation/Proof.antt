@@ -25,14 +25,14 @@ returns-2 c =
 cuei-requires : tie.Need-cuei-requires
 cuei-requires c κs = search needs
 
-add-store-frame : tie.Need-add-store-frame
-add-store-frame c = search needs
+add-store-envelope : tie.Need-add-store-envelope
+add-store-envelope c = search needs
 
-slice-aggregate-store-frame : tie.Need-slice-aggregate-store-frame
-slice-aggregate-store-frame c = search needs
+slice-aggregate-store-envelope : tie.Need-slice-aggregate-store-envelope
+slice-aggregate-store-envelope c = search needs
 
-store-frame-requires : tie.Need-store-frame-requires
-store-frame-requires c κs = search needs
+store-envelope-requires : tie.Need-store-envelope-requires
+store-envelope-requires c κs = search needs
 
 store-segmentation-requires : tie.Need-store-segmentation-requires
 store-segmentation-requires c κs = search needs
@@ -46,7 +46,7 @@ same-length c = search needs
 returns-3 : tie.Need-returns-3
 returns-3 c =
     let a = c .before .before .before .before .before .before .before .before .before .before .before .before .before .before .before .before .args in
-    record { writable = λ id cs many z e. segment-writes (a .x) id (record { components = cs; eidr = a .eidr }) (a .lent .now) (a .target .now) 0 (sym z) refl (omega (arith, c .before .before .before .before .before .before .before .before .before .before .before .before .size-of .ensures .1)) _ (c .before .before .before .before .before .before .before .before .before .before .before .before .size-of .ensures .0) (c .before .before .before .before .before .before .before .before .before .before .before .if1 .left) _ _ _ _ _ (c .before .before .before .before .before .before .before .before .before .before .if2 .left) (c .before .before .before .before .before .before .before .before .before .cuei .ensures) (c .before .before .before .before .before .before .store-frame .ensures) (c .before .before .store-segmentation .ensures _ e) }
+    record { writable = λ id cs many z e. segment-writes (a .x) id (record { components = cs; eidr = a .eidr }) (a .lent .now) (a .target .now) 0 (sym z) refl (omega (arith, c .before .before .before .before .before .before .before .before .before .before .before .before .size-of .ensures .1)) _ (c .before .before .before .before .before .before .before .before .before .before .before .before .size-of .ensures .0) (c .before .before .before .before .before .before .before .before .before .before .before .if1 .left) _ _ _ _ _ (c .before .before .before .before .before .before .before .before .before .before .if2 .left) (c .before .before .before .before .before .before .before .before .before .cuei .ensures) (c .before .before .before .before .before .before .store-envelope .ensures) (c .before .before .store-segmentation .ensures _ e) }
 
 pub write-tested-segmentation-spec : {M : Type 1} → statement M
 write-tested-segmentation-spec =
@@ -57,9 +57,9 @@ write-tested-segmentation-spec =
     add-if2
     returns-2
     cuei-requires
-    add-store-frame
-    slice-aggregate-store-frame
-    store-frame-requires
+    add-store-envelope
+    slice-aggregate-store-envelope
+    store-envelope-requires
     store-segmentation-requires
     add-t12
     same-length

@@ -10,7 +10,7 @@ use Rattle.upid.specs.Upid.{listOf, listed}
 use Rattle.upid.specs.Private.{grown, Open, pending}
 use Rattle.upid.specs.declared.PartList.{PartList}
 use Rattle.upid.proofs.Laws.{list-plain, accepted-mid}
-use Rattle.upid.proofs.Lister.{open-first, part-whole, closed, passed, entered, begun, store, ended}
+use Rattle.upid.proofs.Lister.{open-first, part-complete, closed, passed, entered, begun, store, ended}
 use Rattle.upid.proofs.mid.list_parts.Statement.{statement}
 use Rattle.upid.proofs.mid.list_parts.Reads.{Pre, Post}
 use Rattle.upid.proofs.mid.list_parts.Lts as lts
@@ -46,7 +46,7 @@ met part =
     let turn = size .before in
     let loop = turn .before in
     let start = loop .before .before .before .before in
-    let h = part-whole (start .args .s .now) (loop .walk .ends) (loop .walk .level) (loop .walk .at) (size .size .result) (turn .walk-test .taken) (size .size .ensures .0) (loop .walk .inv .3) (part .if2 .left) in
+    let h = part-complete (start .args .s .now) (loop .walk .ends) (loop .walk .level) (loop .walk .at) (size .size .result) (turn .walk-test .taken) (size .size .ensures .0) (loop .walk .inv .3) (part .if2 .left) in
     (h .0, h .1, h .2, start .pre .short)
 
 blank-requires : tie.Need-blank-requires Inv-walk μ-walk

@@ -212,7 +212,7 @@ impl List {
             let count = rng.between(41, 255);
             x.step.item.segmentation.component_count = count as u64;
             for place in &mut x.beside.components[..count] {
-                *place = raw::Component { component_tag: rng.byte().into(), pts_offset: rng.number(33) };
+                *place = raw::SegmentationComponent { component_tag: rng.byte().into(), pts_offset: rng.number(33) };
             }
             x
         });

@@ -54,7 +54,7 @@ pub const RUST: [(&str, Refusal, Tried); 20] = [
     ("insert reserved over 127", Refusal::TooLarge, |rng, target| with_insert(rng, target, |rng, i| i.reserved = rng.between(128, 255) as u8)),
     ("over 255 components", Refusal::TooLarge, |rng, target| {
         with_insert(rng, target, |rng, i| {
-            let component = scte35::ComponentSplice { component_tag: 1, splice_time: SpliceTime::Immediate };
+            let component = scte35::InsertComponent { component_tag: 1, splice_time: SpliceTime::Immediate };
             let count = rng.between(256, 600);
             i.detail.as_mut().expect("not cancelled").splice_mode = scte35::SpliceMode::Components(vec![component; count]);
         })
