@@ -15,10 +15,12 @@ use bit_stores::Written;
 use command::CommandRead;
 use command::read_command;
 use crc::crc32;
+use descriptor_loop::MAX_DESCRIPTOR;
 use relabel_found::spots_insert;
 use relabel_found::upid_head;
 use relabel_upid::relabel_upid;
 use section::COMMAND_AT;
+use section::COMMAND_TYPE_AT;
 use section::FrameRead;
 use section::MAX_SECTION;
 use section::read_frame;
@@ -169,7 +171,7 @@ fn limit_of(section: &[u8], p: Place) -> usize
     let old = p.end - (p.head + 2);
     let item = size(section[own]) - old;
     let others = section.len() - old;
-    lesser(254 - item, MAX_SECTION - others)
+    lesser(MAX_DESCRIPTOR - item, MAX_SECTION - others)
 }
 
 // The place of the item at an offset of the loop, where one is found.
@@ -236,7 +238,7 @@ pub fn relabel(
     };
     let payload = frame.command;
     let end = COMMAND_AT + payload.len;
-    match read_command(section[13], &section[COMMAND_AT..end]) {
+    match read_command(section[COMMAND_TYPE_AT], &section[COMMAND_AT..end]) {
         CommandRead::Is(_) => {}
         CommandRead::UnknownType => return Written::Refused(10),
         CommandRead::Malformed => return Written::Refused(11),

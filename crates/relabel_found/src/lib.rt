@@ -8,6 +8,7 @@ ghost use Rattle.descriptor_loop.specs.Items.{stepOf, itemsOf};
 ghost use Rattle.relabel_found.specs.Found.{begins, titled, complete, spots};
 ghost use Rattle.relabel_payload.specs.Payload.{upidHead};
 use descriptor::is_cuei;
+use descriptor_loop::MAX_DESCRIPTOR;
 use descriptor_loop::MAX_LOOP;
 use table::numbers::byte;
 use table::numbers::size;
@@ -26,7 +27,7 @@ fn skip_item(items: &[u8], at: usize) -> usize
     if left < len + 2 {
         return end;
     }
-    if 254 < len {
+    if MAX_DESCRIPTOR < len {
         return end;
     }
     at + (len + 2)
@@ -65,7 +66,7 @@ fn is_titled(items: &[u8], offset: usize) -> bool
     if left < len + 2 {
         return false;
     }
-    if 254 < len {
+    if MAX_DESCRIPTOR < len {
         return false;
     }
     if items[offset] != 2 {

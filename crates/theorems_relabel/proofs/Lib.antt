@@ -3,4 +3,5 @@ pub mod Replaced
 pub mod Answered
 pub mod Readings
 pub mod Contracts
+pub mod Premises
 pub mod Theorems

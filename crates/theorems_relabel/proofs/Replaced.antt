@@ -4,7 +4,7 @@ use mathlib.Core.Bool.{Bool, true, false, not, _||_}
 use mathlib.Core.List.{List, [], _∷_, _++_, append-assoc, append-nil}
 use mathlib.Core.Path.{_≡_, refl, ap, ap₂, sym, subst, _∙_}
 use native.Mathlib.Omega.{arith}
-use borrow.Author.Tests.{ne-eqb, eq-eqb, eqb-true, eqb-false}
+use borrow.Author.Tests.{ne-eqb, eq-eqb, eqb-true, eqb-false, le-leb}
 use lib.Dec.{eqb, ltb}
 use lib.ListN.{length, getD, take, drop}
 use Rattle.bit_stores.specs.Written.{answerOf, laterOf}
@@ -26,7 +26,7 @@ use Rattle.section.specs.declared.Section.{Section}
 use Rattle.section.specs.declared.SectionRead.{SectionRead}
 use Rattle.table.proofs.Lists.{zero-one}
 use Rattle.table.specs.Bits.{pick}
-use Rattle.table.specs.Writing.{Made, made, refused}
+use Rattle.table.specs.Writing.{Made, made, refused, bytesIn}
 use Rattle.theorems_writer.proofs.Theorems.{an-accepted-write-changes-only-its-result}
 use Rattle.upid.specs.Cover.{bytesOf}
 use Rattle.upid.specs.Private.{Accepted}
@@ -156,3 +156,27 @@ written q target later n bytes byte e l =
     let c = an-accepted-write-changes-only-its-result _ target n e in
     let b : take n later ≡ c .result = ap (take n) l ∙ c .start in
     (subst (Relabelled q) (sym b) (relabelled q (c .result) bytes byte (c .is)), ap (drop n) l ∙ c .rest, ap length l ∙ c .size)
+
+-- and that it is what is made
+pub made-so : (q : Request) (target later : List ℕ) (n : ℕ)
+    → answerOf (relabelMade (q .section) (q .offset) (q .part) (q .«upid_type») (q .bytes)) target ≡ Written.Wrote n → later ≡ laterOf (relabelMade (q .section) (q .offset) (q .part) (q .«upid_type») (q .bytes)) target
+    → relabelMade (q .section) (q .offset) (q .part) (q .«upid_type») (q .bytes) ≡ made (take n later)
+made-so q target later n e l =
+    let c = an-accepted-write-changes-only-its-result _ target n e in
+    c .is ∙ ap made (sym (ap (take n) l ∙ c .start))
+
+fits : (b target : List ℕ) → length b ≤ length target → answerOf (made b) target ≡ Written.Wrote (length b)
+unfolding answerOf
+fits b target h = rw (le-leb (length b) (length target) h)
+
+one-made : (x y : List ℕ) → made x ≡ made y → x ≡ y
+unfolding bytesIn
+one-made x y e = ap bytesIn e
+
+-- what is made and fits stands in the target
+pub stands : (m : Made) (b target later : List ℕ) (answer : Written) → m ≡ made b → answer ≡ answerOf m target → later ≡ laterOf m target → length b ≤ length target
+    → (answer ≡ Written.Wrote (length b)) × (take (length b) later ≡ b)
+stands m b target later answer e a l h =
+    let w : answerOf m target ≡ Written.Wrote (length b) = ap (λ (x : Made). answerOf x target) e ∙ fits b target h in
+    let c = an-accepted-write-changes-only-its-result m target (length b) w in
+    (a ∙ w, ap (take (length b)) l ∙ c .start ∙ one-made (c .result) b (sym (c .is) ∙ e))

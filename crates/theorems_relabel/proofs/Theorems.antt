@@ -2,7 +2,8 @@
 -- makes them of the sources, gives this on every input. So a contract that is changed together with its body is refused here.
 -- Two theorems together: a refusal leaves every byte of the target; else what stands at the target's start is the section with that one identifier replaced and every
 -- other one kept, and the rest of the target is as it was. And which of these it is, and with which number, is said in words of its own (specs/Answered.antt).
-use Prim.Native.Nat.{ℕ, _<_}
+use Prim.Native.Nat.{ℕ, _<_, _≤_}
+use mathlib.Core.Bool.{true}
 use mathlib.Core.List.{List, [], _∷_, _++_}
 use mathlib.Core.Path.{_≡_, refl, sym, subst, _∙_, ap}
 use lib.ListN.{length, take, drop, getD}
@@ -10,14 +11,21 @@ use Rattle.bit_stores.specs.Written.{answerOf, laterOf}
 use Rattle.bit_stores.specs.declared.Written.{Written}
 use Rattle.c_command_writer.specs.Words.{flatWritten}
 use Rattle.c_command_writer.specs.declared.FlatWritten.{FlatWritten}
+use Rattle.canonical_form.specs.Section.{canonicalSection}
 use Rattle.descriptor_loop.specs.Items.{itemsOf}
+use Rattle.relabel_canonical.proofs.Theorems.{canonical-in-canonical-out}
 use Rattle.relabel_laws.specs.Identifiers.{each, identifiersIn}
+use Rattle.relabel_trips.proofs.Theorems as trips
+use Rattle.relabel_trips.specs.Cutting.{CutAt}
+use Rattle.relabel_trips.specs.Named.{Named}
 use Rattle.section.specs.Section.{loopBytes, sectionOf}
 use Rattle.section.specs.declared.Section.{Section}
 use Rattle.section.specs.declared.SectionRead.{SectionRead}
 use Rattle.table.specs.Bits.{AllBytes}
 use Rattle.theorems_writer.proofs.Theorems as demands
+use Rattle.transport_packet.specs.Sections.{Right}
 use Rattle.theorems_relabel.specs.Answered.{answered}
+use Rattle.theorems_relabel.specs.Back.{putBack}
 use Rattle.theorems_relabel.specs.Readings.{ListedAs}
 use Rattle.theorems_relabel.specs.Replaced.{Request, Relabelled}
 use Rattle.theorems_relabel.proofs.Answered as answered
@@ -42,6 +50,37 @@ pub a-relabelled-section-keeps-every-other-identifier : (q : Request) (target la
     → Relabelled q (take n later) × (drop n later ≡ drop n target) × (length later ≡ length target)
 a-relabelled-section-keeps-every-other-identifier q target later n bytes byte d =
     replaced.written q target later n (all-at (q .section) bytes) byte (sym (relabels-so d .0)) (relabels-so d .1)
+
+-- "Canonical in, canonical out"
+pub a-canonical-section-is-canonical-when-relabelled : (q : Request) (target later : List ℕ) (n : ℕ) → AllBytes (q .section) → q .«upid_type» < 256 → Relabels q target (Written.Wrote n) later
+    → canonicalSection (q .section) ≡ true → canonicalSection (take n later) ≡ true
+a-canonical-section-is-canonical-when-relabelled q target later n bytes byte d c =
+    canonical-in-canonical-out (q .section) (q .offset) (q .part) (q .«upid_type») (q .bytes) (take n later) (all-at (q .section) bytes) byte c
+    (replaced.made-so q target later n (sym (relabels-so d .0)) (relabels-so d .1))
+
+-- "No other byte changes": each is a byte of the old section in its order, of the new identifier or its head, a length that counts it, or of the CRC
+pub every-byte-of-a-relabelled-section-is-accounted-for : (q : Request) (target later : List ℕ) (n : ℕ) → AllBytes (q .section) → q .«upid_type» < 256 → Relabels q target (Written.Wrote n) later
+    → CutAt (q .section) (q .offset) (q .part) (q .«upid_type») (q .bytes) (take n later)
+every-byte-of-a-relabelled-section-is-accounted-for q target later n bytes byte d =
+    trips.every-byte-is-accounted-for (q .section) (q .offset) (q .part) (q .«upid_type») (q .bytes) (take n later) (all-at (q .section) bytes) byte
+    (replaced.made-so q target later n (sym (relabels-so d .0)) (relabels-so d .1))
+
+-- "Relabelling with the identifier that is there changes nothing", where section_length is right and the target is long enough
+pub relabelling-with-what-is-there-changes-nothing : (s : List ℕ) (offset part : ℕ) (target : List ℕ) (answer : Written) (later : List ℕ) → AllBytes s → Right s → Named s offset part
+    → Relabels (putBack s offset part s) target answer later → length s ≤ length target → (answer ≡ Written.Wrote (length s)) × (take (length s) later ≡ s)
+relabelling-with-what-is-there-changes-nothing s offset part target answer later bytes right n d h =
+    replaced.stands (madeFor (putBack s offset part s)) s target later answer (trips.the-same-identifier-changes-nothing-of-the-section s offset part (all-at s bytes) right n)
+    (relabels-so d .0) (relabels-so d .1) h
+
+-- "relabelling and then relabelling back gives the old section", where its section_length was right
+pub a-section-relabelled-back-is-the-old-one : (q : Request) (target later : List ℕ) (n : ℕ) (second : List ℕ) (answer : Written) (then : List ℕ) → AllBytes (q .section) → q .«upid_type» < 256
+    → Right (q .section) → Relabels q target (Written.Wrote n) later → Relabels (putBack (q .section) (q .offset) (q .part) (take n later)) second answer then
+    → length (q .section) ≤ length second → (answer ≡ Written.Wrote (length (q .section))) × (take (length (q .section)) then ≡ q .section)
+a-section-relabelled-back-is-the-old-one q target later n second answer then bytes byte right d b h =
+    replaced.stands (madeFor (putBack (q .section) (q .offset) (q .part) (take n later))) (q .section) second then answer
+    (trips.relabelled-back-is-the-old-section (q .section) (q .offset) (q .part) (q .«upid_type») (q .bytes) (take n later) (all-at (q .section) bytes) byte right
+    (replaced.made-so q target later n (sym (relabels-so d .0)) (relabels-so d .1)))
+    (relabels-so b .0) (relabels-so b .1) h
 
 -- ---- the same over C, of `scte35_relabel`
 

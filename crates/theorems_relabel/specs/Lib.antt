@@ -1,3 +1,4 @@
 pub mod Replaced
 pub mod Answered
 pub mod Readings
+pub mod Back
