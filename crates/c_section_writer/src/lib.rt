@@ -50,7 +50,9 @@ fn header_from(words: &[u64]) -> SpliceInfoHeader
     SpliceInfoHeader {
         protocol_version: (word_at(words, PROTOCOL_VERSION) % 256) as u8,
         encrypted_packet: word_at(words, ENCRYPTED_PACKET) == 1,
-        encryption_algorithm: EncryptionAlgorithm::from_id((word_at(words, ENCRYPTION_ALGORITHM) % 256) as u8),
+        encryption_algorithm: EncryptionAlgorithm::from_id(
+            (word_at(words, ENCRYPTION_ALGORITHM) % 256) as u8,
+        ),
         pts_adjustment: word_at(words, PTS_ADJUSTMENT),
         cw_index: (word_at(words, CW_INDEX) % 256) as u8,
         tier: (word_at(words, TIER) % 65536) as u16,

@@ -9,7 +9,7 @@ use Rattle.relabel_found.specs.Found.{spots}
 use Rattle.relabel_payload.specs.Payload.{upidHead}
 use Rattle.relabel_upid.specs.Relabel.{upTo, upidMade}
 use Rattle.relabel.proofs.relabel.Reads as relabel
-use Rattle.relabel_found.proofs.spots_insert.Reads as spots-insert
+use Rattle.relabel_found.proofs.spots_active.Reads as spots-insert
 use Rattle.relabel_found.proofs.upid_head.Reads as upid-head
 use Rattle.relabel_upid.proofs.relabel_upid.Reads as relabel-upid
 use Rattle.scte35.proofs.relabelling.scte35_relabel.Reads as scte35-relabel
