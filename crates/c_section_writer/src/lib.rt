@@ -30,32 +30,17 @@ use names::command::SpliceCommandType;
 use section_writer::write_section;
 use section_writer::write_section_without_components;
 
-// Where the words of a header stand, behind its refusal.
-const PROTOCOL_VERSION: usize = 1;
-
-const ENCRYPTED_PACKET: usize = 2;
-
-const ENCRYPTION_ALGORITHM: usize = 3;
-
-const PTS_ADJUSTMENT: usize = 4;
-
-const CW_INDEX: usize = 5;
-
-const TIER: usize = 6;
-
 // The header that words make. Its command length and type are the writer's to work out.
 fn header_from(words: &[u64]) -> SpliceInfoHeader
     ensures { λ r. ⌜ r ≡ headerFrom (now (words .entry)) ⌝ }
 {
     SpliceInfoHeader {
-        protocol_version: (word_at(words, PROTOCOL_VERSION) % 256) as u8,
-        encrypted_packet: word_at(words, ENCRYPTED_PACKET) == 1,
-        encryption_algorithm: EncryptionAlgorithm::from_id(
-            (word_at(words, ENCRYPTION_ALGORITHM) % 256) as u8,
-        ),
-        pts_adjustment: word_at(words, PTS_ADJUSTMENT),
-        cw_index: (word_at(words, CW_INDEX) % 256) as u8,
-        tier: (word_at(words, TIER) % 65536) as u16,
+        protocol_version: (word_at(words, 1) % 256) as u8,
+        encrypted_packet: word_at(words, 2) == 1,
+        encryption_algorithm: EncryptionAlgorithm::from_id((word_at(words, 3) % 256) as u8),
+        pts_adjustment: word_at(words, 4),
+        cw_index: (word_at(words, 5) % 256) as u8,
+        tier: (word_at(words, 6) % 65536) as u16,
         splice_command_length: 0,
         splice_command_type: SpliceCommandType::SpliceNull,
     }
