@@ -39,11 +39,11 @@ use Rattle.table.specs.Table.{reserved, part, remaining}
 use Rattle.table.specs.Writing as writing
 use Rattle.table.specs.Writing.{Made, refused, walk}
 use Rattle.table.specs.declared.View.{View}
-use Rattle.c_descriptor_writer.specs.ItemGiven.{segmentationIn, itemIn, restrictionsFrom, insertFrom, descriptorFrom, descriptorGiven, identifierFrom, placeFrom, byteFrom, placesFrom, eidrFrom, besideFrom, ownItem, wordsRefusal, descriptorRefusal, descriptorWordsMade}
+use Rattle.c_descriptor_writer.specs.ItemGiven.{segmentationIn, itemIn, restrictionsFrom, detailFrom, descriptorFrom, descriptorGiven, identifierFrom, placeFrom, byteFrom, placesFrom, eidrFrom, besideFrom, ownItem, wordsRefusal, descriptorRefusal, descriptorWordsMade}
 use Rattle.c_descriptor_writer.specs.ItemWords.{itemWords, itemWidths, placesIn, eidrIn, placeWidths, placesWithin, besideWithin, itemSeen, viewFits, placesGiven, itemFits, besideThere, DescriptorIs, DescriptorAnswer, outside, over, nobodys, its}
-use Rattle.c_descriptor_writer.proofs.Typed.{TypedMode, TypedSubs, TypedInsert}
+use Rattle.c_descriptor_writer.proofs.Typed.{TypedMode, TypedSubs, TypedActive}
 use Rattle.c_descriptor_writer.proofs.Own.{step-small, given-is, places-are, places-own, places-fit, bytes-are, bytes-own, filled-length}
-use Rattle.c_descriptor_writer.proofs.Told.{Told, make-told, enveloped-told, enveloped-31, enveloped-unseen, told-as, mode-count, writable-insert, insert-fit, insert-told, cancel-told}
+use Rattle.c_descriptor_writer.proofs.Told.{Told, make-told, enveloped-told, enveloped-31, enveloped-unseen, told-as, mode-count, writable-active, active-fit, active-told, cancel-told}
 
 -- ---- the descriptor that words make, by its kind
 data Kind (k : ℕ) : Type 0 where
@@ -64,9 +64,9 @@ either {A} k n f g = go (eqb k n) refl
 kind-of : (k : ℕ) → Kind k
 kind-of k = either k 2 dtmf (λ a. either k 3 cancel (λ b. either k 4 uncancelled (λ c. either k 5 time (λ d. either k 6 private (λ e. other a b c d e)))))
 
--- an insert from words is of its types, whatever they are
-from-typed : (s : FlatSegmentation) (v : View) → TypedInsert (insertFrom s v)
-unfolding insertFrom
+-- an active segmentation from words is of its types, whatever they are
+from-typed : (s : FlatSegmentation) (v : View) → TypedActive (detailFrom s v)
+unfolding detailFrom
 from-typed s v =
     record {
       mode = modes (eqb (s .«program_segmentation_flag») 1);
@@ -118,8 +118,8 @@ module _ (words : List ℕ) where
   abbrev viewGiven : View
   viewGiven = record { at = getD words 31 0; len = getD words 32 0 }
 
-  abbrev insertGiven : SegmentationDetail
-  insertGiven = insertFrom (segmentationIn words) viewGiven
+  abbrev detailGiven : SegmentationDetail
+  detailGiven = detailFrom (segmentationIn words) viewGiven
 
   abbrev eventGiven : ℕ
   eventGiven = getD words 9 0 % 2 ^ 32
@@ -160,12 +160,12 @@ module _ (words : List ℕ) where
         }
 
   module _ (e : getD words 6 0 ≡ 4) where
-    is-active : descriptorGiven words ≡ Descriptor.Segmentation (record { «segmentation_event_id» = eventGiven; «descriptor_detail» = DescriptorDetail.Active insertGiven })
+    is-active : descriptorGiven words ≡ Descriptor.Segmentation (record { «segmentation_event_id» = eventGiven; «descriptor_detail» = DescriptorDetail.Active detailGiven })
     unfolding descriptorFrom itemIn segmentationIn
     is-active = rw e
 
-    active-count : within itemWidths (drop 5 words) ≡ true → countOf (insertGiven .«segmentation_mode») ≡ placesGiven words
-    unfolding insertFrom segmentationIn itemWidths
+    active-count : within itemWidths (drop 5 words) ≡ true → countOf (detailGiven .«segmentation_mode») ≡ placesGiven words
+    unfolding detailFrom segmentationIn itemWidths
     active-count w = go (eqb (getD words 11 0) 1) refl
       where
         go : (c : Bool) → eqb (getD words 11 0) 1 ≡ c → countOf (pick c SegmentationMode.Program (SegmentationMode.Component (getD words 18 0 % 256))) ≡ placesGiven words
@@ -174,8 +174,8 @@ module _ (words : List ℕ) where
             let z : getD words 11 0 ≡ 0 = omega (arith, step-small words w 6 (lit< tt), eqb-false (getD words 11 0) 1 f) in
             rw (e, z, mod-eq-of-lt (step-small words w 13 (lit< tt)))
 
-    active-ticks : within itemWidths (drop 5 words) ≡ true → ticks (insertGiven .«segmentation_duration») < 2 ^ 40
-    unfolding insertFrom segmentationIn itemWidths
+    active-ticks : within itemWidths (drop 5 words) ≡ true → ticks (detailGiven .«segmentation_duration») < 2 ^ 40
+    unfolding detailFrom segmentationIn itemWidths
     active-ticks w = go (eqb (getD words 12 0) 1)
       where
         go : (c : Bool) → ticks (pick c (SegmentationDuration.Ticks (getD words 19 0)) SegmentationDuration.Absent) < 2 ^ 40
@@ -183,18 +183,18 @@ module _ (words : List ℕ) where
         go false = lit< tt
 
     active-facts : (id : List ℕ) (b : Beside) (lent : List ℕ) → length (b .components) ≡ 255 → length (b .eidr) ≡ 12
-        → Facts words id b lent (Descriptor.Segmentation (record { «segmentation_event_id» = eventGiven; «descriptor_detail» = DescriptorDetail.Active insertGiven }))
-    unfolding payloadMade insertFrom
+        → Facts words id b lent (Descriptor.Segmentation (record { «segmentation_event_id» = eventGiven; «descriptor_detail» = DescriptorDetail.Active detailGiven }))
+    unfolding payloadMade detailFrom
     active-facts id b lent many twelve =
-        let i = insertGiven in
+        let i = detailGiven in
         let t = from-typed (segmentationIn words) viewGiven in
         let ev : eventGiven < 2 ^ 32 = mod-lt (getD words 9 0) (lit< tt) in
         record {
           count = active-count;
-          writable = writable-insert i t;
+          writable = writable-active i t;
           fit = ltb (getD words 32 0) 256 && numbersFit i (take (countOf (i .«segmentation_mode»)) (b .components));
-          told = rw e (insert-told eventGiven i id b lent many twelve ev t);
-          tight = λ w p. rw (e, insert-fit eventGiven i id b lent many twelve ev t (active-ticks w) p) (sym (and-unit (ltb (getD words 32 0) 256)));
+          told = rw e (active-told eventGiven i id b lent many twelve ev t);
+          tight = λ w p. rw (e, active-fit eventGiven i id b lent many twelve ev t (active-ticks w) p) (sym (and-unit (ltb (getD words 32 0) 256)));
         }
 
   module _ (e : getD words 6 0 ≡ 5) where
@@ -257,7 +257,7 @@ module _ (words : List ℕ) where
   few-given : Kind (getD words 6 0) → countBeside (descriptorGiven words) ≤ 255
   few-given (dtmf e) = rw (is-dtmf e) (lit≤ tt)
   few-given (cancel e) = rw (is-cancel e) (lit≤ tt)
-  few-given (uncancelled e) = rw (is-active e) (omega (arith, mode-count (insertGiven .«segmentation_mode») (from-typed (segmentationIn words) viewGiven .mode)))
+  few-given (uncancelled e) = rw (is-active e) (omega (arith, mode-count (detailGiven .«segmentation_mode») (from-typed (segmentationIn words) viewGiven .mode)))
   few-given (time e) = rw (is-time e) (lit≤ tt)
   few-given (private e) = rw (is-private e) (lit≤ tt)
   few-given (other h₂ h₃ h₄ h₅ h₆) = rw (is-avail h₂ h₃ h₄ h₅ h₆) (lit≤ tt)

@@ -22,9 +22,9 @@ use Rattle.names.specs.declared.flags.DeviceRestrictions.{DeviceRestrictions}
 use Rattle.names.proofs.Segmentations.{segmentation-laws}
 use Rattle.table.specs.Table.{flagNumber}
 use Rattle.table.specs.declared.View.{View}
-use Rattle.c_descriptor_writer.specs.ItemGiven.{restrictionsIn, subSegmentsIn, segmentationIn, itemIn, restrictionsFrom, deliveryFrom, modeFrom, durationFrom, subSegmentsFrom, insertFrom, descriptorFrom, descriptorGiven}
+use Rattle.c_descriptor_writer.specs.ItemGiven.{restrictionsIn, subSegmentsIn, segmentationIn, itemIn, restrictionsFrom, deliveryFrom, modeFrom, durationFrom, subSegmentsFrom, detailFrom, descriptorFrom, descriptorGiven}
 use Rattle.c_descriptor_writer.specs.ItemWords.{itemWords}
-use Rattle.c_descriptor_writer.proofs.Typed.{TypedMode, TypedSubs, TypedInsert, TypedDetail, Typed}
+use Rattle.c_descriptor_writer.proofs.Typed.{TypedMode, TypedSubs, TypedActive, TypedDetail, Typed}
 
 -- ---- the struct that the words of a step are, whatever stands before its item
 pub words-back : (refusal a b c next identifier : ℕ) (f : FlatItem) → itemIn (refusal ∷ a ∷ b ∷ c ∷ next ∷ identifier ∷ itemWords f) ≡ f
@@ -49,7 +49,7 @@ device-back DeviceRestrictions.RestrictGroup1 = refl
 device-back DeviceRestrictions.RestrictGroup2 = refl
 device-back DeviceRestrictions.None = refl
 
-module _ (event : ℕ) (i : SegmentationDetail) (t : TypedInsert i) where
+module _ (event : ℕ) (i : SegmentationDetail) (t : TypedActive i) where
   delivery-back : (d : DeliveryRestrictionFlags) → i .«delivery_restrictions» ≡ d → deliveryFrom (activeSegmentation event i) ≡ d
   unfolding activeSegmentation flatRestrictions restrictionsFrom
   delivery-back DeliveryRestrictionFlags.None e = rw (t .free-flag, e)
@@ -73,7 +73,7 @@ subs-back (SubSegments.Is x) h = rw (mod-eq-of-lt (h .0), mod-eq-of-lt (h .1))
 
 uncancelled : (event : ℕ) (i : SegmentationDetail) (bytes : View) (restrictions : DeliveryRestrictionFlags) (mode : SegmentationMode) (duration : SegmentationDuration)
     → deliveryFrom (activeSegmentation event i) ≡ restrictions → modeFrom (activeSegmentation event i) ≡ mode → durationFrom (activeSegmentation event i) ≡ duration
-    → insertFrom (activeSegmentation event i) bytes
+    → detailFrom (activeSegmentation event i) bytes
     ≡ record {
       «program_segmentation_flag» = eqb (activeSegmentation event i .«program_segmentation_flag») 1;
       «segmentation_duration_flag» = eqb (activeSegmentation event i .«segmentation_duration_flag») 1;
@@ -81,18 +81,18 @@ uncancelled : (event : ℕ) (i : SegmentationDetail) (bytes : View) (restriction
       «delivery_restrictions» = restrictions;
       «segmentation_mode» = mode;
       «segmentation_duration» = duration;
-      «segmentation_upid» = insertFrom (activeSegmentation event i) bytes .«segmentation_upid»;
-      «segmentation_type_id» = insertFrom (activeSegmentation event i) bytes .«segmentation_type_id»;
-      «segment_num» = insertFrom (activeSegmentation event i) bytes .«segment_num»;
-      «segments_expected» = insertFrom (activeSegmentation event i) bytes .«segments_expected»;
-      «sub_segments» = insertFrom (activeSegmentation event i) bytes .«sub_segments»;
+      «segmentation_upid» = detailFrom (activeSegmentation event i) bytes .«segmentation_upid»;
+      «segmentation_type_id» = detailFrom (activeSegmentation event i) bytes .«segmentation_type_id»;
+      «segment_num» = detailFrom (activeSegmentation event i) bytes .«segment_num»;
+      «segments_expected» = detailFrom (activeSegmentation event i) bytes .«segments_expected»;
+      «sub_segments» = detailFrom (activeSegmentation event i) bytes .«sub_segments»;
     }
-unfolding insertFrom
+unfolding detailFrom
 uncancelled event i bytes restrictions mode duration e f g = rw (e, f, g)
 
-insert-back : (event : ℕ) (i : SegmentationDetail) → TypedInsert i → insertFrom (activeSegmentation event i) (i .«segmentation_upid» .bytes) ≡ i
-unfolding insertFrom activeSegmentation
-insert-back event i t =
+detail-back : (event : ℕ) (i : SegmentationDetail) → TypedActive i → detailFrom (activeSegmentation event i) (i .«segmentation_upid» .bytes) ≡ i
+unfolding detailFrom activeSegmentation
+detail-back event i t =
     uncancelled event i (i .«segmentation_upid» .bytes) _ _ _ (delivery-back event i t (i .«delivery_restrictions») refl) (mode-back event i t (i .«segmentation_mode») refl (t .mode))
     (duration-back event i t (i .«segmentation_duration») refl)
     ∙ rw (
@@ -117,7 +117,7 @@ detail-back : (event : ℕ) (d : DescriptorDetail) → event < 2 ^ 32 → TypedD
     → descriptorFrom (segmentationItem event d) ≡ Descriptor.Segmentation (record { «segmentation_event_id» = event; «descriptor_detail» = d })
 unfolding descriptorFrom segmentationItem segmentationHead
 detail-back event DescriptorDetail.Cancel h t = rw (mod-eq-of-lt h)
-detail-back event (DescriptorDetail.Active i) h t = rw (insert-back event i t) (event-back event i h)
+detail-back event (DescriptorDetail.Active i) h t = rw (detail-back event i t) (event-back event i h)
 
 pub from-back : (d : Descriptor) → Typed d → descriptorFrom (flatDescriptor d) ≡ d
 unfolding descriptorFrom flatDescriptor

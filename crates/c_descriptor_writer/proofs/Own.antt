@@ -26,7 +26,7 @@ use Rattle.table.proofs.Lists.{and-true, zero-one}
 use Rattle.table.specs.Writing as writing
 use Rattle.c_descriptor_writer.specs.ItemGiven.{itemIn, descriptorFrom, descriptorGiven, placeFrom, byteFrom}
 use Rattle.c_descriptor_writer.specs.ItemWords.{itemWords, itemWidths, placeWidths, tagsAndOffsets}
-use Rattle.c_descriptor_writer.proofs.Typed.{TypedMode, TypedSubs, TypedInsert, TypedDetail, Typed}
+use Rattle.c_descriptor_writer.proofs.Typed.{TypedMode, TypedSubs, TypedActive, TypedDetail, Typed}
 use Rattle.c_descriptor_writer.proofs.Back.{words-back, item-agree, from-back}
 
 -- ---- word by word
@@ -85,9 +85,9 @@ unfolding flatSubSegments
 subs-typed SubSegments.Absent h g = tt
 subs-typed (SubSegments.Is x) h g = (h, g)
 
-insert-typed : (event : ℕ) (i : SegmentationDetail) → writableDetail (DescriptorDetail.Active i) ≡ true → Small (segmentationItem event (DescriptorDetail.Active i)) → (event < 2 ^ 32) × TypedInsert i
+active-typed : (event : ℕ) (i : SegmentationDetail) → writableDetail (DescriptorDetail.Active i) ≡ true → Small (segmentationItem event (DescriptorDetail.Active i)) → (event < 2 ^ 32) × TypedActive i
 unfolding itemWords itemWidths segmentationItem activeSegmentation writableDetail writableFront
-insert-typed event i f s =
+active-typed event i f s =
     let g = and-true (writableFront (frontOf (DescriptorDetail.Active i))) _ f in
     let p = and-true (agrees (i .«program_segmentation_flag») (byProgram (i .«segmentation_mode»))) _ (g .0) in
     let q = and-true (agrees (i .«segmentation_duration_flag») (lasting (i .«segmentation_duration»))) _ (p .1) in (
@@ -109,7 +109,7 @@ insert-typed event i f s =
 detail-typed : (event : ℕ) (d : DescriptorDetail) → writableDetail d ≡ true → Small (segmentationItem event d) → (event < 2 ^ 32) × TypedDetail d
 unfolding itemWords itemWidths segmentationItem segmentationHead
 detail-typed event DescriptorDetail.Cancel f s = (s 3 (lit< tt), tt)
-detail-typed event (DescriptorDetail.Active i) f s = insert-typed event i f s
+detail-typed event (DescriptorDetail.Active i) f s = active-typed event i f s
 
 typed : (d : Descriptor) → ofSegmentation (λ x. writableDetail (x .«descriptor_detail»)) true d ≡ true → Small (flatDescriptor d) → Typed d
 unfolding itemWords itemWidths flatDescriptor

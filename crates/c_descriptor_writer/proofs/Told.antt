@@ -27,7 +27,7 @@ use Rattle.table.specs.Bits.{pick, bytesOf}
 use Rattle.table.specs.Writing as writing
 use Rattle.table.specs.Writing.{Made, made, refused, Field, seen, contents, print, makeOf, refusalIn}
 use Rattle.table.specs.declared.View.{View}
-use Rattle.c_descriptor_writer.proofs.Typed.{TypedMode, TypedSubs, TypedInsert}
+use Rattle.c_descriptor_writer.proofs.Typed.{TypedMode, TypedSubs, TypedActive}
 
 -- ---- what a writer of values says of 31 and 32: are the views seen, and do the numbers fit?
 pub data Told : Bool → Bool → Made → Type 0 where
@@ -96,7 +96,7 @@ enveloped-unseen tag id done e = zero-one cc
 pub told-as : {s t f g : Bool} {m : Made} → Told s f m → s ≡ t → f ≡ g → Told t g m
 told-as x e h = rw (e, h) at x
 
--- ---- an insert of its types
+-- ---- an active segmentation of its types
 fits-mode : (m : SegmentationMode) (cs : List SegmentationComponent) → TypedMode m → writing.within (componentsFields cs) ≡ true → writing.within (modeFields m cs) ≡ true
 fits-mode SegmentationMode.Program cs h e = refl
 fits-mode (SegmentationMode.Component n) cs h e = rw (lt-ltb n 256 h, e)
@@ -117,9 +117,9 @@ agrees-same : (b : Bool) → agrees b b ≡ true
 agrees-same true = refl
 agrees-same false = refl
 
-pub writable-insert : (i : SegmentationDetail) → TypedInsert i → writableDetail (DescriptorDetail.Active i) ≡ true
+pub writable-active : (i : SegmentationDetail) → TypedActive i → writableDetail (DescriptorDetail.Active i) ≡ true
 unfolding writableDetail writableFront
-writable-insert i t =
+writable-active i t =
     rw (
       t .program-flag,
       t .duration-flag,
@@ -130,7 +130,7 @@ writable-insert i t =
       t .type-writable,
     )
 
-module _ (event : ℕ) (i : SegmentationDetail) (id : List ℕ) (b : Beside) (lent : List ℕ) (many : length (b .components) ≡ 255) (twelve : length (b .eidr) ≡ 12) (ev : event < 2 ^ 32) (t : TypedInsert i) where
+module _ (event : ℕ) (i : SegmentationDetail) (id : List ℕ) (b : Beside) (lent : List ℕ) (many : length (b .components) ≡ 255) (twelve : length (b .eidr) ≡ 12) (ev : event < 2 ^ 32) (t : TypedActive i) where
   abbrev x : SegmentationDescriptor
   x = record { «segmentation_event_id» = event; «descriptor_detail» = DescriptorDetail.Active i }
 
@@ -143,9 +143,9 @@ module _ (event : ℕ) (i : SegmentationDetail) (id : List ℕ) (b : Beside) (le
   abbrev active-made : Made
   active-made = segmentationMade x id b lent
 
-  pub insert-fit : ticks (i .«segmentation_duration») < 2 ^ 40 → writing.within (componentsFields listed) ≡ true → numbersFit i listed ≡ true
+  pub active-fit : ticks (i .«segmentation_duration») < 2 ^ 40 → writing.within (componentsFields listed) ≡ true → numbersFit i listed ≡ true
   unfolding numbersFit
-  insert-fit d c =
+  active-fit d c =
       rw (
         fits-mode (i .«segmentation_mode») listed (t .mode) c,
         fits-duration (i .«segmentation_duration») d,
@@ -166,10 +166,10 @@ module _ (event : ℕ) (i : SegmentationDetail) (id : List ℕ) (b : Beside) (le
 
     writable-told : (z : Bool) → allZero id ≡ z → Told true true active-made
     writable-told false z = rw (refused-so active-made 33 (refusals.with-identifier event i id (b .components) (b .eidr) lent true (sym e) refl l many twelve ev (t .upid) true (sym n, few) refl false (sym z) refl) (omega arith)) unwritable
-    writable-told true z = upid-told z (writable-insert i t) (writableUpid (i .«segmentation_upid») (b .eidr) lent) refl
+    writable-told true z = upid-told z (writable-active i t) (writableUpid (i .«segmentation_upid») (b .eidr) lent) refl
 
-  pub insert-told : Told (leb (view .at + view .len) (length lent)) (ltb (view .len) 256 && numbersFit i listed) active-made
-  insert-told = seen-told (leb (view .at + view .len) (length lent)) refl
+  pub active-told : Told (leb (view .at + view .len) (length lent)) (ltb (view .len) 256 && numbersFit i listed) active-made
+  active-told = seen-told (leb (view .at + view .len) (length lent)) refl
     where
       numbers-told : leb (view .at + view .len) (length lent) ≡ true → view .len ≤ 255 → (n : Bool) → numbersFit i listed ≡ n → Told true n active-made
       numbers-told e l false n = rw (refused-so active-made 32 (refusals.numbers-over event i id (b .components) (b .eidr) lent true (sym e) refl l many twelve ev (t .upid) false (sym n, few) refl) (omega arith)) wide

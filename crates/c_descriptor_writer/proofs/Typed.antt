@@ -19,7 +19,7 @@ abbrev pub TypedSubs : SubSegments → Type 0
 TypedSubs SubSegments.Absent = Unit {0}
 TypedSubs (SubSegments.Is x) = (x .«sub_segment_num» < 256) × (x .«sub_segments_expected» < 256)
 
-pub record TypedInsert (i : SegmentationDetail) : Type 0 where
+pub record TypedActive (i : SegmentationDetail) : Type 0 where
   pub mode : TypedMode (i .«segmentation_mode»)
   pub subs : TypedSubs (i .«sub_segments»)
   pub upid : i .«segmentation_upid» .«upid_type» < 256
@@ -33,7 +33,7 @@ pub record TypedInsert (i : SegmentationDetail) : Type 0 where
 
 abbrev pub TypedDetail : DescriptorDetail → Type 0
 TypedDetail DescriptorDetail.Cancel = Unit {0}
-TypedDetail (DescriptorDetail.Active i) = TypedInsert i
+TypedDetail (DescriptorDetail.Active i) = TypedActive i
 
 abbrev pub Typed : Descriptor → Type 0
 Typed (Descriptor.Avail x) = x .«provider_avail_id» < 2 ^ 32

@@ -33,7 +33,7 @@ use Rattle.c_items.specs.declared.segmentations.FlatSegmentation.{FlatSegmentat
 use Rattle.c_items.specs.declared.segmentations.FlatSubSegments.{FlatSubSegments}
 use Rattle.c_command_writer.specs.CommandGiven.{viewFrom}
 use Rattle.c_command_writer.specs.Words.{word, within, same, placesOf, refusalOf, seenFirst, noLess}
-use Rattle.names.specs.Segmentation.{segmentationOf}
+use Rattle.names.specs.Segmentation.{segmentationTypeOf}
 use Rattle.table.specs.Bits.{pick, bigEndian}
 use Rattle.table.specs.Writing.{Made}
 use Rattle.table.specs.declared.View.{View}
@@ -116,8 +116,8 @@ subSegmentsFrom s =
     SubSegments.Absent
 
 -- a view, which is that of the item, is the UPID's
-unfoldable pub insertFrom : FlatSegmentation → View → SegmentationDetail
-insertFrom s bytes =
+unfoldable pub detailFrom : FlatSegmentation → View → SegmentationDetail
+detailFrom s bytes =
     record {
       «program_segmentation_flag» = eqb (s .«program_segmentation_flag») 1;
       «segmentation_duration_flag» = eqb (s .«segmentation_duration_flag») 1;
@@ -126,7 +126,7 @@ insertFrom s bytes =
       «segmentation_mode» = modeFrom s;
       «segmentation_duration» = durationFrom s;
       «segmentation_upid» = record { «upid_type» = s .«segmentation_upid_type» % 256; bytes = bytes };
-      «segmentation_type_id» = segmentationOf (s .«segmentation_type_id» % 256);
+      «segmentation_type_id» = segmentationTypeOf (s .«segmentation_type_id» % 256);
       «segment_num» = s .«segment_num» % 256;
       «segments_expected» = s .«segments_expected» % 256;
       «sub_segments» = subSegmentsFrom (s .«sub_segments»);
@@ -140,7 +140,7 @@ descriptorFrom i =
     pick (eqb (i .kind) 2) (Dtmf (record { preroll = i .preroll % 256; «dtmf_chars» = viewFrom (i .bytes) }))
     (pick (eqb (i .kind) 3) (segmentationWith (i .segmentation .«segmentation_event_id») DescriptorDetail.Cancel)
     (pick (eqb (i .kind) 4)
-    (segmentationWith (i .segmentation .«segmentation_event_id») (DescriptorDetail.Active (insertFrom (i .segmentation) (viewFrom (i .bytes)))))
+    (segmentationWith (i .segmentation .«segmentation_event_id») (DescriptorDetail.Active (detailFrom (i .segmentation) (viewFrom (i .bytes)))))
     (pick (eqb (i .kind) 5)
     (Time (record {
       «tai_seconds» = i .time .«tai_seconds»;

@@ -60,11 +60,11 @@ fn count_in_descriptor(d: Descriptor) -> u8
         } => return 0,
     };
     let detail = segmentation.descriptor_detail;
-    let insert = match detail {
+    let active = match detail {
         DescriptorDetail::Cancel => return 0,
         DescriptorDetail::Active(i) => i,
     };
-    let mode = insert.segmentation_mode;
+    let mode = active.segmentation_mode;
     match mode {
         SegmentationMode::Program => 0,
         SegmentationMode::Component(n) => n,

@@ -5,7 +5,7 @@ ghost use lib.ListN.{drop};
 ghost use Rattle.c_command_writer.specs.Words.{within, same};
 ghost use Rattle.c_descriptor_writer.specs.ItemGiven.{restrictionsIn, subSegmentsIn, segmentationIn, itemIn, restrictionsFrom};
 ghost use Rattle.c_descriptor_writer.specs.ItemWords.{itemWords, itemWidths};
-ghost use Rattle.c_descriptor_writer.specs.ItemGiven.{deliveryFrom, modeFrom, durationFrom, subSegmentsFrom, insertFrom, descriptorFrom, descriptorGiven};
+ghost use Rattle.c_descriptor_writer.specs.ItemGiven.{deliveryFrom, modeFrom, durationFrom, subSegmentsFrom, detailFrom, descriptorFrom, descriptorGiven};
 use c_command_writer::are_four_same;
 use c_command_writer::are_four_within;
 use c_command_writer::are_same;
@@ -317,8 +317,8 @@ fn sub_segments_from(s: FlatSubSegments) -> SubSegments
     SubSegments::Absent
 }
 
-fn insert_from(s: FlatSegmentation, bytes: View) -> SegmentationDetail
-    ensures { λ r. ⌜ r ≡ insertFrom s bytes ⌝ }
+fn detail_from(s: FlatSegmentation, bytes: View) -> SegmentationDetail
+    ensures { λ r. ⌜ r ≡ detailFrom s bytes ⌝ }
 {
     let subs = s.sub_segments;
     SegmentationDetail {
@@ -361,7 +361,7 @@ fn descriptor_from(i: FlatItem) -> Descriptor
         }),
         4 => Descriptor::Segmentation(SegmentationDescriptor {
             segmentation_event_id: (s.segmentation_event_id % 0x1_0000_0000) as u32,
-            descriptor_detail: DescriptorDetail::Active(insert_from(s, bytes)),
+            descriptor_detail: DescriptorDetail::Active(detail_from(s, bytes)),
         }),
         5 => Descriptor::Time(TimeDescriptor {
             tai_seconds: time.tai_seconds,

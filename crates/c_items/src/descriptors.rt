@@ -91,7 +91,7 @@ fn cancelled_item(event: u64) -> FlatItem
     out
 }
 
-fn insert_item(event: u64, i: SegmentationDetail) -> FlatItem
+fn active_item(event: u64, i: SegmentationDetail) -> FlatItem
     ensures { λ r. ⌜ r ≡ segmentationItem event (Active i) ⌝ }
 {
     let upid = i.segmentation_upid;
@@ -134,7 +134,7 @@ pub(crate) fn flat_item(item: Item) -> FlatItem
                 let detail = x.descriptor_detail;
                 match detail {
                     DescriptorDetail::Cancel => return cancelled_item(event),
-                    DescriptorDetail::Active(i) => return insert_item(event, i),
+                    DescriptorDetail::Active(i) => return active_item(event, i),
                 }
             }
             Descriptor::Time(x) => return time_item(x),

@@ -7,7 +7,7 @@ use native.Mathlib.Omega.{arith}
 use lib.Dec.{eqb}
 use lib.ListN.{length, getD}
 use borrow.Author.Tests.{eq-eqb, ne-eqb}
-use Rattle.names.specs.Segmentation.{segmentationOf}
+use Rattle.names.specs.Segmentation.{segmentationTypeOf}
 use Rattle.names.specs.declared.segmentation.SegmentationTypeId.{SegmentationTypeId}
 use Rattle.table.specs.Bits.{bitsOf, field}
 use Rattle.table.specs.Table.{Table, done, inside, uimsbf, got, short, parse}
@@ -78,7 +78,7 @@ module _ (s : List ℕ) (i : ℕ) where
         takes-number s (i * 8) 8 _ _ _ (omega arith) refl ∙ takes-number s (i * 8 + 8) 8 _ _ _ (omega arith) refl ∙ takes-number s (i * 8 + 8 + 8) 8 _ _ _ (omega arith) refl
         ∙ lacks-in subSegments _ _ (bitsOf s) (i * 8 + 8 + 8 + 8) x a (ap (parse subSegments (bitsOf s)) next ∙ e)
 
-    pub back-is : ((j : ℕ) → getD s j 0 < 256) → (t : SegmentationTypeId) (z : SubSegments) (m : ℕ) → t ≡ segmentationOf (getD s i 0)
+    pub back-is : ((j : ℕ) → getD s j 0 < 256) → (t : SegmentationTypeId) (z : SubSegments) (m : ℕ) → t ≡ segmentationTypeOf (getD s i 0)
         → parse subSegments (bitsOf s) ((i + 3) * 8) ≡ got z m
         → parse back (bitsOf s) (i * 8) ≡ got (record { «segmentation_type_id» = t; «segment_num» = getD s (i + 1) 0; «segments_expected» = getD s (i + 2) 0; «sub_segments» = z }) m
     unfolding back

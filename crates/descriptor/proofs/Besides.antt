@@ -32,7 +32,7 @@ use Rattle.descriptor.specs.Segmentation.{
   back,
   Head,
   head,
-  insertFrom,
+  activeFrom,
   Segmentation,
   segmentation,
 }
@@ -231,7 +231,7 @@ module _ (s : List ℕ) where
           unfolding segmentation besideOf besideIn
           beside all e =
               let g : parse segmentation (bitsOf s) 0 ≡ got (record {
-                descriptor = record { «segmentation_event_id» = h .event; «descriptor_detail» = Active (insertFrom f (f .«segmentation_upid») b) };
+                descriptor = record { «segmentation_event_id» = h .event; «descriptor_detail» = Active (activeFrom f (f .«segmentation_upid») b) };
                 components = cs;
               }) m =
               takes-in head _ _ (bitsOf s) 0 h 40 eh

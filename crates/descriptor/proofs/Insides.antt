@@ -30,8 +30,8 @@ use Rattle.descriptor.specs.Descriptor.{
   movedRefusal,
   reportedUpid,
   ifFine,
-  inserted,
-  insertOf,
+  activeWith,
+  activeOf,
   segmentationOf,
   isCuei,
   descriptorOf,
@@ -134,16 +134,16 @@ fine-inside : (s : List ℕ) (v : View) (k : ℕ) (a : UpidRead) (f : Segmentati
 fine-inside s v k (UpidRead.Fine q) f h e g = g (reportedUpid q v) (reported-inside s v (withoutView q) h)
 fine-inside s v k (UpidRead.Refused r) f h e g = refusal-inside s v k r h e
 
-insert-inside : (s : List ℕ) (event at : ℕ) → AllInside s (insertOf s event at)
-unfolding insertOf inserted
-insert-inside s event at =
+active-inside : (s : List ℕ) (event at : ℕ) → AllInside s (activeOf s event at)
+unfolding activeOf activeWith
+active-inside s event at =
     then-inside s (parse front (bitsOf s) at) _ λ f m e.
     fine-inside s (f .front .«segmentation_upid» .bytes) _ _ _ (front-inside s at f m e) refl λ u h.
-    then-inside s (parse back (bitsOf s) m) (λ b n. inserted event (f .front) u b) λ b n i. h
+    then-inside s (parse back (bitsOf s) m) (λ b n. activeWith event (f .front) u b) λ b n i. h
 
 segmentation-inside : (s : List ℕ) → AllInside s (segmentationOf s)
 unfolding segmentationOf
-segmentation-inside s = then-inside s (parse head (bitsOf s) 0) _ λ h m e. pick-inside s (h .cancel) _ _ none (insert-inside s (h .event) m)
+segmentation-inside s = then-inside s (parse head (bitsOf s) 0) _ λ h m e. pick-inside s (h .cancel) _ _ none (active-inside s (h .event) m)
 
 reserved-inside : (tag : ℕ) (s : List ℕ) → AllInside s (reservedOf tag s)
 reserved-inside tag s =

@@ -17,9 +17,9 @@ use Rattle.table.proofs.Steps.{takes-in, reads-in}
 use Rattle.upid.specs.Upid.{checkOf}
 use Rattle.upid.specs.declared.Refusal.the-variants.{NotEnoughData}
 use Rattle.upid.specs.declared.UpidRead.{UpidRead}
-use Rattle.descriptor.specs.Descriptor.{_andThen_, atLeast, availOf, dtmfOf, timeOf, reportedUpid, ifFine, inserted, insertOf, segmentationOf, cuei, isCuei, descriptorOf}
+use Rattle.descriptor.specs.Descriptor.{_andThen_, atLeast, availOf, dtmfOf, timeOf, reportedUpid, ifFine, activeWith, activeOf, segmentationOf, cuei, isCuei, descriptorOf}
 use Rattle.descriptor.specs.Plain.{avail, dtmf, time}
-use Rattle.descriptor.specs.Segmentation.{deliveryRestrictions, component, blankComponent, mode, duration, writtenUpid, ListedFront, parts, front, subSegment, subSegments, back, Head, head, insertFrom}
+use Rattle.descriptor.specs.Segmentation.{deliveryRestrictions, component, blankComponent, mode, duration, writtenUpid, ListedFront, parts, front, subSegment, subSegments, back, Head, head, activeFrom}
 use Rattle.descriptor.specs.declared.Descriptor.{Descriptor}
 use Rattle.descriptor.specs.declared.Descriptor.the-variants.{Avail, Dtmf, Segmentation, Time}
 use Rattle.descriptor.specs.declared.DescriptorRead.{DescriptorRead}
@@ -142,33 +142,33 @@ module _ (s more : List ℕ) (x : SegmentationDescriptor) (closed : Closed (x .�
   abbrev Reads : DescriptorRead → Type 0
   Reads r = r ≡ Is (Segmentation x)
 
-  back-then : (event : ℕ) (f : Front) (u : SegmentationUpid) (at : ℕ) → Reads (parse back (bitsOf s) at andThen λ b m. inserted event f u b)
-      → Reads (parse back (bitsOf (s ++ more)) at andThen λ b m. inserted event f u b)
-  unfolding inserted
+  back-then : (event : ℕ) (f : Front) (u : SegmentationUpid) (at : ℕ) → Reads (parse back (bitsOf s) at andThen λ b m. activeWith event f u b)
+      → Reads (parse back (bitsOf (s ++ more)) at andThen λ b m. activeWith event f u b)
+  unfolding activeWith
   back-then event f u at e = go (parse back (bitsOf s) at) refl e
     where
-      go : (r : Answer Back) → parse back (bitsOf s) at ≡ r → Reads (r andThen λ b m. inserted event f u b) → Reads (parse back (bitsOf (s ++ more)) at andThen λ b m. inserted event f u b)
+      go : (r : Answer Back) → parse back (bitsOf s) at ≡ r → Reads (r andThen λ b m. activeWith event f u b) → Reads (parse back (bitsOf (s ++ more)) at andThen λ b m. activeWith event f u b)
       go (got b m) i e =
-          let z : x .«descriptor_detail» ≡ Active (insertFrom f u b) = cc e in
-          let c : Closed (Active (insertFrom f u b)) = rw z at closed in
+          let z : x .«descriptor_detail» ≡ Active (activeFrom f u b) = cc e in
+          let c : Closed (Active (activeFrom f u b)) = rw z at closed in
           rw (bits-append s more, back-on (bitsOf s) (bitsOf more) at b (c .0) m (c .1) i) e
       go (short expected actual) i e = zero-one cc
 
-  fine-then : (event : ℕ) (f : Front) (at : ℕ) (a : UpidRead) → Reads (ifFine a (f .«segmentation_upid» .bytes) λ u. parse back (bitsOf s) at andThen λ b m. inserted event f u b)
-      → Reads (ifFine a (f .«segmentation_upid» .bytes) λ u. parse back (bitsOf (s ++ more)) at andThen λ b m. inserted event f u b)
+  fine-then : (event : ℕ) (f : Front) (at : ℕ) (a : UpidRead) → Reads (ifFine a (f .«segmentation_upid» .bytes) λ u. parse back (bitsOf s) at andThen λ b m. activeWith event f u b)
+      → Reads (ifFine a (f .«segmentation_upid» .bytes) λ u. parse back (bitsOf (s ++ more)) at andThen λ b m. activeWith event f u b)
   fine-then event f at (UpidRead.Fine upid-type) e = back-then event f (reportedUpid upid-type (f .«segmentation_upid» .bytes)) at e
   fine-then event f at (UpidRead.Refused r) e = zero-one cc
 
   abbrev verdict : ListedFront → UpidRead
   verdict f = checkOf (f .front .«segmentation_upid» .«upid_type») (viewed s (f .front .«segmentation_upid» .bytes))
 
-  front-then : (event at : ℕ) → Reads (insertOf s event at) → Reads (insertOf (s ++ more) event at)
-  unfolding insertOf
+  front-then : (event at : ℕ) → Reads (activeOf s event at) → Reads (activeOf (s ++ more) event at)
+  unfolding activeOf
   front-then event at e = go (parse front (bitsOf s) at) refl e
     where
       go : (r : Answer ListedFront) → parse front (bitsOf s) at ≡ r
-          → Reads (r andThen λ f m. ifFine (verdict f) (f .front .«segmentation_upid» .bytes) λ u. parse back (bitsOf s) m andThen λ b n. inserted event (f .front) u b)
-          → Reads (insertOf (s ++ more) event at)
+          → Reads (r andThen λ f m. ifFine (verdict f) (f .front .«segmentation_upid» .bytes) λ u. parse back (bitsOf s) m andThen λ b n. activeWith event (f .front) u b)
+          → Reads (activeOf (s ++ more) event at)
       go (got f m) i e = rw (tolerates front blind-front s more at f m i, viewed-on s more (f .front .«segmentation_upid» .bytes) (front-inside s at f m i)) (fine-then event (f .front) m (verdict f) e)
       go (short expected actual) i e = zero-one cc
 
@@ -179,12 +179,12 @@ module _ (s more : List ℕ) (x : SegmentationDescriptor) (closed : Closed (x .�
   unfolding descriptorOf isCuei segmentationOf
   segmentation-on e = go (parse head (bitsOf s) 0) refl e ∙ sym e
     where
-      unless : (b : Bool) (r : DescriptorRead) (event at : ℕ) → Reads (pick b r (insertOf s event at)) → Reads (pick b r (insertOf (s ++ more) event at))
+      unless : (b : Bool) (r : DescriptorRead) (event at : ℕ) → Reads (pick b r (activeOf s event at)) → Reads (pick b r (activeOf (s ++ more) event at))
       unless true r event at e = e
       unless false r event at e = front-then event at e
 
       go : (r : Answer Head) → parse head (bitsOf s) 0 ≡ r
-          → Reads (r andThen λ h at. pick (h .cancel) (cancels h) (insertOf s (h .event) at))
+          → Reads (r andThen λ h at. pick (h .cancel) (cancels h) (activeOf s (h .event) at))
           → Reads (segmentationOf (s ++ more))
       go (got h at) i e = rw (tolerates head blind-head s more 0 h at i) (unless (h .cancel) (cancels h) (h .event) at e)
       go (short expected actual) i e = zero-one cc

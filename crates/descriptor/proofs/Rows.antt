@@ -3,13 +3,13 @@ use Prim.Native.Nat.{ℕ}
 use mathlib.Core.Bool.{true, false}
 use mathlib.Core.List.{List, [], _∷_}
 use mathlib.Core.Path.{_≡_, refl}
-use Rattle.names.specs.Segmentation.{segmentationOf}
+use Rattle.names.specs.Segmentation.{segmentationTypeOf}
 use Rattle.table.specs.Lent.{viewed}
 use Rattle.table.specs.Table.{number, bit, reserved, part, remaining, list}
 use Rattle.upid.specs.Upid.{checkOf}
 use Rattle.upid.specs.declared.Refusal.{Refusal}
 use Rattle.descriptor.specs.Descriptor as d
-use Rattle.descriptor.specs.Descriptor.{availOf, dtmfOf, inserted, insertOf, descriptorOf, isCuei}
+use Rattle.descriptor.specs.Descriptor.{availOf, dtmfOf, activeWith, activeOf, descriptorOf, isCuei}
 use Rattle.descriptor.specs.Plain.{avail, dtmf}
 use Rattle.descriptor.specs.Segmentation.{blankUpid, deviceOf, deliveryRestrictions, mode, duration, writtenUpid, parts, front, subSegments, back, head}
 use Rattle.descriptor.specs.declared.Descriptor.the-variants.{Dtmf, Segmentation}
@@ -45,7 +45,7 @@ start sub = Is (Segmentation (record {
     «segmentation_mode» = SegmentationMode.Program;
     «segmentation_duration» = SegmentationDuration.Absent;
     «segmentation_upid» = blankUpid;
-    «segmentation_type_id» = segmentationOf 0x10;
+    «segmentation_type_id» = segmentationTypeOf 0x10;
     «segment_num» = 1;
     «segments_expected» = 1;
     «sub_segments» = sub;
@@ -53,14 +53,14 @@ start sub = Is (Segmentation (record {
 }))
 
 pub row-n : descriptorOf 2 cuei (0 ∷ 0 ∷ 0 ∷ 0x2a ∷ 0x7f ∷ 0xbf ∷ 0 ∷ 0 ∷ 0x10 ∷ 1 ∷ 1 ∷ []) ≡ start SubSegments.Absent
-unfolding descriptorOf isCuei d.segmentationOf insertOf inserted head front parts deliveryRestrictions mode duration writtenUpid back subSegments number bit reserved part remaining viewed checkOf
+unfolding descriptorOf isCuei d.segmentationTypeOf activeOf activeWith head front parts deliveryRestrictions mode duration writtenUpid back subSegments number bit reserved part remaining viewed checkOf
 row-n = refl
 
 pub row-n-1 : descriptorOf 2 cuei (0 ∷ 0 ∷ 0 ∷ 0x2a ∷ 0x7f ∷ 0xbf ∷ 0 ∷ 0 ∷ 0x10 ∷ 1 ∷ 1 ∷ 1 ∷ []) ≡ Refused (Refusal.NotEnoughData 1 0)
-unfolding descriptorOf isCuei d.segmentationOf insertOf inserted head front parts deliveryRestrictions mode duration writtenUpid back subSegments number bit reserved part remaining viewed checkOf
+unfolding descriptorOf isCuei d.segmentationTypeOf activeOf activeWith head front parts deliveryRestrictions mode duration writtenUpid back subSegments number bit reserved part remaining viewed checkOf
 row-n-1 = refl
 
 pub row-n-2 : descriptorOf 2 cuei (0 ∷ 0 ∷ 0 ∷ 0x2a ∷ 0x7f ∷ 0xbf ∷ 0 ∷ 0 ∷ 0x10 ∷ 1 ∷ 1 ∷ 1 ∷ 2 ∷ [])
     ≡ start (SubSegments.Is (record { «sub_segment_num» = 1; «sub_segments_expected» = 2 }))
-unfolding descriptorOf isCuei d.segmentationOf insertOf inserted head front parts deliveryRestrictions mode duration writtenUpid back subSegments number bit reserved part remaining viewed checkOf
+unfolding descriptorOf isCuei d.segmentationTypeOf activeOf activeWith head front parts deliveryRestrictions mode duration writtenUpid back subSegments number bit reserved part remaining viewed checkOf
 row-n-2 = refl

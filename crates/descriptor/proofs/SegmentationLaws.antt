@@ -38,7 +38,7 @@ use Rattle.descriptor.specs.Segmentation.{
   headOf,
   frontOf,
   backOf,
-  insertFrom,
+  activeFrom,
   Segmentation,
   segmentation,
   agrees,
@@ -221,7 +221,7 @@ module _ (x : ListedFront) (m : ℕ) (fits : length (x .components) ≡ countOf 
 -- ---- the structure
 abbrev pub detailMoved : DescriptorDetail → DescriptorDetail
 detailMoved Cancel = Cancel
-detailMoved (Active i) = Active (insertFrom (frontMoved (frontOf (Active i))) (upidAt (upidPlace (frontOf (Active i))) (i .«segmentation_upid»)) (backOf (Active i)))
+detailMoved (Active i) = Active (activeFrom (frontMoved (frontOf (Active i))) (upidAt (upidPlace (frontOf (Active i))) (i .«segmentation_upid»)) (backOf (Active i)))
 
 abbrev pub segmentationMoved : Segmentation → Segmentation
 segmentationMoved x = record {

@@ -19,7 +19,7 @@ use Rattle.upid.specs.Upid.{checkOf}
 use Rattle.upid.specs.declared.Refusal.{Refusal}
 use Rattle.upid.specs.declared.UpidRead.{UpidRead}
 use Rattle.upid.proofs.Theorems.{view-of-24-lies-inside}
-use Rattle.descriptor.specs.Descriptor.{movedRefusal, reportedUpid, ifFine, inserted, insertOf, segmentationOf, _andThen_}
+use Rattle.descriptor.specs.Descriptor.{movedRefusal, reportedUpid, ifFine, activeWith, activeOf, segmentationOf, _andThen_}
 use Rattle.descriptor.specs.Segmentation.{Moded, ListedFront, Head, deliveryRestrictions, mode, duration, writtenUpid, parts, front, back, head}
 use Rattle.descriptor.specs.Private.{lacking, restrictionsIn, upidAnswer, upidChecked}
 use Rattle.descriptor.specs.declared.Descriptor.the-variants.{Segmentation}
@@ -154,13 +154,13 @@ checked-refused (UpidRead.Refused q) v k r e = let z : r ≡ movedRefusal (v .at
 
 -- ---- what follows the head, step by step
 module _ (s : List ℕ) (event at : ℕ) where
-  pub no-front : (x : Short) → parse front (bitsOf s) at ≡ short (x .expected) (x .actual) → lacking x ≡ insertOf s event at
-  unfolding insertOf lacking
+  pub no-front : (x : Short) → parse front (bitsOf s) at ≡ short (x .expected) (x .actual) → lacking x ≡ activeOf s event at
+  unfolding activeOf lacking
   no-front x e = rw e
 
   module _ (f : Front) (cs : List SegmentationComponent) (j : ℕ) (ef : parse front (bitsOf s) at ≡ got (record { front = f; components = cs }) j) where
     abbrev after : SegmentationUpid → DescriptorRead
-    after upid = parse back (bitsOf s) j andThen λ b at. inserted event f upid b
+    after upid = parse back (bitsOf s) j andThen λ b at. activeWith event f upid b
 
     abbrev bytes : View
     bytes = f .«segmentation_upid» .bytes
@@ -168,25 +168,25 @@ module _ (s : List ℕ) (event at : ℕ) where
     abbrev verdict : UpidRead
     verdict = checkOf (f .«segmentation_upid» .«upid_type») (viewed s bytes)
 
-    fronted : insertOf s event at ≡ ifFine verdict bytes after
-    unfolding insertOf
+    fronted : activeOf s event at ≡ ifFine verdict bytes after
+    unfolding activeOf
     fronted = rw ef
 
-    pub bad-upid : (r : Refusal) → UpidChecked.Refused r ≡ upidChecked s (f .«segmentation_upid») → Refused r ≡ insertOf s event at
+    pub bad-upid : (r : Refusal) → UpidChecked.Refused r ≡ upidChecked s (f .«segmentation_upid») → Refused r ≡ activeOf s event at
     unfolding upidChecked
     bad-upid r e = checked-refused verdict bytes after r e ∙ sym fronted
 
     module _ (u : SegmentationUpid) (eu : UpidChecked.Is u ≡ upidChecked s (f .«segmentation_upid»)) where
-      checked : insertOf s event at ≡ after u
+      checked : activeOf s event at ≡ after u
       unfolding upidChecked
       checked = fronted ∙ checked-is verdict bytes after u eu
 
-      pub no-back : (x : Short) → parse back (bitsOf s) j ≡ short (x .expected) (x .actual) → lacking x ≡ insertOf s event at
+      pub no-back : (x : Short) → parse back (bitsOf s) j ≡ short (x .expected) (x .actual) → lacking x ≡ activeOf s event at
       unfolding lacking
       no-back x e = sym (checked ∙ rw e)
 
-      pub insert-is : (b : Back) (m : ℕ) → parse back (bitsOf s) j ≡ got b m → inserted event f u b ≡ insertOf s event at
-      insert-is b m e = sym (checked ∙ rw e)
+      pub active-is : (b : Back) (m : ℕ) → parse back (bitsOf s) j ≡ got b m → activeWith event f u b ≡ activeOf s event at
+      active-is b m e = sym (checked ∙ rw e)
 
 -- ---- the head
 module _ (s : List ℕ) where
@@ -216,12 +216,12 @@ module _ (s : List ℕ) where
   no-head x e = rw e
 
   module _ (h : Head) (eh : parse head (bitsOf s) 0 ≡ got h 40) where
-    headed : segmentationOf s ≡ pick (h .cancel) (Is (Segmentation (record { «segmentation_event_id» = h .event; «descriptor_detail» = Cancel }))) (insertOf s (h .event) 40)
+    headed : segmentationOf s ≡ pick (h .cancel) (Is (Segmentation (record { «segmentation_event_id» = h .event; «descriptor_detail» = Cancel }))) (activeOf s (h .event) 40)
     unfolding segmentationOf
     headed = rw eh
 
     pub cancel-is : h .cancel ≡ true → Is (Segmentation (record { «segmentation_event_id» = h .event; «descriptor_detail» = Cancel })) ≡ segmentationOf s
     cancel-is on = sym (headed ∙ rw on)
 
-    pub insert-from : h .cancel ≡ false → insertOf s (h .event) 40 ≡ segmentationOf s
-    insert-from off = sym (headed ∙ rw off)
+    pub detail-from : h .cancel ≡ false → activeOf s (h .event) 40 ≡ segmentationOf s
+    detail-from off = sym (headed ∙ rw off)

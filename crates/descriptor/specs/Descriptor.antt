@@ -13,7 +13,7 @@ use Rattle.upid.specs.declared.Refusal.{Refusal}
 use Rattle.upid.specs.declared.Refusal.the-variants.{InputTooLong, NotEnoughData, UpidLengthTypeMismatch, InvalidUpidContent, InvalidUpidLength}
 use Rattle.upid.specs.declared.UpidRead.{UpidRead}
 use Rattle.descriptor.specs.Plain.{avail, dtmf, time, privateBytes}
-use Rattle.descriptor.specs.Segmentation.{ListedFront, Head, head, front, back, insertFrom}
+use Rattle.descriptor.specs.Segmentation.{ListedFront, Head, head, front, back, activeFrom}
 use Rattle.descriptor.specs.Views.{withoutView}
 use Rattle.descriptor.specs.declared.Descriptor.{Descriptor}
 use Rattle.descriptor.specs.declared.Descriptor.the-variants.{Avail, Dtmf, Segmentation, Time, Reserved}
@@ -64,23 +64,23 @@ abbrev pub ifFine : UpidRead → View → (SegmentationUpid → DescriptorRead) 
 ifFine (UpidRead.Fine upid-type) bytes k = k (reportedUpid upid-type bytes)
 ifFine (UpidRead.Refused r) bytes k = Refused (movedRefusal (bytes .at) r)
 
-unfoldable pub inserted : ℕ → Front → SegmentationUpid → Back → DescriptorRead
-inserted event f upid b = Is (Segmentation (record { «segmentation_event_id» = event; «descriptor_detail» = Active (insertFrom f upid b) }))
+unfoldable pub activeWith : ℕ → Front → SegmentationUpid → Back → DescriptorRead
+activeWith event f upid b = Is (Segmentation (record { «segmentation_event_id» = event; «descriptor_detail» = Active (activeFrom f upid b) }))
 
-unfoldable pub insertOf : List ℕ → ℕ → ℕ → DescriptorRead
-insertOf s event at =
+unfoldable pub activeOf : List ℕ → ℕ → ℕ → DescriptorRead
+activeOf s event at =
     parse front (bitsOf s) at andThen λ f at.
     let written = f .front .«segmentation_upid» in
     ifFine (checkOf (written .«upid_type») (viewed s (written .bytes))) (written .bytes) λ upid.
     parse back (bitsOf s) at andThen λ b at.
-    inserted event (f .front) upid b
+    activeWith event (f .front) upid b
 
 unfoldable pub segmentationOf : List ℕ → DescriptorRead
 segmentationOf s =
     parse head (bitsOf s) 0 andThen λ h at.
     pick (h .cancel)
     (Is (Segmentation (record { «segmentation_event_id» = h .event; «descriptor_detail» = Cancel })))
-    (insertOf s (h .event) at)
+    (activeOf s (h .event) at)
 
 -- ---- by identifier and tag
 

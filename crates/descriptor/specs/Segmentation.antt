@@ -4,7 +4,7 @@ use mathlib.Core.Bool.{Bool, true, false, not, _&&_}
 use mathlib.Core.List.{List, []}
 use lib.Dec.{eqb}
 use Rattle.names.specs.Flags.{Answer, gives, refuses, restrictionsBits, restrictionsOf}
-use Rattle.names.specs.Segmentation.{segmentationNumber, segmentationOf, writableSegmentation}
+use Rattle.names.specs.Segmentation.{segmentationNumber, segmentationTypeOf, writableSegmentation}
 use Rattle.names.specs.declared.flags.DeviceRestrictions.{DeviceRestrictions}
 use Rattle.table.specs.Bits.{pick}
 use Rattle.table.specs.Lent.{noView}
@@ -199,7 +199,7 @@ back =
     uimsbf 8 (λ x. x .«segments_expected») λ segments-expected.
     inside subSegments (λ x. x .«sub_segments») λ sub-segments.
     done (record {
-      «segmentation_type_id» = segmentationOf segmentation-type-id;
+      «segmentation_type_id» = segmentationTypeOf segmentation-type-id;
       «segment_num» = segment-num;
       «segments_expected» = segments-expected;
       «sub_segments» = sub-segments;
@@ -224,8 +224,8 @@ pub record Segmentation : Type 0 where
   pub descriptor : SegmentationDescriptor
   pub components : List SegmentationComponent
 
-abbrev pub insertFrom : Front → SegmentationUpid → Back → SegmentationDetail
-insertFrom f upid b = record {
+abbrev pub activeFrom : Front → SegmentationUpid → Back → SegmentationDetail
+activeFrom f upid b = record {
   «program_segmentation_flag» = f .«program_segmentation_flag»;
   «segmentation_duration_flag» = f .«segmentation_duration_flag»;
   «delivery_not_restricted_flag» = f .«delivery_not_restricted_flag»;
@@ -255,7 +255,7 @@ blankFront = record {
 
 abbrev pub blankBack : Back
 blankBack = record {
-  «segmentation_type_id» = segmentationOf 0;
+  «segmentation_type_id» = segmentationTypeOf 0;
   «segment_num» = 0;
   «segments_expected» = 0;
   «sub_segments» = SubSegments.Absent;
@@ -323,7 +323,7 @@ segmentation =
     (inside front (λ x. record { front = frontOf (x .descriptor .«descriptor_detail»); components = x .components }) λ f.
     inside back (λ x. backOf (x .descriptor .«descriptor_detail»)) λ b.
     done (record {
-      descriptor = record { «segmentation_event_id» = h .event; «descriptor_detail» = Active (insertFrom (f .front) (f .front .«segmentation_upid») b) };
+      descriptor = record { «segmentation_event_id» = h .event; «descriptor_detail» = Active (activeFrom (f .front) (f .front .«segmentation_upid») b) };
       components = f .components;
     }))
 

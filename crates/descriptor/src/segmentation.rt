@@ -1,7 +1,7 @@
 // Segmentation descriptors.
 ghost use mathlib.Core.Path.{_≡_};
 ghost use Prim.Native.Nat.{_*_};
-ghost use Rattle.descriptor.specs.Descriptor.{reportedUpid, inserted, insertOf, segmentationOf};
+ghost use Rattle.descriptor.specs.Descriptor.{reportedUpid, activeWith, activeOf, segmentationOf};
 ghost use Rattle.descriptor.specs.Segmentation.{head};
 ghost use Rattle.descriptor.specs.Private.{upidChecked, headRead};
 ghost use Rattle.table.specs.Bits.{bitsOf};
@@ -151,13 +151,13 @@ fn checked_upid(payload: &[u8], written: SegmentationUpid) -> UpidChecked
 }
 
 // A descriptor that is not cancelled, of all its fields.
-fn insert(
+fn active_with(
     event: u32,
     front: Front,
     segmentation_upid: SegmentationUpid,
     back: Back,
 ) -> DescriptorRead
-    ensures { λ r. ⌜ r ≡ inserted event front «segmentation_upid» back ⌝ }
+    ensures { λ r. ⌜ r ≡ activeWith event front «segmentation_upid» back ⌝ }
 {
     let delivery_restrictions = front.delivery_restrictions;
     let segmentation_mode = front.segmentation_mode;
@@ -183,8 +183,8 @@ fn insert(
 }
 
 // What follows the head of a descriptor that is not cancelled, from byte `at` on.
-fn read_insert(payload: &[u8], at: usize, event: u32) -> DescriptorRead
-    ensures { λ r. ⌜ r ≡ insertOf (now (payload .entry)) event (at * 8) ⌝ }
+fn read_active(payload: &[u8], at: usize, event: u32) -> DescriptorRead
+    ensures { λ r. ⌜ r ≡ activeOf (now (payload .entry)) event (at * 8) ⌝ }
 {
     let fronted = match read_front(payload, at) {
         FrontRead::Got(f) => f,
@@ -200,7 +200,7 @@ fn read_insert(payload: &[u8], at: usize, event: u32) -> DescriptorRead
         BackRead::Got(b) => b,
         BackRead::Lacks(e) => return lacks(e),
     };
-    insert(event, front, segmentation_upid, back)
+    active_with(event, front, segmentation_upid, back)
 }
 
 // The event and whether it is cancelled. They take five bytes.
@@ -250,5 +250,5 @@ pub fn read_segmentation(payload: &[u8]) -> DescriptorRead
             descriptor_detail: DescriptorDetail::Cancel,
         }));
     }
-    read_insert(payload, 5, head.event)
+    read_active(payload, 5, head.event)
 }

@@ -21,7 +21,7 @@ use Rattle.descriptor.specs.declared.segmentation.SegmentationUpid.{Segmentatio
 use Rattle.descriptor.specs.declared.segmentation.SubSegments.{SubSegments}
 use Rattle.canonical_form.specs.Descriptor.{canonicalUpid, upidCanonical, canonicalSegmentation}
 use Rattle.descriptor_measure.specs.Writing.{accepts, upidIn}
-use Rattle.descriptor_canonical.specs.Private.{flagsOnes, lastingBytes, componentsOnes, endsAt, upidAt, componentsAt, insertFits, segmentationFits}
+use Rattle.descriptor_canonical.specs.Private.{flagsOnes, lastingBytes, componentsOnes, endsAt, upidAt, componentsAt, activeFits, segmentationFits}
 use Rattle.descriptor_canonical.proofs.Through.{joined, through, through-in, through-same, through-must, through-list, through-none, through-number, through-flag, through-ones, through-part, through-remaining, implied, guarded, under, over, drops, leb-bytes, eqb-bytes}
 
 and-tt : (b : Bool) → b && true ≡ b
@@ -289,8 +289,8 @@ module _ (s : List ℕ) where
           duration-through m l _ _ (λ d i.
           upid-through i _ _ (λ u j. ends _ j))))
 
-      front-through : through front (bitsOf s) 40 G ≡ insertFits s
-      unfolding front insertFits flagsOnes lastingBytes
+      front-through : through front (bitsOf s) 40 G ≡ activeFits s
+      unfolding front activeFits flagsOnes lastingBytes
       front-through =
           let n : ℕ = length s * 8 in
           let b : ℕ = getD s 5 0 in
@@ -364,7 +364,7 @@ module _ (s : List ℕ) (byte : (k : ℕ) → getD s k 0 < 256) where
   segmentation-by =
       by-overall
       ∙ through-in head _ _ (bitsOf s) 0 overall
-      ∙ head-through _ (λ c. pick c (eqb (length s) 5) (insertFits s)) (λ h.
+      ∙ head-through _ (λ c. pick c (eqb (length s) 5) (activeFits s)) (λ h.
       through-pick (h .cancel) _ _ (bitsOf s) 40 overall
       ∙ ap₂ (pick (h .cancel))
       (ap (λ (u : Bool). eqb 40 (length s * 8) && u) none-fits ∙ and-tt (eqb 40 (length s * 8)) ∙ eqb-bytes 40 5 (length s) refl)

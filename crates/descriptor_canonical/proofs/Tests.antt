@@ -14,7 +14,7 @@ use Rattle.descriptor.specs.Plain.{dtmf}
 use Rattle.canonical_form.specs.Descriptor.{canonicalSegmentation, canonicalPayload, canonicalDescriptor}
 use Rattle.descriptor_measure.specs.Writing.{accepts}
 use Rattle.table.specs.Table.{canonicalBy}
-use Rattle.descriptor_canonical.specs.Private.{flagsOnes, lastingBytes, componentsOnes, endsAt, upidAt, componentsAt, insertFits, segmentationFits}
+use Rattle.descriptor_canonical.specs.Private.{flagsOnes, lastingBytes, componentsOnes, endsAt, upidAt, componentsAt, activeFits, segmentationFits}
 use Rattle.descriptor_canonical.proofs.Plains.{avail-by, time-by, private-by, dtmf-by}
 use Rattle.descriptor_canonical.proofs.Segments.{segmentation-by}
 
@@ -99,22 +99,22 @@ module _ (s : List ℕ) (lasting : ℕ) where
 
 -- ---- the flags
 module _ (s : List ℕ) where
-  pub flags-short : length s < 6 → false ≡ insertFits s
-  unfolding insertFits
+  pub flags-short : length s < 6 → false ≡ activeFits s
+  unfolding activeFits
   flags-short h = rw (lt-leb 6 (length s) h)
 
   module _ (there : 6 ≤ length s) (r : Bool) (er : r ≡ flagsOnes (getD s 5 0)) where
-    pub flags-spoilt : not r ≡ true → false ≡ insertFits s
-    unfolding insertFits
+    pub flags-spoilt : not r ≡ true → false ≡ activeFits s
+    unfolding activeFits
     flags-spoilt t = rw (le-leb 6 (length s) there, ← er, not-true r t)
 
     module _ (t : not r ≡ false) (n : ℕ) (en : n ≡ lastingBytes (getD s 5 0)) where
-      pub by-program : getD s 5 0 / 128 ≡ 1 → (a : Bool) → a ≡ upidAt s (6 + n) → a ≡ insertFits s
-      unfolding insertFits
+      pub by-program : getD s 5 0 / 128 ≡ 1 → (a : Bool) → a ≡ upidAt s (6 + n) → a ≡ activeFits s
+      unfolding activeFits
       by-program e a ea = rw (le-leb 6 (length s) there, ← er, not-false r t, eq-eqb (getD s 5 0 / 128) 1 e, ← en) ea
 
-      pub by-components : (getD s 5 0 / 128 ≡ 1 → ⊥) → (a : Bool) → a ≡ componentsAt s n → a ≡ insertFits s
-      unfolding insertFits
+      pub by-components : (getD s 5 0 / 128 ≡ 1 → ⊥) → (a : Bool) → a ≡ componentsAt s n → a ≡ activeFits s
+      unfolding activeFits
       by-components e a ea = rw (le-leb 6 (length s) there, ← er, not-false r t, ne-eqb (getD s 5 0 / 128) 1 e, ← en) ea
 
 -- ---- segmentation
@@ -136,9 +136,9 @@ module _ (s : List ℕ) (byte : (k : ℕ) → getD s k 0 < 256) where
       unfolding segmentationFits
       is-cancelled f = fits (rw (le-leb 5 (length s) there, eq-eqb (getD s 4 0 % 128) 127 e, eq-eqb (getD s 4 0 / 128) 1 f))
 
-      pub is-inserted : (getD s 4 0 / 128 ≡ 1 → ⊥) → (a : Bool) → a ≡ insertFits s → a ≡ canonicalSegmentation s
+      pub is-activeed : (getD s 4 0 / 128 ≡ 1 → ⊥) → (a : Bool) → a ≡ activeFits s → a ≡ canonicalSegmentation s
       unfolding segmentationFits
-      is-inserted f a ea = fits (rw (le-leb 5 (length s) there, eq-eqb (getD s 4 0 % 128) 127 e, ne-eqb (getD s 4 0 / 128) 1 f) ea)
+      is-activeed f a ea = fits (rw (le-leb 5 (length s) there, eq-eqb (getD s 4 0 % 128) 127 e, ne-eqb (getD s 4 0 / 128) 1 f) ea)
 
 -- ---- by identifier and tag
 module _ (tag : ℕ) (id s : List ℕ) where

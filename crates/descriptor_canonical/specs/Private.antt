@@ -43,8 +43,8 @@ componentsAt s lasting =
     && upidAt s (7 + n * 6 + lasting)))
 
 -- "program 1, duration 1, not-restricted 1", and to the end
-unfoldable pub insertFits : List ℕ → Bool
-insertFits s =
+unfoldable pub activeFits : List ℕ → Bool
+activeFits s =
     let b : ℕ = getD s 5 0 in
     leb 6 (length s)
     && (flagsOnes b
@@ -55,4 +55,4 @@ unfoldable pub segmentationFits : List ℕ → Bool
 segmentationFits s =
     leb 5 (length s)
     && (eqb (getD s 4 0 % 128) 127
-    && pick (eqb (getD s 4 0 / 128) 1) (eqb (length s) 5) (insertFits s))
+    && pick (eqb (getD s 4 0 / 128) 1) (eqb (length s) 5) (activeFits s))

@@ -5,7 +5,7 @@ ghost use lib.ListN.{length};
 ghost use Rattle.canonical_form.specs.Descriptor.{canonicalSegmentation};
 ghost use Rattle.descriptor_measure.specs.Writing.{accepts};
 ghost use Rattle.upid.specs.Upid.{checkOf};
-ghost use Rattle.descriptor_canonical.specs.Private.{flagsOnes, lastingBytes, componentsOnes, endsAt, upidAt, componentsAt, insertFits};
+ghost use Rattle.descriptor_canonical.specs.Private.{flagsOnes, lastingBytes, componentsOnes, endsAt, upidAt, componentsAt, activeFits};
 use table::numbers::size;
 use upid::UpidRead;
 use upid::check_upid;
@@ -108,8 +108,8 @@ fn is_canonical_by_components(s: &[u8], lasting: usize) -> bool
 }
 
 // From the three flags at byte 5 to the payload's end.
-fn is_canonical_insert(s: &[u8]) -> bool
-    ensures { λ r. ⌜ r ≡ insertFits (now (s .entry)) ⌝ }
+fn is_canonical_active(s: &[u8]) -> bool
+    ensures { λ r. ⌜ r ≡ activeFits (now (s .entry)) ⌝ }
 {
     if s.len() < 6 {
         return false;
@@ -139,5 +139,5 @@ pub(crate) fn is_canonical_segmentation(s: &[u8]) -> bool
     if b / 128 == 1 {
         return s.len() == 5;
     }
-    is_canonical_insert(s)
+    is_canonical_active(s)
 }

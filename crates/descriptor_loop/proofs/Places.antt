@@ -28,7 +28,7 @@ use Rattle.descriptor.specs.declared.segmentation.SegmentationDetail.{Segmentat
 use Rattle.descriptor.specs.declared.segmentation.SegmentationUpid.{SegmentationUpid}
 use Rattle.descriptor.specs.Segmentation.{withUpid}
 use Rattle.descriptor_loop.specs.Place.{viewsOf, movedUpid, movedDescriptor}
-use Rattle.descriptor_loop.specs.Private.{Movable, movedInsert, movedDetail}
+use Rattle.descriptor_loop.specs.Private.{Movable, movedActive, movedDetail}
 use Rattle.descriptor_loop.specs.Items.{itemAt}
 
 module _ {A : Type 0} {P : A → Type 0} where
@@ -63,8 +63,8 @@ module _ (base : ℕ) (u : SegmentationUpid) where
       pub upid-there : (v : View) → v ≡ shifted base (u .bytes) → _≡_ {A = SegmentationUpid} (record { «upid_type» = u .«upid_type»; bytes = v }) (movedUpid base u)
       upid-there v e = rw (ne-eqb _ _ some, ne-eqb _ _ plain, e)
 
-pub insert-there : (base : ℕ) (i : SegmentationDetail) (u : SegmentationUpid) → u ≡ movedUpid base (i .«segmentation_upid») → withUpid i u ≡ movedInsert base i
-insert-there base i u e = rw e
+pub active-there : (base : ℕ) (i : SegmentationDetail) (u : SegmentationUpid) → u ≡ movedUpid base (i .«segmentation_upid») → withUpid i u ≡ movedActive base i
+active-there base i u e = rw e
 
 module _ (base : ℕ) (d : Descriptor) where
   pub dtmf-first : (x : DTMFDescriptor) → d ≡ Dtmf x → Movable base (descriptorViews d) → base + x .«dtmf_chars» .at < 2 ^ 64
@@ -73,18 +73,18 @@ module _ (base : ℕ) (d : Descriptor) where
   pub private-first : (tag : ℕ) (v : View) → d ≡ Reserved tag v → Movable base (descriptorViews d) → base + v .at < 2 ^ 64
   private-first tag v e m = all-first (rw e at m)
 
-  pub insert-all : (s : SegmentationDescriptor) (i : SegmentationDetail) → d ≡ Segmentation s → s .«descriptor_detail» ≡ Active i
+  pub active-all : (s : SegmentationDescriptor) (i : SegmentationDetail) → d ≡ Segmentation s → s .«descriptor_detail» ≡ Active i
       → Movable base (descriptorViews d) → Movable base (upidViews (i .«segmentation_upid»))
-  insert-all s i e f m = let n : Movable base (detailViews (s .«descriptor_detail»)) = rw e at m in rw f at n
+  active-all s i e f m = let n : Movable base (detailViews (s .«descriptor_detail»)) = rw e at m in rw f at n
 
   pub cancel-stays : (s : SegmentationDescriptor) → d ≡ Segmentation s → s .«descriptor_detail» ≡ Cancel → Segmentation s ≡ movedDescriptor base d
   cancel-stays s e f =
       let g : movedDetail base (s .«descriptor_detail») ≡ s .«descriptor_detail» = rw f in
       rw e (ap (λ (x : DescriptorDetail). Segmentation (record { «segmentation_event_id» = s .«segmentation_event_id»; «descriptor_detail» = x })) (sym g))
 
-  pub insert-moves : (s : SegmentationDescriptor) (i j : SegmentationDetail) → d ≡ Segmentation s → s .«descriptor_detail» ≡ Active i → j ≡ movedInsert base i
+  pub active-moves : (s : SegmentationDescriptor) (i j : SegmentationDetail) → d ≡ Segmentation s → s .«descriptor_detail» ≡ Active i → j ≡ movedActive base i
       → Segmentation (record { «segmentation_event_id» = s .«segmentation_event_id»; «descriptor_detail» = Active j }) ≡ movedDescriptor base d
-  insert-moves s i j e f g = rw (e, f, g)
+  active-moves s i j e f g = rw (e, f, g)
 
 pub text-first : (base : ℕ) (r : Refusal) (upid-type : ℕ) (v : View) → r ≡ InvalidUpidContent upid-type v → Movable base (refusalViews r) → base + v .at < 2 ^ 64
 text-first base r upid-type v e m = all-first (rw e at m)

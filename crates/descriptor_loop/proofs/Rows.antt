@@ -6,7 +6,7 @@ use lib.ListN.{replicate}
 use Rattle.table.specs.Lent.{viewed}
 use Rattle.table.specs.Table.{number, bit, reserved, part, remaining, list}
 use Rattle.upid.specs.Upid as upid
-use Rattle.descriptor.specs.Descriptor.{descriptorOf, isCuei, availOf, dtmfOf, segmentationOf, insertOf, inserted, reservedOf}
+use Rattle.descriptor.specs.Descriptor.{descriptorOf, isCuei, availOf, dtmfOf, segmentationOf, activeOf, activeWith, reservedOf}
 use Rattle.descriptor.specs.Plain.{avail, dtmf, privateBytes}
 use Rattle.descriptor.specs.Segmentation.{blankComponent, deliveryRestrictions, component, mode, duration, writtenUpid, parts, front, subSegments, back, head, segmentation}
 use Rattle.descriptor.specs.Full.{filled, besideIn, besideOf}
@@ -80,5 +80,5 @@ pub row-beside : readingOf (0x02 ∷ 0x22 ∷ C (0 ∷ 0 ∷ 0 ∷ 0x2A ∷ 0x7F
       components = record { «component_tag» = 5; «pts_offset» = 7 } ∷ replicate 254 blankComponent;
       eidr = 1 ∷ 2 ∷ 3 ∷ 4 ∷ 5 ∷ 6 ∷ 7 ∷ 8 ∷ 9 ∷ 10 ∷ 11 ∷ 12 ∷ [];
     }
-unfolding readingOf stepOf completeAt readAt descriptorOf isCuei segmentationOf insertOf inserted head front parts deliveryRestrictions mode component duration writtenUpid back subSegments segmentation number bit reserved part remaining list viewed upid.checkOf upid.readOf upid.plainOf upid.lengthOf upid.isText upid.reportedOf besideOf besideIn filled upid.eidrOf
+unfolding readingOf stepOf completeAt readAt descriptorOf isCuei segmentationOf activeOf activeWith head front parts deliveryRestrictions mode component duration writtenUpid back subSegments segmentation number bit reserved part remaining list viewed upid.checkOf upid.readOf upid.plainOf upid.lengthOf upid.isText upid.reportedOf besideOf besideIn filled upid.eidrOf
 row-beside = refl

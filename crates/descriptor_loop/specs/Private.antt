@@ -17,9 +17,9 @@ use Rattle.descriptor_loop.specs.Place.{movedUpid}
 abbrev pub Movable : ℕ → List View → Type 0
 Movable base vs = All (λ (v : View). base + v .at < 2 ^ 64) vs
 
--- an insert, and a detail, with the UPID moved
-abbrev pub movedInsert : ℕ → SegmentationDetail → SegmentationDetail
-movedInsert base i = withUpid i (movedUpid base (i .«segmentation_upid»))
+-- an active segmentation, and a detail, with the UPID moved
+abbrev pub movedActive : ℕ → SegmentationDetail → SegmentationDetail
+movedActive base i = withUpid i (movedUpid base (i .«segmentation_upid»))
 
 abbrev pub movedDetail : ℕ → DescriptorDetail → DescriptorDetail
 movedDetail base d = withUpids (movedUpid base) d

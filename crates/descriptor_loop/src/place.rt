@@ -5,7 +5,7 @@ ghost use Rattle.table.specs.Lent.{shifted, viewed};
 ghost use Rattle.descriptor.specs.Descriptor.{movedRefusal};
 ghost use Rattle.descriptor.specs.Views.{upidViews, descriptorViews, refusalViews};
 ghost use Rattle.descriptor_loop.specs.Place.{firstView, viewOf, movedUpid, movedDescriptor};
-ghost use Rattle.descriptor_loop.specs.Private.{Movable, movedInsert};
+ghost use Rattle.descriptor_loop.specs.Private.{Movable, movedActive};
 use crate::Item;
 use crate::ItemRefusal;
 use descriptor::Descriptor;
@@ -49,27 +49,27 @@ fn move_upid(u: SegmentationUpid, base: usize) -> SegmentationUpid
     }
 }
 
-fn move_insert(insert: SegmentationDetail, base: usize) -> SegmentationDetail
-    requires { ⌜ Movable base (upidViews (insert .«segmentation_upid»)) ⌝ }
-    ensures { λ r. ⌜ r ≡ movedInsert base insert ⌝ }
+fn move_active(active: SegmentationDetail, base: usize) -> SegmentationDetail
+    requires { ⌜ Movable base (upidViews (active .«segmentation_upid»)) ⌝ }
+    ensures { λ r. ⌜ r ≡ movedActive base active ⌝ }
 {
-    let upid = insert.segmentation_upid;
-    let delivery_restrictions = insert.delivery_restrictions;
-    let segmentation_mode = insert.segmentation_mode;
-    let segmentation_duration = insert.segmentation_duration;
-    let segmentation_type_id = insert.segmentation_type_id;
-    let sub_segments = insert.sub_segments;
+    let upid = active.segmentation_upid;
+    let delivery_restrictions = active.delivery_restrictions;
+    let segmentation_mode = active.segmentation_mode;
+    let segmentation_duration = active.segmentation_duration;
+    let segmentation_type_id = active.segmentation_type_id;
+    let sub_segments = active.sub_segments;
     SegmentationDetail {
-        program_segmentation_flag: insert.program_segmentation_flag,
-        segmentation_duration_flag: insert.segmentation_duration_flag,
-        delivery_not_restricted_flag: insert.delivery_not_restricted_flag,
+        program_segmentation_flag: active.program_segmentation_flag,
+        segmentation_duration_flag: active.segmentation_duration_flag,
+        delivery_not_restricted_flag: active.delivery_not_restricted_flag,
         delivery_restrictions,
         segmentation_mode,
         segmentation_duration,
         segmentation_upid: move_upid(upid, base),
         segmentation_type_id,
-        segment_num: insert.segment_num,
-        segments_expected: insert.segments_expected,
+        segment_num: active.segment_num,
+        segments_expected: active.segments_expected,
         sub_segments,
     }
 }
@@ -92,8 +92,8 @@ pub(crate) fn move_descriptor(d: Descriptor, base: usize) -> Descriptor
             let detail = segmentation.descriptor_detail;
             match detail {
                 DescriptorDetail::Cancel => d,
-                DescriptorDetail::Active(insert) => {
-                    let there = DescriptorDetail::Active(move_insert(insert, base));
+                DescriptorDetail::Active(active) => {
+                    let there = DescriptorDetail::Active(move_active(active, base));
                     Descriptor::Segmentation(SegmentationDescriptor {
                         segmentation_event_id: segmentation.segmentation_event_id,
                         descriptor_detail: there,
@@ -177,8 +177,8 @@ fn descriptor_view(d: Descriptor) -> View
             let detail = segmentation.descriptor_detail;
             match detail {
                 DescriptorDetail::Cancel => View { at: 0, len: 0 },
-                DescriptorDetail::Active(insert) => {
-                    let upid = insert.segmentation_upid;
+                DescriptorDetail::Active(active) => {
+                    let upid = active.segmentation_upid;
                     upid_view(upid)
                 }
             }

@@ -1,6 +1,6 @@
 -- The fields that a segmentation descriptor's table has of what is written, part by part.
 --     fields-are     they are those of specs/Parts.antt
---     insert-fields  the same of an insert with any UPID, cut at the UPID
+--     active-fields  the same of an active segmentation with any UPID, cut at the UPID
 use Prim.Native.Nat.{ℕ, zero, suc, _+_, _*_, _/_, _^_, _-_}
 use mathlib.Core.Bool.{Bool, true, false}
 use mathlib.Core.List.{List, [], _∷_, _++_, append-assoc}
@@ -48,7 +48,7 @@ use Rattle.descriptor.specs.declared.segmentation.SegmentationDetail.{Segmentat
 use Rattle.descriptor.specs.declared.segmentation.SegmentationMode.{SegmentationMode}
 use Rattle.descriptor.specs.declared.segmentation.SegmentationUpid.{SegmentationUpid}
 use Rattle.descriptor.specs.declared.segmentation.SubSegments.{SubSegments}
-use Rattle.descriptor_measure.specs.Private.{deliveryFields, componentFields, componentsFields, modeFields, durationFields, upidFields, subFields, backFields, flagFields, headFields, insertFields, segmentFields}
+use Rattle.descriptor_measure.specs.Private.{deliveryFields, componentFields, componentsFields, modeFields, durationFields, upidFields, subFields, backFields, flagFields, headFields, activeFields, segmentFields}
 use Rattle.descriptor_measure.specs.Writing as writing
 use Rattle.descriptor_measure.specs.Writing.{writtenDetail}
 
@@ -161,10 +161,10 @@ frontFields event i cs =
     ++ (flagFields (byProgram (i .«segmentation_mode»)) (lasting (i .«segmentation_duration»)) (unrestricted (i .«delivery_restrictions»))
     ++ (deliveryFields (i .«delivery_restrictions») ++ (modeFields (i .«segmentation_mode») cs ++ durationFields (i .«segmentation_duration»))))
 
-pub insert-fields : (event : ℕ) (i : SegmentationDetail) (upid : SegmentationUpid) (cs : List SegmentationComponent) → length cs ≡ countOf (i .«segmentation_mode»)
+pub active-fields : (event : ℕ) (i : SegmentationDetail) (upid : SegmentationUpid) (cs : List SegmentationComponent) → length cs ≡ countOf (i .«segmentation_mode»)
     → (let x : Segmentation = record { descriptor = record { «segmentation_event_id» = event; «descriptor_detail» = Active (withUpid i upid) }; components = cs } in
     walk segmentation x 0 .fields ≡ frontFields event i cs ++ (upidFields upid ++ backFields i))
-insert-fields event i upid cs e = all-fields i upid cs e event ∙ simp append-assoc
+active-fields event i upid cs e = all-fields i upid cs e event ∙ simp append-assoc
 
 pub fields-are : (event : ℕ) (d : DescriptorDetail) (cs : List SegmentationComponent) → length cs ≡ countOf (frontOf d .«segmentation_mode»)
     → (let x : Segmentation = record { descriptor = record { «segmentation_event_id» = event; «descriptor_detail» = writtenDetail d }; components = cs } in

@@ -184,9 +184,9 @@ module _ (event : ℕ) (i : SegmentationDetail) (id : List ℕ) (cs : List Segme
           with-identifier w = sym (made-so ∙ rw (not-false n v, ← ez, not-true z w))
 
           module _ (w : not z ≡ false) (f : Bool) (ef : f ≡ writableDetail (Active i)) where
-            pub unwritable-insert : not f ≡ true → 33 ≡ refusalIn M
+            pub unwritable-active : not f ≡ true → 33 ≡ refusalIn M
             unfolding writableSegment
-            unwritable-insert y = sym (made-so ∙ rw (not-false n v, ← ez, not-false z w, ← ef, not-true f y))
+            unwritable-active y = sym (made-so ∙ rw (not-false n v, ← ez, not-false z w, ← ef, not-true f y))
 
             module _ (y : not f ≡ false) (g : Bool) (eg : g ≡ writableUpid u eidr lent) where
               pub unwritable-upid : not g ≡ true → 33 ≡ refusalIn M
@@ -217,16 +217,16 @@ module _ (x : SegmentationDescriptor) (id eidr lent : List ℕ) (n : ℕ) where
   pub refused-fit : componentCount x < 256 → ((cs : List SegmentationComponent) → length cs ≡ 255 → ModeFits x cs → So cs) → RefusedSo x id eidr lent n
   refused-fit few h = record { no-components = h (filled []) blanks-length (blanks-fit (frontOf (x .«descriptor_detail») .«segmentation_mode») few); others = h }
 
-  pub refused-insert : (i : SegmentationDetail) → x .«descriptor_detail» ≡ Active i
+  pub refused-active : (i : SegmentationDetail) → x .«descriptor_detail» ≡ Active i
       → RefusedSo (record { «segmentation_event_id» = x .«segmentation_event_id»; «descriptor_detail» = Active i }) id eidr lent n → RefusedSo x id eidr lent n
-  refused-insert i is s = subst (λ (d : DescriptorDetail). RefusedSo (record { «segmentation_event_id» = x .«segmentation_event_id»; «descriptor_detail» = d }) id eidr lent n) (sym is) s
+  refused-active i is s = subst (λ (d : DescriptorDetail). RefusedSo (record { «segmentation_event_id» = x .«segmentation_event_id»; «descriptor_detail» = d }) id eidr lent n) (sym is) s
 
 pub cancel-fits : (x : SegmentationDescriptor) (cs : List SegmentationComponent) → x .«descriptor_detail» ≡ Cancel → ModeFits x cs
 cancel-fits x cs is = rw is
 
-pub insert-fits : (x : SegmentationDescriptor) (i : SegmentationDetail) (cs : List SegmentationComponent) → x .«descriptor_detail» ≡ Active i → (m : Bool)
+pub active-fits : (x : SegmentationDescriptor) (i : SegmentationDetail) (cs : List SegmentationComponent) → x .«descriptor_detail» ≡ Active i → (m : Bool)
     → m ≡ within (modeFields (i .«segmentation_mode») (take (countOf (i .«segmentation_mode»)) cs)) → not m ≡ false → ModeFits x cs
-insert-fits x i cs is m em v = rw is (sym em ∙ not-false m v)
+active-fits x i cs is m em v = rw is (sym em ∙ not-false m v)
 
 -- ---- a cancelled one
 module _ (x : SegmentationDescriptor) (id : List ℕ) (cs : List SegmentationComponent) (eidr lent : List ℕ) (is : x .«descriptor_detail» ≡ Cancel) (ev : x .«segmentation_event_id» < 2 ^ 32) where
@@ -262,8 +262,8 @@ module _ (x : SegmentationDescriptor) (id : List ℕ) (cs : List SegmentationCom
       cancel-writable v = made-cancel 0 (rw (← ez, not-false z t, ← (upid-none blankUpid eidr lent (λ e. omega arith) w ew v refl)))
 
 -- ---- one that is not
-pub insert-so : (x : SegmentationDescriptor) (i : SegmentationDetail) (id : List ℕ) (cs : List SegmentationComponent) (eidr lent : List ℕ) (r : ℕ) → x .«descriptor_detail» ≡ Active i
+pub active-so : (x : SegmentationDescriptor) (i : SegmentationDetail) (id : List ℕ) (cs : List SegmentationComponent) (eidr lent : List ℕ) (r : ℕ) → x .«descriptor_detail» ≡ Active i
     → r ≡ refusalIn (segmentationMade (record { «segmentation_event_id» = x .«segmentation_event_id»; «descriptor_detail» = Active i }) id (record { components = cs; eidr = eidr }) lent)
     → r ≡ refusalIn (segmentationMade x id (record { components = cs; eidr = eidr }) lent)
-insert-so x i id cs eidr lent r is e =
+active-so x i id cs eidr lent r is e =
     e ∙ ap (λ (d : DescriptorDetail). refusalIn (segmentationMade (record { «segmentation_event_id» = x .«segmentation_event_id»; «descriptor_detail» = d }) id (record { components = cs; eidr = eidr }) lent)) (sym is)

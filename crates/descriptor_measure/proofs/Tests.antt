@@ -222,7 +222,7 @@ module _ (u : SegmentationUpid) (eidr lent : List ℕ) where
           upid-read f part w r ep ew er =
               rw (ne-eqb (u .«upid_type») 10 ne, ← ez, not-false z t, ne-eqb (u .«upid_type») 0 k, ne-eqb (u .bytes .len) 0 l, ne-eqb (u .«upid_type») 5 f, ← ep, ← ew, ← er)
 
--- ---- the numbers of an insert: those of components that fit change nothing
+-- ---- the numbers of an active segmentation: those of components that fit change nothing
 pub numbers-with : (i : SegmentationDetail) (cs : List SegmentationComponent) (n : Bool) → within (modeFields (i .«segmentation_mode») cs) ≡ true
     → (n ≡ numbersFit i []) × (countOf (i .«segmentation_mode») < 256) → (n ≡ numbersFit i cs) × (countOf (i .«segmentation_mode») < 256)
 unfolding numbersFit

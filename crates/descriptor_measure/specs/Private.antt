@@ -65,8 +65,8 @@ backFields i =
     bits 8 (segmentationNumber (i .«segmentation_type_id»)) ∷ (bits 8 (i .«segment_num») ∷ (bits 8 (i .«segments_expected») ∷ subFields (i .«sub_segments»)))
 
 -- the fields after the head, of the components cs
-abbrev pub insertFields : SegmentationDetail → List SegmentationComponent → List Field
-insertFields i cs =
+abbrev pub activeFields : SegmentationDetail → List SegmentationComponent → List Field
+activeFields i cs =
     flagFields (byProgram (i .«segmentation_mode»)) (lasting (i .«segmentation_duration»)) (unrestricted (i .«delivery_restrictions»))
     ++ (deliveryFields (i .«delivery_restrictions»)
     ++ (modeFields (i .«segmentation_mode») cs
@@ -76,9 +76,9 @@ insertFields i cs =
 
 unfoldable pub segmentFields : ℕ → DescriptorDetail → List SegmentationComponent → List Field
 segmentFields event Cancel cs = headFields event true
-segmentFields event (Active i) cs = headFields event false ++ insertFields i cs
+segmentFields event (Active i) cs = headFields event false ++ activeFields i cs
 
--- refusal 32: the numbers of an insert but its UPID's, of the components cs
+-- refusal 32: the numbers of an active segmentation but its UPID's, of the components cs
 unfoldable pub numbersFit : SegmentationDetail → List SegmentationComponent → Bool
 numbersFit i cs = within (modeFields (i .«segmentation_mode») cs) && (within (durationFields (i .«segmentation_duration»)) && within (backFields i))
 

@@ -61,7 +61,7 @@ fn agree(flag: bool, says: bool) -> bool
 }
 
 // Refusal 33: whether each flag says what its part says, and the type id is what its own number stands for.
-fn is_writable_insert(i: SegmentationDetail) -> bool
+fn is_writable_active(i: SegmentationDetail) -> bool
     ensures { λ r. ⌜ r ≡ writableDetail (Active i) ⌝ }
 {
     let mode = i.segmentation_mode;
@@ -162,7 +162,7 @@ fn numbers_fit(i: SegmentationDetail) -> bool
 
 // ---- the number of the first refusal of 31, 32 and 33, or 0. It is worked out without the components, and holds for all that fit.
 
-fn refusal_of_insert(
+fn refusal_of_active(
     event: u32,
     i: SegmentationDetail,
     identifier: [u8; 4],
@@ -185,7 +185,7 @@ fn refusal_of_insert(
     if !is_zero(&identifier[..]) {
         return 33;
     }
-    if !is_writable_insert(i) {
+    if !is_writable_active(i) {
         return 33;
     }
     if !is_writable_upid(upid, eidr, lent) {
@@ -214,7 +214,7 @@ fn refusal_without_components(
             0
         }
         DescriptorDetail::Active(i) => {
-            refusal_of_insert(x.segmentation_event_id, i, identifier, eidr, lent)
+            refusal_of_active(x.segmentation_event_id, i, identifier, eidr, lent)
         }
     }
 }
@@ -266,11 +266,11 @@ pub fn count_in_segmentation(x: SegmentationDescriptor) -> u8
     ensures { λ r. ⌜ r ≡ componentCount x ⌝ }
 {
     let detail = x.descriptor_detail;
-    let insert = match detail {
+    let active = match detail {
         DescriptorDetail::Cancel => return 0,
         DescriptorDetail::Active(i) => i,
     };
-    let mode = insert.segmentation_mode;
+    let mode = active.segmentation_mode;
     match mode {
         SegmentationMode::Program => 0,
         SegmentationMode::Component(n) => n,

@@ -21,7 +21,7 @@ use Rattle.table.proofs.Structure as laws
 use Rattle.upid.specs.Upid.{checkOf}
 use Rattle.upid.proofs.Walks.{empty}
 use Rattle.descriptor.specs.Plain.{avail, dtmf, time, privateBytes}
-use Rattle.descriptor.specs.Segmentation.{componentCount, agrees, backOf, countOf, writableDetail, writableFront, frontOf, head, insertFrom, segmentation, detailUpid}
+use Rattle.descriptor.specs.Segmentation.{componentCount, agrees, backOf, countOf, writableDetail, writableFront, frontOf, head, activeFrom, segmentation, detailUpid}
 use Rattle.descriptor.specs.Views.{withoutView, detailViews, descriptorViews, withUpids}
 use Rattle.descriptor.specs.declared.Descriptor.{Descriptor}
 use Rattle.descriptor.specs.declared.Descriptor.the-variants.{Avail, Dtmf, Segmentation, Time, Reserved}
@@ -36,12 +36,12 @@ use Rattle.descriptor.specs.declared.full.Beside.{Beside}
 use Rattle.descriptor_measure.specs.Private.{upidFields}
 use Rattle.canonical_form.specs.Same.{SameReading, withoutPlaces, bytesOfViews, placelessUpid}
 use Rattle.descriptor_measure.specs.Writing.{countBeside, envelopedMade, allZero, alone, writableReserved, accepts, writableUpid, writableSegment, segmentationMade, payloadMade, descriptorMade, tagOf, identifierOf, upidIn, upidSource, writtenDetail, writtenType, writtenUpid}
-use Rattle.descriptor_measure.proofs.Fields.{insert-fields}
+use Rattle.descriptor_measure.proofs.Fields.{active-fields}
 use Rattle.descriptor_measure.proofs.Making.{all-writable, by-table, counted, zero-view}
 use Rattle.descriptor_round_trips.specs.Making.{viewIn}
 use Rattle.descriptor_round_trips.proofs.PlainLaws.{viewed-at}
 use Rattle.descriptor_round_trips.proofs.PlainTrips.{unenveloped}
-use Rattle.descriptor_round_trips.proofs.Remade.{same-make, withUpid, insert-makes, insert-seen}
+use Rattle.descriptor_round_trips.proofs.Remade.{same-make, withUpid, active-makes, active-seen}
 use Rattle.descriptor_round_trips.proofs.SegmentBack.{viewed-length, viewed-none}
 
 -- ---- a descriptor and its view
@@ -58,12 +58,12 @@ abbrev pub detailView : DescriptorDetail → View
 detailView d = detailUpid d .bytes
 
 -- the same with another view
-abbrev insertAt : View → SegmentationDetail → SegmentationDetail
-insertAt v i = insertFrom (frontOf (Active i)) (record { «upid_type» = i .«segmentation_upid» .«upid_type»; bytes = v }) (backOf (Active i))
+abbrev activeAt : View → SegmentationDetail → SegmentationDetail
+activeAt v i = activeFrom (frontOf (Active i)) (record { «upid_type» = i .«segmentation_upid» .«upid_type»; bytes = v }) (backOf (Active i))
 
 abbrev detailAt : View → DescriptorDetail → DescriptorDetail
 detailAt v Cancel = Cancel
-detailAt v (Active i) = Active (insertAt v i)
+detailAt v (Active i) = Active (activeAt v i)
 
 abbrev withView : View → Descriptor → Descriptor
 withView v (Avail x) = Avail x
@@ -148,7 +148,7 @@ module _ (s r : List ℕ) (w : View) (p id : List ℕ) (b : Beside) where
       x = record { «segmentation_event_id» = event; «descriptor_detail» = Active i }
 
       abbrev y : SegmentationDescriptor
-      y = record { «segmentation_event_id» = event; «descriptor_detail» = Active (insertAt w i) }
+      y = record { «segmentation_event_id» = event; «descriptor_detail» = Active (activeAt w i) }
 
       abbrev u : SegmentationUpid
       u = i .«segmentation_upid»
@@ -190,13 +190,13 @@ module _ (s r : List ℕ) (w : View) (p id : List ℕ) (b : Beside) where
           go true e = e
           go false e = rw (le-leb (w .at + w .len) (length r) (h .right))
 
-      writable-detail : writableDetail (Active i) ≡ true → writableDetail (Active (insertAt w i)) ≡ true
+      writable-detail : writableDetail (Active i) ≡ true → writableDetail (Active (activeAt w i)) ≡ true
       unfolding writableDetail writableFront
       writable-detail e = e
 
-      insert-alike : segmentationMade x id b s ≡ made p → segmentationMade y id b r ≡ made p
+      active-alike : segmentationMade x id b s ≡ made p → segmentationMade y id b r ≡ made p
       unfolding segmentationMade writableSegment
-      insert-alike e =
+      active-alike e =
           let c = counted x id b s places in
           let f = all-writable x id b s places p e in
           let m = by-table x id b s places p e in
@@ -205,17 +205,17 @@ module _ (s r : List ℕ) (w : View) (p id : List ℕ) (b : Beside) where
           let is : writable ≡ true = rw (f .0, writable-detail (f .1)) (sym writable-alike ∙ f .2) in
           let source : List ℕ = upidSource u (b .eidr) s in
           let other : List ℕ = upidSource v (b .eidr) r in
-          let g = ap (makeOf (writableDetail (writtenDetail (Active i))) source) (sym (insert-fields event i (writtenUpid u) cs c)) ∙ m in
+          let g = ap (makeOf (writableDetail (writtenDetail (Active i))) source) (sym (active-fields event i (writtenUpid u) cs c)) ∙ m in
           let t = laws.wrote (writableDetail (writtenDetail (Active i))) source (withUpid event i cs (writtenUpid u)) p g in
           rw (le-leb (w .at + w .len) (length r) (h .right), le-leb (w .len) 255 (omega (arith, n .0, h .size)))
-          (ap (makeOf writable other) (insert-fields event i (writtenUpid v) cs c)
-          ∙ insert-makes event i cs (writableDetail (writtenDetail (Active i))) writable source other (writtenUpid u) (writtenUpid v) p g upid-alike (seen-alike (sym (insert-seen event i cs source (writtenUpid u)) ∙ t .views)) is)
+          (ap (makeOf writable other) (active-fields event i (writtenUpid v) cs c)
+          ∙ active-makes event i cs (writableDetail (writtenDetail (Active i))) writable source other (writtenUpid u) (writtenUpid v) p g upid-alike (seen-alike (sym (active-seen event i cs source (writtenUpid u)) ∙ t .views)) is)
 
   detail-alike : (event : ℕ) (d : DescriptorDetail) → countOf (frontOf d .«segmentation_mode») ≤ length (b .components) → SameView s (detailView d) r w
       → segmentationMade (record { «segmentation_event_id» = event; «descriptor_detail» = d }) id b s ≡ made p
       → segmentationMade (record { «segmentation_event_id» = event; «descriptor_detail» = detailAt w d }) id b r ≡ made p
   detail-alike event Cancel places h e = cancel-alike event e
-  detail-alike event (Active i) places h e = insert-alike event i places h e
+  detail-alike event (Active i) places h e = active-alike event i places h e
 
   payload-alike : (d : Descriptor) → countBeside d ≤ length (b .components) → SameView s (viewIn d) r w → payloadMade d id b s ≡ made p → payloadMade (withView w d) id b r ≡ made p
   unfolding payloadMade avail time fields.number

@@ -1,5 +1,5 @@
 -- What is made of a descriptor is fixed by the readers and by the widths of its fields.
---     numbers-fit       the fields of an insert hold its numbers, and what always fits: flags, reserved bits, device restrictions
+--     numbers-fit       the fields of an active segmentation hold its numbers, and what always fits: flags, reserved bits, device restrictions
 --     tested            31 and 32, by the view and the numbers that are handed in
 --     what-is-made      `descriptorMade` is what `DescriptorMakes` allows
 --     nothing-else      and allows nothing else
@@ -34,13 +34,13 @@ use Rattle.descriptor.specs.declared.segmentation.SubSegments.{SubSegments}
 use Rattle.descriptor.specs.declared.full.Beside.{Beside}
 use Rattle.descriptor_measure.specs.Writing.{countBeside, enveloped, envelopedMade, alone, writableReserved, writableSegment, segmentationMade, payloadMade, descriptorMade, tagOf, identifierOf, upidSource, written, writtenType, writtenUpid}
 use Rattle.descriptor_measure.specs.Private.{deliveryFields, componentsFields, modeFields, durationFields, upidFields, subFields, backFields}
-use Rattle.descriptor_measure.proofs.Fields.{frontFields, insert-fields}
+use Rattle.descriptor_measure.proofs.Fields.{frontFields, active-fields}
 use Rattle.descriptor_measure.proofs.Making as making
 use Rattle.descriptor_measure.proofs.Refusals.{within-append, flag-within, within-delivery, upid-seen}
 use Rattle.descriptor_round_trips.specs.Making.{viewIn, fit, componentNumbers, numbersOf, Payload, DescriptorMakes, outside, over, nobodys, long, its}
 use Rattle.descriptor_round_trips.specs.Trips.{Handed}
 use Rattle.descriptor_round_trips.proofs.Payloads.{counted, payload-write-read, written-if-read}
-use Rattle.descriptor_round_trips.proofs.Remade.{and-last, withUpid, insert-seen}
+use Rattle.descriptor_round_trips.proofs.Remade.{and-last, withUpid, active-seen}
 
 and-none : (b : Bool) → b && false ≡ false
 and-none true = refl
@@ -64,7 +64,7 @@ upid-within u = go (leb (u .bytes .len) 255) (eqb (u .«upid_type») 10) (eqb (u
         rw (lt-ltb (u .«upid_type») 256 (omega arith))
     go true false false l t s = refl
 
--- ---- the numbers of an insert
+-- ---- the numbers of an active segmentation
 
 components-fit : (cs : List SegmentationComponent) → within (componentsFields cs) ≡ fit (componentNumbers cs)
 components-fit [] = refl
@@ -176,13 +176,13 @@ module _ (id : List ℕ) (beside : Beside) (lent : List ℕ) (twelve : length (b
         turned false true w b = refl
         turned false false w b = refl
 
-    insert-checked : segmentationMade x id beside lent ≡ checked (liesIn lent (u .bytes)) (within given) (writableSegment x id (beside .eidr) lent) (bytesOf (print (contents source inks)))
+    active-checked : segmentationMade x id beside lent ≡ checked (liesIn lent (u .bytes)) (within given) (writableSegment x id (beside .eidr) lent) (bytesOf (print (contents source inks)))
     unfolding segmentationMade
-    insert-checked =
+    active-checked =
         ap (λ (fs : List Field).
         pick (liesIn lent (u .bytes))
         (pick (leb (u .bytes .len) 255) (checked (seen source fs) (within fs) (writableSegment x id (beside .eidr) lent) (bytesOf (print (contents source fs)))) (refused 32)) (refused 31))
-        (insert-fields event i (writtenUpid u) cs (making.counted x id beside lent places))
+        (active-fields event i (writtenUpid u) cs (making.counted x id beside lent places))
         ∙ go (liesIn lent (u .bytes)) refl
       where
         both : (l w : Bool) (m : Made) → pick l (pick w m (refused 32)) (refused 32) ≡ pick (l && w) m (refused 32)
@@ -195,15 +195,15 @@ module _ (id : List ℕ) (beside : Beside) (lent : List ℕ) (twelve : length (b
         go false e = refl
         go true e =
             let m = pick (writableSegment x id (beside .eidr) lent) (made (bytesOf (print (contents source inks)))) (refused 33) in
-            rw (insert-seen event i cs source (writtenUpid u) ∙ upid-seen u (beside .eidr) lent twelve e)
+            rw (active-seen event i cs source (writtenUpid u) ∙ upid-seen u (beside .eidr) lent twelve e)
             (both (leb (u .bytes .len) 255) (within inks) m ∙ ap (λ (b : Bool). pick b m (refused 32)) all-within)
 
-    insert-tested : Tested (Segmentation x) id beside lent
+    active-tested : Tested (Segmentation x) id beside lent
     unfolding payloadMade
-    insert-tested =
+    active-tested =
         let q : List ℕ = bytesOf (print (contents source inks)) in
         let writable : Bool = writableSegment x id (beside .eidr) lent in
-        record { writable = writable; bytes = q; is = insert-checked ∙ ap (λ (b : Bool). checked (liesIn lent (u .bytes)) b writable q) (numbers-fit event i (beside .components)) }
+        record { writable = writable; bytes = q; is = active-checked ∙ ap (λ (b : Bool). checked (liesIn lent (u .bytes)) b writable q) (numbers-fit event i (beside .components)) }
 
   cancel-tested : (event : ℕ) → Tested (Segmentation (record { «segmentation_event_id» = event; «descriptor_detail» = Cancel })) id beside lent
   unfolding payloadMade segmentationMade upidSource segmentation head fields.number fields.bit fields.reserved
@@ -215,7 +215,7 @@ module _ (id : List ℕ) (beside : Beside) (lent : List ℕ) (twelve : length (b
   detail-tested : (event : ℕ) (d : DescriptorDetail) → countOf (frontOf d .«segmentation_mode») ≤ length (beside .components)
       → Tested (Segmentation (record { «segmentation_event_id» = event; «descriptor_detail» = d })) id beside lent
   detail-tested event Cancel places = cancel-tested event
-  detail-tested event (Active i) places = insert-tested event i places
+  detail-tested event (Active i) places = active-tested event i places
 
   -- a view, and no other field that has one
   by-view : (v : View) (fits writable : Bool) (q : List ℕ) → checked (liesIn lent v && true) fits writable q ≡ checked (liesIn lent v) fits writable q

@@ -1,7 +1,7 @@
 -- What a table makes depends only on what its fields hold.
 --     same-make       fields that hold the same make the same bytes
---     insert-makes    of an insert: only its UPID's fields have a view
---     upid-found      of an insert that reads back: the UPID's bytes
+--     active-makes    of an active segmentation: only its UPID's fields have a view
+--     upid-found      of an active segmentation that reads back: the UPID's bytes
 use Prim.Native.Nat.{ℕ, _+_, _^_}
 use mathlib.Core.Bool.{Bool, true, false, _&&_}
 use mathlib.Core.List.{List, [], _∷_, _++_}
@@ -79,7 +79,7 @@ contents-append : (l : List ℕ) (fs gs : List Field) → contents l (fs ++ gs) 
 contents-append l [] gs = refl
 contents-append l (f ∷ fs) gs = ap (λ (cs : List Content). content l f ∷ cs) (contents-append l fs gs)
 
--- ---- an insert's fields: those before its UPID's and those after have no view
+-- ---- an active segmentation's fields: those before its UPID's and those after have no view
 
 dry-delivery : (d : DeliveryRestrictionFlags) → dry (deliveryFields d) ≡ true
 dry-delivery DeliveryRestrictionFlags.None = refl
@@ -109,7 +109,7 @@ dry-front event i cs =
     dry-both (deliveryFields (i .«delivery_restrictions»)) _ (dry-delivery (i .«delivery_restrictions»))
     (dry-both (modeFields (i .«segmentation_mode») cs) (durationFields (i .«segmentation_duration»)) (dry-mode (i .«segmentation_mode») cs) (dry-duration (i .«segmentation_duration»)))
 
--- the fields of an insert with a UPID
+-- the fields of an active segmentation with a UPID
 abbrev pub withUpid : ℕ → SegmentationDetail → List SegmentationComponent → SegmentationUpid → List Field
 withUpid event i cs u = frontFields event i cs ++ (upidFields u ++ backFields i)
 
@@ -120,22 +120,22 @@ module _ (event : ℕ) (i : SegmentationDetail) (cs : List SegmentationComponent
       ∙ ap (λ (k : List Content). contents l (frontFields event i cs) ++ k) (contents-append l (upidFields u) (backFields i))
 
   -- only the UPID's fields have a view
-  pub insert-seen : (l : List ℕ) (u : SegmentationUpid) → seen l (withUpid event i cs u) ≡ seen l (upidFields u)
-  insert-seen l u =
+  pub active-seen : (l : List ℕ) (u : SegmentationUpid) → seen l (withUpid event i cs u) ≡ seen l (upidFields u)
+  active-seen l u =
       seen-append l (frontFields event i cs) (upidFields u ++ backFields i)
       ∙ rw (dry-seen l l (frontFields event i cs) (dry-front event i cs))
       (seen-append l (upidFields u) (backFields i) ∙ rw (dry-seen l l (backFields i) (dry-sub (i .«sub_segments»))) (and-last (seen l (upidFields u))))
 
   -- the same with another UPID, that holds the same
-  pub insert-makes : (writable other : Bool) (l r : List ℕ) (u v : SegmentationUpid) (b : List ℕ) → makeOf writable l (withUpid event i cs u) ≡ made b
+  pub active-makes : (writable other : Bool) (l r : List ℕ) (u v : SegmentationUpid) (b : List ℕ) → makeOf writable l (withUpid event i cs u) ≡ made b
       → contents l (upidFields u) ≡ contents r (upidFields v) → seen r (upidFields v) ≡ true → other ≡ true → makeOf other r (withUpid event i cs v) ≡ made b
-  insert-makes writable other l r u v b e same s o =
+  active-makes writable other l r u v b e same s o =
       let held : contents l (withUpid event i cs u) ≡ contents r (withUpid event i cs v) =
       split-held l u
       ∙ ap₂ (λ (p q : List Content). p ++ q) (dry-held l r (frontFields event i cs) (dry-front event i cs))
       (ap₂ (λ (p q : List Content). p ++ q) same (dry-held l r (backFields i) (dry-sub (i .«sub_segments»))))
       ∙ sym (split-held r v) in
-      same-make writable other l r (withUpid event i cs u) (withUpid event i cs v) b e held (insert-seen r v ∙ s) o
+      same-make writable other l r (withUpid event i cs u) (withUpid event i cs v) b e held (active-seen r v ∙ s) o
 
   -- what is after the first fields
   past-first : (l : List ℕ) (fs gs : List Field) → drop (length fs) (contents l (fs ++ gs)) ≡ contents l gs
@@ -150,7 +150,7 @@ module _ (event : ℕ) (i : SegmentationDetail) (cs : List SegmentationComponent
   third (a ∷ (b ∷ (bytes x ∷ cs))) = x
   third (a ∷ (b ∷ (count m ∷ cs))) = []
 
-  -- the UPIDs of two inserts that hold the same have the same bytes
+  -- the UPIDs of two active segmentations that hold the same have the same bytes
   pub upid-found : (l r : List ℕ) (u v : SegmentationUpid) → contents l (withUpid event i cs u) ≡ contents r (withUpid event i cs v)
       → take (u .bytes .len) (drop (u .bytes .at) l) ≡ take (v .bytes .len) (drop (v .bytes .at) r)
   unfolding third

@@ -4,7 +4,7 @@ use mathlib.Core.Bool.{true, false}
 use mathlib.Core.List.{List, [], _∷_}
 use mathlib.Core.Path.{_≡_, refl}
 use lib.ListN.{replicate}
-use Rattle.names.specs.Segmentation.{segmentationOf, writableSegmentation}
+use Rattle.names.specs.Segmentation.{segmentationTypeOf, writableSegmentation}
 use Rattle.table.specs.Lent.{viewed}
 use Rattle.table.specs.Table.{number, bit, reserved, part, remaining, list}
 use Rattle.table.specs.Writing.{made, refused}
@@ -57,7 +57,7 @@ start upid = Segmentation (record {
     «segmentation_mode» = SegmentationMode.Program;
     «segmentation_duration» = SegmentationDuration.Absent;
     «segmentation_upid» = upid;
-    «segmentation_type_id» = segmentationOf 0x10;
+    «segmentation_type_id» = segmentationTypeOf 0x10;
     «segment_num» = 1;
     «segments_expected» = 1;
     «sub_segments» = SubSegments.Absent;
@@ -66,20 +66,20 @@ start upid = Segmentation (record {
 
 pub row-n : descriptorMade (start (record { «upid_type» = 0; bytes = record { at = 0; len = 0 } })) none blankBeside []
     ≡ made (0x02 ∷ 0x0f ∷ 0x43 ∷ 0x55 ∷ 0x45 ∷ 0x49 ∷ 0 ∷ 0 ∷ 0 ∷ 0x2a ∷ 0x7f ∷ 0xbf ∷ 0 ∷ 0 ∷ 0x10 ∷ 1 ∷ 1 ∷ [])
-unfolding descriptorMade payloadMade envelopedMade enveloped segmentationMade writableSegment writableUpid writtenType w.writtenUpid upidSource allZero blankBeside segmentation head front parts deliveryRestrictions mode duration writtenUpid back subSegments number bit reserved part remaining viewed checkOf writableDetail writableFront writableSegmentation segmentationOf
+unfolding descriptorMade payloadMade envelopedMade enveloped segmentationMade writableSegment writableUpid writtenType w.writtenUpid upidSource allZero blankBeside segmentation head front parts deliveryRestrictions mode duration writtenUpid back subSegments number bit reserved part remaining viewed checkOf writableDetail writableFront writableSegmentation segmentationTypeOf
 row-n = refl
 
 -- an eight-byte ISAN is of kind 6, and written as type 5
 pub row-isan : descriptorMade (start (record { «upid_type» = 6; bytes = record { at = 0; len = 8 } })) none blankBeside (1 ∷ 2 ∷ 3 ∷ 4 ∷ 5 ∷ 6 ∷ 7 ∷ 8 ∷ [])
     ≡ made (0x02 ∷ 0x17 ∷ 0x43 ∷ 0x55 ∷ 0x45 ∷ 0x49 ∷ 0 ∷ 0 ∷ 0 ∷ 0x2a ∷ 0x7f ∷ 0xbf ∷ 5 ∷ 8 ∷ 1 ∷ 2 ∷ 3 ∷ 4 ∷ 5 ∷ 6 ∷ 7 ∷ 8 ∷ 0x10 ∷ 1 ∷ 1 ∷ [])
-unfolding descriptorMade payloadMade envelopedMade enveloped segmentationMade writableSegment writableUpid writtenType w.writtenUpid upidSource allZero blankBeside segmentation head front parts deliveryRestrictions mode duration writtenUpid back subSegments number bit reserved part remaining viewed checkOf readOf plainOf lengthOf isText reportedOf writableDetail writableFront writableSegmentation segmentationOf
+unfolding descriptorMade payloadMade envelopedMade enveloped segmentationMade writableSegment writableUpid writtenType w.writtenUpid upidSource allZero blankBeside segmentation head front parts deliveryRestrictions mode duration writtenUpid back subSegments number bit reserved part remaining viewed checkOf readOf plainOf lengthOf isText reportedOf writableDetail writableFront writableSegmentation segmentationTypeOf
 row-isan = refl
 
 -- type 5 is none that a reading has; nor is an empty UPID other than None
 pub row-5 : descriptorMade (start (record { «upid_type» = 5; bytes = record { at = 0; len = 8 } })) none blankBeside (1 ∷ 2 ∷ 3 ∷ 4 ∷ 5 ∷ 6 ∷ 7 ∷ 8 ∷ []) ≡ refused 33
-unfolding descriptorMade payloadMade envelopedMade enveloped segmentationMade writableSegment writableUpid writtenType w.writtenUpid upidSource allZero blankBeside segmentation head front parts deliveryRestrictions mode duration writtenUpid back subSegments number bit reserved part remaining viewed checkOf readOf plainOf lengthOf isText reportedOf writableDetail writableFront writableSegmentation segmentationOf
+unfolding descriptorMade payloadMade envelopedMade enveloped segmentationMade writableSegment writableUpid writtenType w.writtenUpid upidSource allZero blankBeside segmentation head front parts deliveryRestrictions mode duration writtenUpid back subSegments number bit reserved part remaining viewed checkOf readOf plainOf lengthOf isText reportedOf writableDetail writableFront writableSegmentation segmentationTypeOf
 row-5 = refl
 
 pub row-empty : descriptorMade (start (record { «upid_type» = 7; bytes = record { at = 0; len = 0 } })) none blankBeside [] ≡ refused 33
-unfolding descriptorMade payloadMade envelopedMade enveloped segmentationMade writableSegment writableUpid writtenType w.writtenUpid upidSource allZero blankBeside segmentation head front parts deliveryRestrictions mode duration writtenUpid back subSegments number bit reserved part remaining viewed checkOf readOf plainOf lengthOf isText reportedOf writableDetail writableFront writableSegmentation segmentationOf
+unfolding descriptorMade payloadMade envelopedMade enveloped segmentationMade writableSegment writableUpid writtenType w.writtenUpid upidSource allZero blankBeside segmentation head front parts deliveryRestrictions mode duration writtenUpid back subSegments number bit reserved part remaining viewed checkOf readOf plainOf lengthOf isText reportedOf writableDetail writableFront writableSegmentation segmentationTypeOf
 row-empty = refl

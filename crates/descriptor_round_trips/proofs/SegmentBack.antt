@@ -36,7 +36,7 @@ use Rattle.descriptor.proofs.SegmentationLaws.{segmentationStructure, upidAt, u
 use Rattle.canonical_form.specs.Descriptor.{canonicalUpid, canonicalSegmentation, canonicalPayload}
 use Rattle.canonical_form.specs.Same.{SameReading, bytesOfViews}
 use Rattle.descriptor_measure.specs.Writing.{cuei, allZero, accepts, writableUpid, segmentationMade, payloadMade, upidSource, written, writtenType, writtenUpid}
-use Rattle.descriptor_measure.proofs.Fields.{insert-fields}
+use Rattle.descriptor_measure.proofs.Fields.{active-fields}
 use Rattle.descriptor_measure.proofs.Making.{all-writable, by-table, counted, zero-view}
 use Rattle.descriptor_round_trips.proofs.PlainLaws.{viewed-at}
 use Rattle.descriptor_round_trips.proofs.PlainTrips.{ReadsBack, zeros}
@@ -217,15 +217,15 @@ module _ (id : List ℕ) (beside : Beside) (lent : List ℕ) (four : length id �
             let n = laws.write-size segmentation segmentationStructure source t p c m in
             let s = laws.write-same segmentation segmentationStructure source t p (upid-is .are) c m in
             let g : contents p (withUpid event i cs there) ≡ contents source (withUpid event i cs w) =
-            ap (contents p) (sym (insert-fields event i there cs c)) ∙ s ∙ ap (contents source) (insert-fields event i w cs c) in
+            ap (contents p) (sym (active-fields event i there cs c)) ∙ s ∙ ap (contents source) (active-fields event i w cs c) in
             viewed-at p (there .bytes .at) (there .bytes .len) (omega (arith, n)) ∙ upid-found event i cs p source there w g ∙ sym (viewed-at source (w .bytes .at) (w .bytes .len) (upid-is .inside))
 
         checked : checkOf (w .«upid_type») (viewed p (there .bytes)) ≡ Fine (u .«upid_type»)
         checked = ap (checkOf (w .«upid_type»)) upid-bytes ∙ upid-is .checked
 
-        insert-write-read : PayloadBack x
+        active-write-read : PayloadBack x
         unfolding besideOf besideIn canonicalSegmentation canonicalUpid
-        insert-write-read =
+        active-write-read =
             let r = segmentation-write-read x id beside lent p places e in
             let f = all-writable x id beside lent places p e in
             let c = counted x id beside lent places in
@@ -247,7 +247,7 @@ module _ (id : List ℕ) (beside : Beside) (lent : List ℕ) (four : length id �
   payload-write-read : (event : ℕ) (d : DescriptorDetail) → (let x : SegmentationDescriptor = record { «segmentation_event_id» = event; «descriptor_detail» = d } in
       countOf (frontOf d .«segmentation_mode») ≤ length (beside .components) → segmentationMade x id beside lent ≡ made p → PayloadBack x)
   payload-write-read event Cancel h e = cancel-write-read event e
-  payload-write-read event (Active i) h e = insert-write-read event i h e
+  payload-write-read event (Active i) h e = active-write-read event i h e
 
 -- The payload that is written of a segmentation descriptor reads back, and is canonical. (Its array has as many places as its count, or more.)
 pub segmentation-payload-write-read : (x : SegmentationDescriptor) (id : List ℕ) (beside : Beside) (lent p : List ℕ) → length id ≡ 4 → length (beside .eidr) ≡ 12 → AllBytes (beside .eidr) → AllBytes lent

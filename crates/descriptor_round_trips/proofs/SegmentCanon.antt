@@ -24,7 +24,7 @@ use Rattle.upid.specs.declared.UpidRead.the-variants.{Fine, Refused}
 use Rattle.upid.proofs.Walks.{check-short}
 use Rattle.descriptor.specs.Descriptor.{reportedUpid, ifFine, segmentationOf}
 use Rattle.descriptor.specs.Segmentation as table
-use Rattle.descriptor.specs.Segmentation.{component, blankComponent, countOf, Moded, mode, duration, deliveryRestrictions, ListedFront, parts, front, Head, head, back, frontOf, backOf, writableDetail, writableFront, insertFrom, segmentation}
+use Rattle.descriptor.specs.Segmentation.{component, blankComponent, countOf, Moded, mode, duration, deliveryRestrictions, ListedFront, parts, front, Head, head, back, frontOf, backOf, writableDetail, writableFront, activeFrom, segmentation}
 use Rattle.descriptor.specs.Full.{filled, besideIn, besideOf}
 use Rattle.descriptor.specs.declared.Descriptor.the-variants.{Segmentation}
 use Rattle.descriptor.specs.declared.DescriptorRead.the-variants.{Is}
@@ -39,9 +39,9 @@ use Rattle.descriptor.proofs.SegmentationLaws.{Counted}
 use Rattle.canonical_form.specs.Descriptor.{canonicalUpid, canonicalSegmentation, upidCanonical}
 use Rattle.descriptor_measure.specs.Private.{upidFields}
 use Rattle.descriptor_measure.specs.Writing.{allZero, accepts, writableUpid, writableSegment, segmentationMade, upidIn, upidSource, writtenType, writtenUpid}
-use Rattle.descriptor_measure.proofs.Fields.{insert-fields}
+use Rattle.descriptor_measure.proofs.Fields.{active-fields}
 use Rattle.descriptor_round_trips.proofs.PlainLaws.{viewed-at}
-use Rattle.descriptor_round_trips.proofs.Remade.{withUpid, insert-makes, insert-seen}
+use Rattle.descriptor_round_trips.proofs.Remade.{withUpid, active-makes, active-seen}
 use Rattle.upid.proofs.Reported.{check-none, reports, eidr-is-written}
 use Rattle.descriptor_round_trips.proofs.SegmentBack.{viewed-length, viewed-none, counted-again}
 use Rattle.descriptor_round_trips.proofs.SegmentRead.{after, segmentation-read}
@@ -286,11 +286,11 @@ module _ (p : List ℕ) (a : AllBytes p) where
           told = laws.wrote (writableDetail (Active i)) p (walk segmentation x 0 .fields) p f
 
           fields-of : walk segmentation x 0 .fields ≡ withUpid event i cs u
-          fields-of = insert-fields event i u cs counts
+          fields-of = active-fields event i u cs counts
 
           there : u .bytes .at + u .bytes .len ≤ length p
           there =
-              let s : seen p (upidFields u) ≡ true = sym (insert-seen event i cs p u) ∙ ap (seen p) (sym fields-of) ∙ told .views in
+              let s : seen p (upidFields u) ≡ true = sym (active-seen event i cs p u) ∙ ap (seen p) (sym fields-of) ∙ told .views in
               leb-true _ _ (and-true (leb (u .bytes .at + u .bytes .len) (length p)) true s .0)
 
           beside-is : besideOf p ≡ record { components = filled cs; eidr = eidrOf (u .«upid_type») (viewed p (u .bytes)) }
@@ -298,7 +298,7 @@ module _ (p : List ℕ) (a : AllBytes p) where
           beside-is = rw e
 
           abbrev with : SegmentationUpid → SegmentationDescriptor
-          with v = record { «segmentation_event_id» = event; «descriptor_detail» = Active (insertFrom (frontOf (Active i)) v (backOf (Active i))) }
+          with v = record { «segmentation_event_id» = event; «descriptor_detail» = Active (activeFrom (frontOf (Active i)) v (backOf (Active i))) }
 
           writable-with : (v : SegmentationUpid) → writableDetail (with v .«descriptor_detail») ≡ true
           unfolding writableDetail writableFront
@@ -311,15 +311,15 @@ module _ (p : List ℕ) (a : AllBytes p) where
               let is : writable ≡ true = rw (writable-with v) (r .writable) in
               let source : List ℕ = upidSource v eidr p in
               let g : makeOf writable source (withUpid event i cs (writtenUpid v)) ≡ made p =
-              insert-makes event i cs (writableDetail (Active i)) writable p source u (writtenUpid v) p (ap (makeOf (writableDetail (Active i)) p) (sym fields-of) ∙ f) (r .holds) (r .views) is in
+              active-makes event i cs (writableDetail (Active i)) writable p source u (writtenUpid v) p (ap (makeOf (writableDetail (Active i)) p) (sym fields-of) ∙ f) (r .holds) (r .views) is in
               rw (le-leb (v .bytes .at + v .bytes .len) (length p) (r .there), le-leb (v .bytes .len) 255 (r .short))
               (ap (λ (l : List SegmentationComponent). makeOf writable source (walk segmentation (record { descriptor = record { «segmentation_event_id» = event; «descriptor_detail» = Active (table.withUpid i (writtenUpid v)) }; components = l }) 0 .fields))
               (counted-again (countOf (i .«segmentation_mode»)) cs counts)
-              ∙ ap (makeOf writable source) (insert-fields event i (writtenUpid v) cs counts) ∙ g)
+              ∙ ap (makeOf writable source) (active-fields event i (writtenUpid v) cs counts) ∙ g)
 
-          insert-again : (c : UpidRead) → checkOf (u .«upid_type») (viewed p (u .bytes)) ≡ c → accepts c ≡ true → (d : SegmentationDescriptor) × Back d
-          insert-again (Refused r) c t = zero-one cc
-          insert-again (Fine q) c t = (
+          active-again : (c : UpidRead) → checkOf (u .«upid_type») (viewed p (u .bytes)) ≡ c → accepts c ≡ true → (d : SegmentationDescriptor) × Back d
+          active-again (Refused r) c t = zero-one cc
+          active-again (Fine q) c t = (
             with (reportedUpid q (u .bytes)),
             (
               segmentation-read p x m e ∙ ap (λ (c : UpidRead). ifFine c (u .bytes) λ (w : SegmentationUpid). Is (Segmentation (with w))) c,
@@ -335,7 +335,7 @@ module _ (p : List ℕ) (a : AllBytes p) where
   unfolding canonicalUpid
   by-detail event Cancel cs m e f c = (record { «segmentation_event_id» = event; «descriptor_detail» = Cancel }, cancel-again event cs m e f)
   by-detail event (Active i) cs m e f c =
-      insert-again event cs m i e f c (checkOf (i .«segmentation_upid» .«upid_type») (viewed p (i .«segmentation_upid» .bytes))) refl (and-true (accepts (checkOf (i .«segmentation_upid» .«upid_type») (viewed p (i .«segmentation_upid» .bytes)))) _ c .0)
+      active-again event cs m i e f c (checkOf (i .«segmentation_upid» .«upid_type») (viewed p (i .«segmentation_upid» .bytes))) refl (and-true (accepts (checkOf (i .«segmentation_upid» .«upid_type») (viewed p (i .«segmentation_upid» .bytes)))) _ c .0)
 
   pub segmentation-payload-read-write : canonicalSegmentation p ≡ true → (d : SegmentationDescriptor) × (segmentationOf p ≡ Is (Segmentation d)) × (segmentationMade d (replicate 4 0) (besideOf p) p ≡ made p)
       × (countOf (frontOf (d .«descriptor_detail») .«segmentation_mode») ≤ length (besideOf p .components))

@@ -7,9 +7,9 @@ use Rattle.table.specs.Bits.{pick, bitsOf}
 use Rattle.table.specs.Lent.{viewed}
 use Rattle.table.specs.Table.{Table, done, inside, Answer, got, short, parse}
 use Rattle.upid.specs.Upid.{checkOf}
-use Rattle.descriptor.specs.Descriptor.{ifFine, inserted, insertOf, segmentationOf}
+use Rattle.descriptor.specs.Descriptor.{ifFine, activeWith, activeOf, segmentationOf}
 use Rattle.descriptor.specs.Segmentation as table
-use Rattle.descriptor.specs.Segmentation.{ListedFront, Head, head, headOf, front, frontOf, back, backOf, insertFrom, segmentation}
+use Rattle.descriptor.specs.Segmentation.{ListedFront, Head, head, headOf, front, frontOf, back, backOf, activeFrom, segmentation}
 use Rattle.descriptor.specs.declared.Descriptor.the-variants.{Segmentation}
 use Rattle.descriptor.specs.declared.DescriptorRead.{DescriptorRead}
 use Rattle.descriptor.specs.declared.DescriptorRead.the-variants.{Is}
@@ -21,7 +21,7 @@ use Rattle.table.proofs.Steps.{reads-in}
 -- a detail as the table reads it, whose UPID is as written: with the UPID as its rules report it
 abbrev pub reportedDetail : DescriptorDetail → SegmentationUpid → DescriptorDetail
 reportedDetail Cancel u = Cancel
-reportedDetail (Active i) u = Active (insertFrom (frontOf (Active i)) u (backOf (Active i)))
+reportedDetail (Active i) u = Active (activeFrom (frontOf (Active i)) u (backOf (Active i)))
 
 abbrev pub detailRead : List ℕ → ℕ → DescriptorDetail → DescriptorRead
 detailRead s event Cancel = Is (Segmentation (record { «segmentation_event_id» = event; «descriptor_detail» = Cancel }))
@@ -37,7 +37,7 @@ after h =
     (inside front (λ x. record { front = frontOf (x .descriptor .«descriptor_detail»); components = x .components }) λ f.
     inside back (λ x. backOf (x .descriptor .«descriptor_detail»)) λ b.
     done (record {
-      descriptor = record { «segmentation_event_id» = h .event; «descriptor_detail» = Active (insertFrom (f .front) (f .front .«segmentation_upid») b) };
+      descriptor = record { «segmentation_event_id» = h .event; «descriptor_detail» = Active (activeFrom (f .front) (f .front .«segmentation_upid») b) };
       components = f .components;
     }))
 
@@ -48,7 +48,7 @@ value (short e a) = record { descriptor = record { «segmentation_event_id» = 0
 module _ (s : List ℕ) (x : table.Segmentation) (m : ℕ) where
   headed : (h : Head) (at : ℕ) (b : Bool) → h .cancel ≡ b → parse head (bitsOf s) 0 ≡ got h at → parse (after h) (bitsOf s) at ≡ got x m
       → segmentationOf s ≡ detailRead s (x .descriptor .«segmentation_event_id») (x .descriptor .«descriptor_detail»)
-  unfolding segmentationOf insertOf inserted value
+  unfolding segmentationOf activeOf activeWith value
   headed h at true on eh e =
       let g : got (record { descriptor = record { «segmentation_event_id» = h .event; «descriptor_detail» = Cancel }; components = [] }) at ≡ got x m = rw on at e in
       rw (← (ap value g), eh, on)

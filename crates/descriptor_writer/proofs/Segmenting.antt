@@ -23,7 +23,7 @@ use Rattle.descriptor.specs.declared.segmentation.SegmentationDetail.{Segmentat
 use Rattle.descriptor.specs.declared.segmentation.SegmentationMode.{SegmentationMode}
 use Rattle.descriptor.specs.declared.segmentation.SegmentationUpid.{SegmentationUpid}
 use Rattle.descriptor.specs.declared.full.Beside.{Beside}
-use Rattle.descriptor_measure.specs.Private.{headFields, flagFields, deliveryFields, modeFields, durationFields, upidFields, backFields, insertFields, segmentFields, payloadSize}
+use Rattle.descriptor_measure.specs.Private.{headFields, flagFields, deliveryFields, modeFields, durationFields, upidFields, backFields, activeFields, segmentFields, payloadSize}
 use Rattle.descriptor_measure.specs.Writing.{cuei, envelopedMade, segmentationMade, upidIn, upidSource, writtenType, writtenUpid}
 use Rattle.descriptor_measure.proofs.Making.{zero-view, made-zero, made-size, made-bits}
 use Rattle.bit_stores.specs.Pen.{Pens}
@@ -58,16 +58,16 @@ pub size-cancel : (d : DescriptorDetail) → d ≡ Cancel → (5 ≡ payloadSize
 unfolding payloadSize
 size-cancel d e = rw e (refl, (let z : 0 ≤ 255 = omega arith in z))
 
-pub size-insert : (d : DescriptorDetail) (i : SegmentationDetail) (r : ℕ) → d ≡ Active i → (r ≡ payloadSize (Active i)) × (countOf (i .«segmentation_mode») ≤ 255)
+pub size-active : (d : DescriptorDetail) (i : SegmentationDetail) (r : ℕ) → d ≡ Active i → (r ≡ payloadSize (Active i)) × (countOf (i .«segmentation_mode») ≤ 255)
     → (r ≡ payloadSize d) × (countOf (frontOf d .«segmentation_mode») ≤ 255)
-size-insert d i r e h = rw e h
+size-active d i r e h = rw e h
 
-pub insert-short : (d : DescriptorDetail) (i : SegmentationDetail) → d ≡ Active i → frontOf d .«segmentation_upid» .bytes .len ≤ 255 → i .«segmentation_upid» .bytes .len ≤ 255
-insert-short d i e h = rw e at h
+pub active-short : (d : DescriptorDetail) (i : SegmentationDetail) → d ≡ Active i → frontOf d .«segmentation_upid» .bytes .len ≤ 255 → i .«segmentation_upid» .bytes .len ≤ 255
+active-short d i e h = rw e at h
 
-pub insert-seen : (d : DescriptorDetail) (i : SegmentationDetail) (n : ℕ) → d ≡ Active i → frontOf d .«segmentation_upid» .bytes .at + frontOf d .«segmentation_upid» .bytes .len ≤ n
+pub active-seen : (d : DescriptorDetail) (i : SegmentationDetail) (n : ℕ) → d ≡ Active i → frontOf d .«segmentation_upid» .bytes .at + frontOf d .«segmentation_upid» .bytes .len ≤ n
     → i .«segmentation_upid» .bytes .at + i .«segmentation_upid» .bytes .len ≤ n
-insert-seen d i n e h = rw e at h
+active-seen d i n e h = rw e at h
 
 -- ---- a UPID: kind and length as one number, and its bytes
 module _ (t : List ℕ) (c : Cursor) (s : List ℕ) (e : Cursor) (v : List ℕ) (d : Cursor) where
@@ -98,13 +98,13 @@ module _ (t : List ℕ) (c : Cursor) (s : List ℕ) (e : Cursor) (v : List ℕ) 
         let j : m ≡ u .bytes .len = rw f at em in
         rw f (upid-stores (record { «upid_type» = writtenType u; bytes = u .bytes }) lent part y (omega (arith, ek, j, ey)) z p q)
 
--- ---- an insert
-pub insert-stores : (i : SegmentationDetail) (cs : List SegmentationComponent) (src : List ℕ) (p l f : Bool) → p ≡ byProgram (i .«segmentation_mode») → l ≡ lasting (i .«segmentation_duration»)
+-- ---- an active segmentation
+pub active-stores : (i : SegmentationDetail) (cs : List SegmentationComponent) (src : List ℕ) (p l f : Bool) → p ≡ byProgram (i .«segmentation_mode») → l ≡ lasting (i .«segmentation_duration»)
     → f ≡ unrestricted (i .«delivery_restrictions») → (t₀ t₁ t₂ t₃ t₄ t₅ : List ℕ) (c₀ c₁ c₂ c₃ c₄ c₅ : Cursor) → Stores t₀ c₀ (contents src (flagFields p l f ++ deliveryFields (i .«delivery_restrictions»))) t₁ c₁
     → Stores t₁ c₁ (contents src (modeFields (i .«segmentation_mode») cs)) t₂ c₂ → Stores t₂ c₂ (contents src (durationFields (i .«segmentation_duration»))) t₃ c₃
     → Stores t₃ c₃ (contents src (upidFields (writtenUpid (i .«segmentation_upid»)))) t₄ c₄ → Stores t₄ c₄ (contents src (backFields i)) t₅ c₅
-    → Stores t₀ c₀ (contents src (insertFields i cs)) t₅ c₅
-insert-stores i cs src p l f ep el ef t₀ t₁ t₂ t₃ t₄ t₅ c₀ c₁ c₂ c₃ c₄ c₅ s₁ s₂ s₃ s₄ s₅ =
+    → Stores t₀ c₀ (contents src (activeFields i cs)) t₅ c₅
+active-stores i cs src p l f ep el ef t₀ t₁ t₂ t₃ t₄ t₅ c₀ c₁ c₂ c₃ c₄ c₅ s₁ s₂ s₃ s₄ s₅ =
     let flags = flagFields (byProgram (i .«segmentation_mode»)) (lasting (i .«segmentation_duration»)) (unrestricted (i .«delivery_restrictions»)) in
     let ups = upidFields (writtenUpid (i .«segmentation_upid»)) in
     let r₄ = ups ++ backFields i in
@@ -126,11 +126,11 @@ module _ (x : SegmentationDescriptor) (cs : List SegmentationComponent) (eidr le
 
   pub payload-stores : (i : SegmentationDetail) (u v : List ℕ) (d e : Cursor) → x .«descriptor_detail» ≡ Active i
       → ((from : List ℕ) → Stores t c (contents from (headFields (x .«segmentation_event_id») false)) u d)
-      → Stores u d (contents (upidSource (i .«segmentation_upid») eidr lent) (insertFields i cs)) v e → All v e
+      → Stores u d (contents (upidSource (i .«segmentation_upid») eidr lent) (activeFields i cs)) v e → All v e
   unfolding segmentFields
   payload-stores i u v d e is s q =
       let src = upidSource (i .«segmentation_upid») eidr lent in
-      rw is (then-fields src t c (headFields (x .«segmentation_event_id») false) (insertFields i cs) u d v e (s src) q)
+      rw is (then-fields src t c (headFields (x .«segmentation_event_id») false) (activeFields i cs) u d v e (s src) q)
 
 -- ---- with blank components
 pub with-blanks : (x : SegmentationDescriptor) (id eidr lent t v : List ℕ) (r : Written) (b : Beside) → b ≡ blankBeside

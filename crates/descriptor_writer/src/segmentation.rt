@@ -7,7 +7,7 @@ ghost use Rattle.descriptor.specs.Segmentation.{componentCount, countOf};
 ghost use Rattle.descriptor.specs.Full.{filled};
 ghost use Rattle.descriptor.specs.declared.segmentation.SegmentationComponent.{SegmentationComponent};
 ghost use Rattle.descriptor.specs.declared.segmentation.DescriptorDetail.the-variants.{Active};
-ghost use Rattle.descriptor_measure.specs.Private.{upidFields, insertFields, segmentFields, payloadSize};
+ghost use Rattle.descriptor_measure.specs.Private.{upidFields, activeFields, segmentFields, payloadSize};
 ghost use Rattle.descriptor_measure.specs.Writing.{cuei, envelopedMade, segmentationMade, upidIn, upidSource, writtenUpid};
 ghost use Rattle.table.specs.Writing.{contents};
 ghost use Rattle.descriptor_writer.specs.Stores.{Writes};
@@ -49,7 +49,7 @@ use upid::UPID_EIDR;
 
 // ---- the bytes of a payload
 
-fn size_of_insert(i: SegmentationDetail) -> usize
+fn size_of_active(i: SegmentationDetail) -> usize
     requires { ⌜ i .«segmentation_upid» .bytes .len ≤ 255 ⌝ }
     ensures { λ r. ⌜ (r ≡ payloadSize (Active i)) × (countOf (i .«segmentation_mode») ≤ 255) ⌝ }
 {
@@ -67,7 +67,7 @@ fn size_of(x: SegmentationDescriptor) -> usize
     let detail = x.descriptor_detail;
     match detail {
         DescriptorDetail::Cancel => 5,
-        DescriptorDetail::Active(i) => size_of_insert(i),
+        DescriptorDetail::Active(i) => size_of_active(i),
     }
 }
 
@@ -94,7 +94,7 @@ fn store_written_upid(
     put_run(out, second, part)
 }
 
-fn store_insert(
+fn store_active(
     out: &mut [u8],
     c: Cursor,
     i: SegmentationDetail,
@@ -103,7 +103,7 @@ fn store_insert(
     lent: &[u8],
 ) -> Cursor
     requires { ⌜ i .«segmentation_upid» .bytes .at + i .«segmentation_upid» .bytes .len ≤ length (now lent) ⌝ }
-    ensures { λ r. ⌜ ((cs : List SegmentationComponent) → now (listed .entry) ≡ componentBytes cs → Stores (now (out .entry)) c (contents (upidSource (i .«segmentation_upid») eidr (now (lent .entry))) (insertFields i cs)) (now (out .exit)) r) ⌝ }
+    ensures { λ r. ⌜ ((cs : List SegmentationComponent) → now (listed .entry) ≡ componentBytes cs → Stores (now (out .entry)) c (contents (upidSource (i .«segmentation_upid») eidr (now (lent .entry))) (activeFields i cs)) (now (out .exit)) r) ⌝ }
 {
     let mode = i.segmentation_mode;
     let duration = i.segmentation_duration;
@@ -133,7 +133,7 @@ fn store_segmentation(
         DescriptorDetail::Cancel => store_head(out, c, x.segmentation_event_id, true),
         DescriptorDetail::Active(i) => {
             let second = store_head(out, c, x.segmentation_event_id, false);
-            store_insert(out, second, i, listed, eidr, lent)
+            store_active(out, second, i, listed, eidr, lent)
         }
     }
 }

@@ -68,9 +68,9 @@ fn print_segmentation(s: SegmentationDescriptor) {
             io::write_all(1, b" cancel");
             value(s.segmentation_event_id as u64);
         }
-        DescriptorDetail::Active(insert) => {
-            let type_id = insert.segmentation_type_id;
-            let upid = insert.segmentation_upid;
+        DescriptorDetail::Active(active) => {
+            let type_id = active.segmentation_type_id;
+            let upid = active.segmentation_upid;
             io::write_all(1, b" segment");
             value(s.segmentation_event_id as u64);
             value(type_id.id() as u64);

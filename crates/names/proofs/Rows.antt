@@ -12,7 +12,7 @@ use Rattle.names.specs.declared.flags.DeviceRestrictions.{DeviceRestrict
 use Rattle.names.specs.Algorithm.{algorithmOf, writableAlgorithm}
 use Rattle.names.specs.Command.{commandTypeOf, writableCommand}
 use Rattle.names.specs.Upid.{upidTypeOf, writableUpidType}
-use Rattle.names.specs.Segmentation.{segmentationOf, writableSegmentation}
+use Rattle.names.specs.Segmentation.{segmentationTypeOf, writableSegmentation}
 use Rattle.names.specs.Flags.{gives, refuses, networkOf, returnOf, restrictionsOf}
 
 algorithm-rows :
@@ -46,11 +46,11 @@ unfolding upidTypeOf
 upid-type-rows = refl
 
 segmentation-rows :
-    map segmentationOf (0x00 ∷ 0x02 ∷ 0x10 ∷ 0x34 ∷ 0x35 ∷ 0x51 ∷ 0x52 ∷ [])
+    map segmentationTypeOf (0x00 ∷ 0x02 ∷ 0x10 ∷ 0x34 ∷ 0x35 ∷ 0x51 ∷ 0x52 ∷ [])
     ≡ SegmentationTypeId.NotIndicated ∷ SegmentationTypeId.Reserved 0x02 ∷ SegmentationTypeId.ProgramStart
     ∷ SegmentationTypeId.ProviderPlacementOpportunityStart ∷ SegmentationTypeId.ProviderPlacementOpportunityEnd
     ∷ SegmentationTypeId.NetworkEnd ∷ SegmentationTypeId.Reserved 0x52 ∷ []
-unfolding segmentationOf
+unfolding segmentationTypeOf
 segmentation-rows = refl
 
 writable-rows :

@@ -38,7 +38,7 @@ use Rattle.names.specs.declared.segmentation.SegmentationTypeId.the-vari
   NetworkEnd,
   Reserved,
 }
-use Rattle.names.specs.Segmentation.{segmentationNumber, segmentations, segmentationOf, writableSegmentation}
+use Rattle.names.specs.Segmentation.{segmentationNumber, segmentations, segmentationTypeOf, writableSegmentation}
 use Rattle.names.proofs.segmentation.SegmentationTypeId.{the-type}
 use Rattle.names.proofs.Laws.{Name, Carried, Sound, Inverse, inverse}
 
@@ -76,6 +76,6 @@ split (Reserved n) = inr ((λ e. omega arith, λ e. refl), lit≤ tt)
 pub sound : Sound segmentations (tagOf the-type)
 sound = record { carries = λ n. refl; listed = refl; split = split }
 
-pub segmentation-laws : Inverse segmentationNumber segmentationOf writableSegmentation
-unfolding segmentationOf writableSegmentation
+pub segmentation-laws : Inverse segmentationNumber segmentationTypeOf writableSegmentation
+unfolding segmentationTypeOf writableSegmentation
 segmentation-laws = inverse segmentations (tagOf the-type) sound

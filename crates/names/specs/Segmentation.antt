@@ -84,8 +84,8 @@ segmentations = record {
 }
 
 -- the value that a number stands for
-unfoldable pub segmentationOf : ℕ → SegmentationTypeId
-segmentationOf n = valueOf segmentations n
+unfoldable pub segmentationTypeOf : ℕ → SegmentationTypeId
+segmentationTypeOf n = valueOf segmentations n
 
 -- whether a value is what its own number stands for
 unfoldable pub writableSegmentation : SegmentationTypeId → Bool

@@ -1,6 +1,6 @@
 // segmentation_type_id, what a segmentation descriptor marks.
 ghost use mathlib.Core.Path.{_≡_};
-ghost use Rattle.names.specs.Segmentation.{segmentationOf, segmentationNumber, writableSegmentation};
+ghost use Rattle.names.specs.Segmentation.{segmentationTypeOf, segmentationNumber, writableSegmentation};
 
 pub enum SegmentationTypeId {
     NotIndicated,
@@ -37,7 +37,7 @@ pub enum SegmentationTypeId {
 impl SegmentationTypeId {
     // The value that a number stands for.
     pub fn from_id(id: u8) -> SegmentationTypeId
-        ensures { λ r. ⌜ r ≡ segmentationOf id ⌝ }
+        ensures { λ r. ⌜ r ≡ segmentationTypeOf id ⌝ }
     {
         match id {
             0x00 => SegmentationTypeId::NotIndicated,

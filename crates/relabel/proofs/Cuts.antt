@@ -15,7 +15,7 @@ use Rattle.crc.specs.Crc.{crcBytesOf}
 use Rattle.descriptor.specs.Descriptor.{cuei}
 use Rattle.descriptor_loop.proofs.Steps.{Stands}
 use Rattle.descriptor_loop.specs.Items.{stepOf, listed}
-use Rattle.relabel_found.proofs.Inserts.{byte-in}
+use Rattle.relabel_found.proofs.Actives.{byte-in}
 use Rattle.relabel_found.proofs.Spots.{whole-is, spot-is, spots-found}
 use Rattle.relabel_found.specs.Found.{found, payloadAt, foreIn, typeIn, sizeIn, upidIn, postIn, spots}
 use Rattle.relabel_joined.specs.Relabel.{typeThen, itemThen, relabelled}

@@ -17,7 +17,7 @@ use Rattle.header.proofs.Headers.{header-there}
 use Rattle.header.specs.Header.{headerOf}
 use Rattle.header.specs.declared.header.HeaderRead.{HeaderRead}
 use Rattle.header.specs.declared.header.SpliceInfoHeader.{SpliceInfoHeader}
-use Rattle.relabel_found.proofs.Inserts.{Inserted, inserted}
+use Rattle.relabel_found.proofs.Actives.{ActiveAt, active-at}
 use Rattle.relabel_found.proofs.Spots.{found-spots, spots-found}
 use Rattle.relabel_found.specs.Found.{found, typeIn, sizeIn, upidIn, spots}
 use Rattle.relabel_joined.specs.Relabel.{typeThen}
@@ -139,8 +139,8 @@ module _ (s : List ℕ) (offset part k : ℕ) (new : List ℕ) where
     abbrev K : ℕ
     K = typeThen part (typeIn (payloadIn s offset)) k
 
-    x : Inserted (loopBytes s) offset
-    x = inserted (loopBytes s) offset e
+    x : ActiveAt (loopBytes s) offset
+    x = active-at (loopBytes s) offset e
 
     type-is-byte : (part : ℕ) → typeThen part (typeIn (payloadIn s offset)) k < 256
     type-is-byte zero = byte

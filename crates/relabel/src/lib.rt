@@ -16,7 +16,7 @@ use command::CommandRead;
 use command::read_command;
 use crc::crc32;
 use descriptor_loop::MAX_DESCRIPTOR;
-use relabel_found::spots_insert;
+use relabel_found::spots_active;
 use relabel_found::upid_head;
 use relabel_upid::relabel_upid;
 use section::COMMAND_AT;
@@ -211,7 +211,7 @@ fn relabel_in(
     ensures bytes { λ _. ⌜ now (target .exit) ≡ laterOf (loopMade (now (section .entry)) offset part k (now (new .entry))) (now (target .entry)) ⌝ }
 {
     let end = list + len;
-    if !spots_insert(&section[list..end], offset) {
+    if !spots_active(&section[list..end], offset) {
         return Written::Refused(41);
     }
     let p = place_of(section, list, len, offset);

@@ -15,7 +15,7 @@ use Rattle.descriptor_loop.specs.declared.Item.{Item}
 use Rattle.descriptor_loop.specs.declared.Item.the-variants.{End, Refused, Is}
 use Rattle.descriptor_loop.specs.declared.ItemRefusal.the-variants.{InvalidDescriptorLength, Other}
 use Rattle.relabel.specs.Relabel.{payloadIn, payloadThen}
-use Rattle.relabel_found.proofs.Inserts.{Inserted, inserted}
+use Rattle.relabel_found.proofs.Actives.{ActiveAt, active-at}
 use Rattle.relabel_found.specs.Found.{foreIn, typeIn, upidIn, postIn}
 use Rattle.relabel_joined.specs.Relabel.{typeThen, itemThen}
 use Rattle.relabel_laws.proofs.Items.{ofListed, moved-listed, front-listed, own-listed, at-listed}
@@ -127,8 +127,8 @@ module _ (s : List ℕ) (offset part k : ℕ) (new r : List ℕ) (bytes : (j : �
   abbrev old : Beside
   old = readingOf loop offset .beside
 
-  i : Inserted loop offset
-  i = inserted loop offset (x .there)
+  i : ActiveAt loop offset
+  i = active-at loop offset (x .there)
 
   loop-fits : length loop ≤ 4076
   loop-fits = i .stands .fits

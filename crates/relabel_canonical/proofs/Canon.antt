@@ -19,7 +19,7 @@ use Rattle.relabel.proofs.Ats.{some-made}
 use Rattle.relabel.proofs.Cuts.{loop-there}
 use Rattle.relabel.proofs.Mades.{framing}
 use Rattle.relabel.specs.Relabel.{payloadIn, payloadThen}
-use Rattle.relabel_found.proofs.Inserts.{Inserted, inserted, hole-at, byte-in, fore-in, type-in, upid-in, post-in}
+use Rattle.relabel_found.proofs.Actives.{ActiveAt, active-at, hole-at, byte-in, fore-in, type-in, upid-in, post-in}
 use Rattle.relabel_found.specs.Found.{foreIn, typeIn, upidIn, postIn}
 use Rattle.relabel_joined.proofs.Theorems.{made-fine, made-byte}
 use Rattle.relabel_joined.specs.Relabel.{typeThen, itemThen}
@@ -75,8 +75,8 @@ module _ (s : List ℕ) (offset part k : ℕ) (new r : List ℕ) (bytes : (j : �
   abbrev d : List ℕ
   d = itemThen (foreIn pay) (postIn pay) K (x .upid)
 
-  i : Inserted loop offset
-  i = inserted loop offset (x .there)
+  i : ActiveAt loop offset
+  i = active-at loop offset (x .there)
 
   loop-byte : (j : ℕ) → getD loop j 0 < 256
   loop-byte j = subst (λ (l : List ℕ). getD l j 0 < 256) (sym (loop-there s (framing s (x .old) (x .accepted) .fits))) (byte-in s (16 + commandLength s) (loopLength s) bytes j)

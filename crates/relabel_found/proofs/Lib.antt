@@ -1,4 +1,4 @@
 pub mod Walks
-pub mod Inserts
+pub mod Actives
 pub mod Spots
 pub mod Titles

@@ -1,6 +1,6 @@
 -- An item of which all is there but for the rules of its UPID.
---     reads-insert              a payload that is complete, with a UPID that is accepted, is read as an insert
---     insert-complete           and an insert's payload is complete
+--     reads-active              a payload that is complete, with a UPID that is accepted, is read as an active segmentation
+--     active-complete           and an active segmentation's payload is complete
 --     found-spots, spots-found  the same of an item
 use Prim.Native.Nat.{ℕ, _+_, _*_, _-_, _/_, _%_, _≤_, _<_}
 use mathlib.Core.Bool.{Bool, true, false, not, _&&_}
@@ -43,8 +43,8 @@ use Rattle.descriptor_loop.specs.declared.Item.{Item}
 use Rattle.descriptor_loop.specs.declared.Step.{Step}
 use Rattle.relabel_payload.proofs.Payloads.{Of, Parsed, parsed, assemble}
 use Rattle.relabel_payload.specs.Payload.{upidHead}
-use Rattle.relabel_found.specs.Found.{begins, inserts, found, payloadAt, typeIn, sizeIn, upidIn, postAt, titled, complete, spots}
-use Rattle.relabel_found.proofs.Inserts.{Inserted, inserted, begun, byte-in}
+use Rattle.relabel_found.specs.Found.{begins, isActive, found, payloadAt, typeIn, sizeIn, upidIn, postAt, titled, complete, spots}
+use Rattle.relabel_found.proofs.Actives.{ActiveAt, active-at, begun, byte-in}
 use Rattle.relabel_found.proofs.Walks.{found-some}
 
 -- ---- what `complete` says
@@ -130,7 +130,7 @@ module _ (s : List ℕ) (bytes : (k : ℕ) → getD s k 0 < 256) where
   head-there : 5 ≤ length s → (event : ℕ) × (parse head (bitsOf s) 0 ≡ got (record { event = event; cancel = cancels }) 40)
   head-there h = (_, head-is s h (bytes 4) _ refl)
 
-  pub record Insert : Type 0 where
+  pub record ActivePayload : Type 0 where
     pub x : SegmentationDescriptor
     pub i : SegmentationDetail
     pub reads : segmentationOf s ≡ read.Is (Segmentation x)
@@ -144,8 +144,8 @@ module _ (s : List ℕ) (bytes : (k : ℕ) → getD s k 0 < 256) where
   unfolding upidHead
   five h = omega arith
 
-  pub reads-insert : complete s ≡ true → (q : ℕ) → checkOf (typeIn s) (upidIn s) ≡ UpidRead.Fine q → Insert
-  reads-insert e q fine =
+  pub reads-active : complete s ≡ true → (q : ℕ) → checkOf (typeIn s) (upidIn s) ≡ UpidRead.Fine q → ActivePayload
+  reads-active e q fine =
       let w = whole-is s e in
       let h : postAt s ≤ length s = omega (arith, w .behind) in
       let f = front-there h in
@@ -160,8 +160,8 @@ module _ (s : List ℕ) (bytes : (k : ℕ) → getD s k 0 < 256) where
   unfolding upidHead
   room f before there = subst (λ (q : ℕ). q + 2 + getD s (q + 1) 0 ≤ length s) before there
 
-  pub insert-complete : (x : SegmentationDescriptor) (i : SegmentationDetail) → x .«descriptor_detail» ≡ Active i → segmentationOf s ≡ read.Is (Segmentation x) → complete s ≡ true
-  insert-complete x i detail e =
+  pub active-complete : (x : SegmentationDescriptor) (i : SegmentationDetail) → x .«descriptor_detail» ≡ Active i → segmentationOf s ≡ read.Is (Segmentation x) → complete s ≡ true
+  active-complete x i detail e =
       let p = parsed s x i detail e in
       let at : p .a ≡ 40 = head-ends s (p .h) (p .a) (p .head-is) in
       let ef : parse front (bitsOf s) 40 ≡ got (p .f) (p .m) = ap (parse front (bitsOf s)) (sym at) ∙ p .front-is in
@@ -249,8 +249,8 @@ module _ (loop : List ℕ) (offset : ℕ) where
   unfolding completeAt
   whole-item = refl
 
-  insert-item : (base : ℕ) (x : SegmentationDescriptor) (i : SegmentationDetail) → x .«descriptor_detail» ≡ Active i → inserts (itemAt base (read.Is (Segmentation x))) ≡ true
-  insert-item base x i e = rw e
+  active-item : (base : ℕ) (x : SegmentationDescriptor) (i : SegmentationDetail) → x .«descriptor_detail» ≡ Active i → isActive (itemAt base (read.Is (Segmentation x))) ≡ true
+  active-item base x i e = rw e
 
   module _ (bytes : (k : ℕ) → getD loop k 0 < 256) where
     pay-bytes : (k : ℕ) → getD pay k 0 < 256
@@ -263,17 +263,17 @@ module _ (loop : List ℕ) (offset : ℕ) where
         let t = s .titled in
         let fits = short-loop (s .begun) in
         let st = step-complete loop offset fits (omega (arith, t .there)) L refl (omega (arith, t .there, t .long)) (omega (arith, t .there)) (t .right) (omega (arith, t .long)) in
-        let r = reads-insert pay pay-bytes (s .complete) q fine in
+        let r = reads-active pay pay-bytes (s .complete) q fine in
         sym (found-some loop offset (s .begun))
-        ∙ ap (λ (y : Step). inserts (y .item)) st
-        ∙ ap inserts (whole-item ∙ ap (itemAt (offset + 6)) (reads-segmentation t ∙ r .reads))
-        ∙ insert-item (offset + 6) (r .x) (r .i) (r .detail)
+        ∙ ap (λ (y : Step). isActive (y .item)) st
+        ∙ ap isActive (whole-item ∙ ap (itemAt (offset + 6)) (reads-segmentation t ∙ r .reads))
+        ∙ active-item (offset + 6) (r .x) (r .i) (r .detail)
 
     -- and only such an item is found
     pub spots-found : found loop offset ≡ true → spots loop offset ≡ true
     spots-found e =
-        let x = inserted loop offset e in
-        let c = insert-complete pay pay-bytes (x .x) (x .i) (x .detail) (x .reads) in
+        let x = active-at loop offset e in
+        let c = active-complete pay pay-bytes (x .x) (x .i) (x .detail) (x .reads) in
         let n : length pay ≡ L - 4 = length-take-le (L - 4) (drop (offset + 6) loop) (omega (arith, length-drop (offset + 6) loop, x .stands .there, x .named)) in
         let t : Titled = record { long = long-enough n (whole-is pay c .behind); there = x .stands .there; right = x .stands .right; tag = x .tag; id = ap isCuei (x .id) ∙ cuei-cuei } in
         is-spot (begun loop offset e) (is-titled t) c

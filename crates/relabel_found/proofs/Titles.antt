@@ -1,4 +1,4 @@
--- What `is_titled`, `is_complete` and `spots_insert` answer, case by case.
+-- What `is_titled`, `is_complete` and `spots_active` answer, case by case.
 use Prim.Native.Nat.{ℕ, _+_, _*_, _-_, _/_, _%_, _≤_, _<_}
 use mathlib.Core.Bool.{Bool, true, false, not, _&&_}
 use mathlib.Core.List.{List, [], _∷_}
@@ -120,7 +120,7 @@ module _ (pay : List ℕ) where
           unfolding complete
           by-cancel h b e = e ∙ rw (le-leb (postAt pay + 3) (length pay) all-fits, ne-eqb (length pay) (postAt pay + 4) (λ z. h (omega (arith, post-is, z))))
 
--- ---- `spots_insert`
+-- ---- `spots_active`
 
 module _ (loop : List ℕ) (offset : ℕ) where
   pub spots-long : 4076 < length loop → false ≡ spots loop offset

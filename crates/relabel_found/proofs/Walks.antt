@@ -18,7 +18,7 @@ use Rattle.descriptor_loop.proofs.Steps.{step-small, step-complete, turn, forwa
 use Rattle.descriptor_loop.specs.Items.{completeAt, stepOf, Listed, listed, itemsOf}
 use Rattle.descriptor_loop.specs.declared.Step.{Step}
 use Rattle.upid.proofs.Laws.{by-cases}
-use Rattle.relabel_found.specs.Found.{begins, inserts, found}
+use Rattle.relabel_found.specs.Found.{begins, isActive, found}
 use Rattle.relabel_payload.specs.Payload.{upidHead}
 use Rattle.table.specs.Bits.{pick}
 
@@ -110,7 +110,7 @@ module _ (loop : List ℕ) (offset : ℕ) (fits : length loop ≤ 4076) where
       rw (items-rest loop fits) (among-rest (length loop) 0 (omega arith) (rw (items-rest loop fits) at e))
 
 module _ (loop : List ℕ) (offset : ℕ) where
-  pub found-some : begins (itemsOf loop) offset ≡ true → inserts (stepOf loop offset .item) ≡ found loop offset
+  pub found-some : begins (itemsOf loop) offset ≡ true → isActive (stepOf loop offset .item) ≡ found loop offset
   unfolding found
   found-some h = rw h
 

@@ -20,14 +20,14 @@ begins [] offset = false
 begins (x ∷ xs) offset = eqb (x .offset) offset || begins xs offset
 
 -- a segmentation descriptor that is not cancelled
-abbrev pub inserts : Item → Bool
-inserts End = false
-inserts (Refused r) = false
-inserts (Is d) = ofSegmentation (λ x. not (cancelled (x .«descriptor_detail»))) false d
+abbrev pub isActive : Item → Bool
+isActive End = false
+isActive (Refused r) = false
+isActive (Is d) = ofSegmentation (λ x. not (cancelled (x .«descriptor_detail»))) false d
 
 -- one that begins at an offset of the loop
 unfoldable pub found : List ℕ → ℕ → Bool
-found loop offset = begins (itemsOf loop) offset && inserts (stepOf loop offset .item)
+found loop offset = begins (itemsOf loop) offset && isActive (stepOf loop offset .item)
 
 -- its payload: L bytes stand behind its head, of which four are the identifier
 abbrev pub payloadAt : List ℕ → ℕ → List ℕ

@@ -132,7 +132,7 @@ fn is_complete(payload: &[u8]) -> bool
 }
 
 // Whether the item at an offset of a loop is one whose UPID can be replaced, but for the UPID's own rules: who replaces it tests them, once.
-pub fn spots_insert(items: &[u8], offset: usize) -> bool
+pub fn spots_active(items: &[u8], offset: usize) -> bool
     ensures { λ r. ⌜ r ≡ spots (now (items .entry)) offset ⌝ }
 {
     if MAX_LOOP < items.len() {

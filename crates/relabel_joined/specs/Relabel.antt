@@ -32,7 +32,7 @@ itemThen fore post k u = segmentationItem (payload fore post k u)
 abbrev pub relabelled : List ℕ → Listed → List ℕ → List ℕ → ℕ → List ℕ → List ℕ
 relabelled s x fore post k u = sectionWith s (withItem (loopBytes s) x (itemThen fore post k u))
 
--- What is claimed of it, where s reads as `old`, its loop's items are `lead`, x and `tail`, and x is the insert i of this event.
+-- What is claimed of it, where s reads as `old`, its loop's items are `lead`, x and `tail`, and x is the active segmentation i of this event.
 pub record Kept (s : List ℕ) (old : Section) (lead : List Listed) (x : Listed) (tail : List Listed) (event : ℕ) (i : SegmentationDetail) (fore post : List ℕ) (k : ℕ) (u : List ℕ) : Type 0 where
   -- it is accepted, with the same header and command
   pub section : sectionOf (relabelled s x fore post k u)

@@ -14,7 +14,7 @@ use Rattle.descriptor.specs.Descriptor.{cuei}
 use Rattle.descriptor_loop.specs.Items.{stepOf, Listed, listed}
 use Rattle.descriptor_loop.specs.declared.Item.{Item}
 use Rattle.descriptor_loop.specs.declared.Step.{Step}
-use Rattle.relabel_found.proofs.Inserts.{inserted}
+use Rattle.relabel_found.proofs.Actives.{active-at}
 use Rattle.relabel_found.specs.Found.{found, payloadAt}
 use Rattle.relabel_loop.proofs.Pieces.{piece, step-of-complete}
 use Rattle.relabel_loop.specs.Item.{segmentationItem}
@@ -67,6 +67,6 @@ module _ {A : Type 0} (F : Item → List ℕ → A) where
 
   pub at-listed : (loop : List ℕ) (offset : ℕ) → found loop offset ≡ true → ofListed loop (listed loop offset) ≡ F (stepOf loop offset .item) (payloadAt loop offset)
   at-listed loop offset there =
-      let i = inserted loop offset there in
+      let i = active-at loop offset there in
       let z : stepOf loop offset .next - offset - 6 ≡ getD loop (offset + 1) 0 - 4 = omega (arith, i .next, i .named) in
       ap (λ (n : ℕ). F (stepOf loop offset .item) (take n (drop (offset + 6) loop))) z

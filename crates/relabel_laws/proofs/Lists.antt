@@ -19,7 +19,7 @@ use Rattle.descriptor_loop.specs.Place.{movedUpid}
 use Rattle.descriptor_loop.specs.declared.Item.{Item}
 use Rattle.descriptor_loop.specs.declared.Item.the-variants.{End, Refused, Is}
 use Rattle.descriptor_loop.specs.declared.ItemRefusal.the-variants.{InvalidDescriptorLength, Other}
-use Rattle.relabel_found.specs.Found.{inserts, foreIn, typeIn, sizeIn, postIn}
+use Rattle.relabel_found.specs.Found.{isActive, foreIn, typeIn, sizeIn, postIn}
 use Rattle.relabel_loop.specs.Item.{segmentationItem}
 use Rattle.relabel_loop.specs.Loop.{movedItem, movedListed}
 use Rattle.relabel_payload.specs.Payload.{payload, upidHead}
@@ -41,23 +41,23 @@ same-detail : (n : ℕ) (d : DescriptorDetail) → cancelled (withUpids (movedUp
 same-detail n Cancel = refl
 same-detail n (Active i) = refl
 
-same-inserts : (n : ℕ) (i : Item) → inserts (movedItem n i) ≡ inserts i
-same-inserts n End = refl
-same-inserts n (Refused InvalidDescriptorLength) = refl
-same-inserts n (Refused (Other r)) = refl
-same-inserts n (Is (Avail x)) = refl
-same-inserts n (Is (Dtmf x)) = refl
-same-inserts n (Is (Time x)) = refl
-same-inserts n (Is (Reserved tag v)) = refl
-same-inserts n (Is (Segmentation x)) = ap not (same-detail n (x .«descriptor_detail»))
+same-actives : (n : ℕ) (i : Item) → isActive (movedItem n i) ≡ isActive i
+same-actives n End = refl
+same-actives n (Refused InvalidDescriptorLength) = refl
+same-actives n (Refused (Other r)) = refl
+same-actives n (Is (Avail x)) = refl
+same-actives n (Is (Dtmf x)) = refl
+same-actives n (Is (Time x)) = refl
+same-actives n (Is (Reserved tag v)) = refl
+same-actives n (Is (Segmentation x)) = ap not (same-detail n (x .«descriptor_detail»))
 
 -- what an item tells by its reading and its payload
 abbrev pub tells : Item → List ℕ → List Identifier
-tells i p = pick (inserts i) (ofPayload p) []
+tells i p = pick (isActive i) (ofPayload p) []
 
 pub moved-item : (pre s : List ℕ) (x : Listed) (n : ℕ) → n ≡ length pre → ofItem (pre ++ s) (movedListed n x) ≡ ofItem s x
 unfolding ofItem
-moved-item = moved-listed tells (λ n i p. ap (λ (b : Bool). pick b (ofPayload p) []) (same-inserts n i))
+moved-item = moved-listed tells (λ n i p. ap (λ (b : Bool). pick b (ofPayload p) []) (same-actives n i))
 
 pub moved-each : (pre s : List ℕ) (n : ℕ) → n ≡ length pre → (xs : List Listed) → each (pre ++ s) (map (movedListed n) xs) ≡ each s xs
 moved-each pre s n e [] = refl
@@ -139,7 +139,7 @@ module _ (pay : List ℕ) (K : ℕ) (b : List ℕ) (fits : upidHead pay + 2 + si
       let d : drop (upidHead then + 2) then ≡ b ++ postIn pay = ap (λ (i : ℕ). drop (i + 2) then) head-long ∙ drop-append-add (foreIn pay) (K ∷ (length b ∷ (b ++ postIn pay))) 2 in
       ap₂ ofUpid k (ap₂ take n d ∙ take-append-seam b (postIn pay))
 
-pub own-item : (s : List ℕ) → length s ≤ 250 → inserts (stepOf (segmentationItem s) 0 .item) ≡ true → (rest : List ℕ)
+pub own-item : (s : List ℕ) → length s ≤ 250 → isActive (stepOf (segmentationItem s) 0 .item) ≡ true → (rest : List ℕ)
     → ofItem (segmentationItem s ++ rest) (listed (segmentationItem s) 0) ≡ ofPayload s
 unfolding ofItem
 own-item s short is rest = own-listed tells s short rest ∙ ap (λ (b : Bool). pick b (ofPayload s) []) is

@@ -11,8 +11,8 @@ use Rattle.descriptor_loop.proofs.Lists.{walked}
 use Rattle.descriptor_loop.specs.Items.{stepOf, Listed, listed, itemsOf}
 use Rattle.relabel.proofs.Ats.{some-made}
 use Rattle.relabel.specs.Relabel.{payloadIn, payloadThen}
-use Rattle.relabel_found.proofs.Inserts.{Inserted, inserted}
-use Rattle.relabel_found.specs.Found.{begins, inserts, found, foreIn, typeIn, upidIn, postIn}
+use Rattle.relabel_found.proofs.Actives.{ActiveAt, active-at}
+use Rattle.relabel_found.specs.Found.{begins, isActive, found, foreIn, typeIn, upidIn, postIn}
 use Rattle.relabel_joined.specs.Relabel.{typeThen, itemThen}
 use Rattle.relabel_loop.specs.Loop.{movedListed, behindItem}
 use Rattle.relabel_upid.proofs.Theorems.{every-other-identifier-stays, the-upid-itself}
@@ -60,12 +60,12 @@ module _ (s : List ℕ) (offset part k : ℕ) (new r : List ℕ) (x : Result s o
   abbrev A : List ℕ
   A = take offset loop
 
-  i : Inserted loop offset
-  i = inserted loop offset (x .there)
+  i : ActiveAt loop offset
+  i = active-at loop offset (x .there)
 
-  yes : inserts (stepOf loop offset .item) ≡ true
+  yes : isActive (stepOf loop offset .item) ≡ true
   unfolding found
-  yes = and-true (begins (itemsOf loop) offset) (inserts (stepOf loop offset .item)) (x .there) .1
+  yes = and-true (begins (itemsOf loop) offset) (isActive (stepOf loop offset .item)) (x .there) .1
 
   A-long : length A ≡ offset
   A-long = length-take-le offset loop (omega (arith, i .stands .six))
@@ -98,7 +98,7 @@ module _ (s : List ℕ) (offset part k : ℕ) (new r : List ℕ) (x : Result s o
   new-item : ofItem (A ++ (d ++ behind)) (movedListed offset (listed d 0)) ≡ upidThen (typeIn pay) (upidIn pay) part k new
   new-item =
       moved-item A (d ++ behind) (listed d 0) offset (sym A-long)
-      ∙ own-item (payloadThen s offset part k (x .upid)) (x .short) (ap inserts (x .kept .own)) behind
+      ∙ own-item (payloadThen s offset part k (x .upid)) (x .short) (ap isActive (x .kept .own)) behind
       ∙ payload-then pay K (x .upid) (x .complete)
       ∙ upid-then (typeIn pay) (upidIn pay) part k new (x .upid) (x .made-of)
 

@@ -11,7 +11,7 @@ use Rattle.descriptor_loop.specs.Items.{Listed, listed, itemsOf}
 use Rattle.relabel.proofs.Cuts.{loop-there}
 use Rattle.relabel.proofs.Mades.{Framing, framing}
 use Rattle.relabel.specs.Relabel.{payloadIn, payloadThen, sectionThen, fitting, loopMade, relabelMade}
-use Rattle.relabel_found.proofs.Inserts.{Inserted, inserted, begun, hole-at, byte-in, fore-in, type-in, upid-in, post-in, size-all}
+use Rattle.relabel_found.proofs.Actives.{ActiveAt, active-at, begun, hole-at, byte-in, fore-in, type-in, upid-in, post-in, size-all}
 use Rattle.relabel_found.proofs.Walks.{Among, among}
 use Rattle.relabel_found.specs.Found.{found, foreIn, typeIn, upidIn, postIn}
 use Rattle.relabel_joined.proofs.Theorems.{everything-else-stays}
@@ -79,13 +79,13 @@ module _ (s : List ℕ) (offset part k : ℕ) (new r : List ℕ) where
         let f = fitted (upidMade (typeIn pay) (upidIn pay) part k new) (p₂ .1) in
         let loop-is = loop-there s (fr .fits) in
         let loop-byte : (j : ℕ) → getD (loopBytes s) j 0 < 256 = λ j. subst (λ (l : List ℕ). getD l j 0 < 256) (sym loop-is) (byte-in s (16 + commandLength s) (loopLength s) bytes j) in
-        let i = inserted (loopBytes s) offset (p₂ .0) in
+        let i = active-at (loopBytes s) offset (p₂ .0) in
         let h = hole-at (loopBytes s) offset loop-byte i in
         let short-loop : length (loopBytes s) ≤ 4076 = i .stands .fits in
         let a = among (loopBytes s) offset short-loop (begun (loopBytes s) offset (p₂ .0)) in
         of-hole (x .0) (x .1) (p₂ .0) f i h a
       where
-        of-hole : (old : Section) → sectionOf s ≡ SectionRead.Is old → found (loopBytes s) offset ≡ true → (f : Fitted (upidMade (typeIn pay) (upidIn pay) part k new)) (i : Inserted (loopBytes s) offset)
+        of-hole : (old : Section) → sectionOf s ≡ SectionRead.Is old → found (loopBytes s) offset ≡ true → (f : Fitted (upidMade (typeIn pay) (upidIn pay) part k new)) (i : ActiveAt (loopBytes s) offset)
             → (h : Holed pay (i .x .«segmentation_event_id») (i .i)) → Among (itemsOf (loopBytes s)) (listed (loopBytes s) offset) → Result s offset part k new r
         of-hole old ea ef f i h a =
             let ef₁ = fore-in pay _ _ h in
@@ -103,7 +103,7 @@ module _ (s : List ℕ) (offset part k : ℕ) (new r : List ℕ) where
               items = a .is;
               there = ef;
               event = i .x .«segmentation_event_id»;
-              insert = i .i;
+              active = i .i;
               cut = h .is ∙ cc (ef₁, ep, ek, eu);
               complete = omega (arith, size-all pay _ _ h);
               upid = f .b;

@@ -4,7 +4,7 @@ use mathlib.Core.List.{List, [], _∷_, _++_}
 use lib.Dec.{eqb}
 use lib.ListN.{length, take, drop}
 use Rattle.descriptor_loop.specs.Items.{Listed, itemsOf}
-use Rattle.relabel_found.specs.Found.{inserts, typeIn, upidIn}
+use Rattle.relabel_found.specs.Found.{isActive, typeIn, upidIn}
 use Rattle.relabel_upid.specs.Kept.{Identifier, identifiersOf, identifiersThen}
 use Rattle.section.specs.Section.{loopBytes}
 use Rattle.table.specs.Bits.{pick}
@@ -19,7 +19,7 @@ ofPayload pay = ofUpid (typeIn pay) (upidIn pay)
 
 -- of an item: those of its UPID where it is a segmentation descriptor that is not cancelled
 unfoldable pub ofItem : List ℕ → Listed → List Identifier
-ofItem loop x = pick (inserts (x .step .item)) (ofPayload (take (x .used - 6) (drop (x .offset + 6) loop))) []
+ofItem loop x = pick (isActive (x .step .item)) (ofPayload (take (x .used - 6) (drop (x .offset + 6) loop))) []
 
 abbrev pub each : List ℕ → List Listed → List Identifier
 each loop [] = []

@@ -18,7 +18,7 @@ use Rattle.table.specs.Writing.{made}
 
 -- r is the section s in which part number `part` of the item at `offset` became an identifier of type k with the bytes `new`
 pub record Result (s : List ℕ) (offset part k : ℕ) (new r : List ℕ) : Type 0 where
-  -- s is accepted, and an item of its loop begins at the offset: a segmentation descriptor that is not cancelled, with the insert i of this event
+  -- s is accepted, and an item of its loop begins at the offset: a segmentation descriptor that is not cancelled, with the active segmentation i of this event
   pub old : Section
   pub accepted : sectionOf s ≡ SectionRead.Is old
   pub lead : List Listed
@@ -26,7 +26,7 @@ pub record Result (s : List ℕ) (offset part k : ℕ) (new r : List ℕ) : Type
   pub items : itemsOf (loopBytes s) ≡ lead ++ (listed (loopBytes s) offset ∷ tail)
   pub there : found (loopBytes s) offset ≡ true
   pub event : ℕ
-  pub insert : SegmentationDetail
+  pub active : SegmentationDetail
   -- its payload is what stands before the UPID's head, the UPID, and what stands after it
   pub cut : payloadIn s offset ≡ payload (foreIn (payloadIn s offset)) (postIn (payloadIn s offset)) (typeIn (payloadIn s offset)) (upidIn (payloadIn s offset))
   pub complete : upidHead (payloadIn s offset) + 2 + sizeIn (payloadIn s offset) ≤ length (payloadIn s offset)
@@ -36,4 +36,4 @@ pub record Result (s : List ℕ) (offset part k : ℕ) (new r : List ℕ) : Type
   pub is : r ≡ sectionThen s offset part k upid
   pub short : length (payloadThen s offset part k upid) ≤ 250
   -- r is accepted, its header, its command and every other item read the same, and of the item itself only the UPID differs
-  pub kept : Kept s old lead (listed (loopBytes s) offset) tail event insert (foreIn (payloadIn s offset)) (postIn (payloadIn s offset)) (typeThen part (typeIn (payloadIn s offset)) k) upid
+  pub kept : Kept s old lead (listed (loopBytes s) offset) tail event active (foreIn (payloadIn s offset)) (postIn (payloadIn s offset)) (typeThen part (typeIn (payloadIn s offset)) k) upid

@@ -18,7 +18,7 @@ use Rattle.table.proofs.Longer.{Blind}
 use Rattle.table.proofs.Steps.{reads-in, takes-in, canonical-inside, reads-number, reads-part, takes-number, takes-part}
 use Rattle.table.proofs.Swaps.{forward, swap, swap-form, EndsAt, ends-at, ends-inside, ends-pick, ends-list}
 use Rattle.descriptor.proofs.Longer.{blind-delivery, blind-mode, blind-duration}
-use Rattle.descriptor.specs.Segmentation.{ListedFront, Moded, Head, deliveryRestrictions, component, blankComponent, mode, duration, writtenUpid, parts, front, head, insertFrom, subSegments, back}
+use Rattle.descriptor.specs.Segmentation.{ListedFront, Moded, Head, deliveryRestrictions, component, blankComponent, mode, duration, writtenUpid, parts, front, head, activeFrom, subSegments, back}
 use Rattle.descriptor.specs.declared.segmentation.DeliveryRestrictionFlags.{DeliveryRestrictionFlags}
 use Rattle.descriptor.specs.declared.segmentation.SegmentationDuration.{SegmentationDuration}
 use Rattle.descriptor.specs.declared.segmentation.SegmentationUpid.{SegmentationUpid}
@@ -100,7 +100,7 @@ pub record Split (bs : List ℕ) (at : ℕ) (f : ListedFront) (m : ℕ) : Type 0
   pub reads : parse writtenUpid bs seam ≡ got upid m
   pub is : make upid ≡ f
   pub has : (u : SegmentationUpid) → make u .front .«segmentation_upid» ≡ u
-  pub keeps : (u v : SegmentationUpid) (b : _) → insertFrom (make u .front) v b ≡ insertFrom (f .front) v b
+  pub keeps : (u v : SegmentationUpid) (b : _) → activeFrom (make u .front) v b ≡ activeFrom (f .front) v b
   pub again : (pre r other : List ℕ) → bs ≡ pre ++ r → seam ≤ length pre → (u : SegmentationUpid) (n : ℕ) → parse writtenUpid (pre ++ other) seam ≡ got u n
       → parse front (pre ++ other) at ≡ got (make u) n
   pub beside : (u : SegmentationUpid) → make u .components ≡ f .components
@@ -158,7 +158,7 @@ split-front bs at f m e =
       reads = r7 .front ∙ ap (got (r7 .inner)) (z .1);
       is = z .0;
       has = λ u. refl;
-      keeps = λ u v b. ap (λ (x : ListedFront). insertFrom (x .front) v b) (z .0);
+      keeps = λ u v b. ap (λ (x : ListedFront). activeFrom (x .front) v b) (z .0);
       again = λ pre r other eq h u n w.
           takes-in bit _ _ (pre ++ other) at (r1 .inner) (r1 .seam) (swapped bit blind-bit bs pre r other at (r1 .inner) (r1 .seam) eq (r1 .front) (omega arith))
           ∙ takes-in bit _ _ (pre ++ other) (r1 .seam) (r2 .inner) (r2 .seam) (swapped bit blind-bit bs pre r other (r1 .seam) (r2 .inner) (r2 .seam) eq (r2 .front) (omega arith))

@@ -20,9 +20,9 @@ use Rattle.upid.specs.Upid.{checkOf, eidrOf}
 use Rattle.upid.specs.Private.{Accepted}
 use Rattle.upid.specs.declared.UpidRead.{UpidRead}
 use Rattle.upid.proofs.Walks.{check-short}
-use Rattle.descriptor.specs.Descriptor.{_andThen_, reportedUpid, ifFine, inserted, insertOf, segmentationOf}
+use Rattle.descriptor.specs.Descriptor.{_andThen_, reportedUpid, ifFine, activeWith, activeOf, segmentationOf}
 use Rattle.descriptor.specs.Segmentation as table
-use Rattle.descriptor.specs.Segmentation.{ListedFront, Head, head, front, back, subSegments, writtenUpid, insertFrom, withUpid, segmentation}
+use Rattle.descriptor.specs.Segmentation.{ListedFront, Head, head, front, back, subSegments, writtenUpid, activeFrom, withUpid, segmentation}
 use Rattle.descriptor.specs.Full.{filled, besideIn, besideOf}
 use Rattle.descriptor.specs.declared.Descriptor.the-variants.{Segmentation}
 use Rattle.descriptor.specs.declared.DescriptorRead.{DescriptorRead}
@@ -51,7 +51,7 @@ head-at s bytes h a eh x m e =
     let p = front-told s bytes x m (ap (parse front (bitsOf s)) (sym (head-ends s h a eh)) ∙ e) in
     ap (λ (u : SegmentationUpid). u .bytes .at) (p .is) ∙ ap (λ (n : ℕ). n + 2) (p .before)
 
--- ---- an insert that was read, field by field
+-- ---- an active segmentation that was read, field by field
 
 pub record Parsed (s : List ℕ) (event : ℕ) (i : SegmentationDetail) : Type 0 where
   pub h : Head
@@ -67,7 +67,7 @@ pub record Parsed (s : List ℕ) (event : ℕ) (i : SegmentationDetail) : Type 0
   pub b : Of back
   pub n : ℕ
   pub back-is : parse back (bitsOf s) m ≡ got b n
-  pub is : insertFrom (f .front) (reportedUpid q (f .front .«segmentation_upid» .bytes)) b ≡ i
+  pub is : activeFrom (f .front) (reportedUpid q (f .front .«segmentation_upid» .bytes)) b ≡ i
 
 module _ (s : List ℕ) (x : SegmentationDescriptor) (i : SegmentationDetail) (detail : x .«descriptor_detail» ≡ Active i) where
   module _ (h : Head) (a : ℕ) (eh : parse head (bitsOf s) 0 ≡ got h a) (stays : h .cancel ≡ false) (f : ListedFront) (m : ℕ) (ef : parse front (bitsOf s) a ≡ got f m) where
@@ -75,11 +75,11 @@ module _ (s : List ℕ) (x : SegmentationDescriptor) (i : SegmentationDetail) (d
     upid₀ = f .front .«segmentation_upid»
 
     of-back : (q : ℕ) → checkOf (upid₀ .«upid_type») (viewed s (upid₀ .bytes)) ≡ UpidRead.Fine q → (r : Answer (Of back)) → parse back (bitsOf s) m ≡ r
-        → (r andThen λ b n. inserted (h .event) (f .front) (reportedUpid q (upid₀ .bytes)) b) ≡ Is (Segmentation x) → Parsed s (x .«segmentation_event_id») i
-    unfolding inserted
+        → (r andThen λ b n. activeWith (h .event) (f .front) (reportedUpid q (upid₀ .bytes)) b) ≡ Is (Segmentation x) → Parsed s (x .«segmentation_event_id») i
+    unfolding activeWith
     of-back q fine (got b n) eb e =
-        let z : _≡_ {A = SegmentationDescriptor} (record { «segmentation_event_id» = h .event; «descriptor_detail» = Active (insertFrom (f .front) (reportedUpid q (upid₀ .bytes)) b) }) x = cc in
-        let y : Active (insertFrom (f .front) (reportedUpid q (upid₀ .bytes)) b) ≡ Active i = ap (λ (d : SegmentationDescriptor). d .«descriptor_detail») z ∙ detail in
+        let z : _≡_ {A = SegmentationDescriptor} (record { «segmentation_event_id» = h .event; «descriptor_detail» = Active (activeFrom (f .front) (reportedUpid q (upid₀ .bytes)) b) }) x = cc in
+        let y : Active (activeFrom (f .front) (reportedUpid q (upid₀ .bytes)) b) ≡ Active i = ap (λ (d : SegmentationDescriptor). d .«descriptor_detail») z ∙ detail in
         record {
           h = h;
           a = a;
@@ -99,21 +99,21 @@ module _ (s : List ℕ) (x : SegmentationDescriptor) (i : SegmentationDetail) (d
     of-back q fine (short expected actual) eb e = zero-one cc
 
     of-check : (r : UpidRead) → checkOf (upid₀ .«upid_type») (viewed s (upid₀ .bytes)) ≡ r
-        → (ifFine r (upid₀ .bytes) λ upid. parse back (bitsOf s) m andThen λ b n. inserted (h .event) (f .front) upid b) ≡ Is (Segmentation x) → Parsed s (x .«segmentation_event_id») i
+        → (ifFine r (upid₀ .bytes) λ upid. parse back (bitsOf s) m andThen λ b n. activeWith (h .event) (f .front) upid b) ≡ Is (Segmentation x) → Parsed s (x .«segmentation_event_id») i
     of-check (UpidRead.Fine q) ec e = of-back q ec (parse back (bitsOf s) m) refl e
     of-check (UpidRead.Refused r) ec e = zero-one cc
 
   module _ (h : Head) (a : ℕ) (eh : parse head (bitsOf s) 0 ≡ got h a) where
     of-front : h .cancel ≡ false → (r : Answer ListedFront) → parse front (bitsOf s) a ≡ r
         → (r andThen λ f m. ifFine (checkOf (f .front .«segmentation_upid» .«upid_type») (viewed s (f .front .«segmentation_upid» .bytes))) (f .front .«segmentation_upid» .bytes) λ upid.
-        parse back (bitsOf s) m andThen λ b n. inserted (h .event) (f .front) upid b) ≡ Is (Segmentation x) → Parsed s (x .«segmentation_event_id») i
+        parse back (bitsOf s) m andThen λ b n. activeWith (h .event) (f .front) upid b) ≡ Is (Segmentation x) → Parsed s (x .«segmentation_event_id») i
     of-front stays (got f m) ef e = of-check h a eh stays f m ef (checkOf (f .front .«segmentation_upid» .«upid_type») (viewed s (f .front .«segmentation_upid» .bytes))) refl e
     of-front stays (short expected actual) ef e = zero-one cc
 
     of-cancel : (t : Bool) → h .cancel ≡ t
-        → pick t (Is (Segmentation (record { «segmentation_event_id» = h .event; «descriptor_detail» = Cancel }))) (insertOf s (h .event) a) ≡ Is (Segmentation x)
+        → pick t (Is (Segmentation (record { «segmentation_event_id» = h .event; «descriptor_detail» = Cancel }))) (activeOf s (h .event) a) ≡ Is (Segmentation x)
         → Parsed s (x .«segmentation_event_id») i
-    unfolding insertOf
+    unfolding activeOf
     of-cancel true ec e =
         let z : _≡_ {A = SegmentationDescriptor} (record { «segmentation_event_id» = h .event; «descriptor_detail» = Cancel }) x = cc in
         let y : _≡_ {A = DescriptorDetail} Cancel (Active i) = ap (λ (d : SegmentationDescriptor). d .«descriptor_detail») z ∙ detail in
@@ -121,7 +121,7 @@ module _ (s : List ℕ) (x : SegmentationDescriptor) (i : SegmentationDetail) (d
     of-cancel false ec e = of-front ec (parse front (bitsOf s) a) refl e
 
   of-head : (r : Answer Head) → parse head (bitsOf s) 0 ≡ r
-      → (r andThen λ h at. pick (h .cancel) (Is (Segmentation (record { «segmentation_event_id» = h .event; «descriptor_detail» = Cancel }))) (insertOf s (h .event) at)) ≡ Is (Segmentation x)
+      → (r andThen λ h at. pick (h .cancel) (Is (Segmentation (record { «segmentation_event_id» = h .event; «descriptor_detail» = Cancel }))) (activeOf s (h .event) at)) ≡ Is (Segmentation x)
       → Parsed s (x .«segmentation_event_id») i
   of-head (got h a) eh e = of-cancel h a eh (h .cancel) refl e
   of-head (short expected actual) eh e = zero-one cc
@@ -133,8 +133,8 @@ module _ (s : List ℕ) (x : SegmentationDescriptor) (i : SegmentationDetail) (d
 -- and the other way round
 pub assemble : (s : List ℕ) (h : Head) (a : ℕ) (f : ListedFront) (m q : ℕ) (b : Of back) (n : ℕ) → parse head (bitsOf s) 0 ≡ got h a → h .cancel ≡ false → parse front (bitsOf s) a ≡ got f m
     → checkOf (f .front .«segmentation_upid» .«upid_type») (viewed s (f .front .«segmentation_upid» .bytes)) ≡ UpidRead.Fine q → parse back (bitsOf s) m ≡ got b n
-    → segmentationOf s ≡ Is (Segmentation (record { «segmentation_event_id» = h .event; «descriptor_detail» = Active (insertFrom (f .front) (reportedUpid q (f .front .«segmentation_upid» .bytes)) b) }))
-unfolding segmentationOf insertOf inserted
+    → segmentationOf s ≡ Is (Segmentation (record { «segmentation_event_id» = h .event; «descriptor_detail» = Active (activeFrom (f .front) (reportedUpid q (f .front .«segmentation_upid» .bytes)) b) }))
+unfolding segmentationOf activeOf activeWith
 assemble s h a f m q b n eh stays ef ec eb = rw (eh, stays, ef, ec, eb)
 
 -- ---- the table
@@ -144,7 +144,7 @@ module _ (s : List ℕ) (h : Head) (a : ℕ) (f : ListedFront) (m : ℕ) (b : Of
     (eb : parse back (bitsOf s) m ≡ got b n) where
   abbrev overall : table.Segmentation
   overall = record {
-    descriptor = record { «segmentation_event_id» = h .event; «descriptor_detail» = Active (insertFrom (f .front) (f .front .«segmentation_upid») b) };
+    descriptor = record { «segmentation_event_id» = h .event; «descriptor_detail» = Active (activeFrom (f .front) (f .front .«segmentation_upid») b) };
     components = f .components;
   }
 
@@ -352,18 +352,18 @@ module _ (s : List ℕ) (event : ℕ) (i : SegmentationDetail) (bytes : (k : ℕ
     unfolding new
     new-back = back-refilled fore (written .post) (written .«upid_type») (written .bytes) k u (p .b) (p .n) old-back
 
-    same-insert : insertFrom (split .make place .front) (reportedUpid r (split .make place .front .«segmentation_upid» .bytes)) (p .b)
+    same-active : activeFrom (split .make place .front) (reportedUpid r (split .make place .front .«segmentation_upid» .bytes)) (p .b)
         ≡ withUpid i (reportedUpid r (record { at = length fore + 2; len = length u }))
     unfolding place
-    same-insert =
-        ap (λ (x : SegmentationUpid). insertFrom (split .make place .front) (reportedUpid r (x .bytes)) (p .b)) (split .has place)
+    same-active =
+        ap (λ (x : SegmentationUpid). activeFrom (split .make place .front) (reportedUpid r (x .bytes)) (p .b)) (split .has place)
         ∙ split .keeps place (reportedUpid r (record { at = length fore + 2; len = length u })) (p .b)
         ∙ ap (λ (j : SegmentationDetail). withUpid j (reportedUpid r (record { at = length fore + 2; len = length u }))) (p .is)
 
     new-reads : segmentationOf new ≡ Is (Segmentation (record { «segmentation_event_id» = event; «descriptor_detail» = Active (withUpid i (reportedUpid r (record { at = length fore + 2; len = length u }))) }))
     new-reads =
         assemble new (p .h) (p .a) (split .make place) ((length fore + 2 + length u) * 8) r (p .b) ((length fore + 2 + length u) * 8 + new-back .0) new-head (p .stays) new-front new-fine (new-back .1)
-        ∙ ap₂ (λ (e : ℕ) (j : SegmentationDetail). Is (Segmentation (record { «segmentation_event_id» = e; «descriptor_detail» = Active j }))) (p .event-is) same-insert
+        ∙ ap₂ (λ (e : ℕ) (j : SegmentationDetail). Is (Segmentation (record { «segmentation_event_id» = e; «descriptor_detail» = Active j }))) (p .event-is) same-active
 
     -- ---- the same by its table
 

@@ -15,8 +15,8 @@ use Rattle.descriptor.specs.Descriptor.{cuei}
 use Rattle.descriptor_loop.specs.Items.{stepOf, Listed, listed, itemsOf}
 use Rattle.descriptor_loop.specs.declared.Item.{Item}
 use Rattle.descriptor_loop.specs.declared.Step.{Step}
-use Rattle.relabel_found.proofs.Inserts.{Inserted, inserted}
-use Rattle.relabel_found.specs.Found.{begins, inserts, found, payloadAt, foreIn, typeIn, sizeIn, upidIn, postIn}
+use Rattle.relabel_found.proofs.Actives.{ActiveAt, activeWith}
+use Rattle.relabel_found.specs.Found.{begins, isActive, found, payloadAt, foreIn, typeIn, sizeIn, upidIn, postIn}
 use Rattle.relabel_laws.proofs.Lists.{head-then}
 use Rattle.relabel_loop.proofs.Moves.{step-moved}
 use Rattle.relabel_loop.proofs.Pieces.{step-piece}
@@ -34,8 +34,8 @@ module _ (loop : List ℕ) (offset : ℕ) (f : found loop offset ≡ true) where
   abbrev it : Listed
   it = listed loop offset
 
-  i : Inserted loop offset
-  i = inserted loop offset f
+  i : ActiveAt loop offset
+  i = activeWith loop offset f
 
   pub pay-long : length pay ≡ L - 4
   pay-long = length-take-le (L - 4) (drop (offset + 6) loop) (omega (arith, length-drop (offset + 6) loop, i .stands .there, i .named))
@@ -113,11 +113,11 @@ module _ (loop : List ℕ) (offset : ℕ) (f : found loop offset ≡ true) where
           ap (λ (k : ℕ). stepOf then k .item) z ∙ ap (λ (x : Step). x .item) (step-moved A (d ++ behind) fits 0)
           ∙ ap₂ (λ (k : ℕ) (x : Step). movedItem k (x .item)) A-long alone
 
-      pub found-then : (lead tail : List Listed) (y : Listed) → itemsOf then ≡ lead ++ (y ∷ tail) → y .offset ≡ offset → inserts (movedItem offset (stepOf d 0 .item)) ≡ true
+      pub found-then : (lead tail : List Listed) (y : Listed) → itemsOf then ≡ lead ++ (y ∷ tail) → y .offset ≡ offset → isActive (movedItem offset (stepOf d 0 .item)) ≡ true
           → found then offset ≡ true
       unfolding found begins
       found-then lead tail y e at is-one =
-          rw (ap (λ (xs : List Listed). begins xs offset) e ∙ begins-at lead y tail at, ap inserts step-there ∙ is-one)
+          rw (ap (λ (xs : List Listed). begins xs offset) e ∙ begins-at lead y tail at, ap isActive step-there ∙ is-one)
         where
           begins-at : (lead : List Listed) (y : Listed) (tail : List Listed) → y .offset ≡ offset → begins (lead ++ (y ∷ tail)) offset ≡ true
           begins-at [] y tail h = ap (λ (b : Bool). b || begins tail offset) (eq-eqb (y .offset) offset h)
@@ -130,7 +130,7 @@ module _ (loop : List ℕ) (offset : ℕ) (f : found loop offset ≡ true) where
     -- and a third one put in its place
     pub again : found then offset ≡ true → (third : List ℕ) → withItem then (listed then offset) third ≡ withItem loop it third
     again g third =
-        let j : Inserted then offset = inserted then offset g in
+        let j : ActiveAt then offset = activeWith then offset g in
         let end : offset + (stepOf then offset .next - offset) ≡ length (A ++ d) = omega (arith, j .next, length-byte, length-append A d, A-long) in
         let rest : drop (offset + (stepOf then offset .next - offset)) then ≡ behind =
         ap₂ drop end (sym (append-assoc A d behind)) ∙ drop-at (A ++ d) behind (length (A ++ d)) refl in

@@ -9,7 +9,7 @@ use lib.Dec.{ltb}
 use lib.ListN.{take, drop, getD}
 use Rattle.command.specs.Command.{commandOf}
 use Rattle.crc.specs.Crc.{crcOf, crcBits, crcBit}
-use Rattle.descriptor.specs.Descriptor.{descriptorOf, isCuei, segmentationOf, insertOf, inserted}
+use Rattle.descriptor.specs.Descriptor.{descriptorOf, isCuei, segmentationOf, activeOf, activeWith}
 use Rattle.descriptor.specs.Segmentation.{deliveryRestrictions, mode, duration, writtenUpid, parts, front, subSegments, back, head, segmentation}
 use Rattle.descriptor_loop.specs.Items.{readAt, completeAt, stepOf, itemsFrom, itemsOf}
 use Rattle.header.specs.Header.{headerOf, headerRead, spliceHeader}
@@ -36,16 +36,16 @@ use Rattle.relabel_trips.proofs.Trips.{back-again}
 
 -- the eight-byte part becomes twelve bytes long
 pub becomes : relabelMade incident 0 1 3 newBytes ≡ made incidentThen
-unfolding incident incidentThen relabelMade loopMade fitting found begins upidHead sectionWith bodyWith upidMade partMade spliced mended around taken numberOf sectionOf frameOf frameIn accepted movedRead moved commandLength commandType commandBytes roomAfter loopLength loopPlace crcOf crcBits crcBit headerOf headerRead spliceHeader spliceTime commandOf itemsOf itemsFrom stepOf completeAt readAt descriptorOf isCuei segmentationOf insertOf inserted head front parts deliveryRestrictions mode duration writtenUpid back subSegments segmentation number bit reserved part remaining list viewed upidOf checkOf readOf walkOf _then_ plainOf lengthOf isText reportedOf listOf partsOf listed unlessRefused textOf done step within
+unfolding incident incidentThen relabelMade loopMade fitting found begins upidHead sectionWith bodyWith upidMade partMade spliced mended around taken numberOf sectionOf frameOf frameIn accepted movedRead moved commandLength commandType commandBytes roomAfter loopLength loopPlace crcOf crcBits crcBit headerOf headerRead spliceHeader spliceTime commandOf itemsOf itemsFrom stepOf completeAt readAt descriptorOf isCuei segmentationOf activeOf activeWith head front parts deliveryRestrictions mode duration writtenUpid back subSegments segmentation number bit reserved part remaining list viewed upidOf checkOf readOf walkOf _then_ plainOf lengthOf isText reportedOf listOf partsOf listed unlessRefused textOf done step within
 becomes = refl
 
 -- every identifier of either
 pub listed-before : identifiersIn incident ≡ record { level = 1; «upid_type» = 8; bytes = eightBytes } ∷ (record { level = 1; «upid_type» = 3; bytes = otherBytes } ∷ [])
-unfolding incident identifiersIn ofItem ofUpid identifiersAt kept.identifiersIn found upidHead commandLength loopLength loopPlace itemsOf itemsFrom stepOf completeAt readAt descriptorOf isCuei segmentationOf insertOf inserted head front parts deliveryRestrictions mode duration writtenUpid back subSegments segmentation number bit reserved part remaining list viewed upidOf checkOf readOf walkOf _then_ plainOf lengthOf isText reportedOf listOf partsOf listed unlessRefused textOf done step within
+unfolding incident identifiersIn ofItem ofUpid identifiersAt kept.identifiersIn found upidHead commandLength loopLength loopPlace itemsOf itemsFrom stepOf completeAt readAt descriptorOf isCuei segmentationOf activeOf activeWith head front parts deliveryRestrictions mode duration writtenUpid back subSegments segmentation number bit reserved part remaining list viewed upidOf checkOf readOf walkOf _then_ plainOf lengthOf isText reportedOf listOf partsOf listed unlessRefused textOf done step within
 listed-before = refl
 
 pub listed-after : identifiersIn incidentThen ≡ record { level = 1; «upid_type» = 3; bytes = newBytes } ∷ (record { level = 1; «upid_type» = 3; bytes = otherBytes } ∷ [])
-unfolding incidentThen identifiersIn ofItem ofUpid identifiersAt kept.identifiersIn found upidHead commandLength loopLength loopPlace itemsOf itemsFrom stepOf completeAt readAt descriptorOf isCuei segmentationOf insertOf inserted head front parts deliveryRestrictions mode duration writtenUpid back subSegments segmentation number bit reserved part remaining list viewed upidOf checkOf readOf walkOf _then_ plainOf lengthOf isText reportedOf listOf partsOf listed unlessRefused textOf done step within
+unfolding incidentThen identifiersIn ofItem ofUpid identifiersAt kept.identifiersIn found upidHead commandLength loopLength loopPlace itemsOf itemsFrom stepOf completeAt readAt descriptorOf isCuei segmentationOf activeOf activeWith head front parts deliveryRestrictions mode duration writtenUpid back subSegments segmentation number bit reserved part remaining list viewed upidOf checkOf readOf walkOf _then_ plainOf lengthOf isText reportedOf listOf partsOf listed unlessRefused textOf done step within
 listed-after = refl
 
 -- the other's bytes, in either section

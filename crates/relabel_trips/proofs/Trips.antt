@@ -11,8 +11,8 @@ use Rattle.descriptor_loop.specs.Items.{listed, itemsOf}
 use Rattle.relabel.proofs.Cuts.{loop-there}
 use Rattle.relabel.proofs.Mades.{Framing, framing, section-accepted}
 use Rattle.relabel.specs.Relabel.{payloadIn, payloadThen, sectionThen, fitting, loopMade, relabelMade}
-use Rattle.relabel_found.proofs.Inserts.{Inserted, inserted, hole-at, byte-in, fore-in, type-in, upid-in, post-in, size-all}
-use Rattle.relabel_found.specs.Found.{inserts, found, payloadAt, foreIn, typeIn, sizeIn, upidIn, postIn}
+use Rattle.relabel_found.proofs.Actives.{ActiveAt, activeWith, hole-at, byte-in, fore-in, type-in, upid-in, post-in, size-all}
+use Rattle.relabel_found.specs.Found.{isActive, found, payloadAt, foreIn, typeIn, sizeIn, upidIn, postIn}
 use Rattle.relabel_joined.specs.Relabel.{typeThen, itemThen}
 use Rattle.relabel_laws.proofs.Results.{result}
 use Rattle.relabel_laws.specs.Result.{Result}
@@ -54,8 +54,8 @@ module _ (s : List ℕ) (offset : ℕ) (x : Section) (is : sectionOf s ≡ Secti
   loop-byte : (j : ℕ) → getD (loopBytes s) j 0 < 256
   loop-byte j = subst (λ (l : List ℕ). getD l j 0 < 256) (sym (loop-there s (framing s x is .fits))) (byte-in s (16 + commandLength s) (loopLength s) bytes j)
 
-  i : Inserted (loopBytes s) offset
-  i = inserted (loopBytes s) offset there
+  i : ActiveAt (loopBytes s) offset
+  i = activeWith (loopBytes s) offset there
 
   h : Holed pay (i .x .«segmentation_event_id») (i .i)
   h = hole-at (loopBytes s) offset loop-byte i
@@ -151,7 +151,7 @@ module _ (s : List ℕ) (offset part k : ℕ) (new r : List ℕ) (bytes : (j : �
   found-there =
       let z : offset + 0 ≡ offset = omega arith in
       found-then loop offset (t .there) payThen (t .short) (new-loop-short s loopThen (t .old) (t .accepted) fits) (t .lead) _ _ (t .kept .others .new) z
-      (ap (λ (y : _). inserts (movedItem offset y)) (t .kept .own))
+      (ap (λ (y : _). isActive (movedItem offset y)) (t .kept .own))
 
   pay-is : payloadIn r offset ≡ payThen
   pay-is = ap (λ (l : List ℕ). payloadAt l offset) loop-is ∙ pay-then loop offset (t .there) payThen

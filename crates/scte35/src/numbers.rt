@@ -3,7 +3,7 @@ ghost use mathlib.Core.Path.{_≡_};
 ghost use Rattle.names.specs.Algorithm.{algorithmEntry, algorithmOf};
 ghost use Rattle.names.specs.Command.{commandEntry, commandTypeOf};
 ghost use Rattle.names.specs.Flags.{networkFlag, networkOf, returnFlag, returnOf, restrictionsBits, restrictionsOf};
-ghost use Rattle.names.specs.Segmentation.{segmentationEntry, segmentationOf};
+ghost use Rattle.names.specs.Segmentation.{segmentationEntry, segmentationTypeOf};
 ghost use Rattle.names.specs.Upid.{upidTypeEntry, upidTypeOf};
 ghost use Rattle.scte35.specs.FlatNumber.{flatName, flatAnswer};
 use names::algorithm::EncryptionAlgorithm;
@@ -80,7 +80,7 @@ pub extern "C" fn scte35_classify_upid_type(n: u8) -> FlatNumber
 
 #[no_mangle]
 pub extern "C" fn scte35_classify_segmentation_type(n: u8) -> FlatNumber
-    ensures { λ r. ⌜ r ≡ flatName segmentationEntry (segmentationOf n) ⌝ }
+    ensures { λ r. ⌜ r ≡ flatName segmentationEntry (segmentationTypeOf n) ⌝ }
 {
     let x = SegmentationTypeId::from_id(n);
     match x {

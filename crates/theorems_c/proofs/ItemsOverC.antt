@@ -34,7 +34,7 @@ use Rattle.c_descriptor_writer.proofs.Back.{descriptor-back}
 use Rattle.c_descriptor_writer.proofs.Told.{mode-count}
 use Rattle.c_descriptor_writer.specs.ItemGiven.{descriptorGiven, identifierFrom, placeFrom, byteFrom, placesFrom, eidrFrom, besideFrom, ownItem, wordsRefusal, descriptorRefusal, descriptorWordsMade}
 use Rattle.c_descriptor_writer.specs.ItemWords.{itemWords, itemWidths, placesIn, eidrIn, placeWidths, placesWithin, besideWithin, itemSeen, hasEidr, besideThere}
-use Rattle.c_descriptor_writer.proofs.Typed.{TypedSubs, TypedInsert, TypedDetail, Typed}
+use Rattle.c_descriptor_writer.proofs.Typed.{TypedSubs, TypedActive, TypedDetail, Typed}
 use Rattle.c_items.specs.FlatItem.{flatRestrictions, flatSubSegments, activeSegmentation, segmentationHead, segmentationItem, flatDescriptor, flatItem, refusalIn, valuesIn, flatStep, flatComponent, flatBeside}
 use Rattle.c_command_writer.proofs.Words.{and-unit, places-length}
 use Rattle.c_command_writer.specs.Words.{within, same, placesOf, eachPlace, refusalOf, seenFirst, noLess}
@@ -243,7 +243,7 @@ module _ (number : ℕ) (id : List ℕ) (beside : Beside) (lent : List ℕ) (sma
   unfolding within itemWidths itemWords flatDescriptor segmentationItem segmentationHead flatRestrictions flatSubSegments
   cancel-within event h = rw (lt-ltb number (2 ^ 32) small, lt-ltb event (2 ^ 32) h)
 
-  module _ (event : ℕ) (i : SegmentationDetail) (ev : event < 2 ^ 32) (ty : TypedInsert i) where
+  module _ (event : ℕ) (i : SegmentationDetail) (ev : event < 2 ^ 32) (ty : TypedActive i) where
     abbrev x : SegmentationDescriptor
     x = record { «segmentation_event_id» = event; «descriptor_detail» = DescriptorDetail.Active i }
 

@@ -24,7 +24,7 @@ use Rattle.descriptor_measure.proofs.Refusals.{within-append}
 use Rattle.descriptor_measure.specs.Private.{deliveryFields, modeFields, durationFields, upidFields, subFields, backFields, segmentFields}
 use Rattle.descriptor_measure.specs.Writing.{enveloped, envelopedMade, alone, writtenType, writtenUpid, writtenDetail, written, upidIn, upidSource, segmentationMade, payloadMade, tagOf, identifierOf, descriptorMade, countBeside}
 use Rattle.c_descriptor_writer.proofs.Own.{agree}
-use Rattle.c_descriptor_writer.proofs.Typed.{TypedMode, TypedSubs, TypedInsert, TypedDetail, Typed}
+use Rattle.c_descriptor_writer.proofs.Typed.{TypedMode, TypedSubs, TypedActive, TypedDetail, Typed}
 use Rattle.names.specs.Segmentation.{segmentationNumber}
 use Rattle.table.proofs.Lists.{zero-one, and-true}
 use Rattle.table.proofs.Structure.{wrote}
@@ -69,7 +69,7 @@ upid-typed u w = go (eqb (u .«upid_type») 10) refl (eqb (u .«upid_type») 6) 
     go false e false f d w = ltb-true _ _ (and-true (ltb (u .«upid_type») (2 ^ 8)) _ w .0)
 
 insert-typed : (event : ℕ) (i : SegmentationDetail) (cs : List SegmentationComponent) → within (segmentFields event (DescriptorDetail.Active i) cs) ≡ true → writableDetail (DescriptorDetail.Active i) ≡ true
-    → (event < 2 ^ 32) × TypedInsert i
+    → (event < 2 ^ 32) × TypedActive i
 unfolding segmentFields writableDetail writableFront
 insert-typed event i cs w f =
     let delivery = deliveryFields (i .«delivery_restrictions») in

@@ -11,7 +11,7 @@ use Rattle.command.specs.Insert.{insert}
 use Rattle.command.specs.Private.{insertRead}
 use Rattle.crc.specs.Crc.{crcOf}
 use Rattle.crc_table.specs.Turns.{reversed, turns}
-use Rattle.descriptor.specs.Descriptor.{availOf, descriptorOf, dtmfOf, isCuei, reservedOf, segmentationOf as descriptorSegmentationOf, timeOf}
+use Rattle.descriptor.specs.Descriptor.{availOf, descriptorOf, dtmfOf, isCuei, reservedOf, segmentationTypeOf as descriptorSegmentationOf, timeOf}
 use Rattle.descriptor.specs.Full.{besideRead, blankBeside, identifierRead, fullOf}
 use Rattle.header.specs.Header.{headerOf}
 use Rattle.header_numbers.specs.Numbers.{numbersRead}
@@ -21,7 +21,7 @@ use Rattle.descriptor_loop.specs.Place.{viewOf}
 use Rattle.names.specs.Algorithm.{algorithmNumber, algorithmOf, writableAlgorithm}
 use Rattle.names.specs.Command.{commandNumber, commandTypeOf, writableCommand}
 use Rattle.names.specs.Flags.{networkAnswer, networkFlag, networkOf, restrictionsAnswer, restrictionsBits, restrictionsOf, returnAnswer, returnFlag, returnOf}
-use Rattle.names.specs.Segmentation.{writableSegmentation, segmentationNumber, segmentationOf}
+use Rattle.names.specs.Segmentation.{writableSegmentation, segmentationNumber, segmentationTypeOf}
 use Rattle.names.specs.Upid.{writableUpidType, upidTypeNumber, upidTypeOf}
 use Rattle.names.specs.declared.flags.NetworkRead.{NetworkRead}
 use Rattle.names.specs.declared.flags.RestrictionsRead.{RestrictionsRead}
@@ -248,7 +248,7 @@ upid-type-id-answers = record { takes-any = λ κ a. tt; is = λ κ a r e l. l }
 pub upid-type-writable-answers : Answers upid-type-writable.Asked upid-type-writable.Learnt (λ κ r e. r) (λ κ a. writableUpidType (a .0))
 upid-type-writable-answers = record { takes-any = λ κ a. tt; is = λ κ a r e l. l }
 
-pub segmentation-type-from-id-answers : Answers segmentation-type-from-id.Asked segmentation-type-from-id.Learnt (λ κ r e. r) (λ κ a. segmentationOf (a .0))
+pub segmentation-type-from-id-answers : Answers segmentation-type-from-id.Asked segmentation-type-from-id.Learnt (λ κ r e. r) (λ κ a. segmentationTypeOf (a .0))
 segmentation-type-from-id-answers = record { takes-any = λ κ a. tt; is = λ κ a r e l. l }
 
 pub segmentation-type-id-answers : Answers segmentation-type-id.Asked segmentation-type-id.Learnt (λ κ r e. r) (λ κ a. segmentationNumber (a .0))

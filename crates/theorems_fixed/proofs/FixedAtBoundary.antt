@@ -22,7 +22,7 @@ use Rattle.descriptor_loop.specs.Items.{readingOf, stepOf}
 use Rattle.names.specs.Algorithm.{algorithmEntry, algorithmOf}
 use Rattle.names.specs.Command.{commandEntry, commandTypeOf}
 use Rattle.names.specs.Flags.{networkFlag, networkOf, restrictionsBits, restrictionsOf, returnFlag, returnOf}
-use Rattle.names.specs.Segmentation.{segmentationEntry, segmentationOf}
+use Rattle.names.specs.Segmentation.{segmentationEntry, segmentationTypeOf}
 use Rattle.names.specs.Upid.{upidTypeEntry, upidTypeOf}
 use Rattle.bit_stores.specs.Written.{answerOf, laterOf}
 use Rattle.scte35.specs.FlatNumber.{flatAnswer, flatName, timeHanded}
@@ -220,7 +220,7 @@ scte35-classify-command-type-answers = record { takes-any = λ κ a. tt; is = λ
 pub scte35-classify-upid-type-answers : Answers scte35-classify-upid-type.Asked scte35-classify-upid-type.Learnt (λ κ r e. r) (λ κ a. flatName upidTypeEntry (upidTypeOf (a .0)))
 scte35-classify-upid-type-answers = record { takes-any = λ κ a. tt; is = λ κ a r e l. l }
 
-pub scte35-classify-segmentation-type-answers : Answers scte35-classify-segmentation-type.Asked scte35-classify-segmentation-type.Learnt (λ κ r e. r) (λ κ a. flatName segmentationEntry (segmentationOf (a .0)))
+pub scte35-classify-segmentation-type-answers : Answers scte35-classify-segmentation-type.Asked scte35-classify-segmentation-type.Learnt (λ κ r e. r) (λ κ a. flatName segmentationEntry (segmentationTypeOf (a .0)))
 scte35-classify-segmentation-type-answers = record { takes-any = λ κ a. tt; is = λ κ a r e l. l }
 
 pub scte35-classify-network-indicator-answers : Answers scte35-classify-network-indicator.Asked scte35-classify-network-indicator.Learnt (λ κ r e. r) (λ κ a. flatAnswer networkFlag (networkOf (a .0)))

@@ -9,14 +9,14 @@ use Rattle.relabel_found.specs.Found.{spots}
 use Rattle.relabel_payload.specs.Payload.{upidHead}
 use Rattle.relabel_upid.specs.Relabel.{upTo, upidMade}
 use Rattle.relabel.proofs.relabel.Reads as relabel
-use Rattle.relabel_found.proofs.spots_insert.Reads as spots-insert
+use Rattle.relabel_found.proofs.spots_active.Reads as spots-active
 use Rattle.relabel_found.proofs.upid_head.Reads as upid-head
 use Rattle.relabel_upid.proofs.relabel_upid.Reads as relabel-upid
 use Rattle.scte35.proofs.relabelling.scte35_relabel.Reads as scte35-relabel
 use Rattle.theorems_fixed.specs.FixedAnswers.{Answers}
 
-pub spots-insert-answers : Answers spots-insert.Asked spots-insert.Learnt (λ κ r e. r) (λ κ a. spots (now (a .0)) (a .1 .0))
-spots-insert-answers = record { takes-any = λ κ a. tt; is = λ κ a r e l. l }
+pub spots-active-answers : Answers spots-active.Asked spots-active.Learnt (λ κ r e. r) (λ κ a. spots (now (a .0)) (a .1 .0))
+spots-active-answers = record { takes-any = λ κ a. tt; is = λ κ a r e l. l }
 
 pub upid-head-answers : Answers upid-head.Asked upid-head.Learnt (λ κ r e. r) (λ κ a. upidHead (now (a .0)))
 upid-head-answers = record { takes-any = λ κ a. tt; is = λ κ a r e l. l }

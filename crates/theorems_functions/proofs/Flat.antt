@@ -148,7 +148,7 @@ module _ (s : List ℕ) (base : ℕ) (loop : List ℕ) where
 
 pub record UpidOf (k : ℕ) (st : Step) : Type 0 where
   pub descriptor : SegmentationDescriptor
-  pub insert : SegmentationDetail
+  pub active : SegmentationDetail
   pub is : st .item ≡ Item.Is (Descriptor.Segmentation descriptor)
   pub detail : descriptor .«descriptor_detail» ≡ DescriptorDetail.Active insert
   pub «upid_type» : insert .«segmentation_upid» .«upid_type» ≡ k

@@ -197,7 +197,7 @@ unfolding flatBeside
 eidr-lies s f offset i b a x q r four ten =
     let e : i ≡ flatStep (stepOf (loopIn s (x .section)) offset) = reads-item-so q ∙ ap (λ (l : List ℕ). flatStep (stepOf l offset)) (x .loop) in
     let m = flat.upid-of-item 10 (stepOf (loopIn s (x .section)) offset) (ap (λ (v : FlatStep). v .item .kind) (sym e) ∙ four) (ap (λ (v : FlatStep). v .item .segmentation .«segmentation_upid_type») (sym e) ∙ ten) in
-    let w = reading.every-upid-of-the-section-is-whole s (x .section) (x .is) offset (m .descriptor) (m .insert) (m .is) (m .detail) a .eidr (m .«upid_type») in
+    let w = reading.every-upid-of-the-section-is-whole s (x .section) (x .is) offset (m .descriptor) (m .active) (m .is) (m .detail) a .eidr (m .«upid_type») in
     let g : b .eidr ≡ readingOf (loopIn s (x .section)) offset .beside .eidr = ap (λ (v : FlatBeside). v .eidr) (reads-beside-so r ∙ ap (λ (l : List ℕ). flatBeside (readingOf l offset)) (x .loop)) in
     subst (λ (n : ℕ). (getD s (upidAt s (n + offset + 6)) 0 ≡ 10) × (getD s (upidAt s (n + offset + 6) + 1) 0 ≡ 12) × Slice s (upidAt s (n + offset + 6) + 2) 12 (b .eidr)) (sym (x .base))
     (subst (λ (y : List ℕ). (getD s (upidAt s (x .section .descriptors .at + offset + 6)) 0 ≡ 10) × (getD s (upidAt s (x .section .descriptors .at + offset + 6) + 1) 0 ≡ 12)
@@ -244,15 +244,15 @@ mid-lies : (s : List ℕ) (f : FlatSection) (offset : ℕ) (i : FlatStep) (u : F
 mid-lies s f offset i u x q four mid r =
     let e : i ≡ flatStep (stepOf (loopIn s (x .section)) offset) = reads-item-so q ∙ ap (λ (l : List ℕ). flatStep (stepOf l offset)) (x .loop) in
     let m = flat.upid-of-item 13 (stepOf (loopIn s (x .section)) offset) (ap (λ (v : FlatStep). v .item .kind) (sym e) ∙ four) (ap (λ (v : FlatStep). v .item .segmentation .«segmentation_upid_type») (sym e) ∙ mid) in
-    let v : i .item .bytes ≡ flatView (m .insert .«segmentation_upid» .bytes) = ap (λ (v : FlatStep). v .item .bytes) e ∙ m .bytes in
-    let w : Unsplit s (inLent (x .section .descriptors .at) (loopIn s (x .section)) (m .insert .«segmentation_upid» .bytes)) =
-    reading.no-mid-that-is-read-is-split s (x .section) (x .is) offset (m .descriptor) (m .insert) (m .is) (m .detail) (m .«upid_type») in
-    let b : taken (taken s (f .descriptors)) (i .item .bytes) ≡ viewed (loopIn s (x .section)) (m .insert .«segmentation_upid» .bytes) =
-    ap (λ (l : List ℕ). taken l (i .item .bytes)) (x .loop) ∙ ap (taken (loopIn s (x .section))) v ∙ sym (viewed-is (loopIn s (x .section)) (m .insert .«segmentation_upid» .bytes) (viewed-inside (loopIn s (x .section)) (m .insert .«segmentation_upid» .bytes) (some-byte _ (w .accepted)))) in
-    let k : ReadsUpidC 13 (viewed (loopIn s (x .section)) (m .insert .«segmentation_upid» .bytes)) u = rw b at r in
+    let v : i .item .bytes ≡ flatView (m .active .«segmentation_upid» .bytes) = ap (λ (v : FlatStep). v .item .bytes) e ∙ m .bytes in
+    let w : Unsplit s (inLent (x .section .descriptors .at) (loopIn s (x .section)) (m .active .«segmentation_upid» .bytes)) =
+    reading.no-mid-that-is-read-is-split s (x .section) (x .is) offset (m .descriptor) (m .active) (m .is) (m .detail) (m .«upid_type») in
+    let b : taken (taken s (f .descriptors)) (i .item .bytes) ≡ viewed (loopIn s (x .section)) (m .active .«segmentation_upid» .bytes) =
+    ap (λ (l : List ℕ). taken l (i .item .bytes)) (x .loop) ∙ ap (taken (loopIn s (x .section))) v ∙ sym (viewed-is (loopIn s (x .section)) (m .active .«segmentation_upid» .bytes) (viewed-inside (loopIn s (x .section)) (m .active .«segmentation_upid» .bytes) (some-byte _ (w .accepted)))) in
+    let k : ReadsUpidC 13 (viewed (loopIn s (x .section)) (m .active .«segmentation_upid» .bytes)) u = rw b at r in
     let p = the-parts-over-c-are-those-of-the-upid 13 _ u k in
-    let lie : All (PartLies s (x .section .descriptors .at + m .insert .«segmentation_upid» .bytes .at)) (take (u .count) (u .parts)) = (parts-lie s (inLent (x .section .descriptors .at) (loopIn s (x .section)) (m .insert .«segmentation_upid» .bytes)) (p .2) (w .parts)) in
-    let there : x .section .descriptors .at + m .insert .«segmentation_upid» .bytes .at ≡ f .descriptors .at + i .item .bytes .at = omega (arith, x .base, ap (λ (y : FlatView). y .at) v) in
+    let lie : All (PartLies s (x .section .descriptors .at + m .active .«segmentation_upid» .bytes .at)) (take (u .count) (u .parts)) = (parts-lie s (inLent (x .section .descriptors .at) (loopIn s (x .section)) (m .active .«segmentation_upid» .bytes)) (p .2) (w .parts)) in
+    let there : x .section .descriptors .at + m .active .«segmentation_upid» .bytes .at ≡ f .descriptors .at + i .item .bytes .at = omega (arith, x .base, ap (λ (y : FlatView). y .at) v) in
     (p .0 ∙ ap upidRefusal (w .accepted), subst (λ (n : ℕ). All (PartLies s n) (take (u .count) (u .parts))) there lie)
 
 -- So of a MID of the section: each part, at every level, lies in the section where it says, with as many bytes as its own head announces, of the type that is written there

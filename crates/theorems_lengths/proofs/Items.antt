@@ -9,7 +9,7 @@ use lib.Dec.{leb, eqb, ltb}
 use lib.ListN.{length, take, drop, getD, length-take, length-drop, length-append}
 use borrow.Author.Tests.{leb-true}
 use Rattle.descriptor.proofs.Plains.{reserved-is}
-use Rattle.descriptor.specs.Descriptor.{_andThen_, reportedUpid, ifFine, availOf, dtmfOf, timeOf, reservedOf, inserted, insertOf, segmentationOf, isCuei, descriptorOf}
+use Rattle.descriptor.specs.Descriptor.{_andThen_, reportedUpid, ifFine, availOf, dtmfOf, timeOf, reservedOf, activeWith, activeOf, segmentationOf, isCuei, descriptorOf}
 use Rattle.descriptor.specs.Plain.{avail, dtmf, time}
 use Rattle.descriptor.specs.Segmentation.{head, front, back}
 use Rattle.descriptor.specs.Full.{besideRead, identifierRead}
@@ -94,16 +94,16 @@ if-fine (UpidRead.Fine q) v k f = f (reportedUpid q v)
 if-fine (UpidRead.Refused r) v k f = tt
 
 module _ (s : List ℕ) where
-  in-insert : (event at : ℕ) → Tagged (insertOf s event at)
-  unfolding insertOf inserted
-  in-insert event at =
+  in-active : (event at : ℕ) → Tagged (activeOf s event at)
+  unfolding activeOf activeWith
+  in-active event at =
       and-then (parse front (bitsOf s) at) _ λ f m.
       if-fine (checkOf (f .front .«segmentation_upid» .«upid_type») (viewed s (f .front .«segmentation_upid» .bytes))) (f .front .«segmentation_upid» .bytes) _ λ u.
       and-then (parse back (bitsOf s) m) _ λ b n. omega arith
 
   in-segmentation : Tagged (segmentationOf s)
   unfolding segmentationOf
-  in-segmentation = and-then (parse head (bitsOf s) 0) _ λ h m. picked (h .cancel) _ _ (omega arith) (in-insert (h .event) m)
+  in-segmentation = and-then (parse head (bitsOf s) 0) _ λ h m. picked (h .cancel) _ _ (omega arith) (in-active (h .event) m)
 
   in-avail : Tagged (availOf s)
   unfolding availOf

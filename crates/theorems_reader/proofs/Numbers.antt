@@ -23,7 +23,7 @@ use Rattle.names.specs.Algorithm.{algorithmEntry, otherAlgorithm, algorithms, a
 use Rattle.names.specs.Command.{commandEntry, commands, commandTypeOf, writableCommand}
 use Rattle.names.specs.Flags.{restrictionsBits, restrictionsOf}
 use Rattle.names.specs.Numbering.{Numbering, numberIn, classIn, named, nameOf, or, valueOf, writable}
-use Rattle.names.specs.Segmentation.{segmentationEntry, segmentations, segmentationOf, writableSegmentation}
+use Rattle.names.specs.Segmentation.{segmentationEntry, segmentations, segmentationTypeOf, writableSegmentation}
 use Rattle.names.specs.Upid.{upidTypeEntry, upidTypes, upidTypeOf, writableUpidType}
 use Rattle.names.specs.declared.algorithm.EncryptionAlgorithm.{EncryptionAlgorithm}
 use Rattle.names.specs.declared.command.SpliceCommandType.{SpliceCommandType}
@@ -99,8 +99,8 @@ pub upid-types-by : OnlyBy upidTypeEntry SegmentationUpidType.Reserved upidTypeO
 unfolding upidTypeOf writableUpidType
 upid-types-by = only-by-table upidTypes (tagOf declared-upid.the-type) upid.sound (λ n e. omega arith)
 
-pub segmentations-by : OnlyBy segmentationEntry SegmentationTypeId.Reserved segmentationOf writableSegmentation
-unfolding segmentationOf writableSegmentation
+pub segmentations-by : OnlyBy segmentationEntry SegmentationTypeId.Reserved segmentationTypeOf writableSegmentation
+unfolding segmentationTypeOf writableSegmentation
 segmentations-by = only-by-table segmentations (tagOf declared-segmentation.the-type) segmentation.sound (λ n e. omega arith)
 
 -- ---- device_restrictions: each number of two bits has a name

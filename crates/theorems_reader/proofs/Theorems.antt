@@ -34,7 +34,7 @@ use Rattle.descriptor_loop.specs.declared.Item.{Item}
 use Rattle.names.specs.Algorithm.{algorithmEntry, otherAlgorithm, algorithmOf, writableAlgorithm}
 use Rattle.names.specs.Command.{commandEntry, commandTypeOf, writableCommand}
 use Rattle.names.specs.Flags.{restrictionsBits}
-use Rattle.names.specs.Segmentation.{segmentationEntry, segmentationOf, writableSegmentation}
+use Rattle.names.specs.Segmentation.{segmentationEntry, segmentationTypeOf, writableSegmentation}
 use Rattle.names.specs.Upid.{upidTypeEntry, upidTypeOf, writableUpidType}
 use Rattle.names.specs.declared.command.SpliceCommandType.{SpliceCommandType}
 use Rattle.names.specs.declared.flags.DeviceRestrictions.{DeviceRestrictions}
@@ -214,7 +214,7 @@ command-types-go-by-their-table = numbers.commands-by
 pub upid-types-go-by-their-table : OnlyBy upidTypeEntry SegmentationUpidType.Reserved upidTypeOf writableUpidType
 upid-types-go-by-their-table = numbers.upid-types-by
 
-pub segmentation-types-go-by-their-table : OnlyBy segmentationEntry SegmentationTypeId.Reserved segmentationOf writableSegmentation
+pub segmentation-types-go-by-their-table : OnlyBy segmentationEntry SegmentationTypeId.Reserved segmentationTypeOf writableSegmentation
 segmentation-types-go-by-their-table = numbers.segmentations-by
 
 -- of device_restrictions each number of two bits has a name

@@ -16,9 +16,9 @@ use Rattle.upid.specs.Upid as upid
 use Rattle.upid.specs.Upid.{checkOf}
 use Rattle.upid.specs.declared.UpidRead.{UpidRead}
 use Rattle.upid.specs.declared.UpidRead.the-variants.{Fine, Refused}
-use Rattle.descriptor.specs.Descriptor.{_andThen_, reportedUpid, ifFine, availOf, dtmfOf, timeOf, reservedOf, inserted, insertOf, segmentationOf, isCuei, descriptorOf}
+use Rattle.descriptor.specs.Descriptor.{_andThen_, reportedUpid, ifFine, availOf, dtmfOf, timeOf, reservedOf, activeWith, activeOf, segmentationOf, isCuei, descriptorOf}
 use Rattle.descriptor.specs.Plain.{avail, dtmf, time, privateBytes}
-use Rattle.descriptor.specs.Segmentation.{ListedFront, Head, head, front, back, insertFrom, segmentation}
+use Rattle.descriptor.specs.Segmentation.{ListedFront, Head, head, front, back, activeFrom, segmentation}
 use Rattle.descriptor.specs.Full.{besideIn, besideOf}
 use Rattle.descriptor.specs.declared.DescriptorRead.{DescriptorRead}
 use Rattle.descriptor.specs.declared.segmentation.DescriptorDetail.{DescriptorDetail}
@@ -63,7 +63,7 @@ module _ (s : List ℕ) where
     source f m₁ b m₂ q ef eb ec =
         let w : SegmentationUpid = f .front .«segmentation_upid» in
         let g : parse segmentation (bitsOf s) 0 ≡ got (record {
-          descriptor = record { «segmentation_event_id» = h .event; «descriptor_detail» = DescriptorDetail.Active (insertFrom (f .front) w b) };
+          descriptor = record { «segmentation_event_id» = h .event; «descriptor_detail» = DescriptorDetail.Active (activeFrom (f .front) w b) };
           components = f .components;
         }) m₂ =
         takes-in head _ _ (bitsOf s) 0 h m eh
@@ -72,9 +72,9 @@ module _ (s : List ℕ) where
         ∙ takes-in back _ _ (bitsOf s) m₁ b m₂ eb) in
         record { written = w; checked = ec; is = refl; beside = rw g; start = ap upidStart g }
 
-    in-insert : Every (insertOf s (h .event) m)
-    unfolding insertOf inserted
-    in-insert =
+    in-active : Every (activeOf s (h .event) m)
+    unfolding activeOf activeWith
+    in-active =
         and-then (parse front (bitsOf s) m) _ λ f m₁ ef.
         let w : SegmentationUpid = f .front .«segmentation_upid» in
         if-fine (checkOf (w .«upid_type») (viewed s (w .bytes))) (w .bytes) _ λ q ec.
@@ -83,7 +83,7 @@ module _ (s : List ℕ) where
 
   in-segmentation : Every (segmentationOf s)
   unfolding segmentationOf
-  in-segmentation = and-then (parse head (bitsOf s) 0) _ λ h m e. picked (h .cancel) _ _ (λ on. none) (λ off. in-insert h m e off)
+  in-segmentation = and-then (parse head (bitsOf s) 0) _ λ h m e. picked (h .cancel) _ _ (λ on. none) (λ off. in-active h m e off)
 
   in-avail : Every (availOf s)
   unfolding availOf

@@ -21,9 +21,9 @@ use Rattle.upid.specs.declared.Refusal.the-variants.{InputTooLong, NotEnoughDat
 use Rattle.upid.specs.declared.UpidRead.{UpidRead}
 use Rattle.upid.specs.declared.UpidRead.the-variants.{Fine, Refused}
 use Rattle.descriptor.proofs.Plains.{reserved-is}
-use Rattle.descriptor.specs.Descriptor.{_andThen_, movedRefusal, reportedUpid, ifFine, availOf, dtmfOf, timeOf, reservedOf, inserted, insertOf, segmentationOf, isCuei, descriptorOf}
+use Rattle.descriptor.specs.Descriptor.{_andThen_, movedRefusal, reportedUpid, ifFine, availOf, dtmfOf, timeOf, reservedOf, activeWith, activeOf, segmentationOf, isCuei, descriptorOf}
 use Rattle.descriptor.specs.Plain.{avail, dtmf, time}
-use Rattle.descriptor.specs.Segmentation.{ListedFront, Head, head, front, back, insertFrom, segmentation, modeSize, durationSize, fieldsBefore}
+use Rattle.descriptor.specs.Segmentation.{ListedFront, Head, head, front, back, activeFrom, segmentation, modeSize, durationSize, fieldsBefore}
 use Rattle.descriptor.specs.Full.{besideIn, besideOf}
 use Rattle.descriptor.specs.declared.Descriptor.{Descriptor}
 use Rattle.descriptor.specs.declared.DescriptorRead.{DescriptorRead}
@@ -121,11 +121,11 @@ module _ (s : List ℕ) (bytes : (k : ℕ) → getD s k 0 < 256) where
   module _ (h : Head) (m : ℕ) (eh : parse head (bitsOf s) 0 ≡ got h m) (off : h .cancel ≡ false) where
     told : (f : ListedFront) (m₁ : ℕ) (b : _) (m₂ q : ℕ) → parse front (bitsOf s) m ≡ got f m₁ → parse back (bitsOf s) m₁ ≡ got b m₂ → Placed s bytes f
         → checkOf (f .front .«segmentation_upid» .«upid_type») (viewed s (f .front .«segmentation_upid» .bytes)) ≡ Fine q
-        → Told s (insertFrom (f .front) (reportedUpid q (f .front .«segmentation_upid» .bytes)) b)
+        → Told s (activeFrom (f .front) (reportedUpid q (f .front .«segmentation_upid» .bytes)) b)
     unfolding segmentation besideOf besideIn
     told f m₁ b m₂ q ef eb p ec =
         let g : parse segmentation (bitsOf s) 0 ≡ got (record {
-          descriptor = record { «segmentation_event_id» = h .event; «descriptor_detail» = DescriptorDetail.Active (insertFrom (f .front) (f .front .«segmentation_upid») b) };
+          descriptor = record { «segmentation_event_id» = h .event; «descriptor_detail» = DescriptorDetail.Active (activeFrom (f .front) (f .front .«segmentation_upid») b) };
           components = f .components;
         }) m₂ =
         takes-in head _ _ (bitsOf s) 0 h m eh
@@ -140,9 +140,9 @@ module _ (s : List ℕ) (bytes : (k : ℕ) → getD s k 0 < 256) where
           beside = rw g (ap (λ (u : SegmentationUpid). upid.eidrOf (u .«upid_type») (viewed s (u .bytes))) (p .is));
         }
 
-    in-insert : Says s (insertOf s (h .event) m)
-    unfolding insertOf inserted
-    in-insert =
+    in-active : Says s (activeOf s (h .event) m)
+    unfolding activeOf activeWith
+    in-active =
         and-then (parse front (bitsOf s) m) _ λ f m₁ ef.
         let p : Placed s bytes f = front-told s bytes f m₁ (sym (ap (parse front (bitsOf s)) (head-ends s h m eh)) ∙ ef) in
         let w : SegmentationUpid = f .front .«segmentation_upid» in
@@ -154,7 +154,7 @@ module _ (s : List ℕ) (bytes : (k : ℕ) → getD s k 0 < 256) where
 
   in-segmentation : Says s (segmentationOf s)
   unfolding segmentationOf
-  in-segmentation = and-then (parse head (bitsOf s) 0) _ λ h m e. picked (h .cancel) _ _ (λ on. head-cancels s bytes h m e on) (λ off. in-insert h m e off)
+  in-segmentation = and-then (parse head (bitsOf s) 0) _ λ h m e. picked (h .cancel) _ _ (λ on. head-cancels s bytes h m e on) (λ off. in-active h m e off)
 
   -- ---- the others
 

@@ -16,8 +16,8 @@ use Rattle.relabel.proofs.Cuts.{spotted, pay-size, section-size, own-is, upid-i
 use Rattle.relabel.proofs.Mades.{Framing, framing}
 use Rattle.relabel.specs.Private.{Spotted}
 use Rattle.relabel.specs.Relabel.{payloadIn, payloadThen, sectionThen, fitting, loopMade, relabelMade}
-use Rattle.relabel_found.proofs.Inserts.{Inserted, inserted, hole-at, byte-in, type-in, upid-in, size-in}
-use Rattle.relabel_found.specs.Found.{begins, inserts, found, typeIn, sizeIn, upidIn}
+use Rattle.relabel_found.proofs.Actives.{ActiveAt, active-at, hole-at, byte-in, type-in, upid-in, size-in}
+use Rattle.relabel_found.specs.Found.{begins, isActive, found, typeIn, sizeIn, upidIn}
 use Rattle.relabel_laws.proofs.Results.{accepted-of}
 use Rattle.relabel_payload.specs.Payload.{Holed}
 use Rattle.relabel_upid.proofs.Answers.{Done, done, own-short, has-parts, taken-accepted, accepted-taken}
@@ -39,23 +39,23 @@ use Rattle.upid.specs.Private.{Accepted}
 use Rattle.upid.specs.Upid.{checkOf, readOf, upidOf, partsIn, listOf}
 use Rattle.upid.specs.declared.Part.{Part}
 use Rattle.upid.specs.declared.UpidRead.{UpidRead}
-use Rattle.theorems_relabel.specs.Answered.{noInsert, noPart, unfit, sizeThen, inAccepted, answered}
+use Rattle.theorems_relabel.specs.Answered.{noActive, noPart, unfit, sizeThen, inAccepted, answered}
 use Rattle.theorems_relabel.specs.Replaced.{Request, runOf, upidFor, typeFor}
 
 -- ---- the item
 
-no-insert : (loop : List ℕ) (offset : ℕ) (xs : List Listed) → All (λ (y : Listed). y .step ≡ stepOf loop (y .offset)) xs
-    → noInsert offset xs ≡ not (begins xs offset && inserts (stepOf loop offset .item))
-unfolding noInsert begins
-no-insert loop offset [] none = refl
-no-insert loop offset (y ∷ ys) (more h hs) = go (eqb (y .offset) offset) refl (no-insert loop offset ys hs)
+no-active : (loop : List ℕ) (offset : ℕ) (xs : List Listed) → All (λ (y : Listed). y .step ≡ stepOf loop (y .offset)) xs
+    → noActive offset xs ≡ not (begins xs offset && isActive (stepOf loop offset .item))
+unfolding noActive begins
+no-active loop offset [] none = refl
+no-active loop offset (y ∷ ys) (more h hs) = go (eqb (y .offset) offset) refl (no-active loop offset ys hs)
   where
-    go : (b : Bool) → eqb (y .offset) offset ≡ b → noInsert offset ys ≡ not (begins ys offset && inserts (stepOf loop offset .item))
-        → pick b (not (inserts (y .step .item))) (noInsert offset ys) ≡ not ((b || begins ys offset) && inserts (stepOf loop offset .item))
-    go true e rest = ap (λ (z : Step). not (inserts (z .item))) (h ∙ ap (stepOf loop) (eqb-true (y .offset) offset e))
+    go : (b : Bool) → eqb (y .offset) offset ≡ b → noActive offset ys ≡ not (begins ys offset && isActive (stepOf loop offset .item))
+        → pick b (not (isActive (y .step .item))) (noActive offset ys) ≡ not ((b || begins ys offset) && isActive (stepOf loop offset .item))
+    go true e rest = ap (λ (z : Step). not (isActive (z .item))) (h ∙ ap (stepOf loop) (eqb-true (y .offset) offset e))
     go false e rest = rest
 
-found-is : (loop : List ℕ) (offset : ℕ) → not (begins (itemsOf loop) offset && inserts (stepOf loop offset .item)) ≡ not (found loop offset)
+found-is : (loop : List ℕ) (offset : ℕ) → not (begins (itemsOf loop) offset && isActive (stepOf loop offset .item)) ≡ not (found loop offset)
 unfolding found
 found-is loop offset = refl
 
@@ -101,7 +101,7 @@ ordered q room =
     (pick (ltb 255 (sizeThen q (length (upidFor q)))) (Written.Refused 32)
     (pick (unfit (q .part) (q .«upid_type») (q .bytes)) (Written.Refused 33) (sized q room)))
 
-module _ (s : List ℕ) (offset k : ℕ) (new target : List ℕ) (at : Spotted s offset) (x : Inserted (loopBytes s) offset) where
+module _ (s : List ℕ) (offset k : ℕ) (new target : List ℕ) (at : Spotted s offset) (x : ActiveAt (loopBytes s) offset) where
   abbrev top : List ℕ
   top = upidIn (payloadIn s offset)
 
@@ -208,7 +208,7 @@ module _ (q : Request) (target : List ℕ) (bytes : (j : ℕ) → getD (q .secti
   in-loop x e =
       let f = framing s x e in
       let fits : length loop ≤ 4076 = omega (arith, loop-size s (q .offset) bytes (f .fits) (f .short), f .fits, f .short) in
-      let n : noInsert (q .offset) (itemsOf loop) ≡ not (found loop (q .offset)) = no-insert loop (q .offset) (itemsOf loop) (each-item (λ o inside. refl) (walked loop fits)) ∙ found-is loop (q .offset) in
+      let n : noActive (q .offset) (itemsOf loop) ≡ not (found loop (q .offset)) = no-active loop (q .offset) (itemsOf loop) (each-item (λ o inside. refl) (walked loop fits)) ∙ found-is loop (q .offset) in
       rw n (go f (found loop (q .offset)) refl)
     where
       go : Framing s x → (b : Bool) → found loop (q .offset) ≡ b
@@ -217,7 +217,7 @@ module _ (q : Request) (target : List ℕ) (bytes : (j : ℕ) → getD (q .secti
       go f false ef = refl
       go f true ef =
           let at = spotted s (q .offset) bytes (f .fits) (f .short) ef in
-          let x = inserted loop (q .offset) ef in
+          let x = active-at loop (q .offset) ef in
           let byte-of : (j : ℕ) → getD loop j 0 < 256 = λ j. subst (λ (l : List ℕ). getD l j 0 < 256) (sym (loop-there s (f .fits))) (byte-in s (16 + commandLength s) (loopLength s) bytes j) in
           let h = hole-at loop (q .offset) byte-of x in
           let ek = type-in (payloadIn s (q .offset)) _ _ h in

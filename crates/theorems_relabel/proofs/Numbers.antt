@@ -12,7 +12,7 @@ use Rattle.c_command_writer.specs.Words.{flatWritten}
 use Rattle.descriptor_loop.specs.Items.{itemsOf}
 use Rattle.section.specs.Section.{conditions, first, loopBytes}
 use Rattle.table.specs.Bits.{pick, AllBytes}
-use Rattle.theorems_relabel.specs.Answered.{noInsert, noPart, unfit, sizeThen, inAccepted, answered}
+use Rattle.theorems_relabel.specs.Answered.{noActive, noPart, unfit, sizeThen, inAccepted, answered}
 use Rattle.theorems_relabel.specs.Replaced.{Request, upidFor, typeFor}
 
 pub all-at : (s : List ℕ) → AllBytes s → (j : ℕ) → getD s j 0 < 256
@@ -29,7 +29,7 @@ Some (Written.Refused n) = n ≡ 0 → ⊥
 some-accepted : (q : Request) (room : ℕ) → Some (inAccepted q room)
 unfolding inAccepted
 some-accepted q room =
-    go (noInsert (q .offset) (itemsOf (loopBytes (q .section)))) (noPart (typeFor q) (upidFor q) (q .part)) (ltb 255 (sizeThen q (length (upidFor q)))) (unfit (q .part) (q .«upid_type») (q .bytes))
+    go (noActive (q .offset) (itemsOf (loopBytes (q .section)))) (noPart (typeFor q) (upidFor q) (q .part)) (ltb 255 (sizeThen q (length (upidFor q)))) (unfit (q .part) (q .«upid_type») (q .bytes))
     (ltb 254 (sizeThen q (getD (loopBytes (q .section)) (q .offset + 1) 0)) || ltb 4096 (sizeThen q (length (q .section)))) (ltb room (sizeThen q (length (q .section))))
   where
     go : (a b c d e f : Bool)

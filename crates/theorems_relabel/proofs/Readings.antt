@@ -18,10 +18,10 @@ use Rattle.descriptor_loop.specs.Items.{stepOf, readingOf, Listed, listed, item
 use Rattle.descriptor_loop.specs.declared.Item.{Item}
 use Rattle.relabel.proofs.Cuts.{run-byte, pay-is, type-is, size-is, old-is, upid-is, spotted, loop-there}
 use Rattle.relabel.proofs.Mades.{Framing, framing}
-use Rattle.relabel_found.proofs.Inserts.{Inserted, inserted, hole-at, byte-in, upid-in, size-in}
+use Rattle.relabel_found.proofs.Actives.{ActiveAt, active-at, hole-at, byte-in, upid-in, size-in}
 use Rattle.relabel.specs.Private.{Spotted, headIn, placeIn, run}
 use Rattle.relabel.specs.Relabel.{payloadIn}
-use Rattle.relabel_found.specs.Found.{begins, inserts, found, payloadAt, typeIn, sizeIn, upidIn}
+use Rattle.relabel_found.specs.Found.{begins, isActive, found, payloadAt, typeIn, sizeIn, upidIn}
 use Rattle.relabel_laws.specs.Identifiers.{ofUpid, ofPayload, ofItem}
 use Rattle.relabel_payload.specs.Payload.{upidHead}
 use Rattle.relabel_upid.specs.Kept.{Identifier, identifiersOf, identifiersIn}
@@ -143,20 +143,20 @@ both : {P Q : Listed → Type 0} {xs : List Listed} → All P xs → All (λ (y 
 both none none = none
 both (more p ps) (more f fs) = more (f p) (both ps fs)
 
-found-there : (loop : List ℕ) (o : ℕ) → begins (itemsOf loop) o ≡ true → inserts (stepOf loop o .item) ≡ true → found loop o ≡ true
+found-there : (loop : List ℕ) (o : ℕ) → begins (itemsOf loop) o ≡ true → isActive (stepOf loop o .item) ≡ true → found loop o ≡ true
 unfolding found
 found-there loop o b i = rw (b, i)
 
 -- what is listed of it is listed of its payload
-payload-of : (loop : List ℕ) (o : ℕ) → found loop o ≡ true → inserts (stepOf loop o .item) ≡ true → ofItem loop (listed loop o) ≡ ofPayload (payloadAt loop o)
+payload-of : (loop : List ℕ) (o : ℕ) → found loop o ≡ true → isActive (stepOf loop o .item) ≡ true → ofItem loop (listed loop o) ≡ ofPayload (payloadAt loop o)
 unfolding ofItem
 payload-of loop o f is-so =
-    let i = inserted loop o f in
+    let i = active-at loop o f in
     let z : stepOf loop o .next - o - 6 ≡ getD loop (o + 1) 0 - 4 = omega (arith, i .next, i .named) in
     ap (λ (b : Bool). pick b (ofPayload (take (stepOf loop o .next - o - 6) (drop (o + 6) loop))) []) is-so
     ∙ ap (λ (n : ℕ). ofPayload (take n (drop (o + 6) loop))) z
 
-not-listed : (loop : List ℕ) (o : ℕ) → inserts (stepOf loop o .item) ≡ false → ofItem loop (listed loop o) ≡ []
+not-listed : (loop : List ℕ) (o : ℕ) → isActive (stepOf loop o .item) ≡ false → ofItem loop (listed loop o) ≡ []
 unfolding ofItem
 not-listed loop o h = ap (λ (b : Bool). pick b (ofPayload (take (stepOf loop o .next - o - 6) (drop (o + 6) loop))) []) h
 
@@ -174,15 +174,15 @@ module _ (s : List ℕ) (x : Section) (e : sectionOf s ≡ SectionRead.Is x) (a 
     abbrev ids : List Identifier
     ids = ofItem list (listed list o)
 
-    insert-as : (d : SegmentationDescriptor) (i : SegmentationDetail) → stepOf list o .item ≡ Item.Is (Descriptor.Segmentation d) → d .«descriptor_detail» ≡ DescriptorDetail.Active i
-        → inserts (stepOf list o .item) ≡ true → (ids ≡ ofPayload (payloadAt list o)) × ReadAs (payloadAt list o) list eidr (i .«segmentation_upid»)
-    insert-as d i st detail is-so =
+    active-as : (d : SegmentationDescriptor) (i : SegmentationDetail) → stepOf list o .item ≡ Item.Is (Descriptor.Segmentation d) → d .«descriptor_detail» ≡ DescriptorDetail.Active i
+        → isActive (stepOf list o .item) ≡ true → (ids ≡ ofPayload (payloadAt list o)) × ReadAs (payloadAt list o) list eidr (i .«segmentation_upid»)
+    active-as d i st detail is-so =
         let f = found-there list o b is-so in
         let fr = framing s x e in
         let bytes = all-at s a in
         let at = spotted s o bytes (fr .fits) (fr .short) f in
         let byte-of : (j : ℕ) → getD list j 0 < 256 = λ j. subst (λ (l : List ℕ). getD l j 0 < 256) (sym (loop-there s (fr .fits))) (byte-in s (16 + commandLength s) (loopLength s) bytes j) in
-        let h = hole-at list o byte-of (inserted list o f) in
+        let h = hole-at list o byte-of (active-at list o f) in
         let el : length (upidIn (payloadIn s o)) ≡ sizeIn (payloadIn s o) = ap length (sym (upid-in (payloadIn s o) _ _ h)) ∙ size-in (payloadIn s o) _ _ h in
         let w : WholeUpid s (upidAt s (x .descriptors .at + o + 6)) (x .descriptors .at) list eidr (i .«segmentation_upid») =
         subst (λ (l : List ℕ). stepOf l o .item ≡ Item.Is (Descriptor.Segmentation d) → WholeUpid s (upidAt s (x .descriptors .at + o + 6)) (x .descriptors .at) l (readingOf l o .beside .eidr) (i .«segmentation_upid»)) loop-here
@@ -191,17 +191,17 @@ module _ (s : List ℕ) (x : Section) (e : sectionOf s ≡ SectionRead.Is x) (a 
 
     detail-as : (d : SegmentationDescriptor) → stepOf list o .item ≡ Item.Is (Descriptor.Segmentation d) → (t : DescriptorDetail) → d .«descriptor_detail» ≡ t
         → DetailAs (payloadAt list o) list eidr ids t
-    detail-as d st DescriptorDetail.Cancel h = not-listed list o (ap inserts st ∙ ap (λ (t : DescriptorDetail). not (cancelled t)) h)
-    detail-as d st (DescriptorDetail.Active i) h = insert-as d i st h (ap inserts st ∙ ap (λ (t : DescriptorDetail). not (cancelled t)) h)
+    detail-as d st DescriptorDetail.Cancel h = not-listed list o (ap isActive st ∙ ap (λ (t : DescriptorDetail). not (cancelled t)) h)
+    detail-as d st (DescriptorDetail.Active i) h = active-as d i st h (ap isActive st ∙ ap (λ (t : DescriptorDetail). not (cancelled t)) h)
 
     item-as : (it : Item) → stepOf list o .item ≡ it → ItemAs (payloadAt list o) list eidr ids it
-    item-as Item.End st = not-listed list o (ap inserts st)
-    item-as (Item.Refused r) st = not-listed list o (ap inserts st)
-    item-as (Item.Is (Descriptor.Avail y)) st = not-listed list o (ap inserts st)
-    item-as (Item.Is (Descriptor.Dtmf y)) st = not-listed list o (ap inserts st)
+    item-as Item.End st = not-listed list o (ap isActive st)
+    item-as (Item.Refused r) st = not-listed list o (ap isActive st)
+    item-as (Item.Is (Descriptor.Avail y)) st = not-listed list o (ap isActive st)
+    item-as (Item.Is (Descriptor.Dtmf y)) st = not-listed list o (ap isActive st)
     item-as (Item.Is (Descriptor.Segmentation d)) st = detail-as d st (d .«descriptor_detail») refl
-    item-as (Item.Is (Descriptor.Time y)) st = not-listed list o (ap inserts st)
-    item-as (Item.Is (Descriptor.Reserved tag v)) st = not-listed list o (ap inserts st)
+    item-as (Item.Is (Descriptor.Time y)) st = not-listed list o (ap isActive st)
+    item-as (Item.Is (Descriptor.Reserved tag v)) st = not-listed list o (ap isActive st)
 
   pub listed-as : All (ListedAs list) (itemsOf list)
   listed-as =

@@ -6,7 +6,7 @@ use lib.Dec.{eqb, leb, ltb}
 use lib.ListN.{length, getD}
 use Rattle.bit_stores.specs.declared.Written.{Written}
 use Rattle.descriptor_loop.specs.Items.{Listed, itemsOf}
-use Rattle.relabel_found.specs.Found.{inserts}
+use Rattle.relabel_found.specs.Found.{isActive}
 use Rattle.relabel_upid.specs.Relabel.{taken}
 use Rattle.section.specs.Section.{conditions, first, loopBytes}
 use Rattle.table.specs.Bits.{pick}
@@ -14,9 +14,9 @@ use Rattle.upid.specs.Upid.{readOf, upidOf, partsIn}
 use Rattle.theorems_relabel.specs.Replaced.{Request, runOf, upidFor, typeFor}
 
 -- 41: no item among these begins at the offset that is a segmentation descriptor and not cancelled
-unfoldable pub noInsert : ℕ → List Listed → Bool
-noInsert offset [] = true
-noInsert offset (y ∷ ys) = pick (eqb (y .offset) offset) (not (inserts (y .step .item))) (noInsert offset ys)
+unfoldable pub noActive : ℕ → List Listed → Bool
+noActive offset [] = true
+noActive offset (y ∷ ys) = pick (eqb (y .offset) offset) (not (isActive (y .step .item))) (noActive offset ys)
 
 -- 41: "a UPID that is none, no such part"
 unfoldable pub noPart : ℕ → List ℕ → ℕ → Bool
@@ -35,7 +35,7 @@ sizeThen q n = n - length (runOf (upidFor q) (q .part)) + length (q .bytes)
 -- 41, 32, 33, 34, 36 in this order, or the whole section's size; the target has `room` bytes
 unfoldable pub inAccepted : Request → ℕ → Written
 inAccepted q room =
-    pick (noInsert (q .offset) (itemsOf (loopBytes (q .section)))) (Written.Refused 41)
+    pick (noActive (q .offset) (itemsOf (loopBytes (q .section)))) (Written.Refused 41)
     (pick (noPart (typeFor q) (upidFor q) (q .part)) (Written.Refused 41)
     -- 32: "more than 255 bytes of UPID"
     (pick (ltb 255 (sizeThen q (length (upidFor q)))) (Written.Refused 32)

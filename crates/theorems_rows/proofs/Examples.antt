@@ -13,7 +13,7 @@ use Rattle.command.specs.Command.{commandOf}
 use Rattle.command.specs.declared.CommandRead.{CommandRead}
 use Rattle.command.specs.declared.SpliceCommand.{SpliceCommand}
 use Rattle.crc.specs.Crc.{crcOf, crcBits, crcBit}
-use Rattle.descriptor.specs.Descriptor.{descriptorOf, isCuei, segmentationOf, insertOf, inserted}
+use Rattle.descriptor.specs.Descriptor.{descriptorOf, isCuei, segmentationOf, activeOf, activeWith}
 use Rattle.descriptor.specs.Segmentation.{deliveryRestrictions, mode, duration, writtenUpid, parts, front, subSegments, back, head, segmentation}
 use Rattle.canonical_form.specs.Descriptor.{canonicalUpid, canonicalSegmentation, canonicalPayload, canonicalDescriptor, canonicalFrom, canonicalLoop}
 use Rattle.header.specs.Header.{headerOf, headerRead, spliceHeader}
@@ -107,7 +107,7 @@ pub both-whole : Identified eightAndTwelve (
     record { start = 35; len = 24; bytes = both }
     ∷ record { start = 37; len = 8; bytes = eight }
     ∷ record { start = 47; len = 12; bytes = twelve } ∷ [])
-unfolding eightAndTwelve identifiersOf sectionOf frameOf frameIn accepted movedRead moved commandLength commandType commandBytes roomAfter loopLength loopPlace crcOf crcBits crcBit headerOf headerRead spliceHeader spliceTime commandOf itemsOf itemsFrom stepOf completeAt readAt descriptorOf isCuei segmentationOf insertOf inserted head front parts deliveryRestrictions mode duration writtenUpid back subSegments number bit reserved part remaining viewed upidOf checkOf readOf walkOf _then_ plainOf lengthOf isText reportedOf listOf partsOf listed unlessRefused textOf done step within
+unfolding eightAndTwelve identifiersOf sectionOf frameOf frameIn accepted movedRead moved commandLength commandType commandBytes roomAfter loopLength loopPlace crcOf crcBits crcBit headerOf headerRead spliceHeader spliceTime commandOf itemsOf itemsFrom stepOf completeAt readAt descriptorOf isCuei segmentationOf activeOf activeWith head front parts deliveryRestrictions mode duration writtenUpid back subSegments number bit reserved part remaining viewed upidOf checkOf readOf walkOf _then_ plainOf lengthOf isText reportedOf listOf partsOf listed unlessRefused textOf done step within
 both-whole = record {
   section = record {
     header = record {

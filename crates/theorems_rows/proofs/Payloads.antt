@@ -6,10 +6,10 @@ use mathlib.Core.Path.{_≡_, refl, ap, sym, subst, _∙_}
 use native.Mathlib.Omega.{arith}
 use lib.ListN.{length, take, drop, getD}
 use Rattle.descriptor.proofs.Plains.{avail-is, time-is, reserved-is}
-use Rattle.descriptor.specs.Descriptor.{_andThen_, ifFine, movedRefusal, reportedUpid, inserted, insertOf, segmentationOf, dtmfOf, reservedOf, isCuei, cuei, descriptorOf}
+use Rattle.descriptor.specs.Descriptor.{_andThen_, ifFine, movedRefusal, reportedUpid, activeWith, activeOf, segmentationOf, dtmfOf, reservedOf, isCuei, cuei, descriptorOf}
 use Rattle.descriptor.specs.Plain.{dtmf}
 use Rattle.descriptor.specs.Segmentation as table
-use Rattle.descriptor.specs.Segmentation.{ListedFront, Head, head, front, back, insertFrom, segmentation}
+use Rattle.descriptor.specs.Segmentation.{ListedFront, Head, head, front, back, activeFrom, segmentation}
 use Rattle.descriptor.specs.declared.Descriptor.{Descriptor}
 use Rattle.descriptor.specs.declared.DescriptorRead.{DescriptorRead}
 use Rattle.descriptor.specs.declared.plain.DTMFDescriptor.{DTMFDescriptor}
@@ -92,21 +92,21 @@ module _ (s : List ℕ) where
               (takes-in head _ _ (bitsOf s) 0 h at eh ∙ rw off (takes-in front _ _ (bitsOf s) at f m ef ∙ lacks-in back _ _ (bitsOf s) m e a eb))
               (λ u. (k, subst (λ (x : ListedFront). checkedIn s (x .front .«segmentation_upid») ≡ UpidRead.Fine k) (fore-is u) fine))
 
-          whole-reads : (b : _) (n : ℕ) → parse back (bitsOf s) m ≡ got b n → Reads (inserted (h .event) (f .front) (reportedUpid k (f .front .«segmentation_upid» .bytes)) b)
-          unfolding segmentation inserted
+          whole-reads : (b : _) (n : ℕ) → parse back (bitsOf s) m ≡ got b n → Reads (activeWith (h .event) (f .front) (reportedUpid k (f .front .«segmentation_upid» .bytes)) b)
+          unfolding segmentation activeWith
           whole-reads b n eb =
               SegmentationReads.complete
               (record {
                 descriptor = record {
                   «segmentation_event_id» = h .event;
-                  «descriptor_detail» = DescriptorDetail.Active (insertFrom (f .front) (f .front .«segmentation_upid») b);
+                  «descriptor_detail» = DescriptorDetail.Active (activeFrom (f .front) (f .front .«segmentation_upid») b);
                 };
                 components = f .components;
-              }) n (insertFrom (f .front) (f .front .«segmentation_upid») b) k
+              }) n (activeFrom (f .front) (f .front .«segmentation_upid») b) k
               (takes-in head _ _ (bitsOf s) 0 h at eh ∙ rw off (takes-in front _ _ (bitsOf s) at f m ef ∙ takes-in back _ _ (bitsOf s) m b n eb)) refl fine
 
-      insert-reads : Reads (insertOf s (h .event) at)
-      unfolding insertOf there
+      insert-reads : Reads (activeOf s (h .event) at)
+      unfolding activeOf there
       insert-reads =
           and-then (parse front (bitsOf s) at) _ no-front λ f m ef.
           let w : SegmentationUpid = f .front .«segmentation_upid» in
@@ -129,7 +129,7 @@ module _ (s : List ℕ) where
 
   refused-so : (h : Head) (at : ℕ) (f : ListedFront) (m : ℕ) (r : Refusal) → parse head (bitsOf s) 0 ≡ got h at → h .cancel ≡ false → parse front (bitsOf s) at ≡ got f m
       → checkedIn s (f .front .«segmentation_upid») ≡ UpidRead.Refused r → segmentationOf s ≡ DescriptorRead.Refused (movedRefusal (f .front .«segmentation_upid» .bytes .at) r)
-  unfolding segmentationOf insertOf
+  unfolding segmentationOf activeOf
   refused-so h at f m r eh off ef c = rw (eh, off, ef, c)
 
   is-read : {r : DescriptorRead} → Reads r → r ≡ segmentationOf s

@@ -10,7 +10,7 @@ use lib.Seq.{getD-drop}
 use borrow.Author.Tests.{eq-eqb, ne-eqb, lt-ltb, le-ltb, eqb-true}
 use Rattle.command.specs.Command.{numberOf}
 use Rattle.command.specs.declared.CommandRead.{CommandRead}
-use Rattle.descriptor.specs.Descriptor.{availOf, dtmfOf, timeOf, reservedOf, segmentationOf, insertOf, inserted, isCuei, cuei, descriptorOf, _andThen_, ifFine}
+use Rattle.descriptor.specs.Descriptor.{availOf, dtmfOf, timeOf, reservedOf, segmentationOf, activeOf, activeWith, isCuei, cuei, descriptorOf, _andThen_, ifFine}
 use Rattle.descriptor.specs.Plain.{avail, dtmf, time}
 use Rattle.descriptor.specs.Segmentation.{head, front, back}
 use Rattle.descriptor.specs.Full.{blankBeside, identifierRead}
@@ -112,22 +112,22 @@ module _ (s : List ℕ) where
       kind-pick 3 (ltb (length s) 12) (DescriptorRead.Refused (Refusal.NotEnoughData 12 (length s))) (parse time (bitsOf s) 0 andThen λ x at. DescriptorRead.Is (Descriptor.Time x)) tt
       (kind-then 3 (parse time (bitsOf s) 0) (λ x at. DescriptorRead.Is (Descriptor.Time x)) (λ x at. refl))
 
-  insert-kind : (event at : ℕ) → KindIs 2 (insertOf s event at)
-  unfolding insertOf inserted
+  insert-kind : (event at : ℕ) → KindIs 2 (activeOf s event at)
+  unfolding activeOf activeWith
   insert-kind event at =
       kind-then 2 (parse front (bitsOf s) at)
       (λ f at. ifFine (checkOf (f .front .«segmentation_upid» .«upid_type») (viewed s (f .front .«segmentation_upid» .bytes))) (f .front .«segmentation_upid» .bytes)
-      (λ u. parse back (bitsOf s) at andThen λ b at. inserted event (f .front) u b))
+      (λ u. parse back (bitsOf s) at andThen λ b at. activeWith event (f .front) u b))
       (λ f at. kind-fine 2 (checkOf (f .front .«segmentation_upid» .«upid_type») (viewed s (f .front .«segmentation_upid» .bytes))) (f .front .«segmentation_upid» .bytes)
-      (λ u. parse back (bitsOf s) at andThen λ b at. inserted event (f .front) u b)
-      (λ u. kind-then 2 (parse back (bitsOf s) at) (λ b at. inserted event (f .front) u b) (λ b at. refl)))
+      (λ u. parse back (bitsOf s) at andThen λ b at. activeWith event (f .front) u b)
+      (λ u. kind-then 2 (parse back (bitsOf s) at) (λ b at. activeWith event (f .front) u b) (λ b at. refl)))
 
   segmentation-kind : KindIs 2 (segmentationOf s)
   unfolding segmentationOf
   segmentation-kind =
       kind-then 2 (parse head (bitsOf s) 0)
-      (λ h at. pick (h .cancel) (DescriptorRead.Is (Descriptor.Segmentation (record { «segmentation_event_id» = h .event; «descriptor_detail» = DescriptorDetail.Cancel }))) (insertOf s (h .event) at))
-      (λ h at. kind-pick 2 (h .cancel) (DescriptorRead.Is (Descriptor.Segmentation (record { «segmentation_event_id» = h .event; «descriptor_detail» = DescriptorDetail.Cancel }))) (insertOf s (h .event) at)
+      (λ h at. pick (h .cancel) (DescriptorRead.Is (Descriptor.Segmentation (record { «segmentation_event_id» = h .event; «descriptor_detail» = DescriptorDetail.Cancel }))) (activeOf s (h .event) at))
+      (λ h at. kind-pick 2 (h .cancel) (DescriptorRead.Is (Descriptor.Segmentation (record { «segmentation_event_id» = h .event; «descriptor_detail» = DescriptorDetail.Cancel }))) (activeOf s (h .event) at)
       refl (insert-kind (h .event) at))
 
   -- "CUEI", and a tag of 0 to 3

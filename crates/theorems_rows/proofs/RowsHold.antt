@@ -3,7 +3,7 @@ use mathlib.Core.Path.{refl}
 use Rattle.canonical_form.specs.Command.{canonicalCommand}
 use Rattle.command.specs.Command.{commandOf, componentsOf, array}
 use Rattle.command.specs.Insert.{timeUnless, component, moded, breakDuration, ending, active, insert}
-use Rattle.descriptor.specs.Descriptor.{descriptorOf, isCuei, availOf, dtmfOf, reservedOf, segmentationOf, insertOf, inserted}
+use Rattle.descriptor.specs.Descriptor.{descriptorOf, isCuei, availOf, dtmfOf, reservedOf, segmentationOf, activeOf, activeWith}
 use Rattle.descriptor.specs.Plain.{avail, dtmf, privateBytes}
 use Rattle.descriptor.specs.Segmentation.{deliveryRestrictions, mode, duration, writtenUpid, parts, front, subSegments, back, head}
 use Rattle.splice_time.specs.Time.{spliceTime}
@@ -18,7 +18,7 @@ use Rattle.upid.specs.Upid.{upidOf, checkOf, readOf, walkOf, _then_, plainOf, l
 use Rattle.theorems_rows.specs.Rows.{insertsAre, Holds, rows}
 
 pub every-row : All Holds rows
-unfolding rows itemsOf itemsFrom stepOf completeAt readAt numberOf valuesOf upid.numberOf upid.valuesOf descriptorOf isCuei availOf dtmfOf reservedOf avail dtmf privateBytes number bit reserved part remaining list viewed upidOf checkOf readOf walkOf _then_ plainOf lengthOf isText reportedOf listOf partsOf listed unlessRefused textOf done step within commandOf canonicalCommand canonicalBy componentsOf array insert active ending moded breakDuration timeUnless component spliceTime segmentationOf insertOf inserted head front parts deliveryRestrictions mode duration writtenUpid back subSegments names.segmentationOf
+unfolding rows itemsOf itemsFrom stepOf completeAt readAt numberOf valuesOf upid.numberOf upid.valuesOf descriptorOf isCuei availOf dtmfOf reservedOf avail dtmf privateBytes number bit reserved part remaining list viewed upidOf checkOf readOf walkOf _then_ plainOf lengthOf isText reportedOf listOf partsOf listed unlessRefused textOf done step within commandOf canonicalCommand canonicalBy componentsOf array insert active ending moded breakDuration timeUnless component spliceTime segmentationOf activeOf activeWith head front parts deliveryRestrictions mode duration writtenUpid back subSegments names.segmentationOf
 every-row =
     more refl (more refl (more refl (more refl (more refl (more refl (more refl
     (more refl (more refl (more refl

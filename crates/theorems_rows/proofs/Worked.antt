@@ -17,7 +17,7 @@ use Rattle.descriptor.specs.Segmentation as segment
 use Rattle.canonical_form.specs.Descriptor.{canonicalUpid, canonicalSegmentation, canonicalPayload, canonicalDescriptor, canonicalFrom, canonicalLoop}
 use Rattle.canonical_form.specs.Section.{canonicalFrame, canonicalSection}
 use Rattle.crc.specs.Crc.{crcOf, crcBits, crcBit}
-use Rattle.descriptor.specs.Descriptor.{descriptorOf, isCuei, segmentationOf, insertOf, inserted, availOf, dtmfOf, timeOf, reservedOf}
+use Rattle.descriptor.specs.Descriptor.{descriptorOf, isCuei, segmentationOf, activeOf, activeWith, availOf, dtmfOf, timeOf, reservedOf}
 use Rattle.descriptor.specs.Plain.{avail, dtmf, time, privateBytes}
 use Rattle.descriptor.specs.Segmentation.{deliveryRestrictions, mode, duration, writtenUpid, parts, front, subSegments, back, head, segmentation}
 use Rattle.descriptor.specs.Full.{besideOf, besideIn, filled}
@@ -61,7 +61,7 @@ pub every-identifier : Identified everyIdentifier (
     ∷ record { start = 85; len = 4; bytes = 0x01 ∷ 0x02 ∷ 0xAA ∷ 0xBB ∷ [] }
     ∷ record { start = 87; len = 2; bytes = 0xAA ∷ 0xBB ∷ [] }
     ∷ record { start = 106; len = 12; bytes = 0xFF ∷ 0x41 ∷ 0x42 ∷ 0x43 ∷ 0x44 ∷ 0x31 ∷ 0x32 ∷ 0x33 ∷ 0x34 ∷ 0x35 ∷ 0x36 ∷ 0x37 ∷ [] } ∷ [])
-unfolding everyIdentifier identifiersOf sectionOf frameOf frameIn accepted movedRead moved commandLength commandType commandBytes roomAfter loopLength loopPlace crcOf crcBits crcBit headerOf headerRead spliceHeader spliceTime commandOf private itemsOf itemsFrom stepOf completeAt readAt descriptorOf isCuei segmentationOf insertOf inserted dtmfOf reservedOf dtmf privateBytes head front parts deliveryRestrictions mode duration writtenUpid back subSegments segmentation besideOf besideIn filled number bit reserved part remaining list viewed upidOf checkOf readOf walkOf _then_ plainOf lengthOf isText reportedOf listOf partsOf listed unlessRefused eidrOf textOf done step within
+unfolding everyIdentifier identifiersOf sectionOf frameOf frameIn accepted movedRead moved commandLength commandType commandBytes roomAfter loopLength loopPlace crcOf crcBits crcBit headerOf headerRead spliceHeader spliceTime commandOf private itemsOf itemsFrom stepOf completeAt readAt descriptorOf isCuei segmentationOf activeOf activeWith dtmfOf reservedOf dtmf privateBytes head front parts deliveryRestrictions mode duration writtenUpid back subSegments segmentation besideOf besideIn filled number bit reserved part remaining list viewed upidOf checkOf readOf walkOf _then_ plainOf lengthOf isText reportedOf listOf partsOf listed unlessRefused eidrOf textOf done step within
 every-identifier = record {
   section = record {
     header = record {
@@ -139,7 +139,7 @@ unfolding everyDescriptor canonicalSection canonicalFrame canonicalCommand canon
 every-descriptor-canonical = refl
 
 pub every-kind : kindsOf everyDescriptor ≡ 0 ∷ 1 ∷ 2 ∷ 2 ∷ 3 ∷ 4 ∷ []
-unfolding everyDescriptor commandLength commandType commandBytes roomAfter loopLength loopPlace itemsOf itemsFrom stepOf completeAt readAt descriptorOf isCuei availOf timeOf segmentationOf insertOf inserted dtmfOf reservedOf avail dtmf time privateBytes segmentation head front parts deliveryRestrictions mode segment.component duration writtenUpid back subSegments number bit reserved part remaining list viewed checkOf readOf walkOf _then_ plainOf lengthOf isText reportedOf textOf done step within
+unfolding everyDescriptor commandLength commandType commandBytes roomAfter loopLength loopPlace itemsOf itemsFrom stepOf completeAt readAt descriptorOf isCuei availOf timeOf segmentationOf activeOf activeWith dtmfOf reservedOf avail dtmf time privateBytes segmentation head front parts deliveryRestrictions mode segment.component duration writtenUpid back subSegments number bit reserved part remaining list viewed checkOf readOf walkOf _then_ plainOf lengthOf isText reportedOf textOf done step within
 every-kind = refl
 
 pub its-insert : (commandType everyDescriptor ≡ 0x05)
@@ -148,7 +148,7 @@ unfolding everyDescriptor commandLength commandType commandBytes roomAfter compo
 its-insert = (refl, refl)
 
 pub its-components : take 1 (readingOf (loopBytes everyDescriptor) 19 .beside .components) ≡ record { «component_tag» = 5; «pts_offset» = 7 } ∷ []
-unfolding everyDescriptor readingOf commandLength commandType commandBytes roomAfter loopLength loopPlace stepOf completeAt readAt descriptorOf isCuei segmentationOf insertOf inserted besideOf besideIn filled segmentation head front parts deliveryRestrictions mode segment.component duration writtenUpid back subSegments number bit reserved part remaining list viewed checkOf readOf walkOf _then_ plainOf lengthOf isText reportedOf textOf done step within eidrOf
+unfolding everyDescriptor readingOf commandLength commandType commandBytes roomAfter loopLength loopPlace stepOf completeAt readAt descriptorOf isCuei segmentationOf activeOf activeWith besideOf besideIn filled segmentation head front parts deliveryRestrictions mode segment.component duration writtenUpid back subSegments number bit reserved part remaining list viewed checkOf readOf walkOf _then_ plainOf lengthOf isText reportedOf textOf done step within eidrOf
 its-components = refl
 
 -- ---- and with every other command

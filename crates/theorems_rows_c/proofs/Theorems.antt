@@ -8,7 +8,7 @@ use Rattle.bit_stores.specs.Written.{answerOf, laterOf}
 use Rattle.c_command_writer.specs.CommandGiven.{modeIn, breakIn, insertIn, commandIn, commandFrom, insertionFrom, componentsFrom, insertComponentsWithin, ownInsertComponents, wordsRefusal, commandRefusal, commandWordsMade}
 use Rattle.c_command_writer.specs.CommandWords.{commandWords, commandWidths, commandSeen}
 use Rattle.c_command_writer.specs.Words.{within, same, eachPlace, placesOf, flatWritten, noLess}
-use Rattle.c_descriptor_writer.specs.ItemGiven.{restrictionsIn, subSegmentsIn, segmentationIn, itemIn, restrictionsFrom, insertFrom, descriptorFrom, identifierFrom, placeFrom, placesFrom, eidrFrom, besideFrom, ownItem, descriptorWordsMade, descriptorRefusal}
+use Rattle.c_descriptor_writer.specs.ItemGiven.{restrictionsIn, subSegmentsIn, segmentationIn, itemIn, restrictionsFrom, detailFrom, descriptorFrom, identifierFrom, placeFrom, placesFrom, eidrFrom, besideFrom, ownItem, descriptorWordsMade, descriptorRefusal}
 use Rattle.c_descriptor_writer.specs.ItemGiven as item
 use Rattle.c_descriptor_writer.specs.ItemWords.{itemWords, itemWidths, placeWidths, placesWithin, besideWithin, itemSeen, besideThere}
 use Rattle.c_items.specs.FlatItem.{flatRestrictions, flatSubSegments, activeSegmentation, segmentationHead, segmentationItem, flatDescriptor, blankItem, flatItem, refusalIn, valuesIn, flatStep}
@@ -21,7 +21,7 @@ use Rattle.c_section_writer.specs.SectionWords.{headerWords, headerWidths}
 use Rattle.command.specs.Command.{array, commandOf}
 use Rattle.command_measure.specs.Made.{commandMade}
 use Rattle.crc.specs.Crc.{crcOf, crcBits, crcBit}
-use Rattle.descriptor.specs.Descriptor.{descriptorOf, isCuei, segmentationOf, insertOf, inserted, dtmfOf}
+use Rattle.descriptor.specs.Descriptor.{descriptorOf, isCuei, segmentationOf, activeOf, activeWith, dtmfOf}
 use Rattle.descriptor.specs.Plain.{avail, dtmf, privateBytes}
 use Rattle.descriptor.specs.Segmentation.{writableFront, writableDetail, deviceOf, component, deliveryRestrictions, mode, duration, writtenUpid, parts, front, subSegments, back, head, segmentation}
 use Rattle.descriptor.specs.Full.{filled}
@@ -96,7 +96,7 @@ pub segmentations-over-c-are-refused-with-21 : (flatStep (stepOf (cueiItem 2 (0 
     × (flatStep (stepOf (segment []) 0) ≡ stepRefused 21 0 0 0 11) × (flatStep (stepOf (segment (0x3F ∷ [])) 0) ≡ stepRefused 21 1 0 0 12)
     × (flatStep (stepOf (segment (0x3F ∷ 1 ∷ [])) 0) ≡ stepRefused 21 1 0 0 13) × (flatStep (stepOf (segment (0x3F ∷ 1 ∷ 9 ∷ [])) 0) ≡ stepRefused 21 0 0 0 14)
     × (flatStep (stepOf (segment (0x3F ∷ 1 ∷ 9 ∷ 0xFE ∷ 0 ∷ 0 ∷ 0 ∷ [])) 0) ≡ stepRefused 21 4 3 0 18) × (flatStep (stepOf (segment (0xFF ∷ 0 ∷ 0 ∷ [])) 0) ≡ stepRefused 21 5 2 0 14)
-unfolding flatStep refusalIn valuesIn flatItem stepOf completeAt readAt items.numberOf items.valuesOf upids.numberOf upids.valuesOf descriptorOf isCuei segmentationOf insertOf inserted head front parts deliveryRestrictions mode component duration writtenUpid back subSegments segmentation number bit reserved part remaining list
+unfolding flatStep refusalIn valuesIn flatItem stepOf completeAt readAt items.numberOf items.valuesOf upids.numberOf upids.valuesOf descriptorOf isCuei segmentationOf activeOf activeWith head front parts deliveryRestrictions mode component duration writtenUpid back subSegments segmentation number bit reserved part remaining list
 segmentations-over-c-are-refused-with-21 = (refl, refl, refl, refl, refl, refl, refl, refl)
 
 -- the UPID's type, its length, its bytes; type id, segment number, segments expected; sub-segments expected
@@ -104,7 +104,7 @@ pub behind-the-flags-over-c-are-refused-with-21 : (flatStep (stepOf (segment (0x
     × (flatStep (stepOf (segment (0xBF ∷ 8 ∷ 8 ∷ 1 ∷ [])) 0) ≡ stepRefused 21 1 0 0 15) × (flatStep (stepOf (segment (0xBF ∷ 0 ∷ 0 ∷ [])) 0) ≡ stepRefused 21 1 0 0 14)
     × (flatStep (stepOf (segment (0xBF ∷ 0 ∷ 0 ∷ 0x10 ∷ [])) 0) ≡ stepRefused 21 1 0 0 15) × (flatStep (stepOf (segment (0xBF ∷ 0 ∷ 0 ∷ 0x10 ∷ 1 ∷ [])) 0) ≡ stepRefused 21 1 0 0 16)
     × (flatStep (stepOf (segment (0xBF ∷ 0 ∷ 0 ∷ 0x34 ∷ 1 ∷ 1 ∷ 1 ∷ [])) 0) ≡ stepRefused 21 1 0 0 18)
-unfolding flatStep refusalIn valuesIn flatItem stepOf completeAt readAt items.numberOf items.valuesOf upids.numberOf upids.valuesOf descriptorOf isCuei segmentationOf insertOf inserted head front parts deliveryRestrictions mode component duration writtenUpid back subSegments segmentation number bit reserved part remaining list viewed checkOf readOf walkOf _then_ plainOf lengthOf isText reportedOf
+unfolding flatStep refusalIn valuesIn flatItem stepOf completeAt readAt items.numberOf items.valuesOf upids.numberOf upids.valuesOf descriptorOf isCuei segmentationOf activeOf activeWith head front parts deliveryRestrictions mode component duration writtenUpid back subSegments segmentation number bit reserved part remaining list viewed checkOf readOf walkOf _then_ plainOf lengthOf isText reportedOf
 behind-the-flags-over-c-are-refused-with-21 = (refl, refl, refl, refl, refl, refl, refl)
 
 -- ---- 2, 21, 23, 24, 25 of a UPID: `scte35_read_upid`; and 24 of an item's, where its bytes stand in the loop: `scte35_read_item`
@@ -115,7 +115,7 @@ unfolding flatUpid flatUpidRead upids.numberOf upids.valuesOf upidOf checkOf rea
 upids-over-c-are-refused-with-2-and-21-to-25 = (refl, refl, refl, refl, refl)
 
 pub an-item-over-c-is-refused-with-24 : flatStep (stepOf (segment (0xBF ∷ 3 ∷ 12 ∷ 0xFF ∷ replicate 11 0x41 ++ (0x10 ∷ 1 ∷ 1 ∷ []))) 0) ≡ stepRefused 24 3 14 12 29
-unfolding flatStep refusalIn valuesIn flatItem stepOf completeAt readAt items.numberOf items.valuesOf upids.numberOf upids.valuesOf descriptorOf isCuei segmentationOf insertOf inserted head front parts deliveryRestrictions mode component duration writtenUpid back subSegments segmentation number bit reserved part remaining list viewed checkOf readOf walkOf _then_ plainOf lengthOf isText reportedOf textOf done text.step text.within
+unfolding flatStep refusalIn valuesIn flatItem stepOf completeAt readAt items.numberOf items.valuesOf upids.numberOf upids.valuesOf descriptorOf isCuei segmentationOf activeOf activeWith head front parts deliveryRestrictions mode component duration writtenUpid back subSegments segmentation number bit reserved part remaining list viewed checkOf readOf walkOf _then_ plainOf lengthOf isText reportedOf textOf done text.step text.within
 an-item-over-c-is-refused-with-24 = refl
 
 -- ---- 31 to 36: the writers over words
@@ -141,7 +141,7 @@ descriptors-over-c-are-refused-with-31-and-34 = ((refl, refl), (refl, refl))
 pub descriptors-over-c-are-refused-with-33 : WriteRefused 33 (descriptorWordsMade (segmentHanded 0 1 0) [] []) (replicate 40 7) × WriteRefused 33 (descriptorWordsMade (segmentHanded 1 0 10) [] []) (replicate 40 7)
     × (flatWritten (answerOf (descriptorWordsMade (segmentHanded 0 1 0) (replicate 7 0) []) (replicate 40 7)) ≡ record { refusal = 0; length = 24 })
     × (flatWritten (answerOf (descriptorWordsMade (segmentHanded 1 0 10) (replicate 527 0) []) (replicate 40 7)) ≡ record { refusal = 0; length = 29 })
-unfolding flatWritten answerOf laterOf descriptorWordsMade descriptorRefusal item.wordsRefusal itemSeen besideThere ownItem itemIn segmentationIn restrictionsIn subSegmentsIn restrictionsFrom insertFrom descriptorFrom identifierFrom placesFrom eidrFrom besideFrom placeFrom placesWithin besideWithin eachPlace placesOf within same itemWidths placeWidths itemWords flatDescriptor activeSegmentation segmentationItem flatRestrictions flatSubSegments filled noLess descriptorMade payloadMade envelopedMade enveloped allZero segmentationMade writableSegment writableUpid writableDetail writableFront writing.writtenUpid writtenType upidSource segmentation head front parts deliveryRestrictions mode component duration writtenUpid back subSegments number bit reserved part remaining list viewed checkOf readOf walkOf _then_ plainOf lengthOf isText reportedOf deviceOf types.segmentationOf types.writableSegmentation
+unfolding flatWritten answerOf laterOf descriptorWordsMade descriptorRefusal item.wordsRefusal itemSeen besideThere ownItem itemIn segmentationIn restrictionsIn subSegmentsIn restrictionsFrom detailFrom descriptorFrom identifierFrom placesFrom eidrFrom besideFrom placeFrom placesWithin besideWithin eachPlace placesOf within same itemWidths placeWidths itemWords flatDescriptor activeSegmentation segmentationItem flatRestrictions flatSubSegments filled noLess descriptorMade payloadMade envelopedMade enveloped allZero segmentationMade writableSegment writableUpid writableDetail writableFront writing.writtenUpid writtenType upidSource segmentation head front parts deliveryRestrictions mode component duration writtenUpid back subSegments number bit reserved part remaining list viewed checkOf readOf walkOf _then_ plainOf lengthOf isText reportedOf deviceOf types.segmentationOf types.writableSegmentation
 descriptors-over-c-are-refused-with-33 = ((refl, refl), (refl, refl), refl, refl)
 
 -- 35: a loop of one byte around a null; header and command are all 0

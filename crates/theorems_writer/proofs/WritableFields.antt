@@ -10,7 +10,7 @@ use lib.Dec.{eqb}
 use lib.ListN.{length}
 use borrow.Author.Tests.{lt-ltb}
 use Rattle.names.proofs.Segmentations.{segmentation-laws}
-use Rattle.names.specs.Segmentation.{segmentationNumber, segmentationOf, writableSegmentation}
+use Rattle.names.specs.Segmentation.{segmentationNumber, segmentationTypeOf, writableSegmentation}
 use Rattle.names.specs.declared.segmentation.SegmentationTypeId.{SegmentationTypeId}
 use Rattle.table.proofs.Reading.{field-lt}
 use Rattle.table.proofs.Steps.{reads-in, reads-number, reads-flag, reads-ones, reads-part, takes-remaining}
@@ -202,7 +202,7 @@ module _ (s : List ℕ) where
       let sub : SubKept (at + 8 + 8 + 8) (j .inner) = sub-kept (at + 8 + 8 + 8) (j .inner) (j .seam) (i .0) (j .front) in
       let k : ℕ = field (bitsOf s) at 8 in
       let z : b ≡ record {
-        «segmentation_type_id» = segmentationOf (field (bitsOf s) at 8);
+        «segmentation_type_id» = segmentationTypeOf (field (bitsOf s) at 8);
         «segment_num» = field (bitsOf s) (at + 8) 8;
         «segments_expected» = field (bitsOf s) (at + 8 + 8) 8;
         «sub_segments» = j .inner;

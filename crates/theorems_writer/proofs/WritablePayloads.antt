@@ -24,9 +24,9 @@ use Rattle.upid.specs.declared.UpidRead.{UpidRead}
 use Rattle.upid.specs.declared.UpidRead.the-variants.{Fine, Refused}
 use Rattle.descriptor.proofs.Plains.{reserved-is}
 use Rattle.descriptor.proofs.Structures.{availStructure, dtmfStructure, timeStructure, privateStructure}
-use Rattle.descriptor.specs.Descriptor.{_andThen_, reportedUpid, ifFine, availOf, dtmfOf, timeOf, reservedOf, inserted, insertOf, segmentationOf, isCuei, descriptorOf}
+use Rattle.descriptor.specs.Descriptor.{_andThen_, reportedUpid, ifFine, availOf, dtmfOf, timeOf, reservedOf, activeWith, activeOf, segmentationOf, isCuei, descriptorOf}
 use Rattle.descriptor.specs.Plain.{avail, dtmf, time, privateBytes}
-use Rattle.descriptor.specs.Segmentation.{blankComponent, ListedFront, Head, head, front, back, insertFrom, segmentation, writableFront, writableDetail, countOf, modeSize, durationSize, subBytes}
+use Rattle.descriptor.specs.Segmentation.{blankComponent, ListedFront, Head, head, front, back, activeFrom, segmentation, writableFront, writableDetail, countOf, modeSize, durationSize, subBytes}
 use Rattle.descriptor.specs.Full.{filled, blankBeside, besideIn, besideOf, besideRead, identifierRead}
 use Rattle.descriptor.specs.declared.Descriptor.{Descriptor}
 use Rattle.descriptor.specs.declared.Descriptor.the-variants.{Avail, Dtmf, Segmentation, Time, Reserved}
@@ -305,11 +305,11 @@ module _ (s id : List ℕ) (four : length id ≡ 4) (a : AllBytes s) where
       beside = record { components = filled (f .components); eidr = eidrOf (w .«upid_type») (viewed s (w .bytes)) }
 
       inserts : (b : _) (m₂ : ℕ) → parse back (bitsOf s) m₁ ≡ got b m₂
-          → Ready (Segmentation (record { «segmentation_event_id» = h .event; «descriptor_detail» = DescriptorDetail.Active (insertFrom (f .front) (reportedUpid q (w .bytes)) b) })) (replicate 4 0) beside s (length s)
+          → Ready (Segmentation (record { «segmentation_event_id» = h .event; «descriptor_detail» = DescriptorDetail.Active (activeFrom (f .front) (reportedUpid q (w .bytes)) b) })) (replicate 4 0) beside s (length s)
       unfolding writableSegment writableDetail writableFront payloadSize payloadMade
       inserts b m₂ eb =
           let u : SegmentationUpid = reportedUpid q (w .bytes) in
-          let x : SegmentationDescriptor = record { «segmentation_event_id» = h .event; «descriptor_detail» = DescriptorDetail.Active (insertFrom (f .front) u b) } in
+          let x : SegmentationDescriptor = record { «segmentation_event_id» = h .event; «descriptor_detail» = DescriptorDetail.Active (activeFrom (f .front) u b) } in
           let k = back-kept s m₁ b m₂ eb in
           let n : ℕ = countOf (f .front .«segmentation_mode») in
           let c : take n (filled (f .components)) ≡ f .components = counted-again n (f .components) (kept .counted) in
@@ -338,11 +338,11 @@ module _ (s id : List ℕ) (four : length id ≡ 4) (a : AllBytes s) where
           }
 
       inserted-is : (b : _) (m₂ : ℕ) → parse back (bitsOf s) m₁ ≡ got b m₂
-          → ReadyOf (Segmentation (record { «segmentation_event_id» = h .event; «descriptor_detail» = DescriptorDetail.Active (insertFrom (f .front) (reportedUpid q (w .bytes)) b) }))
+          → ReadyOf (Segmentation (record { «segmentation_event_id» = h .event; «descriptor_detail» = DescriptorDetail.Active (activeFrom (f .front) (reportedUpid q (w .bytes)) b) }))
       unfolding segmentation besideOf besideIn
       inserted-is b m₂ eb =
           let g : parse segmentation (bitsOf s) 0 ≡ got (record {
-            descriptor = record { «segmentation_event_id» = h .event; «descriptor_detail» = DescriptorDetail.Active (insertFrom (f .front) w b) };
+            descriptor = record { «segmentation_event_id» = h .event; «descriptor_detail» = DescriptorDetail.Active (activeFrom (f .front) w b) };
             components = f .components;
           }) m₂ =
           takes-in head _ _ (bitsOf s) 0 h m eh
@@ -352,16 +352,16 @@ module _ (s id : List ℕ) (four : length id ≡ 4) (a : AllBytes s) where
           let z : besideOf s ≡ beside = rw g in
           rw z (inserts b m₂ eb)
 
-    in-insert : Keeps (insertOf s (h .event) m)
-    unfolding insertOf inserted
-    in-insert =
+    in-active : Keeps (activeOf s (h .event) m)
+    unfolding activeOf activeWith
+    in-active =
         and-then (parse front (bitsOf s) m) _ λ f m₁ ef.
         if-fine (checkOf (f .front .«segmentation_upid» .«upid_type») (viewed s (f .front .«segmentation_upid» .bytes))) (f .front .«segmentation_upid» .bytes) _ λ q ec.
         and-then (parse back (bitsOf s) m₁) _ λ b m₂ eb. inserted-is f m₁ ef q ec b m₂ eb
 
   in-segmentation : Keeps (segmentationOf s)
   unfolding segmentationOf
-  in-segmentation = and-then (parse head (bitsOf s) 0) _ λ h m e. picked (h .cancel) _ _ (λ on. in-cancel h m e on) (λ off. in-insert h m e off)
+  in-segmentation = and-then (parse head (bitsOf s) 0) _ λ h m e. picked (h .cancel) _ _ (λ on. in-cancel h m e on) (λ off. in-active h m e off)
 
   -- ---- by identifier and tag
 

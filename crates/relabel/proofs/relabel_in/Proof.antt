@@ -18,17 +18,17 @@ use Rattle.relabel.proofs.relabel_in.Tie as tie
 add-end : tie.Need-add-end
 add-end c = search needs
 
-sub-spots-insert : tie.Need-sub-spots-insert
-sub-spots-insert c = search needs
+sub-spots-active : tie.Need-sub-spots-active
+sub-spots-active c = search needs
 
-part-spots-insert-start : tie.Need-part-spots-insert-start
-part-spots-insert-start c = search needs
+part-spots-active-start : tie.Need-part-spots-active-start
+part-spots-active-start c = search needs
 
-part-spots-insert-end : tie.Need-part-spots-insert-end
-part-spots-insert-end c = search needs
+part-spots-active-end : tie.Need-part-spots-active-end
+part-spots-active-end c = search needs
 
-spots-insert-requires : tie.Need-spots-insert-requires
-spots-insert-requires c κs = search needs
+spots-active-requires : tie.Need-spots-active-requires
+spots-active-requires c κs = search needs
 
 returns : tie.Need-returns
 returns c =
@@ -37,7 +37,7 @@ returns c =
     let a = st .args in
     let s = a .section .now in
     let bytes : (k : ℕ) → getD s k 0 < 256 = λ k. fi .before .before .before .before .shared-slice-known .given k .fits in
-    let is = spots-there s (a .list) (a .len) (a .offset) _ (st .pre .0) (st .pre .1) (st .pre .2) (fi .spots-insert .ensures) in
+    let is = spots-there s (a .list) (a .len) (a .offset) _ (st .pre .0) (st .pre .1) (st .pre .2) (fi .spots-active .ensures) in
     refused-answer _ (a .target .now) 41 (none-spotted s (a .offset) (a .part) (a .k) (a .new .now) (loop-byte s (a .offset) bytes (st .pre .2) (st .pre .3)) (sym is ∙ not-true _ (c .if1 .taken)))
 
 place-of-requires : tie.Need-place-of-requires
@@ -47,7 +47,7 @@ place-of-requires c κs =
     let a = st .args in
     let s = a .section .now in
     let bytes : (k : ℕ) → getD s k 0 < 256 = λ k. fi .before .before .before .before .shared-slice-known .given k .fits in
-    let is = spots-there s (a .list) (a .len) (a .offset) _ (st .pre .0) (st .pre .1) (st .pre .2) (fi .spots-insert .ensures) in
+    let is = spots-there s (a .list) (a .len) (a .offset) _ (st .pre .0) (st .pre .1) (st .pre .2) (fi .spots-active .ensures) in
     let yes = sym is ∙ not-false _ (c .if1 .left) in
     let at = spotted-at s (a .offset) bytes (st .pre .2) (st .pre .3) yes in
     (at, st .pre .0, st .pre .1)
@@ -59,7 +59,7 @@ limit-of-requires c κs =
     let a = st .args in
     let s = a .section .now in
     let bytes : (k : ℕ) → getD s k 0 < 256 = λ k. fi .before .before .before .before .shared-slice-known .given k .fits in
-    let is = spots-there s (a .list) (a .len) (a .offset) _ (st .pre .0) (st .pre .1) (st .pre .2) (fi .spots-insert .ensures) in
+    let is = spots-there s (a .list) (a .len) (a .offset) _ (st .pre .0) (st .pre .1) (st .pre .2) (fi .spots-active .ensures) in
     let yes = sym is ∙ not-false _ (c .before .if1 .left) in
     let at = spotted-at s (a .offset) bytes (st .pre .2) (st .pre .3) yes in
     rw (c .place-of .ensures) (lies s (a .offset) at)
@@ -73,7 +73,7 @@ relabel-at-requires c κs =
     let a = st .args in
     let s = a .section .now in
     let bytes : (k : ℕ) → getD s k 0 < 256 = λ k. fi .before .before .before .before .shared-slice-known .given k .fits in
-    let is = spots-there s (a .list) (a .len) (a .offset) _ (st .pre .0) (st .pre .1) (st .pre .2) (fi .spots-insert .ensures) in
+    let is = spots-there s (a .list) (a .len) (a .offset) _ (st .pre .0) (st .pre .1) (st .pre .2) (fi .spots-active .ensures) in
     let yes = sym is ∙ not-false _ (po .before .if1 .left) in
     let at = spotted-at s (a .offset) bytes (st .pre .2) (st .pre .3) yes in
     (rw (po .place-of .ensures) (lies s (a .offset) at), lo .limit-of .ensures)
@@ -91,7 +91,7 @@ returns-2 c =
     let a = st .args in
     let s = a .section .now in
     let bytes : (k : ℕ) → getD s k 0 < 256 = λ k. fi .before .before .before .before .shared-slice-known .given k .fits in
-    let is = spots-there s (a .list) (a .len) (a .offset) _ (st .pre .0) (st .pre .1) (st .pre .2) (fi .spots-insert .ensures) in
+    let is = spots-there s (a .list) (a .len) (a .offset) _ (st .pre .0) (st .pre .1) (st .pre .2) (fi .spots-active .ensures) in
     let yes = sym is ∙ not-false _ (po .before .if1 .left) in
     let at = spotted-at s (a .offset) bytes (st .pre .2) (st .pre .3) yes in
     let lim = rw (po .place-of .ensures) at (lo .limit-of .ensures) in
@@ -104,10 +104,10 @@ relabel-in-spec =
     tie.close
     (tie.spec
     add-end
-    sub-spots-insert
-    part-spots-insert-start
-    part-spots-insert-end
-    spots-insert-requires
+    sub-spots-active
+    part-spots-active-start
+    part-spots-active-end
+    spots-active-requires
     returns
     place-of-requires
     limit-of-requires

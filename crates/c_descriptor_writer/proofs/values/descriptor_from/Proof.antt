@@ -15,8 +15,8 @@ cast-t14 c = search needs
 cast-t18 : tie.Need-cast-t18
 cast-t18 c = search needs
 
-insert-from-requires : tie.Need-insert-from-requires
-insert-from-requires c κs = search needs
+detail-from-requires : tie.Need-detail-from-requires
+detail-from-requires c κs = search needs
 
 cast-t23 : tie.Need-cast-t23
 cast-t23 c = search needs
@@ -40,7 +40,7 @@ returns-2 c = rw (c .before .match .keys2)
 
 returns-3 : tie.Need-returns-3
 unfolding descriptorFrom
-returns-3 c = rw (c .before .before .match .keys3, c .insert-from .ensures)
+returns-3 c = rw (c .before .before .match .keys3, c .detail-from .ensures)
 
 returns-4 : tie.Need-returns-4
 unfolding descriptorFrom
@@ -63,7 +63,7 @@ descriptor-from-spec =
     cast-t11
     cast-t14
     cast-t18
-    insert-from-requires
+    detail-from-requires
     cast-t23
     cast-t25
     cast-t28

@@ -77,8 +77,8 @@ returns-5 c =
 enum-known-detail : tie.Need-enum-known-detail
 enum-known-detail c = search needs
 
-insert-item-requires : tie.Need-insert-item-requires
-insert-item-requires c κs = search needs
+active-item-requires : tie.Need-active-item-requires
+active-item-requires c κs = search needs
 
 returns-6 : tie.Need-returns-6
 unfolding flatItem flatDescriptor
@@ -86,7 +86,7 @@ returns-6 c =
     let detail = c .before .before in
     let d = detail .before .before .before .before in
     let item = d .before .before .before in
-    c .insert-item .ensures ∙ sym (ap (segmentationItem _) (detail .detail .given .1)) ∙ sym (ap flatItem (item .item .given .1 ∙ ap Is (d .d3 .given .1)))
+    c .active-item .ensures ∙ sym (ap (segmentationItem _) (detail .detail .given .1)) ∙ sym (ap flatItem (item .item .given .1 ∙ ap Is (d .d3 .given .1)))
 
 enum-known-d-4 : tie.Need-enum-known-d-4
 enum-known-d-4 c = search needs
@@ -137,7 +137,7 @@ flat-item-spec =
     cancelled-item-requires
     returns-5
     enum-known-detail
-    insert-item-requires
+    active-item-requires
     returns-6
     enum-known-d-4
     time-item-requires

@@ -2,7 +2,7 @@
 use mathlib.Core.Path.{_∙_}
 use Rattle.descriptor.specs.Private.{headRead}
 use Rattle.descriptor.proofs.Parts.{told}
-use Rattle.descriptor.proofs.Segmentations.{no-head, cancel-is, insert-from}
+use Rattle.descriptor.proofs.Segmentations.{no-head, cancel-is, detail-from}
 use borrow.Author.Needs.{needs}
 use Rattle.descriptor.proofs.segmentation.read_segmentation.Statement.{statement}
 use Rattle.descriptor.proofs.segmentation.read_segmentation.Tie as tie
@@ -33,8 +33,8 @@ returns-2 c =
     let a = read-head .before .before .args in
     cancel-is (a .payload .now) _ (told headRead _ _ _ (h .h .given .1) (read-head .read-head .ensures)) (c .if1 .taken)
 
-read-insert-requires : tie.Need-read-insert-requires
-read-insert-requires c κs = search needs
+read-active-requires : tie.Need-read-active-requires
+read-active-requires c κs = search needs
 
 returns-3 : tie.Need-returns-3
 returns-3 c =
@@ -42,7 +42,7 @@ returns-3 c =
     let h = if1 .before .before in
     let read-head = h .before .before in
     let a = read-head .before .before .args in
-    c .read-insert .ensures ∙ insert-from (a .payload .now) _ (told headRead _ _ _ (h .h .given .1) (read-head .read-head .ensures)) (if1 .if1 .left)
+    c .read-active .ensures ∙ detail-from (a .payload .now) _ (told headRead _ _ _ (h .h .given .1) (read-head .read-head .ensures)) (if1 .if1 .left)
 
 pub read-segmentation-spec : {M : Type 1} → statement M
 read-segmentation-spec =
@@ -54,5 +54,5 @@ read-segmentation-spec =
     lacks-requires
     returns
     returns-2
-    read-insert-requires
+    read-active-requires
     returns-3)

@@ -1,5 +1,5 @@
 -- `descriptor_canonical::segment::is_canonical_segmentation`, test by test.
-use Rattle.descriptor_canonical.proofs.Tests.{head-short, head-spoilt, is-cancelled, is-inserted}
+use Rattle.descriptor_canonical.proofs.Tests.{head-short, head-spoilt, is-cancelled, is-activeed}
 use borrow.Author.Needs.{needs}
 use Rattle.descriptor_canonical.proofs.segment.is_canonical_segmentation.Statement.{statement}
 use Rattle.descriptor_canonical.proofs.segment.is_canonical_segmentation.Tie as tie
@@ -25,8 +25,8 @@ returns-3 c =
     let k = e .before in
     is-cancelled (k .before .args .s .now) (λ i. k .shared-slice-known .given i .fits) (e .if1 .left) (f .if2 .left) (c .if3 .taken)
 
-is-canonical-insert-requires : tie.Need-is-canonical-insert-requires
-is-canonical-insert-requires c κs = search needs
+is-canonical-active-requires : tie.Need-is-canonical-active-requires
+is-canonical-active-requires c κs = search needs
 
 returns-4 : tie.Need-returns-4
 returns-4 c =
@@ -34,7 +34,7 @@ returns-4 c =
     let f = g .before in
     let e = f .before .before in
     let k = e .before in
-    is-inserted (k .before .args .s .now) (λ i. k .shared-slice-known .given i .fits) (e .if1 .left) (f .if2 .left) (g .if3 .left) _ (c .is-canonical-insert .ensures)
+    is-activeed (k .before .args .s .now) (λ i. k .shared-slice-known .given i .fits) (e .if1 .left) (f .if2 .left) (g .if3 .left) _ (c .is-canonical-active .ensures)
 
 pub is-canonical-segmentation-spec : {M : Type 1} → statement M
 is-canonical-segmentation-spec =
@@ -44,5 +44,5 @@ is-canonical-segmentation-spec =
     shared-slice-read-b
     returns-2
     returns-3
-    is-canonical-insert-requires
+    is-canonical-active-requires
     returns-4)

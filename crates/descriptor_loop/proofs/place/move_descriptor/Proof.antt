@@ -1,5 +1,5 @@
 -- `descriptor_loop::place::move_descriptor` meets its contract, kind by kind.
-use Rattle.descriptor_loop.proofs.Places.{dtmf-first, insert-all, private-first, cancel-stays, insert-moves}
+use Rattle.descriptor_loop.proofs.Places.{dtmf-first, active-all, private-first, cancel-stays, active-moves}
 use borrow.Author.Needs.{needs}
 use Rattle.descriptor_loop.proofs.place.move_descriptor.Statement.{statement}
 use Rattle.descriptor_loop.proofs.place.move_descriptor.Tie as tie
@@ -22,8 +22,8 @@ enum-told-2 c = search needs
 enum-known-detail : tie.Need-enum-known-detail
 enum-known-detail c = search needs
 
-move-insert-requires : tie.Need-move-insert-requires
-move-insert-requires c κs = insert-all _ _ _ _ (c .before .before .before .before .d2 .given .1) (c .before .detail .given .1) (c .before .before .before .before .before .before .pre)
+move-active-requires : tie.Need-move-active-requires
+move-active-requires c κs = active-all _ _ _ _ (c .before .before .before .before .d2 .given .1) (c .before .detail .given .1) (c .before .before .before .before .before .before .pre)
 
 enum-told-3 : tie.Need-enum-told-3
 enum-told-3 c = search needs
@@ -44,7 +44,7 @@ returns-3 : tie.Need-returns-3
 returns-3 c = cancel-stays _ _ _ (c .before .before .before .d2 .given .1) (c .enum-told2 .given .1)
 
 returns-4 : tie.Need-returns-4
-returns-4 c = insert-moves _ _ _ _ _ (c .before .before .before .before .before .d2 .given .1) (c .before .before .detail .given .1) (c .move-insert .ensures)
+returns-4 c = active-moves _ _ _ _ _ (c .before .before .before .before .before .d2 .given .1) (c .before .before .detail .given .1) (c .move-active .ensures)
 
 returns-5 : tie.Need-returns-5
 returns-5 c = search needs
@@ -62,7 +62,7 @@ move-descriptor-spec =
     enum-known-d-2
     enum-told-2
     enum-known-detail
-    move-insert-requires
+    move-active-requires
     enum-told-3
     enum-known-d-3
     move-view-requires-2

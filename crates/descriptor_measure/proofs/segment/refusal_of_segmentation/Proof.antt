@@ -3,7 +3,7 @@ use native.Mathlib.Omega.{arith}
 use lib.ListN.{length}
 use mathlib.Core.Path.{_≡_}
 use borrow.Author.Needs.{needs}
-use Rattle.descriptor_measure.proofs.Refusals.{cancel-fits, insert-fits, insert-so, mode-over, view-out}
+use Rattle.descriptor_measure.proofs.Refusals.{cancel-fits, active-fits, active-so, mode-over, view-out}
 use Rattle.descriptor_measure.proofs.segment.refusal_of_segmentation.Statement.{statement}
 use Rattle.descriptor_measure.proofs.segment.refusal_of_segmentation.Tie as tie
 
@@ -33,7 +33,7 @@ lies-in-requires c κs = search needs
 returns-2 : tie.Need-returns-2
 returns-2 c =
     let a = c .before .before .before .before .before .before .before .before .args in
-    insert-so (a .x) _ (a .identifier) (a .components) (a .eidr) (a .lent .now) 31 (c .before .before .before .before .before .detail .given .1) (view-out (a .x .«segmentation_event_id») _ (a .identifier) (a .components) (a .eidr) (a .lent .now) _ (c .before .lies-in .ensures) (c .if1 .taken))
+    active-so (a .x) _ (a .identifier) (a .components) (a .eidr) (a .lent .now) 31 (c .before .before .before .before .before .detail .given .1) (view-out (a .x .«segmentation_event_id») _ (a .identifier) (a .components) (a .eidr) (a .lent .now) _ (c .before .lies-in .ensures) (c .if1 .taken))
 
 mode-fits-requires : tie.Need-mode-fits-requires
 mode-fits-requires c κs = search needs
@@ -42,7 +42,7 @@ returns-3 : tie.Need-returns-3
 returns-3 c =
     let z = c .before .before .before .before .before .before .before .before .before .before in
     let a = z .args in
-    insert-so (a .x) _ (a .identifier) (a .components) (a .eidr) (a .lent .now) 32 (c .before .before .before .before .before .before .before .detail .given .1) (mode-over (a .x .«segmentation_event_id») _ (a .identifier) (a .components) (a .eidr) (a .lent .now) _ (c .before .before .before .lies-in .ensures) (c .before .before .if1 .left) (many z) (twelve z) (omega (arith, z)) (omega (arith, c .before .before .before .before .before .before .known-told .given .0 .1 .1 .1 .1 .1 .1)) _ (c .before .mode-fits .ensures) (c .if2 .taken))
+    active-so (a .x) _ (a .identifier) (a .components) (a .eidr) (a .lent .now) 32 (c .before .before .before .before .before .before .before .detail .given .1) (mode-over (a .x .«segmentation_event_id») _ (a .identifier) (a .components) (a .eidr) (a .lent .now) _ (c .before .before .before .lies-in .ensures) (c .before .before .if1 .left) (many z) (twelve z) (omega (arith, z)) (omega (arith, c .before .before .before .before .before .before .known-told .given .0 .1 .1 .1 .1 .1 .1)) _ (c .before .mode-fits .ensures) (c .if2 .taken))
 
 refusal-without-components-requires-2 : tie.Need-refusal-without-components-requires-2
 refusal-without-components-requires-2 c κs = search needs
@@ -51,7 +51,7 @@ returns-4 : tie.Need-returns-4
 returns-4 c =
     let z = c .before .before .before .before .before .before .before .before .before .before .before in
     let a = z .args in
-    c .refusal-without-components2 .ensures .others (a .components) (many z) (insert-fits (a .x) _ (a .components) (c .before .before .before .before .before .before .before .before .detail .given .1) _ (c .before .before .mode-fits .ensures .0) (c .before .if2 .left))
+    c .refusal-without-components2 .ensures .others (a .components) (many z) (active-fits (a .x) _ (a .components) (c .before .before .before .before .before .before .before .before .detail .given .1) _ (c .before .before .mode-fits .ensures .0) (c .before .if2 .left))
 
 pub refusal-of-segmentation-spec : {M : Type 1} → statement M
 refusal-of-segmentation-spec =

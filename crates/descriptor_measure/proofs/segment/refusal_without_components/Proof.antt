@@ -2,7 +2,7 @@
 use mathlib.Core.Path.{_≡_, ap, sym, _∙_}
 use native.Mathlib.Omega.{arith}
 use borrow.Author.Needs.{needs}
-use Rattle.descriptor_measure.proofs.Refusals.{cancel-identifier, cancel-eidr, cancel-writable, refused-all, refused-insert}
+use Rattle.descriptor_measure.proofs.Refusals.{cancel-identifier, cancel-eidr, cancel-writable, refused-all, refused-active}
 use Rattle.descriptor_measure.proofs.segment.refusal_without_components.Statement.{statement}
 use Rattle.descriptor_measure.proofs.segment.refusal_without_components.Tie as tie
 
@@ -34,8 +34,8 @@ returns-2 c =
 enum-known-detail : tie.Need-enum-known-detail
 enum-known-detail c = search needs
 
-refusal-of-insert-requires : tie.Need-refusal-of-insert-requires
-refusal-of-insert-requires c κs = search needs
+refusal-of-active-requires : tie.Need-refusal-of-active-requires
+refusal-of-active-requires c κs = search needs
 
 returns-3 : tie.Need-returns-3
 returns-3 c =
@@ -43,7 +43,7 @@ returns-3 c =
     refused-all _ _ _ _ _ (λ cs. cancel-writable (a .x) (a .t2) cs (a .t3) (a .lent .now) (c .before .before .before .before .before .before .enum-told .given .1) (omega (arith, c .before .before .before .before .before .before .before .before .before)) _ (c .before .before .before .before .is-zero .ensures) (c .before .before .before .if1 .left) _ (c .before .is-zero2 .ensures) (c .if2 .left))
 
 returns-4 : tie.Need-returns-4
-returns-4 c = refused-insert _ _ _ _ _ _ (c .before .before .detail .given .1) (c .refusal-of-insert .ensures)
+returns-4 c = refused-active _ _ _ _ _ _ (c .before .before .detail .given .1) (c .refusal-of-active .ensures)
 
 pub refusal-without-components-spec : {M : Type 1} → statement M
 refusal-without-components-spec =
@@ -57,6 +57,6 @@ refusal-without-components-spec =
     is-zero-requires-2
     returns-2
     enum-known-detail
-    refusal-of-insert-requires
+    refusal-of-active-requires
     returns-3
     returns-4)

@@ -1,6 +1,6 @@
 -- `descriptor_writer::segmentation::store_segmentation`, cancelled or not.
 use borrow.Author.Needs.{needs}
-use Rattle.descriptor_writer.proofs.Segmenting.{cancel-stores, payload-stores, insert-seen}
+use Rattle.descriptor_writer.proofs.Segmenting.{cancel-stores, payload-stores, active-seen}
 use Rattle.descriptor_writer.proofs.segmentation.store_segmentation.Statement.{statement}
 use Rattle.descriptor_writer.proofs.segmentation.store_segmentation.Tie as tie
 
@@ -16,8 +16,8 @@ enum-known-detail c = search needs
 store-head-requires-2 : tie.Need-store-head-requires-2
 store-head-requires-2 c κs = search needs
 
-store-insert-requires : tie.Need-store-insert-requires
-store-insert-requires c κs = insert-seen _ _ _ (c .before .before .before .before .before .before .detail .given .1) (c .before .before .before .before .before .before .before .before .before .before .before .pre)
+store-active-requires : tie.Need-store-active-requires
+store-active-requires c κs = active-seen _ _ _ (c .before .before .before .before .before .before .detail .given .1) (c .before .before .before .before .before .before .before .before .before .before .before .pre)
 
 same-length : tie.Need-same-length
 same-length c = search needs
@@ -33,7 +33,7 @@ same-length-2 c = search needs
 returns-2 : tie.Need-returns-2
 returns-2 c =
     let a = c .before .before .before .before .before .before .before .before .before .before .before .before .before .before .args in
-    λ cs e. payload-stores (a .x) _ _ _ _ _ _ _ _ _ _ (c .before .before .before .before .before .before .before .before .before .detail .given .1) (c .before .before .before .before .before .before .store-head2 .ensures) (c .before .before .store-insert .ensures cs e)
+    λ cs e. payload-stores (a .x) _ _ _ _ _ _ _ _ _ _ (c .before .before .before .before .before .before .before .before .before .detail .given .1) (c .before .before .before .before .before .before .store-head2 .ensures) (c .before .before .store-active .ensures cs e)
 
 pub store-segmentation-spec : {M : Type 1} → statement M
 store-segmentation-spec =
@@ -43,7 +43,7 @@ store-segmentation-spec =
     store-head-requires
     enum-known-detail
     store-head-requires-2
-    store-insert-requires
+    store-active-requires
     same-length
     returns
     same-length-2

@@ -3,7 +3,7 @@ use mathlib.Core.Path.{_≡_, ap, sym, _∙_}
 use denote.Enum.Declared.{tagOf}
 use borrow.Author.Needs.{needs}
 use Rattle.names.specs.declared.segmentation.SegmentationTypeId.the-variants.{Reserved}
-use Rattle.names.specs.Segmentation.{segmentations, segmentationOf}
+use Rattle.names.specs.Segmentation.{segmentations, segmentationTypeOf}
 use Rattle.names.proofs.segmentation.SegmentationTypeId.{the-type}
 use Rattle.names.proofs.Segmentations.{sound}
 use Rattle.scte35.proofs.Names.{of-name, of-number}
@@ -26,11 +26,11 @@ classed-requires-2 : tie.Need-classed-requires-2
 classed-requires-2 c κs = search needs
 
 returns : tie.Need-returns
-unfolding segmentationOf
+unfolding segmentationTypeOf
 returns c = c .classed .ensures ∙ of-number segmentations (c .before .before .before .before .before .args .n) _ (Reserved (c .before .before .x .given .0 .0)) (c .before .before .before .before .from-id .ensures) (c .before .before .x .given .1)
 
 returns-2 : tie.Need-returns-2
-unfolding segmentationOf
+unfolding segmentationTypeOf
 returns-2 c = c .classed2 .ensures ∙ of-name segmentations (tagOf the-type) sound (c .before .before .before .before .args .n) _ (c .before .before .before .from-id .ensures) (c .before .before .match .keys2) _ (c .before .id .ensures)
 
 pub scte35-classify-segmentation-type-spec : {M : Type 1} → statement M

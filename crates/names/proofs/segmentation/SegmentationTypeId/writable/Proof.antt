@@ -3,7 +3,7 @@ use mathlib.Core.Path.{ap}
 use denote.Enum.Declared.{tagOf}
 use borrow.Author.Needs.{needs}
 use Rattle.names.specs.Numbering.{classIn, reserved}
-use Rattle.names.specs.Segmentation.{segmentations, segmentationOf, writableSegmentation}
+use Rattle.names.specs.Segmentation.{segmentations, segmentationTypeOf, writableSegmentation}
 use Rattle.names.specs.declared.segmentation.SegmentationTypeId.the-variants.{Reserved}
 use Rattle.names.proofs.Laws.{writable-by, own-name, name-writable}
 use Rattle.names.proofs.Segmentations.{sound}
@@ -21,19 +21,19 @@ enum-told : tie.Need-enum-told
 enum-told c = search needs
 
 returns : tie.Need-returns
-unfolding segmentationOf writableSegmentation
+unfolding segmentationTypeOf writableSegmentation
 returns c =
     let n = c .before .before .before .before .self .given in
     rw (n .1) (writable-by segmentations (Reserved (n .0 .0)) _ reserved (ap (classIn segmentations) (c .enum-told .given .1)) (c .before .before .from-id .ensures))
 
 returns-2 : tie.Need-returns-2
-unfolding segmentationOf writableSegmentation
+unfolding segmentationTypeOf writableSegmentation
 returns-2 c =
     let n = c .before .before .before .self .given in
     rw (n .1) (own-name segmentations (tagOf the-type) sound (Reserved (n .0 .0)) _ (c .before .from-id .ensures) (c .match2 .keys2))
 
 returns-3 : tie.Need-returns-3
-unfolding segmentationOf writableSegmentation
+unfolding segmentationTypeOf writableSegmentation
 returns-3 c = name-writable segmentations (tagOf the-type) sound (c .before .args .self) (c .match .keys2)
 
 pub writable-spec : {M : Type 1} → statement M

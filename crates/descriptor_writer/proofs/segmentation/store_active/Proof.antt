@@ -1,9 +1,9 @@
--- `descriptor_writer::segmentation::store_insert`, part by part.
+-- `descriptor_writer::segmentation::store_active`, part by part.
 use Rattle.descriptor_measure.specs.Writing.{upidSource}
-use Rattle.descriptor_writer.proofs.Segmenting.{insert-stores}
+use Rattle.descriptor_writer.proofs.Segmenting.{active-stores}
 use borrow.Author.Needs.{needs}
-use Rattle.descriptor_writer.proofs.segmentation.store_insert.Statement.{statement}
-use Rattle.descriptor_writer.proofs.segmentation.store_insert.Tie as tie
+use Rattle.descriptor_writer.proofs.segmentation.store_active.Statement.{statement}
+use Rattle.descriptor_writer.proofs.segmentation.store_active.Tie as tie
 
 is-free-requires : tie.Need-is-free-requires
 is-free-requires c κs = search needs
@@ -44,10 +44,10 @@ returns c =
     let f = p .before .before in
     let a = f .before .before .before .before .before .args in
     let src = upidSource (a .i .«segmentation_upid») (a .eidr) (a .lent .now) in
-    λ cs e. insert-stores (a .i) cs src _ _ _ (p .by-program .ensures) (l .lasts .ensures) (f .is-free .ensures) _ _ _ _ _ _ _ _ _ _ _ _ (flags .store-flags .ensures src) (mode .store-mode .ensures src cs e) (duration .store-duration .ensures src) (upid .store-written-upid .ensures) (back .store-back .ensures src)
+    λ cs e. active-stores (a .i) cs src _ _ _ (p .by-program .ensures) (l .lasts .ensures) (f .is-free .ensures) _ _ _ _ _ _ _ _ _ _ _ _ (flags .store-flags .ensures src) (mode .store-mode .ensures src cs e) (duration .store-duration .ensures src) (upid .store-written-upid .ensures) (back .store-back .ensures src)
 
-pub store-insert-spec : {M : Type 1} → statement M
-store-insert-spec =
+pub store-active-spec : {M : Type 1} → statement M
+store-active-spec =
     tie.close
     (tie.spec
     is-free-requires

@@ -1,12 +1,12 @@
--- `relabel_found::spots_insert`: its tests in turn, and the payload of an item that stands there whole.
+-- `relabel_found::spots_active`: its tests in turn, and the payload of an item that stands there whole.
 use mathlib.Core.Path.{_≡_, sym, _∙_}
 use native.Mathlib.Omega.{arith}
 use borrow.Author.Tests.{not-true, not-false}
 use Rattle.relabel_found.proofs.Spots.{titled-is}
 use Rattle.relabel_found.proofs.Titles.{spots-long, spots-none, spots-other, spots-complete}
 use borrow.Author.Needs.{needs}
-use Rattle.relabel_found.proofs.spots_insert.Statement.{statement}
-use Rattle.relabel_found.proofs.spots_insert.Tie as tie
+use Rattle.relabel_found.proofs.spots_active.Statement.{statement}
+use Rattle.relabel_found.proofs.spots_active.Tie as tie
 
 returns : tie.Need-returns
 returns c = spots-long _ _ (c .if1 .taken)
@@ -91,8 +91,8 @@ returns-4 c =
     let s = t .before in
     spots-complete _ _ (sym (s .before .begins-item .ensures) ∙ not-false _ (s .if2 .left)) (sym (t .is-titled .ensures) ∙ not-false _ (e .if3 .left)) _ (z .size .ensures .0) _ (c .is-complete .ensures)
 
-pub spots-insert-spec : {M : Type 1} → statement M
-spots-insert-spec =
+pub spots-active-spec : {M : Type 1} → statement M
+spots-active-spec =
     tie.close
     (tie.spec
     returns

@@ -1,5 +1,5 @@
 -- An item that is found: a segmentation descriptor that stands there whole, with a hole that its UPID fills.
---     inserted       the item, its tag, its identifier and its reading
+--     active-at      the item, its tag, its identifier and its reading
 --     hole-in        the parts of its payload, by places
 use Prim.Native.Nat.{ℕ, suc, _+_, _-_, _≤_, _<_}
 use mathlib.Core.Bool.{Bool, true, false, not, _&&_}
@@ -35,40 +35,40 @@ use Rattle.descriptor_loop.specs.declared.Item.the-variants.{Is}
 use Rattle.descriptor_loop.specs.declared.Step.{Step}
 use Rattle.relabel_payload.proofs.Theorems.{of-the-payload-only-the-upid-differs}
 use Rattle.relabel_payload.specs.Payload.{payload, upidHead, Holed}
-use Rattle.relabel_found.specs.Found.{begins, inserts, found, payloadAt, foreIn, typeIn, sizeIn, upidIn, postIn}
+use Rattle.relabel_found.specs.Found.{begins, isActive, found, payloadAt, foreIn, typeIn, sizeIn, upidIn, postIn}
 
 -- ---- which reading is a segmentation descriptor that is not cancelled
 
-abbrev isInsert : ℕ → DescriptorRead → Bool
-isInsert base r = inserts (itemAt base r)
+abbrev activeOrNot : ℕ → DescriptorRead → Bool
+activeOrNot base r = isActive (itemAt base r)
 
 -- no other reader gives one
-then-not : {X : Type 0} (base : ℕ) (a : Answer X) (k : X → ℕ → DescriptorRead) → ((x : X) (m : ℕ) → isInsert base (k x m) ≡ false) → isInsert base (a andThen k) ≡ false
+then-not : {X : Type 0} (base : ℕ) (a : Answer X) (k : X → ℕ → DescriptorRead) → ((x : X) (m : ℕ) → activeOrNot base (k x m) ≡ false) → activeOrNot base (a andThen k) ≡ false
 then-not base (got x m) k h = h x m
 then-not base (short e f) k h = refl
 
-pick-not : (base : ℕ) (b : Bool) (r q : DescriptorRead) → isInsert base r ≡ false → isInsert base q ≡ false → isInsert base (pick b r q) ≡ false
+pick-not : (base : ℕ) (b : Bool) (r q : DescriptorRead) → activeOrNot base r ≡ false → activeOrNot base q ≡ false → activeOrNot base (pick b r q) ≡ false
 pick-not base true r q hr hq = hr
 pick-not base false r q hr hq = hq
 
 module _ (base : ℕ) (s : List ℕ) where
-  avail-not : isInsert base (availOf s) ≡ false
+  avail-not : activeOrNot base (availOf s) ≡ false
   unfolding availOf
   avail-not =
       pick-not base (ltb (length s) 4) (read.Refused (NotEnoughData 4 (length s))) (parse avail (bitsOf s) 0 andThen λ x at. read.Is (Avail x)) refl
       (then-not base (parse avail (bitsOf s) 0) (λ x at. read.Is (Avail x)) λ x m. refl)
 
-  dtmf-not : isInsert base (dtmfOf s) ≡ false
+  dtmf-not : activeOrNot base (dtmfOf s) ≡ false
   unfolding dtmfOf
   dtmf-not = then-not base (parse dtmf (bitsOf s) 0) (λ x at. read.Is (Dtmf x)) λ x m. refl
 
-  time-not : isInsert base (timeOf s) ≡ false
+  time-not : activeOrNot base (timeOf s) ≡ false
   unfolding timeOf
   time-not =
       pick-not base (ltb (length s) 12) (read.Refused (NotEnoughData 12 (length s))) (parse time (bitsOf s) 0 andThen λ x at. read.Is (Time x)) refl
       (then-not base (parse time (bitsOf s) 0) (λ x at. read.Is (Time x)) λ x m. refl)
 
-  reserved-not : (tag : ℕ) → isInsert base (reservedOf tag s) ≡ false
+  reserved-not : (tag : ℕ) → activeOrNot base (reservedOf tag s) ≡ false
   unfolding reservedOf
   reserved-not tag = then-not base (parse privateBytes (bitsOf s) 0) (λ v at. read.Is (Reserved tag v)) λ x m. refl
 
@@ -82,12 +82,12 @@ module _ (base : ℕ) (s : List ℕ) where
   false-true b e f = zero-one cc
 
   module _ (tag : ℕ) (id : List ℕ) where
-    tagged : isInsert base (descriptorOf tag id s) ≡ true → Tagged tag id
+    tagged : activeOrNot base (descriptorOf tag id s) ≡ true → Tagged tag id
     unfolding descriptorOf
     tagged e = go (isCuei id) refl e
       where
         in-cuei : isCuei id ≡ true → (a b c d : Bool) → eqb tag 0 ≡ a → eqb tag 1 ≡ b → eqb tag 2 ≡ c → eqb tag 3 ≡ d
-            → isInsert base (pick a (availOf s) (pick b (dtmfOf s) (pick c (segmentationOf s) (pick d (timeOf s) (reservedOf tag s))))) ≡ true → Tagged tag id
+            → activeOrNot base (pick a (availOf s) (pick b (dtmfOf s) (pick c (segmentationOf s) (pick d (timeOf s) (reservedOf tag s))))) ≡ true → Tagged tag id
         in-cuei ci true b c d ea eb ec ed h = false-true _ avail-not h
         in-cuei ci false true c d ea eb ec ed h = false-true _ dtmf-not h
         in-cuei ci false false true d ea eb ec ed h = record { tag-is = eqb-true tag 2 ec; id-is = ci; reads = rw (ci, ea, eb, ec) }
@@ -95,27 +95,27 @@ module _ (base : ℕ) (s : List ℕ) where
         in-cuei ci false false false false ea eb ec ed h = false-true _ (reserved-not tag) h
 
         go : (b : Bool) → isCuei id ≡ b
-            → isInsert base (pick b (pick (eqb tag 0) (availOf s) (pick (eqb tag 1) (dtmfOf s) (pick (eqb tag 2) (segmentationOf s) (pick (eqb tag 3) (timeOf s) (reservedOf tag s))))) (reservedOf tag s)) ≡ true
+            → activeOrNot base (pick b (pick (eqb tag 0) (availOf s) (pick (eqb tag 1) (dtmfOf s) (pick (eqb tag 2) (segmentationOf s) (pick (eqb tag 3) (timeOf s) (reservedOf tag s))))) (reservedOf tag s)) ≡ true
             → Tagged tag id
         go true ci h = in-cuei ci (eqb tag 0) (eqb tag 1) (eqb tag 2) (eqb tag 3) refl refl refl refl h
         go false ci h = false-true _ (reserved-not tag) h
 
 -- what it reads as
-pub record SpliceInsert (base : ℕ) (r : DescriptorRead) : Type 0 where
+pub record ActiveIn (base : ℕ) (r : DescriptorRead) : Type 0 where
   pub x : SegmentationDescriptor
   pub i : SegmentationDetail
   pub is : r ≡ read.Is (Segmentation x)
   pub detail : x .«descriptor_detail» ≡ Active i
 
-insertion : (base : ℕ) (r : DescriptorRead) → isInsert base r ≡ true → SpliceInsert base r
-insertion base (read.Refused q) e = zero-one cc
-insertion base (read.Is (Avail x)) e = zero-one cc
-insertion base (read.Is (Dtmf x)) e = zero-one cc
-insertion base (read.Is (Time x)) e = zero-one cc
-insertion base (read.Is (Reserved tag v)) e = zero-one cc
-insertion base (read.Is (Segmentation x)) e = go (x .«descriptor_detail») refl e
+active-so : (base : ℕ) (r : DescriptorRead) → activeOrNot base r ≡ true → ActiveIn base r
+active-so base (read.Refused q) e = zero-one cc
+active-so base (read.Is (Avail x)) e = zero-one cc
+active-so base (read.Is (Dtmf x)) e = zero-one cc
+active-so base (read.Is (Time x)) e = zero-one cc
+active-so base (read.Is (Reserved tag v)) e = zero-one cc
+active-so base (read.Is (Segmentation x)) e = go (x .«descriptor_detail») refl e
   where
-    go : (d : DescriptorDetail) → x .«descriptor_detail» ≡ d → not (cancelled (withUpids (movedUpid base) d)) ≡ true → SpliceInsert base (read.Is (Segmentation x))
+    go : (d : DescriptorDetail) → x .«descriptor_detail» ≡ d → not (cancelled (withUpids (movedUpid base) d)) ≡ true → ActiveIn base (read.Is (Segmentation x))
     go Cancel ed h = zero-one cc
     go (Active i) ed h = record { x = x; i = i; is = refl; detail = ed }
 
@@ -142,7 +142,7 @@ cuei-is id n e =
 
 -- ---- the item
 
-pub record Inserted (loop : List ℕ) (offset : ℕ) : Type 0 where
+pub record ActiveAt (loop : List ℕ) (offset : ℕ) : Type 0 where
   pub stands : Stands loop offset (getD loop (offset + 1) 0)
   pub named : 4 ≤ getD loop (offset + 1) 0
   pub tag : getD loop offset 0 ≡ 2
@@ -155,14 +155,14 @@ pub record Inserted (loop : List ℕ) (offset : ℕ) : Type 0 where
   pub item : stepOf loop offset .item ≡ Is (movedDescriptor (offset + 6) (Segmentation x))
 
 module _ (loop : List ℕ) (offset : ℕ) where
-  complete-inserts : (L : ℕ) → L ≡ getD loop (offset + 1) 0 → Stands loop offset L → 4 ≤ L → stepOf loop offset ≡ completeAt loop offset L → inserts (completeAt loop offset L .item) ≡ true → Inserted loop offset
+  complete-actives : (L : ℕ) → L ≡ getD loop (offset + 1) 0 → Stands loop offset L → 4 ≤ L → stepOf loop offset ≡ completeAt loop offset L → isActive (completeAt loop offset L .item) ≡ true → ActiveAt loop offset
   unfolding completeAt readAt
-  complete-inserts L is s h st e =
+  complete-actives L is s h st e =
       let pay : List ℕ = take (L - 4) (drop (offset + 6) loop) in
       let t = tagged (offset + 6) pay (getD loop offset 0) (take 4 (drop (offset + 2) loop)) e in
       let n : length (take 4 (drop (offset + 2) loop)) ≡ 4 = omega (arith, length-take 4 (drop (offset + 2) loop), length-drop (offset + 2) loop, s .six) in
-      let f : inserts (itemAt (offset + 6) (segmentationOf pay)) ≡ true = ap (λ (r : DescriptorRead). inserts (itemAt (offset + 6) r)) (sym (t .reads)) ∙ e in
-      let j = insertion (offset + 6) (segmentationOf pay) f in
+      let f : isActive (itemAt (offset + 6) (segmentationOf pay)) ≡ true = ap (λ (r : DescriptorRead). isActive (itemAt (offset + 6) r)) (sym (t .reads)) ∙ e in
+      let j = active-so (offset + 6) (segmentationOf pay) f in
       record {
         stands = subst (λ (l : ℕ). Stands loop offset l) is s;
         named = omega (arith, is);
@@ -176,20 +176,20 @@ module _ (loop : List ℕ) (offset : ℕ) where
         item = ap (λ (y : Step). y .item) st ∙ ap (itemAt (offset + 6)) (t .reads ∙ j .is);
       }
 
-  by-clause : {s : Step} → Clause loop offset s → stepOf loop offset ≡ s → inserts (s .item) ≡ true → Inserted loop offset
+  by-clause : {s : Step} → Clause loop offset s → stepOf loop offset ≡ s → isActive (s .item) ≡ true → ActiveAt loop offset
   by-clause (long h) st e = zero-one cc
   by-clause (ended h) st e = zero-one cc
   by-clause (last r v h) st e = zero-one cc
   by-clause (small L s) st e = zero-one cc
-  by-clause (entire L s h) st e = complete-inserts L (s .is) s h st e
+  by-clause (entire L s h) st e = complete-actives L (s .is) s h st e
 
-  pub inserted : found loop offset ≡ true → Inserted loop offset
+  pub active-at : found loop offset ≡ true → ActiveAt loop offset
   unfolding found
-  inserted e = by-clause (clause loop offset) refl (and-true (begins (itemsOf loop) offset) (inserts (stepOf loop offset .item)) e .1)
+  active-at e = by-clause (clause loop offset) refl (and-true (begins (itemsOf loop) offset) (isActive (stepOf loop offset .item)) e .1)
 
   pub begun : found loop offset ≡ true → begins (itemsOf loop) offset ≡ true
   unfolding found
-  begun e = and-true (begins (itemsOf loop) offset) (inserts (stepOf loop offset .item)) e .0
+  begun e = and-true (begins (itemsOf loop) offset) (isActive (stepOf loop offset .item)) e .0
 
 -- ---- its payload, by places
 
@@ -247,5 +247,5 @@ byte-in s a n bytes k =
     omega (arith, List·getD-eq-default (take n (drop a s)) 0 {n = k} l))
 
 -- the item's payload is a hole that its UPID fills
-pub hole-at : (loop : List ℕ) (offset : ℕ) → ((k : ℕ) → getD loop k 0 < 256) → (x : Inserted loop offset) → Holed (payloadAt loop offset) (x .x .«segmentation_event_id») (x .i)
+pub hole-at : (loop : List ℕ) (offset : ℕ) → ((k : ℕ) → getD loop k 0 < 256) → (x : ActiveAt loop offset) → Holed (payloadAt loop offset) (x .x .«segmentation_event_id») (x .i)
 hole-at loop offset bytes x = of-the-payload-only-the-upid-differs (payloadAt loop offset) (x .x) (x .i) (byte-in loop (offset + 6) (getD loop (offset + 1) 0 - 4) bytes) (x .reads) (x .detail)

@@ -1,12 +1,12 @@
--- `descriptor::segmentation::read_insert`: front, UPID and back in turn.
+-- `descriptor::segmentation::read_active`: front, UPID and back in turn.
 use Prim.Native.Nat.{_*_}
 use mathlib.Core.Path.{sym, _∙_}
 use Rattle.descriptor.specs.Private.{frontRead, backRead}
 use Rattle.descriptor.proofs.Parts.{told}
-use Rattle.descriptor.proofs.Segmentations.{front-inside, no-front, bad-upid, no-back, insert-is}
+use Rattle.descriptor.proofs.Segmentations.{front-inside, no-front, bad-upid, no-back, active-is}
 use borrow.Author.Needs.{needs}
-use Rattle.descriptor.proofs.segmentation.read_insert.Statement.{statement}
-use Rattle.descriptor.proofs.segmentation.read_insert.Tie as tie
+use Rattle.descriptor.proofs.segmentation.read_active.Statement.{statement}
+use Rattle.descriptor.proofs.segmentation.read_active.Tie as tie
 
 read-front-requires : tie.Need-read-front-requires
 read-front-requires c κs = search needs
@@ -76,8 +76,8 @@ returns-3 c =
     let g = told frontRead _ _ _ (f .f .given .1) (read-front .read-front .ensures) in
     c .lacks2 .ensures ∙ no-back (a .payload .now) (a .event) (a .at * 8) _ _ _ (g .1) _ (sym (u .u .given .1) ∙ checked-upid .checked-upid .ensures) _ (told backRead _ _ _ (e2 .e2 .given .1) (read-back .read-back .ensures))
 
-insert-requires : tie.Need-insert-requires
-insert-requires c κs = search needs
+active-with-requires : tie.Need-active-with-requires
+active-with-requires c κs = search needs
 
 returns-4 : tie.Need-returns-4
 returns-4 c =
@@ -89,10 +89,10 @@ returns-4 c =
     let read-front = f .before .before in
     let a = read-front .before .before .args in
     let g = told frontRead _ _ _ (f .f .given .1) (read-front .read-front .ensures) in
-    c .insert .ensures ∙ insert-is (a .payload .now) (a .event) (a .at * 8) _ _ _ (g .1) _ (sym (u .u .given .1) ∙ checked-upid .checked-upid .ensures) _ _ (told backRead _ _ _ (b .b .given .1) (read-back .read-back .ensures) .1)
+    c .active-with .ensures ∙ active-is (a .payload .now) (a .event) (a .at * 8) _ _ _ (g .1) _ (sym (u .u .given .1) ∙ checked-upid .checked-upid .ensures) _ _ (told backRead _ _ _ (b .b .given .1) (read-back .read-back .ensures) .1)
 
-pub read-insert-spec : {M : Type 1} → statement M
-read-insert-spec =
+pub read-active-spec : {M : Type 1} → statement M
+read-active-spec =
     tie.close
     (tie.spec
     read-front-requires
@@ -109,5 +109,5 @@ read-insert-spec =
     enum-known-e-2
     lacks-requires-2
     returns-3
-    insert-requires
+    active-with-requires
     returns-4)

@@ -1,8 +1,8 @@
--- `descriptor_canonical::segment::is_canonical_insert`, test by test.
+-- `descriptor_canonical::segment::is_canonical_active`, test by test.
 use Rattle.descriptor_canonical.proofs.Tests.{flags-short, flags-spoilt, by-program, by-components}
 use borrow.Author.Needs.{needs}
-use Rattle.descriptor_canonical.proofs.segment.is_canonical_insert.Statement.{statement}
-use Rattle.descriptor_canonical.proofs.segment.is_canonical_insert.Tie as tie
+use Rattle.descriptor_canonical.proofs.segment.is_canonical_active.Statement.{statement}
+use Rattle.descriptor_canonical.proofs.segment.is_canonical_active.Tie as tie
 
 returns : tie.Need-returns
 returns c = flags-short (c .before .before .args .s .now) (c .if1 .taken)
@@ -47,8 +47,8 @@ returns-4 c =
     let e = r .before .before in
     by-components (e .before .before .args .s .now) (e .if1 .left) _ (r .flags-ones .ensures) (l .before .if2 .left) _ (l .lasting-bytes .ensures .0) (f .if3 .left) _ (c .is-canonical-by-components .ensures)
 
-pub is-canonical-insert-spec : {M : Type 1} → statement M
-is-canonical-insert-spec =
+pub is-canonical-active-spec : {M : Type 1} → statement M
+is-canonical-active-spec =
     tie.close
     (tie.spec
     returns

@@ -1,8 +1,8 @@
--- `c_descriptor_writer::values::insert_from` meets its contract.
+-- `c_descriptor_writer::values::detail_from` meets its contract.
 use borrow.Author.Needs.{needs}
-use Rattle.c_descriptor_writer.specs.ItemGiven.{insertFrom}
-use Rattle.c_descriptor_writer.proofs.values.insert_from.Statement.{statement}
-use Rattle.c_descriptor_writer.proofs.values.insert_from.Tie as tie
+use Rattle.c_descriptor_writer.specs.ItemGiven.{detailFrom}
+use Rattle.c_descriptor_writer.proofs.values.detail_from.Statement.{statement}
+use Rattle.c_descriptor_writer.proofs.values.detail_from.Tie as tie
 
 delivery-from-requires : tie.Need-delivery-from-requires
 delivery-from-requires c κs = search needs
@@ -32,11 +32,11 @@ sub-segments-from-requires : tie.Need-sub-segments-from-requires
 sub-segments-from-requires c κs = search needs
 
 returns : tie.Need-returns
-unfolding insertFrom
+unfolding detailFrom
 returns c = rw (c .sub-segments-from .ensures, c .before .before .before .from-id .ensures, c .before .before .before .before .before .before .duration-from .ensures, c .before .before .before .before .before .before .before .mode-from .ensures, c .before .before .before .before .before .before .before .before .delivery-from .ensures)
 
-pub insert-from-spec : {M : Type 1} → statement M
-insert-from-spec =
+pub detail-from-spec : {M : Type 1} → statement M
+detail-from-spec =
     tie.close
     (tie.spec
     delivery-from-requires

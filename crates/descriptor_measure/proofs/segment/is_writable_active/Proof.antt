@@ -1,8 +1,8 @@
--- `descriptor_measure::segment::is_writable_insert`, flag by flag.
+-- `descriptor_measure::segment::is_writable_active`, flag by flag.
 use Rattle.descriptor_measure.proofs.Tests.{writable-no-program, writable-no-lasting, writable-no-free, writable-type}
 use borrow.Author.Needs.{needs}
-use Rattle.descriptor_measure.proofs.segment.is_writable_insert.Statement.{statement}
-use Rattle.descriptor_measure.proofs.segment.is_writable_insert.Tie as tie
+use Rattle.descriptor_measure.proofs.segment.is_writable_active.Statement.{statement}
+use Rattle.descriptor_measure.proofs.segment.is_writable_active.Tie as tie
 
 by-program-requires : tie.Need-by-program-requires
 by-program-requires c κs = search needs
@@ -65,8 +65,8 @@ returns-4 c =
     let a = b .before in
     writable-type (a .before .args .i) _ _ (a .by-program .ensures) (b .agree .ensures) (e .if1 .left) _ _ (a2 .lasts .ensures) (b2 .agree2 .ensures) (e2 .if2 .left) _ _ (a3 .is-free .ensures) (b3 .agree3 .ensures) (e3 .if3 .left) _ (c .writable .ensures)
 
-pub is-writable-insert-spec : {M : Type 1} → statement M
-is-writable-insert-spec =
+pub is-writable-active-spec : {M : Type 1} → statement M
+is-writable-active-spec =
     tie.close
     (tie.spec
     by-program-requires

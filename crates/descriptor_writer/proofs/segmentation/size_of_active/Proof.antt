@@ -1,9 +1,9 @@
--- `descriptor_writer::segmentation::size_of_insert`, part by part.
+-- `descriptor_writer::segmentation::size_of_active`, part by part.
 use native.Mathlib.Omega.{arith}
 use Rattle.descriptor_writer.proofs.Segmenting.{written-len, size-sum, count-small}
 use borrow.Author.Needs.{needs}
-use Rattle.descriptor_writer.proofs.segmentation.size_of_insert.Statement.{statement}
-use Rattle.descriptor_writer.proofs.segmentation.size_of_insert.Tie as tie
+use Rattle.descriptor_writer.proofs.segmentation.size_of_active.Statement.{statement}
+use Rattle.descriptor_writer.proofs.segmentation.size_of_active.Tie as tie
 
 mode-size-requires : tie.Need-mode-size-requires
 mode-size-requires c κs = search needs
@@ -35,8 +35,8 @@ add-result-5 c = omega (arith, c .before .upid-size .ensures, written-len (c .be
 returns : tie.Need-returns
 returns c = (size-sum _ _ _ _ _ (c .before .before .before .mode-size .ensures .0) (c .before .before .duration-size .ensures .0) (c .before .upid-size .ensures) (c .sub-size .ensures .0), count-small (c .before .before .before .before .before .args .i .«segmentation_mode») _ (c .before .before .before .mode-size .ensures .0) (c .before .before .before .mode-size .ensures .1))
 
-pub size-of-insert-spec : {M : Type 1} → statement M
-size-of-insert-spec =
+pub size-of-active-spec : {M : Type 1} → statement M
+size-of-active-spec =
     tie.close
     (tie.spec
     mode-size-requires
