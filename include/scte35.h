@@ -83,7 +83,7 @@ uint32_t scte35_abi(void);
     X(INVALID_UPID_LENGTH, 25, "InvalidUpidLength", "UPID of wrong length") \
     X(OUTSIDE_LENT, 31, "OutsideLent", "a view reaches outside the lent bytes") \
     X(TOO_LARGE, 32, "TooLarge", "a number or a count exceeds its field, or there are more than 7 DTMF characters or 255 bytes of a UPID") \
-    X(UNWRITABLE, 33, "Unwritable", "a value that no canonical section has") \
+    X(UNWRITABLE, 33, "Unwritable", "a value that no canonical reading has") \
     X(RESULT_TOO_LONG, 34, "ResultTooLong", "a descriptor's length over 254, or a section over 4,096 bytes") \
     X(LOOP_NOT_CANONICAL, 35, "LoopNotCanonical", "the descriptor loop that is handed in is not canonical") \
     X(TARGET_TOO_SHORT, 36, "TargetTooShort", "the target is shorter than the result") \

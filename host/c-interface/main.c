@@ -1,5 +1,6 @@
 /* The interface from C: the inline functions of scte35.h on worked cues, and how much stack each function of the library takes at its worst. Prints `NAME BYTES` for each;
- * host/c-interface/run compares these with what the header says. For x86-64. */
+ * host/c-interface/run compares these with what the header says. And every reader on a thread that has 64 KB of stack. For x86-64. */
+#include <pthread.h>
 #include <stdio.h>
 #include <stdlib.h>
 #include <string.h>
@@ -299,11 +300,41 @@ static void around(size_t count)
     CHECK(!written.refusal && written.length == section_length && !memcmp(target, section, section_length));
 }
 
+/* Every reader at its deepest, on a thread of 64 KB: what stands in `section`, `loop` and `mid` is read there. */
+static void *every_reader(void *unused)
+{
+    (void)unused;
+    whole = scte35_read_section(section, section_length, 0);
+    header = scte35_read_header(section, section_length, 3);
+    command = scte35_read_command(section[13], section, section_length, SCTE35_PLACE_COMMAND);
+    components = scte35_read_section_components(section, &whole);
+    step = scte35_read_item(loop, loop_length, 0);
+    beside = scte35_read_segmentation_components(loop, loop_length, 0);
+    upid = scte35_read_upid(SCTE35_UPID_MID, mid, 254, 0);
+    daterange = scte35_read_daterange(line, lined.length, 0, gathered, sizeof gathered);
+    told = scte35_is_canonical_section(section, section_length, 0);
+    return NULL;
+}
+
+static void small_stack(void)
+{
+    pthread_attr_t attributes;
+    pthread_t thread;
+    whole.refusal = header.refusal = command.refusal = components.refusal = step.refusal = beside.refusal = upid.refusal = daterange.refusal = 1;
+    told = 0;
+    CHECK(!pthread_attr_init(&attributes) && !pthread_attr_setstacksize(&attributes, 64 * 1024));
+    CHECK(!pthread_create(&thread, &attributes, every_reader, NULL));
+    CHECK(!pthread_join(thread, NULL) && !pthread_attr_destroy(&attributes));
+    CHECK(!whole.refusal && !header.refusal && !command.refusal && !components.refusal && components.count == SCTE35_MAX_COMPONENTS);
+    CHECK(!step.refusal && !beside.refusal && !upid.refusal && upid.count == SCTE35_MAX_PARTS && !daterange.refusal && told);
+}
+
 static void stacks(void)
 {
     nested(mid, 254);
     loop_length = descriptor(loop, SCTE35_UPID_MID, 238, 0);
     around(255);
+    small_stack();
     around(0);
     loop_length = descriptor(loop, SCTE35_UPID_AD_ID, 12, 36);
     around(255);

@@ -89,7 +89,7 @@ refusals! {
     } = 25, "UPID of wrong length";
     OutsideLent = 31, "a view reaches outside the lent bytes";
     TooLarge = 32, "a number or a count exceeds its field, or there are more than 7 DTMF characters or 255 bytes of a UPID";
-    Unwritable = 33, "a value that no canonical section has";
+    Unwritable = 33, "a value that no canonical reading has";
     ResultTooLong = 34, "a descriptor's length over 254, or a section over 4,096 bytes";
     LoopNotCanonical = 35, "the descriptor loop that is handed in is not canonical";
     TargetTooShort = 36, "the target is shorter than the result";

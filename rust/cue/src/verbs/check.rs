@@ -116,7 +116,7 @@ mod tests {
             // a command's reserved bits, and bytes behind it
             (of_command(6, "F800000000"), "byte 14 is F8, canonical FE: time_specified_flag, reserved, pts_time", "other bytes, 25 for 25"),
             (of_command(6, "FE00000000AA"), "1 byte spare at 19, in the command", "other bytes, 25 for 26"),
-            (of_command(5, "000000010F5F00010000"), "reserved bits at 18: a value that no canonical section has (refusal 33)", "refused: "),
+            (of_command(5, "000000010F5F00010000"), "reserved bits at 18: a value that no canonical reading has (refusal 33)", "refused: "),
             // a descriptor's
             (around("000943554549 00000135 AA"), "1 byte spare at 27, in item 1", "other bytes"),
             (around(&with_upid("0800")), "byte 29 is 08, canonical 00: segmentation_upid_type", "other bytes"),

@@ -324,7 +324,7 @@ mod tests {
         // what was refused when it was read
         let output = super::super::tests::cue(&["show", "--json", "FC30"]).output().unwrap();
         let (_, said, status) = made(&["make"], &String::from_utf8(output.stdout).unwrap());
-        assert_eq!((said.as_str(), status), ("cue 1: not written, the cue was refused (1) when it was read: a value that no canonical section has (refusal 33)\n", 1));
+        assert_eq!((said.as_str(), status), ("cue 1: not written, the cue was refused (1) when it was read: a value that no canonical reading has (refusal 33)\n", 1));
         let item = stdout(&["show", "--json", &around("000443554549")]);
         let (_, said, status) = made(&["make"], &item);
         assert!(said.starts_with("cue 1: not written, descriptors[0] was refused (21) when it was read") && status == 1, "{said}");
