@@ -34,16 +34,16 @@ use command::Private;
 use command::SpliceCommand;
 use command::components::InsertComponent;
 use command::components::MAX_COMPONENTS;
-use command::insert::Break;
 use command::insert::InsertDetail;
 use command::insert::SpliceDetail;
-use command::insert::SpliceDuration;
 use command::insert::SpliceInsert;
 use command::insert::SpliceMode;
 use command_writer::write_command;
 use command_writer::write_command_without_components;
 use names::flags::NetworkIndicator;
 use names::flags::ReturnMode;
+use splice_time::break_duration::Break;
+use splice_time::break_duration::SpliceDuration;
 use table::View;
 use table::lent::lies_in;
 

@@ -7,11 +7,11 @@ use crate::flat_time;
 use crate::flat_view;
 use command::CommandRead;
 use command::SpliceCommand;
-use command::insert::Break;
 use command::insert::InsertDetail;
 use command::insert::SpliceDetail;
 use command::insert::SpliceInsert;
 use command::insert::SpliceMode;
+use splice_time::break_duration::Break;
 
 // By program, at a time; or by as many components.
 #[repr(C)]

@@ -11,7 +11,7 @@ use Rattle.command.specs.Insert.{insert}
 use Rattle.command.specs.Private.{insertRead}
 use Rattle.crc.specs.Crc.{crcOf}
 use Rattle.crc_table.specs.Turns.{reversed, turns}
-use Rattle.descriptor.specs.Descriptor.{availOf, descriptorOf, dtmfOf, isCuei, reservedOf, segmentationTypeOf as descriptorSegmentationOf, timeOf}
+use Rattle.descriptor.specs.Descriptor.{availOf, descriptorOf, dtmfOf, isCuei, reservedOf, segmentationOf, timeOf}
 use Rattle.descriptor.specs.Full.{besideRead, blankBeside, identifierRead, fullOf}
 use Rattle.header.specs.Header.{headerOf}
 use Rattle.header_numbers.specs.Numbers.{numbersRead}
@@ -80,7 +80,6 @@ use Rattle.names.proofs.flags.DeviceRestrictions.from_bits.Reads as restriction
 use Rattle.names.proofs.flags.DeviceRestrictions.bits.Reads as restrictions-bits
 use Rattle.header_numbers.proofs.read_header_numbers.Reads as read-header-numbers
 use Rattle.header.proofs.header.read_header.Reads as read-header
-use Rattle.splice_time.proofs.read_splice_time.Reads as read-splice-time
 use Rattle.splice_time.proofs.read_aligned_time.Reads as read-aligned-time
 use Rattle.splice_time.proofs.adjusted_time.Reads as adjusted-time
 use Rattle.upid.proofs.text.is_text.Reads as is-text
@@ -283,9 +282,6 @@ read-header-numbers-answers = record { takes-any = λ κ a. tt; is = λ κ a r e
 pub read-header-answers : Answers read-header.Asked read-header.Learnt (λ κ r e. r) (λ κ a. headerOf (now (a .0)))
 read-header-answers = record { takes-any = λ κ a. tt; is = λ κ a r e l. l }
 
-pub read-splice-time-answers : Answers read-splice-time.Asked read-splice-time.Learnt (λ κ r e. r) (λ κ a. timeRead (parse spliceTime (bitsOf (now (a .0))) (place (a .1 .0))))
-read-splice-time-answers = record { takes-any = λ κ a. tt; is = λ κ a r e l. l }
-
 pub read-aligned-time-answers : Answers read-aligned-time.Asked read-aligned-time.Learnt (λ κ r e. r) (λ κ a. timeRead (parse spliceTime (bitsOf (now (a .0))) ((a .1 .0) * 8)))
 read-aligned-time-answers = record { takes-any = λ κ a. tt; is = λ κ a r e l. l }
 
@@ -326,7 +322,7 @@ read-time-answers = record { takes-any = λ κ a. tt; is = λ κ a r e l. l }
 pub read-reserved-answers : Answers read-reserved.Asked read-reserved.Learnt (λ κ r e. r) (λ κ a. reservedOf (a .0) (now (a .1 .0)))
 read-reserved-answers = record { takes-any = λ κ a. tt; is = λ κ a r e l. l }
 
-pub read-segmentation-answers : Answers read-segmentation.Asked read-segmentation.Learnt (λ κ r e. r) (λ κ a. descriptorSegmentationOf (now (a .0)))
+pub read-segmentation-answers : Answers read-segmentation.Asked read-segmentation.Learnt (λ κ r e. r) (λ κ a. segmentationOf (now (a .0)))
 read-segmentation-answers = record { takes-any = λ κ a. tt; is = λ κ a r e l. l }
 
 pub read-full-descriptor-answers : Answers read-full-descriptor.Asked read-full-descriptor.Learnt (λ κ r e. r) (λ κ a. fullOf (a .0) (a .1 .0) (now (a .1 .1 .0)))
