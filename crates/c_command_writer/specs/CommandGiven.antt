@@ -140,7 +140,7 @@ wordsRefusal c words components =
     (within commandWidths words && insertComponentsWithin (countIn c) components)
     (same (commandWords (flatCommand c)) words && ownInsertComponents (countIn c) components)
 
--- and 31 before them
+-- the number of a refusal that comes before the command's own: 31, then 32 or 33 of the words
 unfoldable pub commandRefusal : SpliceCommand → List ℕ → List ℕ → List ℕ → ℕ
 commandRefusal c words components lent = seenFirst (commandSeen words lent) (wordsRefusal c words components)
 

@@ -194,7 +194,7 @@ pub fn flat_command_read(read: CommandRead) -> FlatCommand
 {
     match read {
         CommandRead::Is(c) => flat_command(c),
-        CommandRead::UnknownType => no_command(10, 0),
-        CommandRead::Malformed => no_command(11, 0),
+        CommandRead::UnknownType => no_command(read.number() as u64, 0),
+        CommandRead::Malformed => no_command(read.number() as u64, 0),
     }
 }
