@@ -4,6 +4,7 @@ ghost use Rattle.c_adjust.specs.FlatAdjust.{flatMoved, flatAdjustment};
 use adjust::Adjustment;
 use adjust::Moved;
 use c_section::headers::FlatAdjusted;
+use c_section::headers::TOO_LARGE;
 use splice_time::SpliceTime;
 
 #[repr(C)]
@@ -35,7 +36,7 @@ pub fn flat_moved(kind: u64, m: Moved) -> FlatAdjusted
             },
         },
         Moved::TooLarge => FlatAdjusted {
-            refusal: 32,
+            refusal: TOO_LARGE,
             kind: 0,
             ticks: 0,
         },
@@ -51,7 +52,7 @@ pub fn flat_adjustment(a: Adjustment) -> FlatAdjustment
             adjustment,
         },
         Adjustment::TooLarge => FlatAdjustment {
-            refusal: 32,
+            refusal: TOO_LARGE,
             adjustment: 0,
         },
     }

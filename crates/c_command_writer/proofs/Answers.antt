@@ -9,7 +9,7 @@ use lib.Dec.{eqb, ltb}
 use lib.ListN.{length, take}
 use borrow.Author.Tests.{leb-true, le-ltb}
 use Rattle.command.specs.Command.{array, countIn, Tags}
-use Rattle.command.specs.Insert as insert
+use Rattle.splice_time.specs.Break.{breakTicks}
 use Rattle.command.specs.Insert.{count, immediate, programTime, insertOf}
 use Rattle.command.specs.declared.SpliceCommand.{SpliceCommand}
 use Rattle.command.specs.declared.components.InsertComponent.{InsertComponent}
@@ -87,7 +87,7 @@ module _ (places : List InsertComponent) (lent : List ℕ) where
       let c = SpliceCommand.SpliceInsert i in
       let cs = take (count (x .«splice_mode»)) places in
       let size = 10 + modeBytes (x .«splice_mode») (surveyed (immediateIn x cs) cs .bytes) + breakBytes (x .duration) in
-      let w = surveyed (immediateIn x cs) cs .fits && (ltb kept 128 && (ltb (ticks (programTime (x .«splice_mode»))) (2 ^ 33) && ltb (insert.breakTicks (x .duration)) (2 ^ 33))) in
+      let w = surveyed (immediateIn x cs) cs .fits && (ltb kept 128 && (ltb (ticks (programTime (x .«splice_mode»))) (2 ^ 33) && ltb (breakTicks (x .duration)) (2 ^ 33))) in
       let m = measured-late w (eqb kept 127 && surveyed (immediateIn x cs) cs .alike) size (commandMade c places lent) (omega arith)
       (insert-active i x places refl there v (mode-count (x .«splice_mode») (h .3)) (h .0) (h .1) (h .2) tags ∙ command-insert c places lent i refl) in
       (m .0, λ s t. m .1 (rw (survey-fits (immediateIn x cs) cs, t, s .0, s .1 .0, s .1 .1)))

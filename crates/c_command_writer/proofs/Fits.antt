@@ -11,10 +11,11 @@ use borrow.Author.Tests.{ltb-true, lt-ltb, leb-true}
 use Rattle.command.specs.Command.{array, countIn, Tags}
 use Rattle.command.specs.Writable.{writableInsert}
 use Rattle.command.specs.Insert as insert
-use Rattle.command.specs.Insert.{WithComponents, count, programTime, immediate, allImmediate, insertOf, byProgram, lasting, outOfNetwork}
+use Rattle.command.specs.Insert.{WithComponents, count, programTime, immediate, allImmediate, insertOf, byProgram, outOfNetwork}
+use Rattle.splice_time.specs.Break.{lasting, breakTicks}
 use Rattle.command.specs.declared.SpliceCommand.{SpliceCommand}
 use Rattle.command.specs.declared.components.InsertComponent.{InsertComponent}
-use Rattle.command.specs.declared.insert.Break.{Break}
+use Rattle.splice_time.specs.declared.break_duration.Break.{Break}
 use Rattle.command.specs.declared.insert.InsertDetail.{InsertDetail}
 use Rattle.command.specs.declared.insert.SpliceInsert.{SpliceInsert}
 use Rattle.command.specs.declared.insert.SpliceDetail.{SpliceDetail}
@@ -182,7 +183,7 @@ network-within : (n : NetworkIndicator) → ltb (networkFlag n) 2 ≡ true
 network-within NetworkIndicator.In = refl
 network-within NetworkIndicator.Out = refl
 
-break-within : (b : Break) → ltb (insert.breakTicks b) (2 ^ 33) ≡ true
+break-within : (b : Break) → ltb (breakTicks b) (2 ^ 33) ≡ true
     → (ltb (flatBreak b .«duration_flag») 2 ≡ true) × (ltb (flatBreak b .«auto_return») 2 ≡ true) × (ltb (flatBreak b .duration) (2 ^ 33) ≡ true)
 unfolding flatBreak
 break-within Break.Absent e = (refl, refl, refl)

@@ -11,10 +11,11 @@ use lib.Seq.{getD-drop, drop-drop}
 use borrow.Author.Tests.{ltb-true, lt-ltb, le-leb, eqb-true, eqb-false, ne-eqb}
 use Rattle.command.specs.Command.{countIn, ofPrivate}
 use Rattle.command.specs.Insert as insert
+use Rattle.splice_time.specs.Break.{breakTicks}
 use Rattle.command.specs.Insert.{programTime}
 use Rattle.command.specs.declared.SpliceCommand.{SpliceCommand}
 use Rattle.command.specs.declared.components.InsertComponent.{InsertComponent}
-use Rattle.command.specs.declared.insert.Break.{Break}
+use Rattle.splice_time.specs.declared.break_duration.Break.{Break}
 use Rattle.command.specs.declared.insert.InsertDetail.{InsertDetail}
 use Rattle.command.specs.declared.insert.SpliceDetail.{SpliceDetail}
 use Rattle.command.specs.declared.insert.SpliceMode.{SpliceMode}
@@ -179,7 +180,7 @@ places-tags (suc n) words = (below _ 256 (lit< tt), places-tags n (drop 3 words)
 -- ---- and within their fields, if the words are within their widths
 abbrev pub SmallDetail : SpliceDetail → Type 0
 SmallDetail SpliceDetail.Cancel = Unit {0}
-SmallDetail (SpliceDetail.Insert i) = (ltb (ticks (programTime (i .«splice_mode»))) (2 ^ 33) ≡ true) × (ltb (insert.breakTicks (i .duration)) (2 ^ 33) ≡ true)
+SmallDetail (SpliceDetail.Insert i) = (ltb (ticks (programTime (i .«splice_mode»))) (2 ^ 33) ≡ true) × (ltb (breakTicks (i .duration)) (2 ^ 33) ≡ true)
 
 abbrev pub Small : SpliceCommand → Type 0
 Small SpliceCommand.SpliceNull = Unit {0}
@@ -206,7 +207,7 @@ small-detail i t d false = (mode (eqb (i .mode .«program_splice_flag») 1), las
     mode false = refl
 
     lasts : (b : Bool)
-        → ltb (insert.breakTicks (pick b (Break.Lasts (record { «return_mode» = pick (eqb (i .«break_duration» .«auto_return») 1) ReturnMode.Automatic ReturnMode.Manual; duration = i .«break_duration» .duration })) Break.Absent)) (2 ^ 33) ≡ true
+        → ltb (breakTicks (pick b (Break.Lasts (record { «return_mode» = pick (eqb (i .«break_duration» .«auto_return») 1) ReturnMode.Automatic ReturnMode.Manual; duration = i .«break_duration» .duration })) Break.Absent)) (2 ^ 33) ≡ true
     lasts true = lt-ltb _ _ d
     lasts false = refl
 

@@ -9,8 +9,8 @@ use Rattle.command.specs.declared.Private.{Private}
 use Rattle.command.specs.declared.SpliceCommand.{SpliceCommand}
 use Rattle.command.specs.declared.SpliceCommand.the-variants as command
 use Rattle.command.specs.declared.components.InsertComponent.{InsertComponent}
-use Rattle.command.specs.declared.insert.Break.{Break}
-use Rattle.command.specs.declared.insert.Break.the-variants.{Absent, Lasts}
+use Rattle.splice_time.specs.declared.break_duration.Break.{Break}
+use Rattle.splice_time.specs.declared.break_duration.Break.the-variants.{Absent, Lasts}
 use Rattle.command.specs.declared.insert.InsertDetail.{InsertDetail}
 use Rattle.command.specs.declared.insert.SpliceInsert.{SpliceInsert}
 use Rattle.command.specs.declared.insert.SpliceDetail.{SpliceDetail}
@@ -140,7 +140,7 @@ wordsRefusal c words components =
     (within commandWidths words && insertComponentsWithin (countIn c) components)
     (same (commandWords (flatCommand c)) words && ownInsertComponents (countIn c) components)
 
--- and 31 before them
+-- the number of a refusal that comes before the command's own: 31, then 32 or 33 of the words
 unfoldable pub commandRefusal : SpliceCommand → List ℕ → List ℕ → List ℕ → ℕ
 commandRefusal c words components lent = seenFirst (commandSeen words lent) (wordsRefusal c words components)
 

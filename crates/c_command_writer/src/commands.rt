@@ -34,16 +34,16 @@ use command::Private;
 use command::SpliceCommand;
 use command::components::InsertComponent;
 use command::components::MAX_COMPONENTS;
-use command::insert::Break;
 use command::insert::InsertDetail;
 use command::insert::SpliceDetail;
-use command::insert::SpliceDuration;
 use command::insert::SpliceInsert;
 use command::insert::SpliceMode;
 use command_writer::write_command;
 use command_writer::write_command_without_components;
 use names::flags::NetworkIndicator;
 use names::flags::ReturnMode;
+use splice_time::break_duration::Break;
+use splice_time::break_duration::SpliceDuration;
 use table::View;
 use table::lent::lies_in;
 
@@ -319,7 +319,7 @@ fn is_flat_behind(c: FlatCommand, words: &[u64]) -> bool
     word_at(words, PRIVATE_LEN) == bytes.len
 }
 
-// And all of them.
+// Are the words those of this flat command?
 fn is_flat_command(c: FlatCommand, words: &[u64]) -> bool
     ensures { λ r. ⌜ r ≡ same (commandWords c) (now (words .entry)) ⌝ }
 {
@@ -410,7 +410,7 @@ fn write_words_without_components(
     )
 }
 
-// And of one with components.
+// What is written, or refused, of a command with components.
 fn write_listed_words(
     refusal: u64,
     command: SpliceCommand,

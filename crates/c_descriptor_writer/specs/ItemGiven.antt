@@ -182,7 +182,7 @@ unfoldable pub wordsRefusal : Descriptor → List ℕ → List ℕ → ℕ
 wordsRefusal d words beside =
     refusalOf (within itemWidths (drop 5 words) && besideWithin (countBeside d) beside) (ownItem d words && besideThere (countBeside d) words beside)
 
--- and 31 before them
+-- the number of a refusal that comes before the descriptor's own: 31, then 32 or 33 of the words
 unfoldable pub descriptorRefusal : Descriptor → List ℕ → List ℕ → List ℕ → ℕ
 descriptorRefusal d words beside lent = seenFirst (itemSeen words lent) (wordsRefusal d words beside)
 

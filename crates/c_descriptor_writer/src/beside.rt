@@ -102,7 +102,7 @@ fn places_within(count: usize, words: &[u64]) -> bool
     true
 }
 
-// And of the EIDR.
+// Do the words of the components and of the EIDR keep within their widths?
 pub(crate) fn beside_within(count: usize, words: &[u64]) -> bool
     requires { ⌜ count ≤ 255 ⌝ }
     ensures { λ r. ⌜ r ≡ besideWithin count (now (words .entry)) ⌝ }

@@ -217,7 +217,7 @@ fn is_flat_behind(i: FlatItem, words: &[u64]) -> bool
     is_flat_end(i, words)
 }
 
-// And all of them.
+// Are the words those of this flat item?
 pub(crate) fn is_flat_item(i: FlatItem, words: &[u64]) -> bool
     ensures { λ r. ⌜ r ≡ same (itemWords i) (drop 6 (now (words .entry))) ⌝ }
 {

@@ -9,8 +9,8 @@ use Rattle.command.specs.declared.CommandRead.the-variants.{Is, UnknownType, Ma
 use Rattle.command.specs.declared.SpliceCommand.{SpliceCommand}
 use Rattle.command.specs.declared.SpliceCommand.the-variants as command
 use Rattle.command.specs.declared.components.InsertComponent.{InsertComponent}
-use Rattle.command.specs.declared.insert.Break.{Break}
-use Rattle.command.specs.declared.insert.Break.the-variants.{Absent, Lasts}
+use Rattle.splice_time.specs.declared.break_duration.Break.{Break}
+use Rattle.splice_time.specs.declared.break_duration.Break.the-variants.{Absent, Lasts}
 use Rattle.command.specs.declared.insert.InsertDetail.{InsertDetail}
 use Rattle.command.specs.declared.insert.SpliceInsert.{SpliceInsert}
 use Rattle.command.specs.declared.insert.SpliceDetail.{SpliceDetail}

@@ -7,11 +7,11 @@ use crate::flat_time;
 use crate::flat_view;
 use command::CommandRead;
 use command::SpliceCommand;
-use command::insert::Break;
 use command::insert::InsertDetail;
 use command::insert::SpliceDetail;
 use command::insert::SpliceInsert;
 use command::insert::SpliceMode;
+use splice_time::break_duration::Break;
 
 // By program, at a time; or by as many components.
 #[repr(C)]
@@ -194,7 +194,7 @@ pub fn flat_command_read(read: CommandRead) -> FlatCommand
 {
     match read {
         CommandRead::Is(c) => flat_command(c),
-        CommandRead::UnknownType => no_command(10, 0),
-        CommandRead::Malformed => no_command(11, 0),
+        CommandRead::UnknownType => no_command(read.number() as u64, 0),
+        CommandRead::Malformed => no_command(read.number() as u64, 0),
     }
 }

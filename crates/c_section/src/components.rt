@@ -74,12 +74,12 @@ pub fn flat_insert_components(
             }
         }
         CommandRead::UnknownType => FlatInsertComponents {
-            refusal: 10,
+            refusal: read.number() as u64,
             count: 0,
             components: no_components(),
         },
         CommandRead::Malformed => FlatInsertComponents {
-            refusal: 11,
+            refusal: read.number() as u64,
             count: 0,
             components: no_components(),
         },

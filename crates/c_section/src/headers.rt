@@ -9,6 +9,11 @@ use header_numbers::NumbersRead;
 use header_numbers::read_header_numbers;
 use splice_time::AdjustedTime;
 
+// Document 01's numbers of a header that is not there, and of a number that exceeds its field.
+const NO_HEADER: u64 = 5;
+
+pub const TOO_LARGE: u64 = 32;
+
 #[repr(C)]
 pub struct FlatHeader {
     pub refusal: u64,
@@ -54,7 +59,7 @@ pub fn read_flat_header(s: &[u8]) -> FlatHeader
             splice_command_length: n.splice_command_length as u64,
             splice_command_type: n.splice_command_type as u64,
         },
-        NumbersRead::NoHeader => no_header(5),
+        NumbersRead::NoHeader => no_header(NO_HEADER),
     }
 }
 
@@ -81,7 +86,7 @@ pub fn flat_header_read(read: HeaderRead) -> FlatHeader
 {
     match read {
         HeaderRead::Header(h) => flat_header(h),
-        HeaderRead::NoHeader => no_header(5),
+        HeaderRead::NoHeader => no_header(NO_HEADER),
     }
 }
 
@@ -108,7 +113,7 @@ pub fn flat_adjusted(t: AdjustedTime) -> FlatAdjusted
             ticks: 0,
         },
         AdjustedTime::TooLarge => FlatAdjusted {
-            refusal: 32,
+            refusal: TOO_LARGE,
             kind: 0,
             ticks: 0,
         },

@@ -115,7 +115,7 @@ fn write_words_without_components(
     )
 }
 
-// And one whose command has some.
+// What is written, or refused, of a section whose command has components.
 fn write_listed_words(
     refusal: u64,
     header: SpliceInfoHeader,

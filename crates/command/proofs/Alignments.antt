@@ -4,34 +4,17 @@ use mathlib.Core.Bool.{Bool, true, false}
 use mathlib.Core.List.{List}
 use mathlib.Core.Path.{_≡_}
 use native.Mathlib.Omega.{arith}
-use lib.Dec.{eqb}
-use Rattle.splice_time.specs.Time.{spliceTime, ticks}
-use Rattle.splice_time.specs.declared.SpliceTime.the-variants.{Unspecified, At}
-use Rattle.table.specs.Bits.{pick, bitsOf, field}
-use Rattle.table.specs.Table.{done, list, uimsbf, ones, Answer, got, parse}
-use Rattle.table.proofs.Steps.{reads-in, reads-number, reads-flag, reads-ones}
-use Rattle.command.specs.Insert.{timeUnless, component, blank, moded, breakDuration}
-
--- what was read ends where a byte does
-abbrev pub Aligned : {X : Type 0} → Answer X → Type 0
-Aligned {X} r = (x : X) (m : ℕ) → r ≡ got x m → m % 8 ≡ 0
-
-ends : {X : Type 0} (x y : X) (m n : ℕ) → got x m ≡ got y n → m ≡ n
-ends x y m n e = cc
+use Rattle.table.specs.Bits.{bitsOf, field}
+use Rattle.table.specs.Table.{list, parse}
+use Rattle.table.proofs.Steps.{reads-in, reads-number}
+use Rattle.splice_time.proofs.Alignments.{Aligned, ends, aligned-time}
+use Rattle.command.specs.Insert.{timeUnless, component, blank, moded}
 
 module _ (s : List ℕ) where
-  aligned-time : (at : ℕ) → at % 8 ≡ 0 → Aligned (parse spliceTime (bitsOf s) at)
-  unfolding spliceTime
-  aligned-time at z x m e = go (eqb (field (bitsOf s) at 1) 1) (reads-flag s at _ _ x m e .1)
-    where
-      go : (b : Bool) → parse (pick b (ones 6 (uimsbf 33 ticks λ t. done (At t))) (ones 7 (done Unspecified))) (bitsOf s) (at + 1) ≡ got x m → m % 8 ≡ 0
-      go true f = omega (arith, ends _ x _ m (reads-number s (at + 1 + 6) 33 _ _ x m (reads-ones s (at + 1) 6 _ x m f .1) .1))
-      go false f = omega (arith, ends _ x _ m (reads-ones s (at + 1) 7 _ x m f .1))
-
   pub aligned-time-unless : (b : Bool) (at : ℕ) → at % 8 ≡ 0 → Aligned (parse (timeUnless b) (bitsOf s) at)
   unfolding timeUnless
   aligned-time-unless true at z x m e = omega (arith, ends _ x at m e)
-  aligned-time-unless false at z x m e = aligned-time at z x m e
+  aligned-time-unless false at z x m e = aligned-time s at z x m e
 
   pub aligned-component : (b : Bool) (at : ℕ) → at % 8 ≡ 0 → Aligned (parse (component b) (bitsOf s) at)
   unfolding component
@@ -55,9 +38,3 @@ module _ (s : List ℕ) where
   aligned-mode false b at z x m e =
       let r = reads-in (list (field (bitsOf s) at 8) blank (component b)) _ _ (bitsOf s) (at + 8) x m (reads-number s at 8 _ _ x m e .1) in
       omega (arith, ends _ x _ m (r .back), aligned-list b (field (bitsOf s) at 8) (at + 8) (omega arith) _ _ (r .front))
-
-  pub aligned-break : (b : Bool) (at : ℕ) → at % 8 ≡ 0 → Aligned (parse (breakDuration b) (bitsOf s) at)
-  unfolding breakDuration
-  aligned-break true at z x m e =
-      omega (arith, ends _ x _ m (reads-number s (at + 1 + 6) 33 _ _ x m (reads-ones s (at + 1) 6 _ x m (reads-flag s at _ _ x m e .1) .1) .1))
-  aligned-break false at z x m e = omega (arith, ends _ x at m e)

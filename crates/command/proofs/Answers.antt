@@ -1,35 +1,25 @@
 -- What the readers of an insert answer, made of a reading and undone.
-use Prim.Native.Nat.{ℕ, _*_, _/_, _%_}
+use Prim.Native.Nat.{ℕ, _*_, _/_}
 use mathlib.Core.List.{List}
 use mathlib.Core.Path.{_≡_, refl}
-use native.Mathlib.Omega.{arith}
 use Rattle.table.specs.Table.{Answer, got, short}
 use Rattle.table.specs.declared.cursor.Short.{Short}
 use Rattle.table.proofs.Lists.{zero-one}
+use Rattle.splice_time.proofs.Alignments.{Aligned}
+use Rattle.splice_time.proofs.Breaks.{byte-of, bit-of}
 use Rattle.command.specs.Insert.{WithComponents}
-use Rattle.command.specs.Private.{componentRead, skimmedOf, breakRead, modedRead, activeRead, insertRead}
+use Rattle.command.specs.Private.{componentRead, skimmedOf, modedRead, activeRead, insertRead}
 use Rattle.command.specs.declared.components.Component.{Component}
 use Rattle.command.specs.declared.components.ComponentRead.{ComponentRead}
 use Rattle.command.specs.declared.components.InsertComponent.{InsertComponent}
 use Rattle.command.specs.declared.components.Skimmed.{Skimmed}
 use Rattle.command.specs.declared.insert.ActiveRead.{ActiveRead}
-use Rattle.command.specs.declared.insert.Break.{Break}
-use Rattle.command.specs.declared.insert.BreakRead.{BreakRead}
-use Rattle.command.specs.declared.insert.Broken.{Broken}
 use Rattle.command.specs.declared.insert.InsertDetail.{InsertDetail}
 use Rattle.command.specs.declared.insert.SpliceInsert.{SpliceInsert}
 use Rattle.command.specs.declared.insert.InsertRead.{InsertRead}
 use Rattle.command.specs.declared.insert.Moded.{Moded}
 use Rattle.command.specs.declared.insert.ModedRead.{ModedRead}
 use Rattle.command.specs.declared.insert.SpliceMode.{SpliceMode}
-use Rattle.command.proofs.Alignments.{Aligned}
-
--- ---- the byte that starts with a bit, and its first bit
-byte-of : (n : ℕ) → n * 8 / 8 ≡ n
-byte-of n = omega arith
-
-bit-of : (m : ℕ) → m % 8 ≡ 0 → m / 8 * 8 ≡ m
-bit-of m z = omega arith
 
 -- ---- a component
 pub component-got : (r : Answer InsertComponent) (y : InsertComponent) (n : ℕ) → r ≡ got y (n * 8) → ComponentRead.Got (record { component = y; next = n }) ≡ componentRead r
@@ -78,28 +68,6 @@ pub lacks-skim : (r : Answer (List InsertComponent)) (x : Short) → Skimmed.Lac
 unfolding skimmedOf
 lacks-skim (got ys m) x f = zero-one cc
 lacks-skim (short e a) x f = cc
-
--- ---- a duration
-pub break-got : (r : Answer Break) (y : Break) (n : ℕ) → r ≡ got y (n * 8) → BreakRead.Got (record { duration = y; next = n }) ≡ breakRead r
-unfolding breakRead
-break-got r y n e = rw (e, byte-of n)
-
-pub break-lacks : (r : Answer Break) (x : Short) → r ≡ short (x .expected) (x .actual) → BreakRead.Lacks x ≡ breakRead r
-unfolding breakRead
-break-lacks r x e = rw e
-
-pub got-break : (r : Answer Break) (y : Broken) → Aligned r → BreakRead.Got y ≡ breakRead r → r ≡ got (y .duration) (y .next * 8)
-unfolding breakRead
-got-break (got x m) y w f =
-    let e : y .duration ≡ x = cc in
-    let c : y .next ≡ m / 8 = cc in
-    rw (e, c, bit-of m (w x m refl))
-got-break (short e a) y w f = zero-one cc
-
-pub lacks-break : (r : Answer Break) (x : Short) → BreakRead.Lacks x ≡ breakRead r → r ≡ short (x .expected) (x .actual)
-unfolding breakRead
-lacks-break (got y m) x f = zero-one cc
-lacks-break (short e a) x f = cc
 
 -- ---- a mode, with whichever components
 pub mode-got : (r : Answer (WithComponents SpliceMode)) (y : SpliceMode) (cs : List InsertComponent) (n : ℕ)

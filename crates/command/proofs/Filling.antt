@@ -16,7 +16,8 @@ use Rattle.table.proofs.Lists.{zero-one}
 use Rattle.table.proofs.Reading.{bits-are}
 use Rattle.table.proofs.Steps.{onward, list-turn, list-short, list-none, reads-in, reads-number, reads-flag, reads-ones}
 use Rattle.command.specs.Command.{read, commandOf, insertCount, array, componentsIn, componentsOf}
-use Rattle.command.specs.Insert.{WithComponents, count, timeUnless, component, blank, moded, modeOf, breakDuration, ending, active, activeOf, insert}
+use Rattle.splice_time.specs.Break.{breakDuration}
+use Rattle.command.specs.Insert.{WithComponents, count, timeUnless, component, blank, moded, modeOf, ending, active, activeOf, insert}
 use Rattle.command.specs.Private.{componentRead, listIn, filled, countRead}
 use Rattle.command.specs.declared.CommandRead.{CommandRead}
 use Rattle.command.specs.declared.SpliceCommand.{SpliceCommand}

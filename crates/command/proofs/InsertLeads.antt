@@ -1,17 +1,18 @@
 -- An insert's own fields lead to that insert.
 use Prim.Native.Nat.{ℕ, _+_, _*_, _-_}
-use mathlib.Core.Bool.{Bool, true}
+use mathlib.Core.Bool.{true}
 use mathlib.Core.List.{List, [], _∷_}
 use mathlib.Core.Path.{_≡_, refl}
 use native.Mathlib.Omega.{arith}
 use lib.Dec.{eqb}
 use lib.ListN.{length}
 use Rattle.names.specs.declared.flags.NetworkIndicator.{NetworkIndicator}
-use Rattle.names.specs.declared.flags.ReturnMode.{ReturnMode}
 use Rattle.table.specs.Bits.{pick}
 use Rattle.table.specs.Table.{Table, done, inside}
 use Rattle.table.proofs.Leading.{Leads, leads-in, leads-done, leads-number, leads-flag, leads-ones}
 use Rattle.table.proofs.Lists.{and-true}
+use Rattle.splice_time.specs.Break.{lasting, breakDuration}
+use Rattle.splice_time.proofs.Breaks.{breakBytes, break-leads}
 use Rattle.command.specs.Writable.{unmixed, writableInsert}
 use Rattle.command.specs.Insert.{
   WithComponents,
@@ -19,9 +20,6 @@ use Rattle.command.specs.Insert.{
   count,
   allImmediate,
   moded,
-  lasting,
-  autoReturn,
-  breakDuration,
   outOfNetwork,
   modeOf,
   ending,
@@ -31,7 +29,6 @@ use Rattle.command.specs.Insert.{
   insert,
 }
 use Rattle.command.specs.declared.components.InsertComponent.{InsertComponent}
-use Rattle.command.specs.declared.insert.Break.{Break}
 use Rattle.command.specs.declared.insert.InsertDetail.{InsertDetail}
 use Rattle.command.specs.declared.insert.SpliceInsert.{SpliceInsert}
 use Rattle.command.specs.declared.insert.SpliceDetail.{SpliceDetail}
@@ -39,10 +36,6 @@ use Rattle.command.specs.declared.insert.SpliceMode.{SpliceMode}
 use Rattle.command.proofs.ModeLeads.{modeBytes, leads-must, moded-leads}
 
 -- ---- the bytes
-abbrev pub breakBytes : Break → ℕ
-breakBytes Break.Absent = 0
-breakBytes (Break.Lasts d) = 5
-
 abbrev pub activeBytes : InsertDetail → List InsertComponent → ℕ
 activeBytes i cs = 1 + modeBytes (i .«splice_mode») cs + breakBytes (i .duration) + 4
 
@@ -53,20 +46,7 @@ detailBytes (SpliceDetail.Insert i) cs = activeBytes i cs
 abbrev pub insertBytes : WithComponents SpliceInsert → ℕ
 insertBytes x = 5 + detailBytes (x .value .«splice_detail») (x .components)
 
--- ---- the duration, and what is after it
-break-leads : (d : Break) (at m : ℕ) → Leads (breakDuration (lasting d)) d d at (at + breakBytes d * 8) m
-unfolding breakDuration
-break-leads Break.Absent at m = leads-done Break.Absent _ _ _ _ m refl (omega arith)
-break-leads (Break.Lasts d) at m =
-    leads-flag _ _ _ _ at _ m
-    (leads-ones 6 _ _ _ (at + 1) _ m
-    (leads-number 33 _ _ _ _ (at + 1 + 6) _ m
-    (leads-done (Break.Lasts d) _ _ _ _ m (rw (again (d .«return_mode») (d .duration))) (omega arith))))
-  where
-    again : (r : ReturnMode) (t : ℕ) → pick (autoReturn (Break.Lasts (record { «return_mode» = r; duration = t }))) ReturnMode.Automatic ReturnMode.Manual ≡ r
-    again ReturnMode.Automatic t = refl
-    again ReturnMode.Manual t = refl
-
+-- ---- from the duration on
 network-again : (n : NetworkIndicator) → pick (outOfNetwork n) NetworkIndicator.Out NetworkIndicator.In ≡ n
 network-again NetworkIndicator.Out = refl
 network-again NetworkIndicator.In = refl

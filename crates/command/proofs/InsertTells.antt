@@ -7,16 +7,18 @@ use native.Mathlib.Omega.{arith}
 use lib.Dec.{ltb, eqb}
 use lib.ListN.{length, getD}
 use borrow.Author.Tests.{lt-ltb}
+use Rattle.splice_time.specs.Break.{lasting, breakDuration}
 use Rattle.splice_time.specs.Time.{spliceTime, notImmediate}
 use Rattle.splice_time.specs.declared.SpliceTime.{SpliceTime}
 use Rattle.splice_time.specs.declared.SpliceTime.the-variants.{Immediate, Unspecified, At}
+use Rattle.splice_time.proofs.Breaks.{break-tells}
 use Rattle.splice_time.proofs.Times.{time-tells}
 use Rattle.names.specs.declared.flags.NetworkIndicator.{NetworkIndicator}
 use Rattle.table.specs.Bits.{pick}
 use Rattle.table.specs.Table.{list}
 use Rattle.table.proofs.Laws.{Tells}
 use Rattle.table.proofs.Lists.{zero-one}
-use Rattle.table.proofs.Telling.{Each, tells-mono, tells-in, tells-number, tells-flag, tells-either, tells-pick, tells-ones, tells-list}
+use Rattle.table.proofs.Telling.{Each, tells-mono, tells-in, tells-number, tells-flag, tells-pick, tells-ones, tells-list}
 use Rattle.command.specs.Writable.{alike, unmixed, writableInsert}
 use Rattle.command.specs.Insert.{
   WithComponents,
@@ -27,8 +29,6 @@ use Rattle.command.specs.Insert.{
   byProgram,
   allImmediate,
   moded,
-  lasting,
-  breakDuration,
   outOfNetwork,
   modeOf,
   ending,
@@ -87,16 +87,7 @@ moded-tells false b at e =
     (tells-list n blank (component b) (λ c. immediate (c .«splice_time») ≡ b) (component-tells b) (at + 8) (omega arith))
     (λ a cs g. (((g .0, flagged-unmixed b cs (g .2), refl, flag-again b n cs q (g .1) (g .2)), refl), refl))
 
--- ---- the duration, and what is after it
-break-tells : (b : Bool) (at : ℕ) → at % 8 ≡ 0 → Tells (breakDuration b) at (λ a y. (a % 8 ≡ 0) × (lasting y ≡ b))
-unfolding breakDuration
-break-tells true at e =
-    let z : (at + 1 + 6 + 33) % 8 ≡ 0 = omega arith in
-    tells-either _ _ at _
-    (tells-ones 6 _ (at + 1) _ (tells-number 33 _ _ (at + 1 + 6) _ λ d h. (((z, refl), refl), refl)))
-    (tells-ones 6 _ (at + 1) _ (tells-number 33 _ _ (at + 1 + 6) _ λ d h. (((z, refl), refl), refl)))
-break-tells false at e = (e, refl)
-
+-- ---- from the duration on
 out-again : (b : Bool) → outOfNetwork (pick b NetworkIndicator.Out NetworkIndicator.In) ≡ b
 out-again true = refl
 out-again false = refl

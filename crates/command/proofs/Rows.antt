@@ -9,8 +9,9 @@ use Rattle.names.specs.declared.flags.NetworkIndicator.{NetworkIndicator}
 use Rattle.table.specs.Bits.{bitsOf}
 use Rattle.table.specs.Table.{number, bit, reserved, part, remaining, list, got, parse, canonical}
 use Rattle.command.specs.Command.{private, array}
-use Rattle.command.specs.Insert.{WithComponents, timeUnless, component, moded, breakDuration, ending, active, insert}
-use Rattle.command.specs.declared.insert.Break.{Break}
+use Rattle.splice_time.specs.Break.{breakDuration}
+use Rattle.command.specs.Insert.{WithComponents, timeUnless, component, moded, ending, active, insert}
+use Rattle.splice_time.specs.declared.break_duration.Break.{Break}
 use Rattle.command.specs.declared.insert.SpliceInsert.{SpliceInsert}
 use Rattle.command.specs.declared.insert.SpliceDetail.{SpliceDetail}
 use Rattle.command.specs.declared.insert.SpliceMode.{SpliceMode}

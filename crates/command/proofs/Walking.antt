@@ -8,13 +8,16 @@ use native.Mathlib.Omega.{arith}
 use lib.Dec.{eqb}
 use lib.ListN.{length, getD}
 use Rattle.table.proofs.Reading.{first-bit}
+use Rattle.splice_time.specs.Break.{breakDuration, breakRead}
 use Rattle.splice_time.specs.Time.{spliceTime, timeRead}
 use Rattle.splice_time.specs.declared.SpliceTime.the-variants.{Immediate}
 use Rattle.splice_time.specs.declared.TimeRead.{TimeRead}
 use Rattle.splice_time.specs.declared.Timed.{Timed}
+use Rattle.splice_time.specs.declared.break_duration.BreakRead.{BreakRead}
+use Rattle.splice_time.specs.declared.break_duration.Broken.{Broken}
+use Rattle.splice_time.proofs.Breaks.{lacks-break, break-there, break-within}
 use Rattle.splice_time.proofs.Times.{timed-got, timed-lacks}
 use Rattle.names.specs.declared.flags.NetworkIndicator.{NetworkIndicator}
-use Rattle.names.specs.declared.flags.ReturnMode.{ReturnMode}
 use Rattle.table.specs.Bits.{pick, bitsOf, field}
 use Rattle.table.specs.Cursor.{place, cursorAt}
 use Rattle.table.specs.Table.{done, inside, list, Answer, got, short, parse}
@@ -23,24 +26,21 @@ use Rattle.table.specs.declared.cursor.Short.{Short}
 use Rattle.table.proofs.Bits.{length-bits}
 use Rattle.table.proofs.Fields.{byte-field, field-in}
 use Rattle.table.proofs.Steps.{takes-in, lacks-in, takes-number, lacks-number, takes-flag, lacks-flag, takes-ones, parse-bound, onward, list-turn, list-short, list-none}
-use Rattle.command.specs.Insert.{WithComponents, timeUnless, component, blank, moded, breakDuration, ending, active, activeOf, insert, modeOf}
-use Rattle.command.specs.Private.{componentRead, skimmedOf, breakRead, modedRead, activeRead, insertRead}
+use Rattle.command.specs.Insert.{WithComponents, timeUnless, component, blank, moded, ending, active, activeOf, insert, modeOf}
+use Rattle.command.specs.Private.{componentRead, skimmedOf, modedRead, activeRead, insertRead}
 use Rattle.command.specs.declared.components.ComponentRead.{ComponentRead}
 use Rattle.command.specs.declared.components.InsertComponent.{InsertComponent}
 use Rattle.command.specs.declared.components.Component.{Component}
 use Rattle.command.specs.declared.components.Skimmed.{Skimmed}
 use Rattle.command.specs.declared.insert.ActiveRead.{ActiveRead}
-use Rattle.command.specs.declared.insert.Break.{Break}
-use Rattle.command.specs.declared.insert.BreakRead.{BreakRead}
-use Rattle.command.specs.declared.insert.Broken.{Broken}
 use Rattle.command.specs.declared.insert.InsertDetail.{InsertDetail}
 use Rattle.command.specs.declared.insert.InsertRead.{InsertRead}
 use Rattle.command.specs.declared.insert.Moded.{Moded}
 use Rattle.command.specs.declared.insert.ModedRead.{ModedRead}
 use Rattle.command.specs.declared.insert.SpliceDetail.{SpliceDetail}
 use Rattle.command.specs.declared.insert.SpliceMode.{SpliceMode}
-use Rattle.command.proofs.Answers.{component-got, component-lacks, got-component, lacks-component, skim-got, skim-lacks, got-skim, lacks-skim, break-got, break-lacks, got-break, lacks-break, mode-got, mode-lacks, Modes, got-mode, lacks-mode, active-got, active-lacks, got-active, lacks-active, insert-got, insert-lacks}
-use Rattle.command.proofs.Alignments.{aligned-time-unless, aligned-component, aligned-list, aligned-mode, aligned-break}
+use Rattle.command.proofs.Answers.{component-got, component-lacks, got-component, lacks-component, skim-got, skim-lacks, got-skim, lacks-skim, mode-got, mode-lacks, Modes, got-mode, lacks-mode, active-got, active-lacks, got-active, lacks-active, insert-got, insert-lacks}
+use Rattle.command.proofs.Alignments.{aligned-time-unless, aligned-component, aligned-list, aligned-mode}
 
 -- a byte's first bit is where a byte begins
 begins : (i : ℕ) → i * 8 % 8 ≡ 0
@@ -154,43 +154,6 @@ module _ (s : List ℕ) (i : ℕ) (b : Bool) where
         let g = got-skim (parse (list (getD s i 0) blank (component b)) (bitsOf s) ((i + 1) * 8)) n (aligned-list s b (getD s i 0) ((i + 1) * 8) (begins (i + 1))) e in
         mode-got _ _ (g .list) n (takes-number s (i * 8) 8 (getD s i 0) _ _ (omega arith) (sym (byte-field s i there byte))
         ∙ takes-in (list (getD s i 0) blank (component b)) _ _ (bitsOf s) _ _ _ (ap (λ (p : ℕ). parse (list (getD s i 0) blank (component b)) (bitsOf s) p) (sym (next-byte i)) ∙ g .is))
-
--- ---- the duration
-pub no-break : (s : List ℕ) (i : ℕ) → BreakRead.Got (record { duration = Break.Absent; next = i }) ≡ breakRead (parse (breakDuration false) (bitsOf s) (i * 8))
-unfolding breakDuration
-no-break s i = break-got _ Break.Absent i refl
-
-module _ (s : List ℕ) (i : ℕ) where
-  pub no-auto-return : length s ≤ i → BreakRead.Lacks (record { expected = 0; actual = 0 }) ≡ breakRead (parse (breakDuration true) (bitsOf s) (i * 8))
-  unfolding breakDuration
-  no-auto-return h =
-      let z : (length s * 8 - i * 8) / 8 ≡ 0 = omega arith in
-      break-lacks _ _ (lacks-flag s (i * 8) _ _ (omega arith) ∙ ap (short 0) z)
-
-  pub no-duration : (n : ℕ) → i < length s → n ≡ length s - i → n < 5 → BreakRead.Lacks (record { expected = 4; actual = n - 1 }) ≡ breakRead (parse (breakDuration true) (bitsOf s) (i * 8))
-  unfolding breakDuration
-  no-duration n there e h =
-      let z : (length s * 8 - (i * 8 + 1 + 6)) / 8 ≡ n - 1 = omega arith in
-      break-lacks _ _ (takes-flag s (i * 8) _ _ _ (omega arith) refl ∙ takes-ones s (i * 8 + 1) 6 _ (omega arith) ∙ lacks-number s (i * 8 + 1 + 6) 33 _ _ (omega arith) ∙ ap (short 4) z)
-
-  pub a-break : (f v : ℕ) (m : ReturnMode) → i + 5 ≤ length s → f ≡ getD s i 0 → f < 256 → m ≡ pick (eqb (f / 128) 1) ReturnMode.Automatic ReturnMode.Manual → v ≡ field (bitsOf s) (i * 8 + 7) 33
-      → BreakRead.Got (record { duration = Break.Lasts (record { «return_mode» = m; duration = v }); next = i + 5 }) ≡ breakRead (parse (breakDuration true) (bitsOf s) (i * 8))
-  unfolding breakDuration
-  a-break f v m there ef byte em ev =
-      let p : i * 8 + 1 + 6 ≡ i * 8 + 7 = omega arith in
-      let q : i * 8 + 1 + 6 + 33 ≡ (i + 5) * 8 = omega arith in
-      break-got _ _ (i + 5) (rw em (takes-flag s (i * 8) (eqb (f / 128) 1) _ _ (omega arith) (ap (λ (x : ℕ). eqb x 1) (sym (first-bit s i f (omega arith) ef byte))) ∙ takes-ones s (i * 8 + 1) 6 _ (omega arith)
-      ∙ takes-number s (i * 8 + 1 + 6) 33 v _ _ (omega arith) (ev ∙ ap (λ (x : ℕ). field (bitsOf s) x 33) (sym p)) ∙ ap (got (Break.Lasts (record { «return_mode» = pick (eqb (f / 128) 1) ReturnMode.Automatic ReturnMode.Manual; duration = v }))) q))
-
--- one that was read, and the byte after it
-module _ (s : List ℕ) (i : ℕ) (room : i ≤ length s) (b : Bool) (d : Broken) (ed : BreakRead.Got d ≡ breakRead (parse (breakDuration b) (bitsOf s) (i * 8))) where
-  break-there : parse (breakDuration b) (bitsOf s) (i * 8) ≡ got (d .duration) (d .next * 8)
-  break-there = got-break _ d (aligned-break s b (i * 8) (begins i)) ed
-
-  pub break-within : d .next ≤ length s
-  break-within =
-      let h : d .next * 8 ≤ length (bitsOf s) = parse-bound (breakDuration b) (bitsOf s) (i * 8) _ _ (omega (arith, length-bits s)) break-there in
-      omega (arith, h, length-bits s)
 
 -- ---- from the duration on
 module _ (s : List ℕ) (i : ℕ) (room : i ≤ length s) (out : Bool) (m : WithComponents SpliceMode) (b : Bool) where

@@ -4,17 +4,17 @@ use mathlib.Core.Bool.{Bool, true, false, _&&_}
 use mathlib.Core.List.{List, [], _∷_}
 use lib.Dec.{ltb, eqb}
 use lib.ListN.{getD}
+use Rattle.splice_time.specs.Break.{lasting, breakDuration}
 use Rattle.splice_time.specs.Time.{spliceTime}
 pub use Rattle.splice_time.specs.Time.{immediate}
 use Rattle.splice_time.specs.declared.SpliceTime.{SpliceTime}
+use Rattle.splice_time.specs.declared.break_duration.Break.{Break}
 use Rattle.splice_time.specs.declared.SpliceTime.the-variants.{Immediate, Unspecified}
-use Rattle.names.specs.Flags.{networkFlag, returnFlag}
+use Rattle.names.specs.Flags.{networkFlag}
 use Rattle.names.specs.declared.flags.NetworkIndicator.{NetworkIndicator}
-use Rattle.names.specs.declared.flags.ReturnMode.{ReturnMode}
 use Rattle.table.specs.Bits.{pick}
 use Rattle.table.specs.Table.{Table, done, must, inside, uimsbf, flag, ones, list}
 use Rattle.command.specs.declared.components.InsertComponent.{InsertComponent}
-use Rattle.command.specs.declared.insert.Break.{Break}
 use Rattle.command.specs.declared.insert.InsertDetail.{InsertDetail}
 use Rattle.command.specs.declared.insert.SpliceInsert.{SpliceInsert}
 use Rattle.command.specs.declared.insert.SpliceDetail.{SpliceDetail}
@@ -69,28 +69,6 @@ moded program-flag immediate-flag =
     must (pick immediate-flag (ltb 0 component-count) true) (
     inside (list component-count blank (component immediate-flag)) (λ m. m .components) λ components.
     done (record { value = SpliceMode.Components component-count; components = components })))
-
--- ---- "Duration if flagged: auto return 1, reserved 6, 33 bits."
-abbrev pub lasting : Break → Bool
-lasting Break.Absent = false
-lasting (Break.Lasts d) = true
-
-abbrev pub autoReturn : Break → Bool
-autoReturn Break.Absent = false
-autoReturn (Break.Lasts d) = eqb (returnFlag (d .«return_mode»)) 1
-
-abbrev pub breakTicks : Break → ℕ
-breakTicks Break.Absent = 0
-breakTicks (Break.Lasts d) = d .duration
-
-unfoldable pub breakDuration : Bool → Table Break
-breakDuration duration-flag =
-    pick duration-flag
-    (flag autoReturn λ auto-return.
-    ones 6 (
-    uimsbf 33 breakTicks λ duration.
-    done (Break.Lasts (record { «return_mode» = pick auto-return ReturnMode.Automatic ReturnMode.Manual; duration = duration }))))
-    (done Break.Absent)
 
 -- ---- "Not cancelled: out 1, program 1, duration flag 1, immediate 1, reserved 4. [mode] [duration] Then program id 16, avail 8, expected 8."
 abbrev pub outOfNetwork : NetworkIndicator → Bool

@@ -11,8 +11,6 @@ use Rattle.command.specs.declared.components.InsertComponent.{InsertComp
 use Rattle.command.specs.declared.components.ComponentRead.{ComponentRead}
 use Rattle.command.specs.declared.components.Skimmed.{Skimmed}
 use Rattle.command.specs.declared.insert.ActiveRead.{ActiveRead}
-use Rattle.command.specs.declared.insert.Break.{Break}
-use Rattle.command.specs.declared.insert.BreakRead.{BreakRead}
 use Rattle.command.specs.declared.insert.InsertDetail.{InsertDetail}
 use Rattle.command.specs.declared.insert.SpliceInsert.{SpliceInsert}
 use Rattle.command.specs.declared.insert.InsertRead.{InsertRead}
@@ -26,10 +24,6 @@ componentRead (short expected actual) = ComponentRead.Lacks (record { expected =
 unfoldable pub skimmedOf : Answer (List InsertComponent) → Skimmed
 skimmedOf (got cs at) = Skimmed.Got (at / 8)
 skimmedOf (short expected actual) = Skimmed.Lacks (record { expected = expected; actual = actual })
-
-unfoldable pub breakRead : Answer Break → BreakRead
-breakRead (got d at) = BreakRead.Got (record { duration = d; next = at / 8 })
-breakRead (short expected actual) = BreakRead.Lacks (record { expected = expected; actual = actual })
 
 unfoldable pub modedRead : Answer (WithComponents SpliceMode) → ModedRead
 modedRead (got m at) = ModedRead.Got (record { mode = m .value; next = at / 8 })

@@ -1,45 +1,34 @@
 // splice_insert(), without its components: their count stands in the mode.
 ghost use mathlib.Core.Path.{_≡_};
 ghost use mathlib.Core.List.{List};
-ghost use mathlib.Core.Bool.{true};
 ghost use Prim.Native.Nat.{_*_, _≤_};
 ghost use lib.ListN.{length};
-ghost use Rattle.command.specs.Insert.{timeUnless, breakDuration, moded, ending, active, insert};
-ghost use Rattle.command.specs.Private.{breakRead, modedRead, activeRead, insertRead};
+ghost use Rattle.command.specs.Insert.{timeUnless, moded, ending, active, insert};
+ghost use Rattle.command.specs.Private.{modedRead, activeRead, insertRead};
 ghost use Rattle.splice_time.specs.Time.{timeRead};
 ghost use Rattle.command.specs.declared.components.InsertComponent.{InsertComponent};
 ghost use Rattle.names.specs.declared.flags.NetworkIndicator.{NetworkIndicator};
-ghost use Rattle.names.specs.declared.flags.ReturnMode.{ReturnMode};
 ghost use Rattle.table.specs.Bits.{pick, bitsOf};
 ghost use Rattle.table.specs.Table.{parse};
 use crate::components::Skimmed;
 use crate::components::skim;
 use names::flags::NetworkIndicator;
-use names::flags::ReturnMode;
 use splice_time::SpliceTime;
 use splice_time::TimeRead;
 use splice_time::Timed;
+use splice_time::break_duration::Break;
+use splice_time::break_duration::BreakRead;
+use splice_time::break_duration::read_break;
 use splice_time::read_aligned_time;
 use table::cursor::Cursor;
 use table::cursor::Short;
 use table::numbers::big_endian;
-use table::numbers::time33;
 use table::numbers::wide;
 
 // By program, or by as many components; they are read on demand.
 pub enum SpliceMode {
     Program(SpliceTime),
     Components(u8),
-}
-
-pub struct SpliceDuration {
-    pub return_mode: ReturnMode,
-    pub duration: u64,
-}
-
-pub enum Break {
-    Absent,
-    Lasts(SpliceDuration),
 }
 
 pub struct InsertDetail {
@@ -78,16 +67,6 @@ enum ModedRead {
     Lacks(Short),
 }
 
-struct Broken {
-    pub duration: Break,
-    pub next: usize,
-}
-
-enum BreakRead {
-    Got(Broken),
-    Lacks(Short),
-}
-
 enum ActiveRead {
     Got(InsertDetail),
     Lacks(Short),
@@ -100,15 +79,6 @@ fn indicator(out: bool) -> NetworkIndicator
         return NetworkIndicator::Out;
     }
     NetworkIndicator::In
-}
-
-fn returning(automatic: bool) -> ReturnMode
-    ensures { λ r. ⌜ r ≡ pick automatic ReturnMode.Automatic ReturnMode.Manual ⌝ }
-{
-    if automatic {
-        return ReturnMode::Automatic;
-    }
-    ReturnMode::Manual
 }
 
 // A splice_time() unless the splice is immediate, from a byte on.
@@ -154,45 +124,6 @@ fn read_mode(payload: &[u8], at: usize, program: bool, immediate: bool) -> Moded
         }),
         Skimmed::Lacks(e) => ModedRead::Lacks(e),
     }
-}
-
-fn read_lasting(payload: &[u8], at: usize) -> BreakRead
-    ensures { λ r. ⌜ r ≡ breakRead (parse (breakDuration true) (bitsOf (now (payload .entry))) (at * 8)) ⌝ }
-{
-    if payload.len() <= at {
-        return BreakRead::Lacks(Short {
-            expected: 0,
-            actual: 0,
-        });
-    }
-    let left = payload.len() - at;
-    if left < 5 {
-        return BreakRead::Lacks(Short {
-            expected: 4,
-            actual: left - 1,
-        });
-    }
-    let first = wide(payload[at]);
-    BreakRead::Got(Broken {
-        duration: Break::Lasts(SpliceDuration {
-            return_mode: returning(first / 128 == 1),
-            duration: time33(payload, at),
-        }),
-        next: at + 5,
-    })
-}
-
-// A break_duration() if it is flagged.
-fn read_break(payload: &[u8], at: usize, flagged: bool) -> BreakRead
-    ensures { λ r. ⌜ r ≡ breakRead (parse (breakDuration flagged) (bitsOf (now (payload .entry))) (at * 8)) ⌝ }
-{
-    if flagged {
-        return read_lasting(payload, at);
-    }
-    BreakRead::Got(Broken {
-        duration: Break::Absent,
-        next: at,
-    })
 }
 
 // From the duration on. The answer is the same whichever components stand beside the mode.

@@ -1,6 +1,6 @@
 // The splice commands: what a section asks for.
 ghost use mathlib.Core.Path.{_≡_};
-ghost use Rattle.command.specs.Command.{private, read, empty, commandOf};
+ghost use Rattle.command.specs.Command.{private, read, empty, commandOf, numberOf};
 ghost use Rattle.command.specs.Insert.{insert};
 ghost use Rattle.command.specs.Private.{Apart};
 ghost use Rattle.command.specs.declared.SpliceCommand.{SpliceCommand};
@@ -37,6 +37,19 @@ pub enum CommandRead {
     Is(SpliceCommand),
     UnknownType,
     Malformed,
+}
+
+impl CommandRead {
+    // Document 01's number, 0 of a command.
+    pub fn number(self) -> u8
+        ensures { λ x. ⌜ x ≡ numberOf self ⌝ }
+    {
+        match self {
+            CommandRead::Is(_) => 0,
+            CommandRead::UnknownType => 10,
+            CommandRead::Malformed => 11,
+        }
+    }
 }
 
 fn read_empty(payload: &[u8], command: SpliceCommand) -> CommandRead

@@ -7,9 +7,10 @@ use native.Mathlib.Omega.{arith}
 use lib.Dec.{ltb, eqb}
 use lib.ListN.{length, getD}
 use borrow.Author.Tests.{ne-eqb, lt-ltb, not-true, not-false}
-use Rattle.command.specs.Insert.{WithComponents, timeUnless, component, blank, moded, breakDuration, ending, active, insert, modeOf, activeOf, autoReturn, breakTicks}
+use Rattle.command.specs.Insert.{WithComponents, timeUnless, component, blank, moded, ending, active, insert, modeOf, activeOf}
+use Rattle.splice_time.specs.Break.{breakDuration, autoReturn, breakTicks}
 use Rattle.command.specs.declared.components.InsertComponent.{InsertComponent}
-use Rattle.command.specs.declared.insert.Break.{Break}
+use Rattle.splice_time.specs.declared.break_duration.Break.{Break}
 use Rattle.command.specs.declared.insert.InsertDetail.{InsertDetail}
 use Rattle.command.specs.declared.insert.SpliceMode.{SpliceMode}
 use Rattle.splice_time.specs.Time.{spliceTime}

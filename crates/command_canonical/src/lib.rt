@@ -3,7 +3,8 @@ ghost use mathlib.Core.Path.{_≡_};
 ghost use lib.ListN.{length};
 ghost use Rattle.canonical_form.specs.Command.{canonicalCommand};
 ghost use Rattle.command_canonical.specs.Private.{Told, exact};
-ghost use Rattle.command.specs.Insert.{timeUnless, component, blank, moded, breakDuration, active, insert};
+ghost use Rattle.command.specs.Insert.{timeUnless, component, blank, moded, active, insert};
+ghost use Rattle.splice_time.specs.Break.{breakDuration};
 ghost use Rattle.splice_time.specs.Time.{spliceTime};
 ghost use Rattle.table.specs.Table.{list, canonicalBy};
 

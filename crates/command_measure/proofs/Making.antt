@@ -15,11 +15,12 @@ use borrow.Author.Tests.{lt-ltb, le-leb, lt-leb}
 use Rattle.command.specs.Command.{array, countIn, private, Tags}
 use Rattle.command.specs.Writable.{alike, unmixed, writableInsert}
 use Rattle.command.specs.Insert as insert
-use Rattle.command.specs.Insert.{WithComponents, immediate, blank, byProgram, programTime, count, lasting, outOfNetwork, insertOf}
+use Rattle.command.specs.Insert.{WithComponents, immediate, blank, byProgram, programTime, count, outOfNetwork, insertOf}
+use Rattle.splice_time.specs.Break.{lasting, breakTicks}
 use Rattle.command.specs.declared.Private.{Private}
 use Rattle.command.specs.declared.SpliceCommand.{SpliceCommand}
 use Rattle.command.specs.declared.components.InsertComponent.{InsertComponent}
-use Rattle.command.specs.declared.insert.Break.{Break}
+use Rattle.splice_time.specs.declared.break_duration.Break.{Break}
 use Rattle.command.specs.declared.insert.InsertDetail.{InsertDetail}
 use Rattle.command.specs.declared.insert.SpliceInsert.{SpliceInsert}
 use Rattle.command.specs.declared.insert.SpliceDetail.{SpliceDetail}
@@ -171,7 +172,7 @@ pub flag-within : (b : Bool) → ltb (flagNumber b) 2 ≡ true
 flag-within true = refl
 flag-within false = refl
 
-pub within-break : (d : Break) → within (breakFields d) ≡ ltb (insert.breakTicks d) (2 ^ 33)
+pub within-break : (d : Break) → within (breakFields d) ≡ ltb (breakTicks d) (2 ^ 33)
 within-break Break.Absent = refl
 within-break (Break.Lasts d) = rw (flag-within (automatic (d .«return_mode»))) (and-one (ltb (d .duration) (2 ^ 33)))
 
@@ -205,7 +206,7 @@ module _ (i : InsertDetail) (cs : List InsertComponent) where
       past-append m (d ++ t) a ∙ past-append d t (past m a) ∙ omega (arith, past-mode (i .«splice_mode») b a refl, past-break (i .duration) (past m a))
 
   within-active : count (i .«splice_mode») < 256 → i .«unique_program_id» < 2 ^ 16 → i .«avail_num» < 256 → i .«avails_expected» < 256 → Tags cs → timesFit cs ≡ true
-      → within (activeFields i cs) ≡ ltb (ticks (programTime (i .«splice_mode»))) (2 ^ 33) && ltb (insert.breakTicks (i .duration)) (2 ^ 33)
+      → within (activeFields i cs) ≡ ltb (ticks (programTime (i .«splice_mode»))) (2 ^ 33) && ltb (breakTicks (i .duration)) (2 ^ 33)
   within-active n p a x h f =
       let b = immediateIn i cs in
       let t = tailFields (i .«unique_program_id») (i .«avail_num») (i .«avails_expected») in
@@ -213,7 +214,7 @@ module _ (i : InsertDetail) (cs : List InsertComponent) where
       rw (flag-within (outOfNetwork (i .«network_indicator»)), flag-within (byProgram (i .«splice_mode»)), flag-within (lasting (i .duration)), flag-within b)
       (within-append (modeFields b (i .«splice_mode») cs) (endFields i)
       ∙ ap₂ (λ (u v : Bool). u && v) (within-mode (i .«splice_mode») b refl n h f)
-      (within-append (breakFields (i .duration)) t ∙ ap₂ (λ (u v : Bool). u && v) (within-break (i .duration)) w ∙ and-one (ltb (insert.breakTicks (i .duration)) (2 ^ 33))))
+      (within-append (breakFields (i .duration)) t ∙ ap₂ (λ (u v : Bool). u && v) (within-break (i .duration)) w ∙ and-one (ltb (breakTicks (i .duration)) (2 ^ 33))))
 
 -- ---- are all as the first is?
 alike-first : (i : InsertDetail) (cs : List InsertComponent) → length cs ≡ count (i .«splice_mode») → alike (immediateIn i cs) cs ≡ unmixed cs
@@ -250,7 +251,7 @@ module _ (event kept : ℕ) (i : InsertDetail) (cs : List InsertComponent) (coun
       let x : WithComponents SpliceInsert = record { value = record { «splice_event_id» = event; reserved = kept; «splice_detail» = SpliceDetail.Insert i }; components = cs } in
       let b = immediateIn i cs in
       let s = surveyed b cs in
-      let w = ltb kept 128 && (ltb (ticks (programTime (i .«splice_mode»))) (2 ^ 33) && ltb (insert.breakTicks (i .duration)) (2 ^ 33)) in
+      let w = ltb kept 128 && (ltb (ticks (programTime (i .«splice_mode»))) (2 ^ 33) && ltb (breakTicks (i .duration)) (2 ^ 33)) in
       let size = 10 + modeBytes (i .«splice_mode») (s .bytes) + breakBytes (i .duration) in
       let l : length (print (contents [] (insertFields x))) ≡ size * 8 =
       sym (zero-add (length (print (contents [] (insertFields x))))) ∙ print-length [] (insertFields x) 0 (plain-seen [] (insertFields x) (plain-active i cs)) ∙ past-active i cs 40 ∙ omega arith in

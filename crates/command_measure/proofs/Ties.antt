@@ -4,9 +4,10 @@ use mathlib.Core.Bool.{Bool, true, false}
 use mathlib.Core.List.{List, [], _∷_, _++_, append-assoc}
 use mathlib.Core.Path.{_≡_, refl, ap, ap₂, sym, _∙_}
 use lib.ListN.{length, getD, drop}
-use Rattle.command.specs.Insert.{WithComponents, timeUnless, component, blank, byProgram, count, allImmediate, moded, lasting, breakDuration, outOfNetwork, modeOf, ending, active, cancelled, insertOf, activeOf, insert}
+use Rattle.command.specs.Insert.{WithComponents, timeUnless, component, blank, byProgram, count, allImmediate, moded, outOfNetwork, modeOf, ending, active, cancelled, insertOf, activeOf, insert}
+use Rattle.splice_time.specs.Break.{lasting, breakDuration}
 use Rattle.command.specs.declared.components.InsertComponent.{InsertComponent}
-use Rattle.command.specs.declared.insert.Break.{Break}
+use Rattle.splice_time.specs.declared.break_duration.Break.{Break}
 use Rattle.command.specs.declared.insert.InsertDetail.{InsertDetail}
 use Rattle.command.specs.declared.insert.SpliceInsert.{SpliceInsert}
 use Rattle.command.specs.declared.insert.SpliceDetail.{SpliceDetail}

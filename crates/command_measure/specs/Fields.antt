@@ -3,10 +3,11 @@ use Prim.Native.Nat.{ℕ}
 use mathlib.Core.Bool.{Bool}
 use mathlib.Core.List.{List, [], _∷_, _++_}
 use lib.ListN.{take}
-use Rattle.command.specs.Insert.{WithComponents, byProgram, count, allImmediate, lasting, autoReturn, outOfNetwork, cancelled}
+use Rattle.command.specs.Insert.{WithComponents, byProgram, count, allImmediate, outOfNetwork, cancelled}
+use Rattle.splice_time.specs.Break.{lasting, autoReturn}
 use Rattle.command.specs.declared.Private.{Private}
 use Rattle.command.specs.declared.components.InsertComponent.{InsertComponent}
-use Rattle.command.specs.declared.insert.Break.{Break}
+use Rattle.splice_time.specs.declared.break_duration.Break.{Break}
 use Rattle.command.specs.declared.insert.InsertDetail.{InsertDetail}
 use Rattle.command.specs.declared.insert.SpliceInsert.{SpliceInsert}
 use Rattle.command.specs.declared.insert.SpliceDetail.{SpliceDetail}

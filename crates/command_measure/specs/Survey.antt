@@ -4,9 +4,10 @@ use mathlib.Core.Bool.{Bool, true, not, _&&_}
 use mathlib.Core.List.{List, [], _∷_}
 use lib.Dec.{ltb, eqb}
 use Rattle.command.specs.Insert as insert
+use Rattle.splice_time.specs.Break.{breakTicks}
 use Rattle.command.specs.Insert.{immediate, programTime}
 use Rattle.command.specs.declared.components.InsertComponent.{InsertComponent}
-use Rattle.command.specs.declared.insert.Break.{Break}
+use Rattle.splice_time.specs.declared.break_duration.Break.{Break}
 use Rattle.command.specs.declared.insert.SpliceMode.{SpliceMode}
 use Rattle.splice_time.specs.Time.{specified, ticks}
 use Rattle.splice_time.specs.declared.SpliceTime.{SpliceTime}
@@ -56,5 +57,5 @@ cancelMeasured reserved = measured (ltb reserved 128) (eqb reserved 127) 5
 
 unfoldable pub activeMeasured : ℕ → SpliceMode → Break → Survey → Measured
 activeMeasured reserved mode duration s =
-    measured (s .fits && (ltb reserved 128 && (ltb (ticks (programTime mode)) (2 ^ 33) && ltb (insert.breakTicks duration) (2 ^ 33)))) (eqb reserved 127 && s .alike)
+    measured (s .fits && (ltb reserved 128 && (ltb (ticks (programTime mode)) (2 ^ 33) && ltb (breakTicks duration) (2 ^ 33)))) (eqb reserved 127 && s .alike)
     (10 + modeBytes mode (s .bytes) + breakBytes duration)

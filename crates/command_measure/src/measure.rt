@@ -7,6 +7,7 @@ ghost use lib.Dec.{ltb};
 ghost use lib.ListN.{take, getD};
 ghost use Rattle.command.specs.Command.{array, Tags};
 ghost use Rattle.command.specs.Insert as insert;
+ghost use Rattle.splice_time.specs.Break.{breakTicks};
 ghost use Rattle.command.specs.Insert.{immediate, programTime, blank};
 ghost use Rattle.command_measure.specs.Made.{counted, insertMade, measuredOf};
 ghost use Rattle.command_measure.specs.Survey.{timeBytes, adding, surveyed, blanksOf, modeBytes, breakBytes, measured, cancelMeasured, activeMeasured};
@@ -16,12 +17,12 @@ ghost use Rattle.table.specs.Writing.{make};
 use crate::Measured;
 use command::components::InsertComponent;
 use command::components::MAX_COMPONENTS;
-use command::insert::Break;
 use command::insert::InsertDetail;
 use command::insert::SpliceDetail;
 use command::insert::SpliceInsert;
 use command::insert::SpliceMode;
 use splice_time::SpliceTime;
+use splice_time::break_duration::Break;
 
 fn both(a: bool, b: bool) -> bool
     ensures { λ r. ⌜ r ≡ a && b ⌝ }
@@ -191,7 +192,7 @@ fn mode_fits(mode: SpliceMode) -> bool
 }
 
 fn break_fits(duration: Break) -> bool
-    ensures { λ r. ⌜ r ≡ ltb (insert.breakTicks duration) (2 ^ 33) ⌝ }
+    ensures { λ r. ⌜ r ≡ ltb (breakTicks duration) (2 ^ 33) ⌝ }
 {
     match duration {
         Break::Absent => true,

@@ -9,10 +9,10 @@ use lib.ListN.{length, take, getD, length-append}
 use lib.Seq.{take-suc}
 use Rattle.command.specs.Insert.{immediate, count, outOfNetwork}
 use Rattle.command.specs.declared.components.InsertComponent.{InsertComponent}
-use Rattle.command.specs.declared.insert.Break.{Break}
+use Rattle.splice_time.specs.declared.break_duration.Break.{Break}
 use Rattle.command.specs.declared.insert.InsertDetail.{InsertDetail}
 use Rattle.command.specs.declared.insert.SpliceInsert.{SpliceInsert}
-use Rattle.command.specs.declared.insert.SpliceDuration.{SpliceDuration}
+use Rattle.splice_time.specs.declared.break_duration.SpliceDuration.{SpliceDuration}
 use Rattle.command.specs.declared.insert.SpliceDetail.{SpliceDetail}
 use Rattle.command.specs.declared.insert.SpliceMode.{SpliceMode}
 use Rattle.splice_time.specs.declared.SpliceTime.{SpliceTime}

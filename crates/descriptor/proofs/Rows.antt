@@ -53,14 +53,14 @@ start sub = Is (Segmentation (record {
 }))
 
 pub row-n : descriptorOf 2 cuei (0 ∷ 0 ∷ 0 ∷ 0x2a ∷ 0x7f ∷ 0xbf ∷ 0 ∷ 0 ∷ 0x10 ∷ 1 ∷ 1 ∷ []) ≡ start SubSegments.Absent
-unfolding descriptorOf isCuei d.segmentationTypeOf activeOf activeWith head front parts deliveryRestrictions mode duration writtenUpid back subSegments number bit reserved part remaining viewed checkOf
+unfolding descriptorOf isCuei d.segmentationOf activeOf activeWith head front parts deliveryRestrictions mode duration writtenUpid back subSegments number bit reserved part remaining viewed checkOf
 row-n = refl
 
 pub row-n-1 : descriptorOf 2 cuei (0 ∷ 0 ∷ 0 ∷ 0x2a ∷ 0x7f ∷ 0xbf ∷ 0 ∷ 0 ∷ 0x10 ∷ 1 ∷ 1 ∷ 1 ∷ []) ≡ Refused (Refusal.NotEnoughData 1 0)
-unfolding descriptorOf isCuei d.segmentationTypeOf activeOf activeWith head front parts deliveryRestrictions mode duration writtenUpid back subSegments number bit reserved part remaining viewed checkOf
+unfolding descriptorOf isCuei d.segmentationOf activeOf activeWith head front parts deliveryRestrictions mode duration writtenUpid back subSegments number bit reserved part remaining viewed checkOf
 row-n-1 = refl
 
 pub row-n-2 : descriptorOf 2 cuei (0 ∷ 0 ∷ 0 ∷ 0x2a ∷ 0x7f ∷ 0xbf ∷ 0 ∷ 0 ∷ 0x10 ∷ 1 ∷ 1 ∷ 1 ∷ 2 ∷ [])
     ≡ start (SubSegments.Is (record { «sub_segment_num» = 1; «sub_segments_expected» = 2 }))
-unfolding descriptorOf isCuei d.segmentationTypeOf activeOf activeWith head front parts deliveryRestrictions mode duration writtenUpid back subSegments number bit reserved part remaining viewed checkOf
+unfolding descriptorOf isCuei d.segmentationOf activeOf activeWith head front parts deliveryRestrictions mode duration writtenUpid back subSegments number bit reserved part remaining viewed checkOf
 row-n-2 = refl

@@ -49,7 +49,7 @@ pub(crate) fn number32(s: &[u8], at: usize) -> u64
     (high * 256 + wide(s[at + 2])) * 256 + wide(s[at + 3])
 }
 
-// And in five.
+// The number in the five bytes from `at` on.
 pub(crate) fn number40(s: &[u8], at: usize) -> u64
     requires { ⌜ at + 5 ≤ length (now s) ⌝ }
     ensures { λ r. ⌜ r ≡ field (bitsOf (now (s .entry))) (at * 8) 40 ⌝ }

@@ -241,17 +241,17 @@ module _ (s : List ℕ) (offset part k : ℕ) (new : List ℕ) where
     headed : (x : SpliceInfoHeader) × (headerOf (drop 3 s) ≡ HeaderRead.Header x)
     headed = header-there (drop 3 s) (omega (arith, length-drop 3 s, framed s v e .long))
 
-    pub command-unknown : commandRead s ≡ CommandRead.UnknownType → relabelMade s offset part k new ≡ refused 10
+    pub command-unknown : (q : ℕ) → q ≡ 10 → commandRead s ≡ CommandRead.UnknownType → relabelMade s offset part k new ≡ refused q
     unfolding numberOf
-    command-unknown f =
+    command-unknown q g f =
         let z = is-accepted s v _ e (is-unknown _ (headed .0) (headed .1) (commandRead s) v f) in
-        section-refused s offset part k new Refusal.UnknownCommand 10 (sym z) (ap numberOf z)
+        section-refused s offset part k new Refusal.UnknownCommand q (sym z) (g ∙ ap numberOf z)
 
-    pub command-malformed : commandRead s ≡ CommandRead.Malformed → relabelMade s offset part k new ≡ refused 11
+    pub command-malformed : (q : ℕ) → q ≡ 11 → commandRead s ≡ CommandRead.Malformed → relabelMade s offset part k new ≡ refused q
     unfolding numberOf
-    command-malformed f =
+    command-malformed q g f =
         let z = is-accepted s v _ e (is-malformed _ (headed .0) (headed .1) (commandRead s) v f) in
-        section-refused s offset part k new Refusal.MalformedCommand 11 (sym z) (ap numberOf z)
+        section-refused s offset part k new Refusal.MalformedCommand q (sym z) (g ∙ ap numberOf z)
 
     pub command-is : (c : SpliceCommand) → commandRead s ≡ CommandRead.Is c → relabelMade s offset part k new ≡ loopMade s offset part k new
     command-is c f =

@@ -72,24 +72,24 @@ headOf s p n =
 
 -- from the loop on all up to the UPID's bytes, with the item's length mended, and the UPID's head
 unfoldable pub itemOf : List ℕ → Place → ℕ → ℕ → List ℕ
-itemOf s p k n =
+itemOf s p upid-type n =
     run s (p .list) (p .item + 1 - p .list)
     ++ ((getD s (p .item + 1) 0 - oldSize p + n)
     ∷ (run s (p .item + 2) (p .head - (p .item + 2))
-    ++ bigEndian 2 (k * 256 + n)))
+    ++ bigEndian 2 (upid-type * 256 + n)))
 
 abbrev pub upToUpid : List ℕ → Place → ℕ → ℕ → List ℕ
-upToUpid s p k n = headOf s p n ++ itemOf s p k n
+upToUpid s p upid-type n = headOf s p n ++ itemOf s p upid-type n
 
 -- all behind them, the CRC excluded
 abbrev pub backOf : List ℕ → Place → List ℕ
 backOf s p = run s (p .end) (length s - 4 - p .end)
 
 unfoldable pub bodyOf : List ℕ → Place → ℕ → List ℕ → List ℕ
-bodyOf s p k b = upToUpid s p k (length b) ++ (b ++ backOf s p)
+bodyOf s p upid-type b = upToUpid s p upid-type (length b) ++ (b ++ backOf s p)
 
 unfoldable pub cutOf : List ℕ → Place → ℕ → List ℕ → List ℕ
-cutOf s p k b = bodyOf s p k b ++ crcBytesOf (bodyOf s p k b)
+cutOf s p upid-type b = bodyOf s p upid-type b ++ crcBytesOf (bodyOf s p upid-type b)
 
 -- a target that has all up to the UPID's n bytes: what stands behind them, and the CRC of all before it
 unfoldable pub sealed : List ℕ → Place → ℕ → List ℕ → List ℕ
@@ -102,13 +102,13 @@ sealed s p n t =
 -- ---- what is made of a place
 
 abbrev pub wrapped : List ℕ → Place → ℕ → Made → Made
-wrapped s p k (made b) = made (cutOf s p k b)
-wrapped s p k (refused n) = refused n
+wrapped s p upid-type (made b) = made (cutOf s p upid-type b)
+wrapped s p upid-type (refused n) = refused n
 
 -- how long the UPID can get
 abbrev pub Limit : List ℕ → Place → ℕ → Type 0
 Limit s p limit = (n : ℕ) → (n ≤ limit → Takes s p n) × (Takes s p n → n ≤ limit)
 
 unfoldable pub placedMade : List ℕ → Place → ℕ → ℕ → ℕ → List ℕ → Made
-placedMade s p limit part k new =
-    wrapped s p (typeThen part (getD s (p .head) 0) k) (upTo limit (upidMade (getD s (p .head) 0) (run s (p .head + 2) (oldSize p)) part k new))
+placedMade s p limit part upid-type new =
+    wrapped s p (typeThen part (getD s (p .head) 0) upid-type) (upTo limit (upidMade (getD s (p .head) 0) (run s (p .head + 2) (oldSize p)) part upid-type new))

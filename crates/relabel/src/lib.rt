@@ -57,11 +57,11 @@ fn beyond(a: usize, b: usize) -> usize
 }
 
 // The type of the UPID then: with part 0 the new one, with a part of a MID the MID's own.
-fn type_then(part: usize, upid_type: u8, k: u8) -> u8
-    ensures { λ r. ⌜ r ≡ typeThen part «upid_type» k ⌝ }
+fn type_then(part: usize, upid_type: u8, new_type: u8) -> u8
+    ensures { λ r. ⌜ r ≡ typeThen part «upid_type» «new_type» ⌝ }
 {
     if part == 0 {
-        return k;
+        return new_type;
     }
     upid_type
 }
@@ -129,13 +129,13 @@ fn relabel_at(
     p: Place,
     limit: usize,
     part: usize,
-    k: u8,
+    new_type: u8,
     new: &[u8],
     target: &mut [u8],
 ) -> Written
     requires { ⌜ Lies (now section) p × Limit (now section) p limit ⌝ }
-    ensures answer { λ r. ⌜ r ≡ answerOf (placedMade (now (section .entry)) p limit part k (now (new .entry))) (now (target .entry)) ⌝ }
-    ensures bytes { λ _. ⌜ now (target .exit) ≡ laterOf (placedMade (now (section .entry)) p limit part k (now (new .entry))) (now (target .entry)) ⌝ }
+    ensures answer { λ r. ⌜ r ≡ answerOf (placedMade (now (section .entry)) p limit part «new_type» (now (new .entry))) (now (target .entry)) ⌝ }
+    ensures bytes { λ _. ⌜ now (target .exit) ≡ laterOf (placedMade (now (section .entry)) p limit part «new_type» (now (new .entry))) (now (target .entry)) ⌝ }
 {
     let head = p.head;
     let start = head + 2;
@@ -149,7 +149,7 @@ fn relabel_at(
         upid_type,
         &section[start..end],
         part,
-        k,
+        new_type,
         new,
         limit,
         &mut target[from..to],
@@ -158,7 +158,7 @@ fn relabel_at(
         Written::Wrote(n) => n,
         Written::Refused(r) => return Written::Refused(r),
     };
-    store_around(section, p, type_then(part, upid_type, k), n, target);
+    store_around(section, p, type_then(part, upid_type, new_type), n, target);
     Written::Wrote(others + n)
 }
 
@@ -202,13 +202,13 @@ fn relabel_in(
     len: usize,
     offset: usize,
     part: usize,
-    k: u8,
+    upid_type: u8,
     new: &[u8],
     target: &mut [u8],
 ) -> Written
     requires { ⌜ (list ≡ 16 + commandLength (now section)) × (len ≡ loopLength (now section)) × (20 + commandLength (now section) + loopLength (now section) ≤ length (now section)) × (length (now section) ≤ 4096) ⌝ }
-    ensures answer { λ r. ⌜ r ≡ answerOf (loopMade (now (section .entry)) offset part k (now (new .entry))) (now (target .entry)) ⌝ }
-    ensures bytes { λ _. ⌜ now (target .exit) ≡ laterOf (loopMade (now (section .entry)) offset part k (now (new .entry))) (now (target .entry)) ⌝ }
+    ensures answer { λ r. ⌜ r ≡ answerOf (loopMade (now (section .entry)) offset part «upid_type» (now (new .entry))) (now (target .entry)) ⌝ }
+    ensures bytes { λ _. ⌜ now (target .exit) ≡ laterOf (loopMade (now (section .entry)) offset part «upid_type» (now (new .entry))) (now (target .entry)) ⌝ }
 {
     let end = list + len;
     if !spots_active(&section[list..end], offset) {
@@ -216,21 +216,22 @@ fn relabel_in(
     }
     let p = place_of(section, list, len, offset);
     let limit = limit_of(section, p);
-    relabel_at(section, p, limit, part, k, new, target)
+    relabel_at(section, p, limit, part, upid_type, new, target)
 }
 
-// The section in which part number `part` of the item at `offset` of its loop becomes an identifier of type `k` with the bytes `new`, from the target's first
-// byte on; or a refusal: 1 to 11 for the section, 41, 32, 33, 34, 36. Part 0 is the UPID itself, part n the n-th of its MID's parts as `read_upid` lists them.
+// The section in which part number `part` of the item at `offset` of its loop becomes an identifier of type `upid_type` with the bytes `new`, from the
+// target's first byte on; or a refusal: 1 to 11 for the section, 41, 32, 33, 34, 36. Part 0 is the UPID itself, part n the n-th of its MID's parts as
+// `read_upid` lists them.
 pub fn relabel(
     section: &[u8],
     offset: usize,
     part: usize,
-    k: u8,
+    upid_type: u8,
     new: &[u8],
     target: &mut [u8],
 ) -> Written
-    ensures answer { λ r. ⌜ r ≡ answerOf (relabelMade (now (section .entry)) offset part k (now (new .entry))) (now (target .entry)) ⌝ }
-    ensures bytes { λ _. ⌜ now (target .exit) ≡ laterOf (relabelMade (now (section .entry)) offset part k (now (new .entry))) (now (target .entry)) ⌝ }
+    ensures answer { λ r. ⌜ r ≡ answerOf (relabelMade (now (section .entry)) offset part «upid_type» (now (new .entry))) (now (target .entry)) ⌝ }
+    ensures bytes { λ _. ⌜ now (target .exit) ≡ laterOf (relabelMade (now (section .entry)) offset part «upid_type» (now (new .entry))) (now (target .entry)) ⌝ }
 {
     let frame = match read_frame(section) {
         FrameRead::Is(f) => f,
@@ -240,9 +241,18 @@ pub fn relabel(
     let end = COMMAND_AT + payload.len;
     match read_command(section[COMMAND_TYPE_AT], &section[COMMAND_AT..end]) {
         CommandRead::Is(_) => {}
-        CommandRead::UnknownType => return Written::Refused(10),
-        CommandRead::Malformed => return Written::Refused(11),
+        CommandRead::UnknownType => return Written::Refused(CommandRead::UnknownType.number()),
+        CommandRead::Malformed => return Written::Refused(CommandRead::Malformed.number()),
     }
     let place = frame.descriptors;
-    relabel_in(section, place.at, place.len, offset, part, k, new, target)
+    relabel_in(
+        section,
+        place.at,
+        place.len,
+        offset,
+        part,
+        upid_type,
+        new,
+        target,
+    )
 }

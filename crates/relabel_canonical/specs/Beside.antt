@@ -13,8 +13,8 @@ besides loop xs = map (λ (x : Listed). readingOf loop (x .offset) .beside) xs
 unfoldable pub besidesIn : List ℕ → List Beside
 besidesIn s = besides (loopBytes s) (itemsOf (loopBytes s))
 
--- Beside the item of which part number `part` became an identifier of type k with the bytes `new`: the same components; and the EIDR of the new UPID where
--- that is the UPID itself. A part of a MID is never held by value.
+-- Beside the item of which part number `part` became an identifier of type `upid-type` with the bytes `new`: the same components; and the EIDR of the new
+-- UPID where that is the UPID itself. A part of a MID is never held by value.
 unfoldable pub besideThen : ℕ → ℕ → List ℕ → Beside → Beside
-besideThen zero k new b = record { components = b .components; eidr = eidrOf k new }
-besideThen (suc i) k new b = b
+besideThen zero upid-type new b = record { components = b .components; eidr = eidrOf upid-type new }
+besideThen (suc i) upid-type new b = b

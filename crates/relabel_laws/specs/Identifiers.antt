@@ -28,8 +28,8 @@ each loop (x ∷ xs) = ofItem loop x ++ each loop xs
 unfoldable pub identifiersIn : List ℕ → List Identifier
 identifiersIn s = each (loopBytes s) (itemsOf (loopBytes s))
 
--- those of the UPID `top` of type `upid-type` when its part number `part` became an identifier of type k with the bytes `new`: the old list with that one
--- replaced
+-- those of the UPID `top` of type `upid-type` when its part number `part` became an identifier of type `new-type` with the bytes `new`: the old list with
+-- that one replaced
 unfoldable pub upidThen : ℕ → List ℕ → ℕ → ℕ → List ℕ → List Identifier
-upidThen upid-type top zero k new = ofUpid k new
-upidThen upid-type top (suc i) k new = identifiersThen top (partsIn (upidOf 13 top)) i k new
+upidThen upid-type top zero new-type new = ofUpid new-type new
+upidThen upid-type top (suc i) new-type new = identifiersThen top (partsIn (upidOf 13 top)) i new-type new

@@ -16,8 +16,8 @@ use Rattle.section.specs.declared.Section.{Section}
 use Rattle.section.specs.declared.SectionRead.{SectionRead}
 use Rattle.table.specs.Writing.{made}
 
--- r is the section s in which part number `part` of the item at `offset` became an identifier of type k with the bytes `new`
-pub record Result (s : List ℕ) (offset part k : ℕ) (new r : List ℕ) : Type 0 where
+-- r is the section s in which part number `part` of the item at `offset` became an identifier of type `upid-type` with the bytes `new`
+pub record Result (s : List ℕ) (offset part upid-type : ℕ) (new r : List ℕ) : Type 0 where
   -- s is accepted, and an item of its loop begins at the offset: a segmentation descriptor that is not cancelled, with the active segmentation i of this event
   pub old : Section
   pub accepted : sectionOf s ≡ SectionRead.Is old
@@ -32,8 +32,8 @@ pub record Result (s : List ℕ) (offset part k : ℕ) (new r : List ℕ) : Type
   pub complete : upidHead (payloadIn s offset) + 2 + sizeIn (payloadIn s offset) ≤ length (payloadIn s offset)
   -- what becomes of the UPID is said by `every-other-identifier-stays` and `the-upid-itself` (relabel_upid)
   pub upid : List ℕ
-  pub made-of : upidMade (typeIn (payloadIn s offset)) (upidIn (payloadIn s offset)) part k new ≡ made upid
-  pub is : r ≡ sectionThen s offset part k upid
-  pub short : length (payloadThen s offset part k upid) ≤ 250
+  pub made-of : upidMade (typeIn (payloadIn s offset)) (upidIn (payloadIn s offset)) part upid-type new ≡ made upid
+  pub is : r ≡ sectionThen s offset part upid-type upid
+  pub short : length (payloadThen s offset part upid-type upid) ≤ 250
   -- r is accepted, its header, its command and every other item read the same, and of the item itself only the UPID differs
-  pub kept : Kept s old lead (listed (loopBytes s) offset) tail event active (foreIn (payloadIn s offset)) (postIn (payloadIn s offset)) (typeThen part (typeIn (payloadIn s offset)) k) upid
+  pub kept : Kept s old lead (listed (loopBytes s) offset) tail event active (foreIn (payloadIn s offset)) (postIn (payloadIn s offset)) (typeThen part (typeIn (payloadIn s offset)) upid-type) upid

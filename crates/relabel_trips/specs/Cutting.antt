@@ -62,15 +62,15 @@ NotIn places j = All (λ (at : ℕ). at ≡ j → ⊥) places
 abbrev pub withCrc : List ℕ → List ℕ
 withCrc body = body ++ crcBytesOf body
 
--- r is the section s in which part number `part` of the item at `offset` became an identifier of type k with the bytes `new`
-pub record CutAt (s : List ℕ) (offset part k : ℕ) (new r : List ℕ) : Type 0 where
+-- r is the section s in which part number `part` of the item at `offset` became an identifier of type `upid-type` with the bytes `new`
+pub record CutAt (s : List ℕ) (offset part upid-type : ℕ) (new r : List ℕ) : Type 0 where
   pub before : List ℕ
   pub mended : List ℕ
   pub after : List ℕ
   -- the old section: what stands before the identifier, its type, length and bytes, what stands after it, and the CRC
   pub old : s ≡ withCrc (before ++ (typeAt s offset part ∷ (length (identifierAt s offset part) ∷ (identifierAt s offset part ++ after))))
   -- the new one: the same with lengths mended, the new type, length and bytes, and what stood after the old one; the CRC is that of this
-  pub then : r ≡ withCrc (mended ++ (k ∷ (length new ∷ (new ++ after))))
+  pub then : r ≡ withCrc (mended ++ (upid-type ∷ (length new ∷ (new ++ after))))
   -- before the identifier nothing moves, and no byte changes but those that hold a length that counts it
   pub place : length before ≡ headAt s offset part
   pub size : length mended ≡ headAt s offset part
@@ -86,14 +86,14 @@ abbrev pub afterSize : List ℕ → ℕ → ℕ → ℕ
 afterSize s offset part = length s - 4 - (headAt s offset part + 2 + length (identifierAt s offset part))
 
 -- Every byte of the two sections, by its place: the place of the identifier's head is `headAt`, and it has two bytes.
-pub record ByByte (s : List ℕ) (offset part k : ℕ) (new r : List ℕ) : Type 0 where
+pub record ByByte (s : List ℕ) (offset part upid-type : ℕ) (new r : List ℕ) : Type 0 where
   -- as many bytes as there are more or less of the identifier; what stands before, the identifier, what stands after, and the CRC are all
   pub long : (length r ≡ length s - length (identifierAt s offset part) + length new)
       × (headAt s offset part + 2 + length (identifierAt s offset part) + 4 ≤ length s)
   -- before the identifier every byte is the old one, but those that hold a length that counts it (`CutAt` says what they hold)
   pub before : (j : ℕ) → j < headAt s offset part → NotIn (lengthBytes s offset part) j → getD r j 0 ≡ getD s j 0
   -- then the new type, length and bytes
-  pub «upid_type» : getD r (headAt s offset part) 0 ≡ k
+  pub «upid_type» : getD r (headAt s offset part) 0 ≡ upid-type
   pub counted : getD r (headAt s offset part + 1) 0 ≡ length new
   pub run : take (length new) (drop (headAt s offset part + 2) r) ≡ new
   -- then all that stood after the old one, up to the CRC

@@ -72,7 +72,7 @@ fn open_sixteen(b: SharedBoard, channel: u8, provider: u32) -> SharedBoard {
     open_four(twelve, channel, std::num::wrapping_add_u32(provider, 12))
 }
 
-// The same breaks, with the next id of channel 0 before the wrap again: those still open are passed over.
+// The breaks as they are, with the next id of channel 0 before the wrap again: those still open are passed over.
 fn turned_back(b: SharedBoard) -> SharedBoard {
     io::write_all(1, b"next 0 4294967290\n");
     let places = b.places;

@@ -2,7 +2,6 @@
 // that are stated of the samples (host/samples-expected).
 ghost use Prim.Native.Nat.{_<_};
 use command::SpliceCommand;
-use command::insert::Break;
 use command::insert::InsertDetail;
 use command::insert::SpliceDetail;
 use command::insert::SpliceInsert;
@@ -11,6 +10,7 @@ use section::Section;
 use section::SectionRead;
 use section::read_section;
 use splice_time::SpliceTime;
+use splice_time::break_duration::Break;
 
 // A label and its number.
 fn item(label: &[u8], number: u64) {

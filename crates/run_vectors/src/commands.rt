@@ -6,13 +6,13 @@ use crate::say::value;
 use command::SpliceCommand;
 use command::components::InsertComponent;
 use command::components::read_components;
-use command::insert::Break;
 use command::insert::InsertDetail;
 use command::insert::SpliceDetail;
 use command::insert::SpliceInsert;
 use command::insert::SpliceMode;
 use header::header::SpliceInfoHeader;
 use section::private_bytes_of;
+use splice_time::break_duration::Break;
 use table::View;
 use table::lent::view;
 

@@ -7,7 +7,8 @@ use native.Mathlib.Omega.{arith}
 use lib.ListN.{length, getD, drop, replicate, length-drop}
 use Rattle.crc.specs.Crc.{crcOf, crcBits, crcBit}
 use Rattle.command.specs.Command.{commandOf, array, componentsOf}
-use Rattle.command.specs.Insert.{blank, timeUnless, component, moded, breakDuration, ending, active, insert}
+use Rattle.command.specs.Insert.{blank, timeUnless, component, moded, ending, active, insert}
+use Rattle.splice_time.specs.Break.{breakDuration}
 use Rattle.command.specs.declared.CommandRead.{CommandRead}
 use Rattle.command.specs.declared.SpliceCommand.{SpliceCommand}
 use Rattle.header.specs.Header.{spliceHeader, headerRead, headerOf}

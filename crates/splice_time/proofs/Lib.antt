@@ -1,2 +1,4 @@
 pub mod Times
+pub mod Alignments
+pub mod Breaks
 pub mod Rows

@@ -1,7 +1,7 @@
 -- splice_time(): what a reader answers, and its laws as a structure.
 use Prim.Native.Nat.{ℕ, _+_, _*_, _-_, _/_, _%_, _^_, _<_, _≤_}
 use mathlib.Core.Bool.{Bool, true, false}
-use mathlib.Core.List.{List, [], _∷_, _++_}
+use mathlib.Core.List.{List, _++_}
 use mathlib.Core.Path.{_≡_, refl, ap, sym, _∙_}
 use native.Mathlib.Nat.{zero-add, add-zero, mod-eq-of-lt}
 use native.Mathlib.Omega.{arith}
@@ -9,22 +9,16 @@ use lib.Dec.{eqb, ltb}
 use lib.ListN.{length, getD}
 use borrow.Author.Tests.{lt-ltb, le-ltb}
 use Rattle.table.specs.Bits.{pick, bitsOf, field, AllBytes}
-use Rattle.table.specs.Cursor.{place, cursorAt, takenOf, flaggedOf, skippedOf}
-use Rattle.table.specs.Table.{Table, done, number, bit, reserved, uimsbf, ones, Answer, got, short, parse, canonical}
+use Rattle.table.specs.Cursor.{place, cursorAt}
+use Rattle.table.specs.Table.{done, Answer, got, short, parse, canonical}
 use Rattle.table.specs.Writing.{Same, made, make}
 use Rattle.table.specs.declared.cursor.Cursor.{Cursor}
-use Rattle.table.specs.declared.cursor.Flag.{Flag}
-use Rattle.table.specs.declared.cursor.Flagged.{Flagged}
-use Rattle.table.specs.declared.cursor.Number.{Number}
 use Rattle.table.specs.declared.cursor.Short.{Short}
-use Rattle.table.specs.declared.cursor.Skipped.{Skipped}
-use Rattle.table.specs.declared.cursor.Taken.{Taken}
-use Rattle.table.proofs.Cursors.{goes-flag, stops-flag, goes-ones, stops-ones, goes-number, stops-number}
 use Rattle.table.proofs.Fields.{field-in}
 use Rattle.table.proofs.Laws.{Tells}
 use Rattle.table.proofs.Leading.{Leads, leads-done, leads-number, leads-flag, leads-ones}
 use Rattle.table.proofs.Lists.{zero-one}
-use Rattle.table.proofs.Steppings.{Settled, place-of, settled-at, taken-got, skipped-got}
+use Rattle.table.proofs.Steppings.{Settled, place-of, settled-at}
 use Rattle.table.proofs.Steps.{takes-number, lacks-number, takes-flag, lacks-flag, takes-ones}
 use Rattle.table.proofs.Structure as laws
 use Rattle.table.proofs.Telling.{tells-number, tells-either, tells-ones}
@@ -36,10 +30,6 @@ use Rattle.splice_time.specs.declared.TimeRead.{TimeRead}
 use Rattle.splice_time.specs.declared.Timed.{Timed}
 
 -- ---- a reader's answer, made and undone
-pub time-got : (r : Answer SpliceTime) (t : SpliceTime) (c : Cursor) → Settled c → r ≡ got t (place c) → TimeRead.Got (record { time = t; next = c }) ≡ timeRead r
-unfolding timeRead
-time-got r t c h e = rw (e, h)
-
 pub time-lacks : (r : Answer SpliceTime) (x : Short) → r ≡ short (x .expected) (x .actual) → TimeRead.Lacks x ≡ timeRead r
 unfolding timeRead
 time-lacks r x e = rw e
@@ -57,44 +47,7 @@ unfolding timeRead
 timed-lacks (got y m) x f = zero-one cc
 timed-lacks (short e a) x f = cc
 
--- ---- the walk of the reader, step by step
-module _ (s : List ℕ) (at : ℕ) where
-  pub no-flag : (x : Short) → Flagged.Lacks x ≡ flaggedOf (parse bit (bitsOf s) at) → TimeRead.Lacks x ≡ timeRead (parse spliceTime (bitsOf s) at)
-  unfolding spliceTime
-  no-flag x e = time-lacks _ x (stops-flag s at _ _ x e)
-
-  module _ (f : Flag) (ef : Flagged.Got f ≡ flaggedOf (parse bit (bitsOf s) at)) where
-    flagged : (b : Bool) → f .set ≡ b → parse spliceTime (bitsOf s) at ≡ parse (pick b (ones 6 (uimsbf 33 ticks λ t. done (At t))) (ones 7 (done Unspecified))) (bitsOf s) (place (f .next))
-    unfolding spliceTime
-    flagged b e = rw (← e) (goes-flag s at _ _ f ef)
-
-    module _ (on : f .set ≡ true) where
-      pub no-reserved : (x : Short) → Skipped.Lacks x ≡ skippedOf (parse (reserved 6) (bitsOf s) (place (f .next))) → TimeRead.Lacks x ≡ timeRead (parse spliceTime (bitsOf s) at)
-      no-reserved x e = time-lacks _ x (flagged true on ∙ stops-ones s _ 6 _ x e)
-
-      module _ (c : Cursor) (ec : Skipped.Got c ≡ skippedOf (parse (reserved 6) (bitsOf s) (place (f .next)))) where
-        pub no-time : (x : Short) → Taken.Lacks x ≡ takenOf (parse (number 33) (bitsOf s) (place c)) → TimeRead.Lacks x ≡ timeRead (parse spliceTime (bitsOf s) at)
-        no-time x e = time-lacks _ x (flagged true on ∙ goes-ones s _ 6 _ c ec ∙ stops-number s _ 33 ticks (λ t. done (At t)) x e)
-
-        pub at-time : (n : Number) → Taken.Got n ≡ takenOf (parse (number 33) (bitsOf s) (place c))
-            → TimeRead.Got (record { time = At (n .value); next = n .next }) ≡ timeRead (parse spliceTime (bitsOf s) at)
-        at-time n e =
-            time-got _ (At (n .value)) (n .next) (taken-got s 33 (place c) n (omega arith) e .1)
-            (flagged true on ∙ goes-ones s _ 6 _ c ec ∙ goes-number s _ 33 ticks (λ t. done (At t)) n (omega arith) e)
-
-    module _ (off : f .set ≡ false) where
-      pub no-rest : (x : Short) → Skipped.Lacks x ≡ skippedOf (parse (reserved 7) (bitsOf s) (place (f .next))) → TimeRead.Lacks x ≡ timeRead (parse spliceTime (bitsOf s) at)
-      no-rest x e = time-lacks _ x (flagged false off ∙ stops-ones s _ 7 _ x e)
-
-      pub unspecified : (c : Cursor) → Skipped.Got c ≡ skippedOf (parse (reserved 7) (bitsOf s) (place (f .next)))
-          → TimeRead.Got (record { time = Unspecified; next = c }) ≡ timeRead (parse spliceTime (bitsOf s) at)
-      unspecified c e = time-got _ Unspecified c (skipped-got _ c e .1) (flagged false off ∙ goes-ones s _ 7 _ c e)
-
 -- ---- a time that starts with byte i
-pub at-byte : (s : List ℕ) (c : Cursor) (r : TimeRead) → c .bit ≡ 0 → r ≡ timeRead (parse spliceTime (bitsOf s) (c .byte * 8)) → r ≡ timeRead (parse spliceTime (bitsOf s) (place c))
-unfolding place
-at-byte s c r z e = rw (z, add-zero (c .byte * 8)) e
-
 module _ (s : List ℕ) (i : ℕ) where
   pub none-left : length s ≤ i → TimeRead.Lacks (record { expected = 0; actual = 0 }) ≡ timeRead (parse spliceTime (bitsOf s) (i * 8))
   unfolding spliceTime

@@ -3,14 +3,12 @@ ghost use mathlib.Core.Path.{_≡_};
 ghost use Prim.Native.Nat.{_*_};
 ghost use Rattle.splice_time.specs.Time.{spliceTime, timeRead, adjustedOf};
 ghost use Rattle.table.specs.Bits.{bitsOf};
-ghost use Rattle.table.specs.Cursor.{place};
 ghost use Rattle.table.specs.Table.{parse};
 use table::cursor::Cursor;
-use table::cursor::Flagged;
 use table::cursor::Short;
-use table::cursor::Skipped;
-use table::cursor::Taken;
 use table::numbers::time33;
+
+pub mod break_duration;
 
 // When a splice takes place: at once, at a time that is not specified, or at a time in ticks of 90 kHz.
 pub enum SpliceTime {
@@ -63,42 +61,6 @@ pub fn read_aligned_time(s: &[u8], at: usize) -> TimeRead
             bit: 0,
         },
     })
-}
-
-// The splice_time() from a cursor on.
-pub fn read_splice_time(s: &[u8], c: Cursor) -> TimeRead
-    ensures { λ r. ⌜ r ≡ timeRead (parse spliceTime (bitsOf (now (s .entry))) (place c)) ⌝ }
-{
-    if c.bit == 0 {
-        return read_aligned_time(s, c.byte);
-    }
-    let specified = match c.flag(s) {
-        Flagged::Got(f) => f,
-        Flagged::Lacks(e) => return TimeRead::Lacks(e),
-    };
-    let next = specified.next;
-    if specified.set {
-        let next = match next.skip(s, 6) {
-            Skipped::Got(c) => c,
-            Skipped::Lacks(e) => return TimeRead::Lacks(e),
-        };
-        let ticks = match next.take(s, 33) {
-            Taken::Got(n) => n,
-            Taken::Lacks(e) => return TimeRead::Lacks(e),
-        };
-        let next = ticks.next;
-        return TimeRead::Got(Timed {
-            time: SpliceTime::At(ticks.value),
-            next,
-        });
-    }
-    match next.skip(s, 7) {
-        Skipped::Got(next) => TimeRead::Got(Timed {
-            time: SpliceTime::Unspecified,
-            next,
-        }),
-        Skipped::Lacks(e) => TimeRead::Lacks(e),
-    }
 }
 
 // A time with its adjustment, none where no time is specified, or refusal 32.

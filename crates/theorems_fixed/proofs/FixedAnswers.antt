@@ -6,15 +6,16 @@ use denote.Ref.{now}
 use Prim.Native.Nat.{_%_, _*_, _+_, _-_, _/_, _^_}
 use lib.ListN.{getD, length}
 use mathlib.Core.List.{[], _∷_}
-use Rattle.command.specs.Command.{array, commandOf, listedOf}
+use Rattle.command.specs.Command.{array, commandOf, listedOf, numberOf as commandNumberOf}
 use Rattle.command.specs.Insert.{insert}
 use Rattle.command.specs.Private.{insertRead}
 use Rattle.crc.specs.Crc.{crcOf}
 use Rattle.crc_table.specs.Turns.{reversed, turns}
-use Rattle.descriptor.specs.Descriptor.{availOf, descriptorOf, dtmfOf, isCuei, reservedOf, segmentationTypeOf as descriptorSegmentationOf, timeOf}
+use Rattle.descriptor.specs.Descriptor.{availOf, descriptorOf, dtmfOf, isCuei, reservedOf, segmentationOf, timeOf}
 use Rattle.descriptor.specs.Full.{besideRead, blankBeside, identifierRead, fullOf}
 use Rattle.header.specs.Header.{headerOf}
 use Rattle.header_numbers.specs.Numbers.{numbersRead}
+use Rattle.splice_time.specs.Break.{breakDuration, breakRead}
 use Rattle.splice_time.specs.Time.{adjustedOf, spliceTime, timeRead}
 use Rattle.descriptor_loop.specs.Items.{countOf, readingOf, stepOf}
 use Rattle.descriptor_loop.specs.Place.{viewOf}
@@ -80,8 +81,8 @@ use Rattle.names.proofs.flags.DeviceRestrictions.from_bits.Reads as restriction
 use Rattle.names.proofs.flags.DeviceRestrictions.bits.Reads as restrictions-bits
 use Rattle.header_numbers.proofs.read_header_numbers.Reads as read-header-numbers
 use Rattle.header.proofs.header.read_header.Reads as read-header
-use Rattle.splice_time.proofs.read_splice_time.Reads as read-splice-time
 use Rattle.splice_time.proofs.read_aligned_time.Reads as read-aligned-time
+use Rattle.splice_time.proofs.break_duration.read_break.Reads as read-break
 use Rattle.splice_time.proofs.adjusted_time.Reads as adjusted-time
 use Rattle.upid.proofs.text.is_text.Reads as is-text
 use Rattle.upid.proofs.check_upid.Reads as check-upid
@@ -110,6 +111,7 @@ use Rattle.command.proofs.components.read_components.Reads as read-components
 use Rattle.command.proofs.components.blanks.Reads as blank-components
 use Rattle.section.proofs.read_command_part.Reads as read-command-part
 use Rattle.section.proofs.Refusal.number.Reads as section-refusal-number
+use Rattle.command.proofs.CommandRead.number.Reads as command-read-number
 use Rattle.section.proofs.read_frame.Reads as read-frame
 use Rattle.section.proofs.read_section.Reads as read-section
 use Rattle.section.proofs.loop_of.Reads as loop-of
@@ -275,7 +277,7 @@ restrictions-from-bits-answers = record { takes-any = λ κ a. tt; is = λ κ a 
 pub restrictions-bits-answers : Answers restrictions-bits.Asked restrictions-bits.Learnt (λ κ r e. r) (λ κ a. restrictionsBits (a .0))
 restrictions-bits-answers = record { takes-any = λ κ a. tt; is = λ κ a r e l. l }
 
--- ---- header
+-- ---- header_numbers, header
 
 pub read-header-numbers-answers : Answers read-header-numbers.Asked read-header-numbers.Learnt (λ κ r e. r) (λ κ a. numbersRead (now (a .0)))
 read-header-numbers-answers = record { takes-any = λ κ a. tt; is = λ κ a r e l. l }
@@ -283,11 +285,13 @@ read-header-numbers-answers = record { takes-any = λ κ a. tt; is = λ κ a r e
 pub read-header-answers : Answers read-header.Asked read-header.Learnt (λ κ r e. r) (λ κ a. headerOf (now (a .0)))
 read-header-answers = record { takes-any = λ κ a. tt; is = λ κ a r e l. l }
 
-pub read-splice-time-answers : Answers read-splice-time.Asked read-splice-time.Learnt (λ κ r e. r) (λ κ a. timeRead (parse spliceTime (bitsOf (now (a .0))) (place (a .1 .0))))
-read-splice-time-answers = record { takes-any = λ κ a. tt; is = λ κ a r e l. l }
+-- ---- splice_time
 
 pub read-aligned-time-answers : Answers read-aligned-time.Asked read-aligned-time.Learnt (λ κ r e. r) (λ κ a. timeRead (parse spliceTime (bitsOf (now (a .0))) ((a .1 .0) * 8)))
 read-aligned-time-answers = record { takes-any = λ κ a. tt; is = λ κ a r e l. l }
+
+pub read-break-answers : Answers read-break.Asked read-break.Learnt (λ κ r e. r) (λ κ a. breakRead (parse (breakDuration (a .1 .1 .0)) (bitsOf (now (a .0))) ((a .1 .0) * 8)))
+read-break-answers = record { takes-any = λ κ a. tt; is = λ κ a r e l. l }
 
 pub adjusted-time-answers : Answers adjusted-time.Asked adjusted-time.Learnt (λ κ r e. r) (λ κ a. adjustedOf (a .0) (a .1 .0))
 adjusted-time-answers = record { takes-any = λ κ a. tt; is = λ κ a r e l. l }
@@ -326,7 +330,7 @@ read-time-answers = record { takes-any = λ κ a. tt; is = λ κ a r e l. l }
 pub read-reserved-answers : Answers read-reserved.Asked read-reserved.Learnt (λ κ r e. r) (λ κ a. reservedOf (a .0) (now (a .1 .0)))
 read-reserved-answers = record { takes-any = λ κ a. tt; is = λ κ a r e l. l }
 
-pub read-segmentation-answers : Answers read-segmentation.Asked read-segmentation.Learnt (λ κ r e. r) (λ κ a. descriptorSegmentationOf (now (a .0)))
+pub read-segmentation-answers : Answers read-segmentation.Asked read-segmentation.Learnt (λ κ r e. r) (λ κ a. segmentationOf (now (a .0)))
 read-segmentation-answers = record { takes-any = λ κ a. tt; is = λ κ a r e l. l }
 
 pub read-full-descriptor-answers : Answers read-full-descriptor.Asked read-full-descriptor.Learnt (λ κ r e. r) (λ κ a. fullOf (a .0) (a .1 .0) (now (a .1 .1 .0)))
@@ -341,7 +345,7 @@ beside-of-answers = record { takes-any = λ κ a. tt; is = λ κ a r e l. l }
 pub identifier-of-answers : Answers identifier-of.Asked identifier-of.Learnt (λ κ r e. r) (λ κ a. identifierRead (a .0) (a .1 .0))
 identifier-of-answers = record { takes-any = λ κ a. tt; is = λ κ a r e l. l }
 
--- ---- items
+-- ---- descriptor_loop
 
 pub step-answers : Answers step.Asked step.Learnt (λ κ r e. r) (λ κ a. stepOf (now (a .0)) (a .1 .0))
 step-answers = record { takes-any = λ κ a. tt; is = λ κ a r e l. l }
@@ -365,6 +369,9 @@ read-item-answers = record { takes-any = λ κ a. tt; is = λ κ a r e l. l }
 
 pub read-command-answers : Answers read-command.Asked read-command.Learnt (λ κ r e. r) (λ κ a. commandOf (a .0) (now (a .1 .0)))
 read-command-answers = record { takes-any = λ κ a. tt; is = λ κ a r e l. l }
+
+pub command-read-number-answers : Answers command-read-number.Asked command-read-number.Learnt (λ κ r e. r) (λ κ a. commandNumberOf (a .0))
+command-read-number-answers = record { takes-any = λ κ a. tt; is = λ κ a r e l. l }
 
 pub read-insert-answers : Answers read-insert.Asked read-insert.Learnt (λ κ r e. r) (λ κ a. insertRead (parse insert (bitsOf (now (a .0))) 0))
 read-insert-answers = record { takes-any = λ κ a. tt; is = λ κ a r e l. l }

@@ -83,7 +83,7 @@ use Rattle.scte35.proofs.canonical.scte35_is_canonical_loop.Reads as scte35-is-
 use Rattle.scte35.proofs.canonical.scte35_is_canonical_descriptor.Reads as scte35-is-canonical-descriptor
 use Rattle.theorems_fixed.specs.FixedAnswers.{Answers}
 
--- ---- flat: the flat forms of headers, commands and sections
+-- ---- c_section: the flat forms of headers, commands and sections
 
 pub flat-flag-answers : Answers flat-flag.Asked flat-flag.Learnt (λ κ r e. r) (λ κ a. flagNumber (a .0))
 flat-flag-answers = record { takes-any = λ κ a. tt; is = λ κ a r e l. l }
@@ -112,7 +112,7 @@ no-section-answers = record { takes-any = λ κ a. tt; is = λ κ a r e l. l }
 pub flat-parts-answers : Answers flat-parts.Asked flat-parts.Learnt (λ κ r e. r) (λ κ a. flatParts (a .0) (a .1 .0) (a .1 .1 .0))
 flat-parts-answers = record { takes-any = λ κ a. tt; is = λ κ a r e l. l }
 
--- ---- flat_items: those of items and UPIDs
+-- ---- c_items: the flat forms of items and UPIDs
 
 pub flat-beside-answers : Answers flat-beside.Asked flat-beside.Learnt (λ κ r e. r) (λ κ a. flatBeside (a .0))
 flat-beside-answers = record { takes-any = λ κ a. tt; is = λ κ a r e l. l }
@@ -123,7 +123,7 @@ flat-upid-answers = record { takes-any = λ κ a. tt; is = λ κ a r e l. l }
 pub flat-step-answers : Answers flat-step.Asked flat-step.Learnt (λ κ r e. r) (λ κ a. flatStep (a .0))
 flat-step-answers = record { takes-any = λ κ a. tt; is = λ κ a r e l. l }
 
--- ---- flat_writer, flat_item_writer, flat_section_writer: the writers from words. A slice that is handed back is fixed in its words.
+-- ---- c_command_writer, c_descriptor_writer, c_section_writer: the writers from words. A slice that is handed back is fixed in its words.
 
 pub flat-written-answers : Answers flat-written.Asked flat-written.Learnt (λ κ r e. r) (λ κ a. flatWritten (a .0))
 flat-written-answers = record { takes-any = λ κ a. tt; is = λ κ a r e l. l }

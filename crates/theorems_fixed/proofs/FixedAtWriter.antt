@@ -57,7 +57,7 @@ use Rattle.section_writer.proofs.is_canonical_frame.Reads as is-canonical-frame
 use Rattle.section_writer.proofs.is_canonical_section.Reads as is-canonical-section
 use Rattle.theorems_fixed.specs.FixedAnswers.{Answers}
 
--- ---- pen: stores at any bit
+-- ---- bit_stores: stores at any bit
 
 pub put-bits-answers : Answers put-bits.Asked put-bits.Learnt (λ κ r e. r) (λ κ a. penAfter (now (a .0)) (a .1 .0) (length (bitsOfNum (a .1 .1 .0) (a .1 .1 .1 .0))))
 put-bits-answers = record { takes-any = λ κ a. tt; is = λ κ a r e l. l .cursor }
@@ -71,7 +71,7 @@ put-run-answers = record { takes-any = λ κ a. tt; is = λ κ a r e l. l .curso
 pub put-run-leaves : Answers put-run.Asked put-run.Learnt (λ κ r e. now (e .0)) (λ κ a. penned (now (a .0)) (place (a .1 .0)) (bitsOf (now (a .1 .1 .0))))
 put-run-leaves = record { takes-any = λ κ a. tt; is = λ κ a r e l. l .bytes }
 
--- ---- descriptor_form: the tests of the descriptor writer
+-- ---- descriptor_measure: the tests of the descriptor writer
 
 pub is-zero-answers : Answers is-zero.Asked is-zero.Learnt (λ κ r e. r) (λ κ a. allZero (now (a .0)))
 is-zero-answers = record { takes-any = λ κ a. tt; is = λ κ a r e l. l }
@@ -115,7 +115,7 @@ duration-size-answers = record { takes-any = λ κ a. tt; is = λ κ a r e l. l 
 pub sub-size-answers : Answers sub-size.Asked sub-size.Learnt (λ κ r e. r) (λ κ a. subBytes (a .0))
 sub-size-answers = record { takes-any = λ κ a. tt; is = λ κ a r e l. l .0 }
 
--- ---- canonical_loop: the canonical form of a descriptor and of a loop, as tests
+-- ---- descriptor_canonical: the canonical form of a descriptor and of a loop, as tests
 
 pub is-canonical-descriptor-answers : Answers is-canonical-descriptor.Asked is-canonical-descriptor.Learnt (λ κ r e. r) (λ κ a. canonicalDescriptor (now (a .0)))
 is-canonical-descriptor-answers = record { takes-any = λ κ a. tt; is = λ κ a r e l. l }
@@ -174,7 +174,7 @@ write-command-without-components-answers = record { takes-any = λ κ a. tt; is 
 pub write-command-without-components-leaves : Answers write-command-without-components.Asked write-command-without-components.Learnt (λ κ r e. now (e .1 .1 .0)) (λ κ a. laterOf (commandMade (a .0) (array []) (now (a .1 .0))) (now (a .1 .1 .0)))
 write-command-without-components-leaves = record { takes-any = λ κ a. tt; is = λ κ a r e l. l .1 }
 
--- ---- canonical_command
+-- ---- command_canonical
 
 pub is-canonical-command-answers : Answers is-canonical-command.Asked is-canonical-command.Learnt (λ κ r e. r) (λ κ a. canonicalCommand (a .0) (now (a .1 .0)))
 is-canonical-command-answers = record { takes-any = λ κ a. tt; is = λ κ a r e l. l }

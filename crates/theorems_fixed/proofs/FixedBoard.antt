@@ -1,4 +1,4 @@
--- The public functions of board, channels and flat_board, and those over C: each fixes its answer and the words that it is lent, and asks nothing of the
+-- The public functions of board, channels and c_board, and those over C: each fixes its answer and the words that it is lent, and asks nothing of the
 -- caller, as FixedAnswers.antt has it of the readers.
 use mathlib.Core.Path.{_≡_}
 use denote.Ref.{now}

@@ -41,8 +41,8 @@ slice s = record { ptr = (0, 0); name = 0; now = s }
 pub read-section-is-met : (s : List ℕ) → ReadsSection s (sectionOf s)
 read-section-is-met s = record { κ = ([], tt); arguments = (slice s, tt); answer = sectionOf s; after = (slice s, tt); taken = refl; left = refl; learnt-so = refl }
 
-pub read-whole-section-is-met : (s : List ℕ) → ReadsFullSection s (fullSectionOf s)
-read-whole-section-is-met s = record { κ = ([], tt); arguments = (slice s, tt); answer = fullSectionOf s; after = (slice s, tt); taken = refl; left = refl; learnt-so = refl }
+pub read-full-section-is-met : (s : List ℕ) → ReadsFullSection s (fullSectionOf s)
+read-full-section-is-met s = record { κ = ([], tt); arguments = (slice s, tt); answer = fullSectionOf s; after = (slice s, tt); taken = refl; left = refl; learnt-so = refl }
 
 pub step-is-met : (loop : List ℕ) (offset : ℕ) → Steps loop offset (stepOf loop offset)
 step-is-met loop offset = record { κ = ([], tt); arguments = (slice loop, (offset, tt)); answer = stepOf loop offset; after = (slice loop, (offset, tt)); taken = refl; left = refl; learnt-so = refl }
@@ -112,8 +112,8 @@ scte35-read-section-is-met s = record { κ = ([], tt); arguments = (slice s, (0,
 pub scte35-read-item-is-met : (loop : List ℕ) (offset : ℕ) → ReadsItemC loop offset (flatStep (stepOf loop offset))
 scte35-read-item-is-met loop offset = record { κ = ([], tt); arguments = (slice loop, (offset, tt)); answer = flatStep (stepOf loop offset); after = (slice loop, (offset, tt)); taken = refl; left = refl; learnt-so = refl }
 
-pub scte35-read-item-components-is-met : (loop : List ℕ) (offset : ℕ) → ReadsBesideC loop offset (flatBeside (readingOf loop offset))
-scte35-read-item-components-is-met loop offset = record { κ = ([], tt); arguments = (slice loop, (offset, tt)); answer = flatBeside (readingOf loop offset); after = (slice loop, (offset, tt)); taken = refl; left = refl; learnt-so = refl }
+pub scte35-read-segmentation-components-is-met : (loop : List ℕ) (offset : ℕ) → ReadsBesideC loop offset (flatBeside (readingOf loop offset))
+scte35-read-segmentation-components-is-met loop offset = record { κ = ([], tt); arguments = (slice loop, (offset, tt)); answer = flatBeside (readingOf loop offset); after = (slice loop, (offset, tt)); taken = refl; left = refl; learnt-so = refl }
 
 pub scte35-read-upid-is-met : (k : ℕ) (b : List ℕ) → ReadsUpidC k b (flatUpid (upidOf k b))
 scte35-read-upid-is-met k b = record { κ = ([], tt); arguments = (k, (slice b, (0, tt))); answer = flatUpid (upidOf k b); after = (k, (slice b, (0, tt))); taken = refl; left = refl; learnt-so = refl }

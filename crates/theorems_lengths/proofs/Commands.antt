@@ -8,18 +8,20 @@ use mathlib.Core.Path.{_≡_, refl, ap, sym, subst, _∙_}
 use native.Mathlib.Omega.{arith}
 use lib.Dec.{eqb}
 use lib.ListN.{length, take, drop, length-take}
-use Rattle.command.proofs.InsertLeads.{breakBytes, activeBytes, insertBytes}
+use Rattle.splice_time.proofs.Breaks.{breakBytes}
+use Rattle.command.proofs.InsertLeads.{activeBytes, insertBytes}
 use Rattle.command.proofs.InsertTrips.{insert-write-read}
 use Rattle.command.proofs.ModeLeads.{componentBytes, modeBytes}
 use Rattle.command.proofs.PrivateTrips.{private-write-read}
 use Rattle.command.specs.Command.{private, read, commandOf, componentsOf}
 use Rattle.command.specs.Writable.{writableInsert}
-use Rattle.command.specs.Insert.{WithComponents, timeUnless, component, blank, moded, breakDuration, ending, active, activeOf, insert}
+use Rattle.command.specs.Insert.{WithComponents, timeUnless, component, blank, moded, ending, active, activeOf, insert}
+use Rattle.splice_time.specs.Break.{breakDuration}
 use Rattle.command.specs.declared.CommandRead.{CommandRead}
 use Rattle.command.specs.declared.Private.{Private}
 use Rattle.command.specs.declared.SpliceCommand.{SpliceCommand}
 use Rattle.command.specs.declared.components.InsertComponent.{InsertComponent}
-use Rattle.command.specs.declared.insert.Break.{Break}
+use Rattle.splice_time.specs.declared.break_duration.Break.{Break}
 use Rattle.command.specs.declared.insert.InsertDetail.{InsertDetail}
 use Rattle.command.specs.declared.insert.SpliceInsert.{SpliceInsert}
 use Rattle.command.specs.declared.insert.SpliceDetail.{SpliceDetail}

@@ -8,7 +8,8 @@ use lib.Dec.{eqb}
 use lib.ListN.{take}
 use lib.Seq.{drop-append-add}
 use Rattle.command.specs.Command.{read, empty, commandOf}
-use Rattle.command.specs.Insert.{WithComponents, blank, timeUnless, component, moded, breakDuration, ending, active, insert}
+use Rattle.command.specs.Insert.{WithComponents, blank, timeUnless, component, moded, ending, active, insert}
+use Rattle.splice_time.specs.Break.{breakDuration}
 use Rattle.command.specs.declared.CommandRead.{CommandRead}
 use Rattle.command.specs.declared.SpliceCommand.{SpliceCommand}
 use Rattle.command.specs.declared.insert.SpliceMode.{SpliceMode}

@@ -25,8 +25,8 @@ noPart upid-type top (suc i) = leb (length (partsIn (upidOf upid-type top))) i
 
 -- 33: "an identifier that its reader refuses there .. an empty top UPID"
 unfoldable pub unfit : ℕ → ℕ → List ℕ → Bool
-unfit zero k new = eqb (length new) 0 || not (taken (readOf k 0 new))
-unfit (suc i) k new = not (taken (readOf k 0 new))
+unfit zero upid-type new = eqb (length new) 0 || not (taken (readOf upid-type 0 new))
+unfit (suc i) upid-type new = not (taken (readOf upid-type 0 new))
 
 -- a number that counts the identifier's bytes, when it is replaced
 abbrev pub sizeThen : Request → ℕ → ℕ

@@ -2,7 +2,8 @@
 use mathlib.Core.Path.{refl}
 use Rattle.canonical_form.specs.Command.{canonicalCommand}
 use Rattle.command.specs.Command.{commandOf, componentsOf, array}
-use Rattle.command.specs.Insert.{timeUnless, component, moded, breakDuration, ending, active, insert}
+use Rattle.command.specs.Insert.{timeUnless, component, moded, ending, active, insert}
+use Rattle.splice_time.specs.Break.{breakDuration}
 use Rattle.descriptor.specs.Descriptor.{descriptorOf, isCuei, availOf, dtmfOf, reservedOf, segmentationOf, activeOf, activeWith}
 use Rattle.descriptor.specs.Plain.{avail, dtmf, privateBytes}
 use Rattle.descriptor.specs.Segmentation.{deliveryRestrictions, mode, duration, writtenUpid, parts, front, subSegments, back, head}

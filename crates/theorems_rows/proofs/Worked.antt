@@ -6,11 +6,12 @@ use mathlib.Core.Path.{_≡_, refl, ap}
 use lib.ListN.{length, take, getD}
 use borrow.Author.Tests.{eqb-false}
 use Rattle.command.specs.Command.{commandOf, componentsOf, private, read, array}
-use Rattle.command.specs.Insert.{insert, active, moded, ending, breakDuration, timeUnless, component, blank}
+use Rattle.command.specs.Insert.{insert, active, moded, ending, timeUnless, component, blank}
+use Rattle.splice_time.specs.Break.{breakDuration}
 use Rattle.command.specs.declared.SpliceCommand.{SpliceCommand}
 use Rattle.command.specs.declared.insert.SpliceDetail.{SpliceDetail}
 use Rattle.command.specs.declared.insert.SpliceMode.{SpliceMode}
-use Rattle.command.specs.declared.insert.Break.{Break}
+use Rattle.splice_time.specs.declared.break_duration.Break.{Break}
 use Rattle.names.specs.declared.flags.NetworkIndicator.{NetworkIndicator}
 use Rattle.canonical_form.specs.Command.{canonicalCommand}
 use Rattle.descriptor.specs.Segmentation as segment

@@ -8,7 +8,8 @@ use lib.Dec.{ltb, eqb}
 use lib.ListN.{length}
 use borrow.Author.Tests.{lt-ltb}
 use Rattle.command.proofs.InsertLeads.{Counted}
-use Rattle.command.specs.Insert.{WithComponents, timeUnless, component, blank, moded, count, breakDuration, ending, active, activeOf, insert}
+use Rattle.command.specs.Insert.{WithComponents, timeUnless, component, blank, moded, count, ending, active, activeOf, insert}
+use Rattle.splice_time.specs.Break.{breakDuration}
 use Rattle.command.specs.declared.components.InsertComponent.{InsertComponent}
 use Rattle.command.specs.declared.insert.InsertDetail.{InsertDetail}
 use Rattle.command.specs.declared.insert.SpliceInsert.{SpliceInsert}

@@ -10,7 +10,8 @@ use mathlib.Core.Path.{_≡_, refl, ap, ap₂, sym, _∙_}
 use lib.Dec.{ltb}
 use lib.ListN.{length, take}
 use Rattle.command.specs.Command.{private, countIn}
-use Rattle.command.specs.Insert.{insert, insertOf, byProgram, programTime, count, allImmediate, breakTicks, lasting, outOfNetwork}
+use Rattle.command.specs.Insert.{insert, insertOf, byProgram, programTime, count, allImmediate, outOfNetwork}
+use Rattle.splice_time.specs.Break.{breakTicks, lasting}
 use Rattle.command.specs.declared.Private.{Private}
 use Rattle.command.specs.declared.SpliceCommand.{SpliceCommand}
 use Rattle.command.specs.declared.components.InsertComponent.{InsertComponent}

@@ -13,11 +13,12 @@ use Rattle.command.proofs.Filling.{blank-length}
 use Rattle.command.proofs.InsertLeads.{Counted}
 use Rattle.command.specs.Command.{typeOf, commandOf, array, componentsOf, componentsIn, countIn, private, read}
 use Rattle.command.specs.Writable.{alike, unmixed, writableInsert}
-use Rattle.command.specs.Insert.{WithComponents, timeUnless, component, blank, moded, programTime, count, breakTicks, breakDuration, ending, active, activeOf, insert}
+use Rattle.command.specs.Insert.{WithComponents, timeUnless, component, blank, moded, programTime, count, ending, active, activeOf, insert}
+use Rattle.splice_time.specs.Break.{breakTicks, breakDuration}
 use Rattle.command.specs.declared.CommandRead.{CommandRead}
 use Rattle.command.specs.declared.SpliceCommand.{SpliceCommand}
 use Rattle.command.specs.declared.components.InsertComponent.{InsertComponent}
-use Rattle.command.specs.declared.insert.Break.{Break}
+use Rattle.splice_time.specs.declared.break_duration.Break.{Break}
 use Rattle.command.specs.declared.insert.InsertDetail.{InsertDetail}
 use Rattle.command.specs.declared.insert.SpliceInsert.{SpliceInsert}
 use Rattle.command.specs.declared.insert.SpliceDetail.{SpliceDetail}

@@ -7,7 +7,8 @@ use mathlib.Core.Path.{_≡_}
 use lib.ListN.{length, take}
 use Rattle.canonical_form.specs.Command.{canonicalCommand}
 use Rattle.command.specs.Command.{countIn, typeOf, commandOf, componentsOf}
-use Rattle.command.specs.Insert.{programTime, count, breakTicks}
+use Rattle.command.specs.Insert.{programTime, count}
+use Rattle.splice_time.specs.Break.{breakTicks}
 use Rattle.command.specs.declared.CommandRead.{CommandRead}
 use Rattle.command.specs.declared.SpliceCommand.{SpliceCommand}
 use Rattle.command.specs.declared.components.InsertComponent.{InsertComponent}

@@ -28,7 +28,7 @@ returns c =
     let rf = r .before .before in
     let st = rf .before .before .before .before in
     let a = st .args in
-    refused-answer _ (a .target .now) _ (frame-refused (a .section .now) (a .offset) (a .part) (a .k) (a .new .now) _ _ (sym (r .r .given .1) ∙ rf .read-frame .ensures) (c .number .ensures))
+    refused-answer _ (a .target .now) _ (frame-refused (a .section .now) (a .offset) (a .part) (a .upid-type) (a .new .now) _ _ (sym (r .r .given .1) ∙ rf .read-frame .ensures) (c .number .ensures))
 
 add-end : tie.Need-add-end
 add-end c =
@@ -74,9 +74,13 @@ enum-told c = search needs
 enum-told-2 : tie.Need-enum-told-2
 enum-told-2 c = search needs
 
+number-requires-2 : tie.Need-number-requires-2
+number-requires-2 c κs = search needs
+
 returns-2 : tie.Need-returns-2
 returns-2 c =
-    let rc = c .before .before in
+    let told = c .before in
+    let rc = told .before .before in
     let f = rc .before .before .before .before .before .before in
     let rf = f .before .before in
     let st = rf .before .before .before .before in
@@ -84,14 +88,18 @@ returns-2 c =
     let s = a .section .now in
     let e = sym (f .f .given .1) ∙ rf .read-frame .ensures in
     let read = sym (command-at s _ (framed s _ e .place)) ∙ sym (rc .read-command .ensures) in
-    refused-answer _ (a .target .now) 10 (command-unknown s (a .offset) (a .part) (a .k) (a .new .now) _ e (read ∙ c .enum-told2 .given .1))
+    refused-answer _ (a .target .now) _ (command-unknown s (a .offset) (a .part) (a .upid-type) (a .new .now) _ e _ (c .number2 .ensures) (read ∙ told .enum-told2 .given .1))
 
 enum-told-3 : tie.Need-enum-told-3
 enum-told-3 c = search needs
 
+number-requires-3 : tie.Need-number-requires-3
+number-requires-3 c κs = search needs
+
 returns-3 : tie.Need-returns-3
 returns-3 c =
-    let rc = c .before .before in
+    let told = c .before in
+    let rc = told .before .before in
     let f = rc .before .before .before .before .before .before in
     let rf = f .before .before in
     let st = rf .before .before .before .before in
@@ -99,7 +107,7 @@ returns-3 c =
     let s = a .section .now in
     let e = sym (f .f .given .1) ∙ rf .read-frame .ensures in
     let read = sym (command-at s _ (framed s _ e .place)) ∙ sym (rc .read-command .ensures) in
-    refused-answer _ (a .target .now) 11 (command-malformed s (a .offset) (a .part) (a .k) (a .new .now) _ e (read ∙ c .enum-told3 .given .1))
+    refused-answer _ (a .target .now) _ (command-malformed s (a .offset) (a .part) (a .upid-type) (a .new .now) _ e _ (c .number3 .ensures) (read ∙ told .enum-told3 .given .1))
 
 relabel-in-requires : tie.Need-relabel-in-requires
 relabel-in-requires c κs =
@@ -128,7 +136,7 @@ returns-4 c =
     let a = st .args in
     let s = a .section .now in
     let e = sym (f .f .given .1) ∙ rf .read-frame .ensures in
-    let is = command-is s (a .offset) (a .part) (a .k) (a .new .now) _ e _ (sym (command-at s _ (framed s _ e .place)) ∙ sym (rc .read-command .ensures) ∙ told .enum-told .given .1) in
+    let is = command-is s (a .offset) (a .part) (a .upid-type) (a .new .now) _ e _ (sym (command-at s _ (framed s _ e .place)) ∙ sym (rc .read-command .ensures) ∙ told .enum-told .given .1) in
     (ri .relabel-in .ensures .0 ∙ ap (λ (m : Made). answerOf m (a .target .now)) (sym is), ri .relabel-in .ensures .1 ∙ ap (λ (m : Made). laterOf m (a .target .now)) (sym is))
 
 pub relabel-spec : {M : Type 1} → statement M
@@ -148,8 +156,10 @@ relabel-spec =
     read-command-requires
     enum-told
     enum-told-2
+    number-requires-2
     returns-2
     enum-told-3
+    number-requires-3
     returns-3
     relabel-in-requires
     same-length

@@ -69,7 +69,7 @@ returns c =
     let y = l .before in
     let st = y .before .before .before .before in
     let a = st .args in
-    refused-at (a .section .now) (a .p) (a .limit) (a .part) (a .k) (a .new .now) (a .target .now) (st .pre .0) (st .pre .1) _ _ (y .beyond .ensures) (l .lesser .ensures .1) (l .lesser .ensures .2) _ _ (sym (m .made2 .given .1) ∙ up .relabel-upid .ensures .0) (up .relabel-upid .ensures .1)
+    refused-at (a .section .now) (a .p) (a .limit) (a .part) (a .new-type) (a .new .now) (a .target .now) (st .pre .0) (st .pre .1) _ _ (y .beyond .ensures) (l .lesser .ensures .1) (l .lesser .ensures .2) _ _ (sym (m .made2 .given .1) ∙ up .relabel-upid .ensures .0) (up .relabel-upid .ensures .1)
 
 type-then-requires : tie.Need-type-then-requires
 type-then-requires c κs = search needs
@@ -82,7 +82,7 @@ store-around-requires c κs =
     let y = l .before in
     let st = y .before .before .before .before in
     let a = st .args in
-    let w = wrote-at (a .section .now) (a .p) (a .limit) (a .part) (a .k) (a .new .now) (a .target .now) (st .pre .0) (st .pre .1) _ _ (y .beyond .ensures) (l .lesser .ensures .1) (l .lesser .ensures .2) _ _ (sym (m .made .given .1) ∙ up .relabel-upid .ensures .0) (up .relabel-upid .ensures .1) in
+    let w = wrote-at (a .section .now) (a .p) (a .limit) (a .part) (a .new-type) (a .new .now) (a .target .now) (st .pre .0) (st .pre .1) _ _ (y .beyond .ensures) (l .lesser .ensures .1) (l .lesser .ensures .2) _ _ (sym (m .made .given .1) ∙ up .relabel-upid .ensures .0) (up .relabel-upid .ensures .1) in
     (st .pre .0, w .takes, w .leaves)
 
 add-t20 : tie.Need-add-t20
@@ -93,7 +93,7 @@ add-t20 c =
     let y = l .before in
     let st = y .before .before .before .before in
     let a = st .args in
-    let w = wrote-at (a .section .now) (a .p) (a .limit) (a .part) (a .k) (a .new .now) (a .target .now) (st .pre .0) (st .pre .1) _ _ (y .beyond .ensures) (l .lesser .ensures .1) (l .lesser .ensures .2) _ _ (sym (m .made .given .1) ∙ up .relabel-upid .ensures .0) (up .relabel-upid .ensures .1) in
+    let w = wrote-at (a .section .now) (a .p) (a .limit) (a .part) (a .new-type) (a .new .now) (a .target .now) (st .pre .0) (st .pre .1) _ _ (y .beyond .ensures) (l .lesser .ensures .1) (l .lesser .ensures .2) _ _ (sym (m .made .given .1) ∙ up .relabel-upid .ensures .0) (up .relabel-upid .ensures .1) in
     record { fits = w .small }
 
 same-length-2 : tie.Need-same-length-2
@@ -109,8 +109,8 @@ returns-2 c =
     let y = l .before in
     let st = y .before .before .before .before in
     let a = st .args in
-    let w = wrote-at (a .section .now) (a .p) (a .limit) (a .part) (a .k) (a .new .now) (a .target .now) (st .pre .0) (st .pre .1) _ _ (y .beyond .ensures) (l .lesser .ensures .1) (l .lesser .ensures .2) _ _ (sym (m .made .given .1) ∙ up .relabel-upid .ensures .0) (up .relabel-upid .ensures .1) in
-    all-wrote (a .section .now) (a .p) (a .limit) (a .part) (a .k) (a .new .now) (a .target .now) (st .pre .0) (w .b) (w .is) _ _ _ _ (w .size) (kt .type-then .ensures) (w .fits) (w .stores) (r .store-around .ensures)
+    let w = wrote-at (a .section .now) (a .p) (a .limit) (a .part) (a .new-type) (a .new .now) (a .target .now) (st .pre .0) (st .pre .1) _ _ (y .beyond .ensures) (l .lesser .ensures .1) (l .lesser .ensures .2) _ _ (sym (m .made .given .1) ∙ up .relabel-upid .ensures .0) (up .relabel-upid .ensures .1) in
+    all-wrote (a .section .now) (a .p) (a .limit) (a .part) (a .new-type) (a .new .now) (a .target .now) (st .pre .0) (w .b) (w .is) _ _ _ _ (w .size) (kt .type-then .ensures) (w .fits) (w .stores) (r .store-around .ensures)
 
 pub relabel-at-spec : {M : Type 1} → statement M
 relabel-at-spec =

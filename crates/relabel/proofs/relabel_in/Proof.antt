@@ -38,7 +38,7 @@ returns c =
     let s = a .section .now in
     let bytes : (k : ℕ) → getD s k 0 < 256 = λ k. fi .before .before .before .before .shared-slice-known .given k .fits in
     let is = spots-there s (a .list) (a .len) (a .offset) _ (st .pre .0) (st .pre .1) (st .pre .2) (fi .spots-active .ensures) in
-    refused-answer _ (a .target .now) 41 (none-spotted s (a .offset) (a .part) (a .k) (a .new .now) (loop-byte s (a .offset) bytes (st .pre .2) (st .pre .3)) (sym is ∙ not-true _ (c .if1 .taken)))
+    refused-answer _ (a .target .now) 41 (none-spotted s (a .offset) (a .part) (a .upid-type) (a .new .now) (loop-byte s (a .offset) bytes (st .pre .2) (st .pre .3)) (sym is ∙ not-true _ (c .if1 .taken)))
 
 place-of-requires : tie.Need-place-of-requires
 place-of-requires c κs =
@@ -95,8 +95,8 @@ returns-2 c =
     let yes = sym is ∙ not-false _ (po .before .if1 .left) in
     let at = spotted-at s (a .offset) bytes (st .pre .2) (st .pre .3) yes in
     let lim = rw (po .place-of .ensures) at (lo .limit-of .ensures) in
-    let e = made-spotted s (a .offset) (a .part) (a .k) (a .new .now) yes at bytes (omega (arith, st .fits .k)) _ lim
-    ∙ ap (λ (p : Place). placedMade s p (lo .limit-of .result) (a .part) (a .k) (a .new .now)) (sym (po .place-of .ensures)) in
+    let e = made-spotted s (a .offset) (a .part) (a .upid-type) (a .new .now) yes at bytes (omega (arith, st .fits .upid-type)) _ lim
+    ∙ ap (λ (p : Place). placedMade s p (lo .limit-of .result) (a .part) (a .upid-type) (a .new .now)) (sym (po .place-of .ensures)) in
     (ra .relabel-at .ensures .0 ∙ ap (λ (m : Made). answerOf m (a .target .now)) (sym e), ra .relabel-at .ensures .1 ∙ ap (λ (m : Made). laterOf m (a .target .now)) (sym e))
 
 pub relabel-in-spec : {M : Type 1} → statement M

@@ -11,7 +11,7 @@ use Rattle.relabel_upid.proofs.relabel_top.Tie as tie
 returns : tie.Need-returns
 returns c =
     let a = c .before .before .before .before .args in
-    refused-answer _ (a .target .now) 41 (ap (upTo (a .limit)) (top-none (a .upid-type) (a .k) (a .upid .now) (a .new .now) (c .if1 .taken)))
+    refused-answer _ (a .target .now) 41 (ap (upTo (a .limit)) (top-none (a .upid-type) (a .new-type) (a .upid .now) (a .new .now) (c .if1 .taken)))
 
 check-upid-requires : tie.Need-check-upid-requires
 check-upid-requires c κs = search needs
@@ -24,7 +24,7 @@ returns-2 c =
     let fine = c .before in
     let first = fine .before .before in
     let a = first .before .before .before .before .args in
-    refused-answer _ (a .target .now) 41 (ap (upTo (a .limit)) (top-refused (a .upid-type) (a .k) (a .upid .now) (a .new .now) (first .if1 .left) (sym (fine .is-fine .ensures ∙ ap taken (fine .before .check-upid .ensures)) ∙ not-true _ (c .if2 .taken))))
+    refused-answer _ (a .target .now) 41 (ap (upTo (a .limit)) (top-refused (a .upid-type) (a .new-type) (a .upid .now) (a .new .now) (first .if1 .left) (sym (fine .is-fine .ensures ∙ ap taken (fine .before .check-upid .ensures)) ∙ not-true _ (c .if2 .taken))))
 
 returns-3 : tie.Need-returns-3
 returns-3 c =
@@ -32,7 +32,7 @@ returns-3 c =
     let fine = second .before in
     let first = fine .before .before in
     let a = first .before .before .before .before .args in
-    refused-answer _ (a .target .now) 32 (ap (upTo (a .limit)) (top-long (a .upid-type) (a .k) (a .upid .now) (a .new .now) (first .if1 .left) (sym (fine .is-fine .ensures ∙ ap taken (fine .before .check-upid .ensures)) ∙ not-false _ (second .if2 .left)) (c .if3 .taken)))
+    refused-answer _ (a .target .now) 32 (ap (upTo (a .limit)) (top-long (a .upid-type) (a .new-type) (a .upid .now) (a .new .now) (first .if1 .left) (sym (fine .is-fine .ensures ∙ ap taken (fine .before .check-upid .ensures)) ∙ not-false _ (second .if2 .left)) (c .if3 .taken)))
 
 returns-4 : tie.Need-returns-4
 returns-4 c =
@@ -41,7 +41,7 @@ returns-4 c =
     let fine = second .before in
     let first = fine .before .before in
     let a = first .before .before .before .before .args in
-    refused-answer _ (a .target .now) 33 (ap (upTo (a .limit)) (top-empty (a .upid-type) (a .k) (a .upid .now) (a .new .now) (first .if1 .left) (sym (fine .is-fine .ensures ∙ ap taken (fine .before .check-upid .ensures)) ∙ not-false _ (second .if2 .left)) (third .if3 .left) (c .if4 .taken)))
+    refused-answer _ (a .target .now) 33 (ap (upTo (a .limit)) (top-empty (a .upid-type) (a .new-type) (a .upid .now) (a .new .now) (first .if1 .left) (sym (fine .is-fine .ensures ∙ ap taken (fine .before .check-upid .ensures)) ∙ not-false _ (second .if2 .left)) (third .if3 .left) (c .if4 .taken)))
 
 is-taken-requires : tie.Need-is-taken-requires
 is-taken-requires c κs = search needs
@@ -54,7 +54,7 @@ returns-5 c =
     let fine = second .before in
     let first = fine .before .before in
     let a = first .before .before .before .before .args in
-    refused-answer _ (a .target .now) 33 (ap (upTo (a .limit)) (top-unfit (a .upid-type) (a .k) (a .upid .now) (a .new .now) (first .if1 .left) (sym (fine .is-fine .ensures ∙ ap taken (fine .before .check-upid .ensures)) ∙ not-false _ (second .if2 .left)) (third .if3 .left) (fourth .if4 .left) (sym (c .before .is-taken .ensures) ∙ not-true _ (c .if5 .taken))))
+    refused-answer _ (a .target .now) 33 (ap (upTo (a .limit)) (top-unfit (a .upid-type) (a .new-type) (a .upid .now) (a .new .now) (first .if1 .left) (sym (fine .is-fine .ensures ∙ ap taken (fine .before .check-upid .ensures)) ∙ not-false _ (second .if2 .left)) (third .if3 .left) (fourth .if4 .left) (sym (c .before .is-taken .ensures) ∙ not-true _ (c .if5 .taken))))
 
 returns-6 : tie.Need-returns-6
 returns-6 c =
@@ -65,7 +65,7 @@ returns-6 c =
     let fine = second .before in
     let first = fine .before .before in
     let a = first .before .before .before .before .args in
-    refused-answer _ (a .target .now) 34 (up-to-over (a .limit) _ (a .new .now) (top-made (a .upid-type) (a .k) (a .upid .now) (a .new .now) (first .if1 .left) (sym (fine .is-fine .ensures ∙ ap taken (fine .before .check-upid .ensures)) ∙ not-false _ (second .if2 .left)) (third .if3 .left) (fourth .if4 .left) (sym (fifth .before .is-taken .ensures) ∙ not-false _ (fifth .if5 .left))) (c .if6 .taken))
+    refused-answer _ (a .target .now) 34 (up-to-over (a .limit) _ (a .new .now) (top-made (a .upid-type) (a .new-type) (a .upid .now) (a .new .now) (first .if1 .left) (sym (fine .is-fine .ensures ∙ ap taken (fine .before .check-upid .ensures)) ∙ not-false _ (second .if2 .left)) (third .if3 .left) (fourth .if4 .left) (sym (fifth .before .is-taken .ensures) ∙ not-false _ (fifth .if5 .left))) (c .if6 .taken))
 
 returns-7 : tie.Need-returns-7
 returns-7 c =
@@ -77,7 +77,7 @@ returns-7 c =
     let fine = second .before in
     let first = fine .before .before in
     let a = first .before .before .before .before .args in
-    short-answer _ (a .target .now) (a .new .now) (up-to-fits (a .limit) _ (a .new .now) (top-made (a .upid-type) (a .k) (a .upid .now) (a .new .now) (first .if1 .left) (sym (fine .is-fine .ensures ∙ ap taken (fine .before .check-upid .ensures)) ∙ not-false _ (second .if2 .left)) (third .if3 .left) (fourth .if4 .left) (sym (fifth .before .is-taken .ensures) ∙ not-false _ (fifth .if5 .left))) (sixth .if6 .left)) (c .if7 .taken)
+    short-answer _ (a .target .now) (a .new .now) (up-to-fits (a .limit) _ (a .new .now) (top-made (a .upid-type) (a .new-type) (a .upid .now) (a .new .now) (first .if1 .left) (sym (fine .is-fine .ensures ∙ ap taken (fine .before .check-upid .ensures)) ∙ not-false _ (second .if2 .left)) (third .if3 .left) (fourth .if4 .left) (sym (fifth .before .is-taken .ensures) ∙ not-false _ (fifth .if5 .left))) (sixth .if6 .left)) (c .if7 .taken)
 
 put-bytes-requires : tie.Need-put-bytes-requires
 put-bytes-requires c κs = search needs
@@ -97,7 +97,7 @@ returns-8 c =
     let fine = second .before in
     let first = fine .before .before in
     let a = first .before .before .before .before .args in
-    let w = wrote-answer _ (a .target .now) (a .new .now) (up-to-fits (a .limit) _ (a .new .now) (top-made (a .upid-type) (a .k) (a .upid .now) (a .new .now) (first .if1 .left) (sym (fine .is-fine .ensures ∙ ap taken (fine .before .check-upid .ensures)) ∙ not-false _ (second .if2 .left)) (third .if3 .left) (fourth .if4 .left) (sym (fifth .before .is-taken .ensures) ∙ not-false _ (fifth .if5 .left))) (sixth .if6 .left)) (seventh .if7 .left) in
+    let w = wrote-answer _ (a .target .now) (a .new .now) (up-to-fits (a .limit) _ (a .new .now) (top-made (a .upid-type) (a .new-type) (a .upid .now) (a .new .now) (first .if1 .left) (sym (fine .is-fine .ensures ∙ ap taken (fine .before .check-upid .ensures)) ∙ not-false _ (second .if2 .left)) (third .if3 .left) (fourth .if4 .left) (sym (fifth .before .is-taken .ensures) ∙ not-false _ (fifth .if5 .left))) (sixth .if6 .left)) (seventh .if7 .left) in
     (w .0, put .put-bytes .ensures ∙ w .1)
 
 pub relabel-top-spec : {M : Type 1} → statement M

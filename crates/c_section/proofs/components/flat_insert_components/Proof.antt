@@ -42,11 +42,23 @@ flat-components-requires c κs = search needs
 enum-told : tie.Need-enum-told
 enum-told c = search needs
 
+number-requires : tie.Need-number-requires
+number-requires c κs = search needs
+
+cast-t10 : tie.Need-cast-t10
+cast-t10 c = search needs
+
 no-components-requires : tie.Need-no-components-requires
 no-components-requires c κs = search needs
 
 enum-told-2 : tie.Need-enum-told-2
 enum-told-2 c = search needs
+
+number-requires-2 : tie.Need-number-requires-2
+number-requires-2 c κs = search needs
+
+cast-t13 : tie.Need-cast-t13
+cast-t13 c = search needs
 
 no-components-requires-2 : tie.Need-no-components-requires-2
 no-components-requires-2 c κs = search needs
@@ -57,11 +69,11 @@ returns c = rw (c .before .before .before .before .before .read .given .1, c .be
 
 returns-2 : tie.Need-returns-2
 unfolding flatInsertComponents
-returns-2 c = rw (c .before .enum-told .given .1, c .no-components .ensures)
+returns-2 c = rw (c .before .number .ensures, c .before .before .enum-told .given .1, c .no-components .ensures)
 
 returns-3 : tie.Need-returns-3
 unfolding flatInsertComponents
-returns-3 c = rw (c .before .enum-told2 .given .1, c .no-components2 .ensures)
+returns-3 c = rw (c .before .number2 .ensures, c .before .before .enum-told2 .given .1, c .no-components2 .ensures)
 
 pub flat-insert-components-spec : {M : Type 1} → statement M
 flat-insert-components-spec =
@@ -71,8 +83,12 @@ flat-insert-components-spec =
     flat-command-requires
     flat-components-requires
     enum-told
+    number-requires
+    cast-t10
     no-components-requires
     enum-told-2
+    number-requires-2
+    cast-t13
     no-components-requires-2
     returns
     returns-2

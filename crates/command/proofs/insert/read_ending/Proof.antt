@@ -3,7 +3,8 @@ use Prim.Native.Nat.{_*_}
 use mathlib.Core.Path.{refl, sym, _∙_}
 use native.Mathlib.Omega.{arith}
 use Rattle.table.proofs.Reading.{bits-are}
-use Rattle.command.proofs.Walking.{break-within, no-ending, no-program-id, no-avails, an-ending}
+use Rattle.splice_time.proofs.Breaks.{break-within}
+use Rattle.command.proofs.Walking.{no-ending, no-program-id, no-avails, an-ending}
 use borrow.Author.Needs.{needs}
 use Rattle.command.proofs.insert.read_ending.Statement.{statement}
 use Rattle.command.proofs.insert.read_ending.Tie as tie

@@ -2,7 +2,7 @@
 use Prim.Native.Nat.{_+_, _*_, _%_}
 use mathlib.Core.Path.{_≡_, _∙_}
 use native.Mathlib.Omega.{arith}
-use Rattle.command.specs.declared.insert.Break.{Break}
+use Rattle.splice_time.specs.declared.break_duration.Break.{Break}
 use Rattle.command_measure.specs.Fields.{breakFields}
 use Rattle.command_writer.proofs.Storing.{pens-all, break-bits, return-bit}
 use borrow.Author.Needs.{needs}

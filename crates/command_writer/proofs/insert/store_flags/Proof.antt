@@ -2,7 +2,8 @@
 use Prim.Native.Nat.{_+_, _*_}
 use mathlib.Core.Path.{_≡_, ap, _∙_}
 use native.Mathlib.Omega.{arith}
-use Rattle.command.specs.Insert.{outOfNetwork, byProgram, lasting}
+use Rattle.command.specs.Insert.{outOfNetwork, byProgram}
+use Rattle.splice_time.specs.Break.{lasting}
 use Rattle.table.specs.Table.{flagNumber}
 use Rattle.command_measure.specs.Fields.{insertFlags}
 use Rattle.command_writer.proofs.Storing.{pens-all, flags-bits, network-bit}

@@ -1,15 +1,15 @@
--- `command::insert::read_lasting`: by how many bytes are left.
+-- `splice_time::break_duration::read_lasting`: by how many bytes are left.
 use Prim.Native.Nat.{_+_, _≤_}
 use mathlib.Core.Path.{refl}
 use native.Mathlib.Omega.{arith}
 use lib.ListN.{length}
-use Rattle.command.proofs.Walking.{no-auto-return, no-duration, a-break}
+use Rattle.splice_time.proofs.Breaks.{no-auto-return, no-duration, a-break}
 use borrow.Author.Needs.{needs}
-use Rattle.command.proofs.insert.read_lasting.Statement.{statement}
-use Rattle.command.proofs.insert.read_lasting.Tie as tie
+use Rattle.splice_time.proofs.break_duration.read_lasting.Statement.{statement}
+use Rattle.splice_time.proofs.break_duration.read_lasting.Tie as tie
 
 returns : tie.Need-returns
-returns c = let a = c .before .before .args in no-auto-return (a .payload .now) (a .at) (c .if1 .taken)
+returns c = let a = c .before .before .args in no-auto-return (a .s .now) (a .at) (c .if1 .taken)
 
 sub-left : tie.Need-sub-left
 sub-left c = search needs
@@ -21,7 +21,7 @@ returns-2 : tie.Need-returns-2
 returns-2 c =
     let e = c .before in
     let a = e .before .before .args in
-    no-duration (a .payload .now) (a .at) _ (e .if1 .left) refl (c .if2 .taken)
+    no-duration (a .s .now) (a .at) _ (e .if1 .left) refl (c .if2 .taken)
 
 shared-slice-read-wide : tie.Need-shared-slice-read-wide
 shared-slice-read-wide c = search needs
@@ -44,8 +44,8 @@ returns-3 c =
     let w = r .before in
     let e = w .before .before in
     let a = e .before .before .before .args in
-    let there : a .at + 5 ≤ length (a .payload .now) = omega (arith, e .if2 .left, e .before .if1 .left) in
-    a-break (a .payload .now) (a .at) (w .wide .result) (c .time33 .result) (r .returning .result) there (w .wide .ensures .0) (w .wide .ensures .1) (r .returning .ensures) (c .time33 .ensures)
+    let there : a .at + 5 ≤ length (a .s .now) = omega (arith, e .if2 .left, e .before .if1 .left) in
+    a-break (a .s .now) (a .at) (w .wide .result) (c .time33 .result) (r .returning .result) there (w .wide .ensures .0) (w .wide .ensures .1) (r .returning .ensures) (c .time33 .ensures)
 
 pub read-lasting-spec : {M : Type 1} → statement M
 read-lasting-spec =
