@@ -90,9 +90,9 @@ uncancelled : (event : ℕ) (i : SegmentationDetail) (bytes : View) (restriction
 unfolding detailFrom
 uncancelled event i bytes restrictions mode duration e f g = rw (e, f, g)
 
-detail-back : (event : ℕ) (i : SegmentationDetail) → TypedActive i → detailFrom (activeSegmentation event i) (i .«segmentation_upid» .bytes) ≡ i
+active-back : (event : ℕ) (i : SegmentationDetail) → TypedActive i → detailFrom (activeSegmentation event i) (i .«segmentation_upid» .bytes) ≡ i
 unfolding detailFrom activeSegmentation
-detail-back event i t =
+active-back event i t =
     uncancelled event i (i .«segmentation_upid» .bytes) _ _ _ (delivery-back event i t (i .«delivery_restrictions») refl) (mode-back event i t (i .«segmentation_mode») refl (t .mode))
     (duration-back event i t (i .«segmentation_duration») refl)
     ∙ rw (
@@ -117,7 +117,7 @@ detail-back : (event : ℕ) (d : DescriptorDetail) → event < 2 ^ 32 → TypedD
     → descriptorFrom (segmentationItem event d) ≡ Descriptor.Segmentation (record { «segmentation_event_id» = event; «descriptor_detail» = d })
 unfolding descriptorFrom segmentationItem segmentationHead
 detail-back event DescriptorDetail.Cancel h t = rw (mod-eq-of-lt h)
-detail-back event (DescriptorDetail.Active i) h t = rw (detail-back event i t) (event-back event i h)
+detail-back event (DescriptorDetail.Active i) h t = rw (active-back event i t) (event-back event i h)
 
 pub from-back : (d : Descriptor) → Typed d → descriptorFrom (flatDescriptor d) ≡ d
 unfolding descriptorFrom flatDescriptor

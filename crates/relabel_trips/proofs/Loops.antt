@@ -15,7 +15,7 @@ use Rattle.descriptor.specs.Descriptor.{cuei}
 use Rattle.descriptor_loop.specs.Items.{stepOf, Listed, listed, itemsOf}
 use Rattle.descriptor_loop.specs.declared.Item.{Item}
 use Rattle.descriptor_loop.specs.declared.Step.{Step}
-use Rattle.relabel_found.proofs.Actives.{ActiveAt, activeWith}
+use Rattle.relabel_found.proofs.Actives.{ActiveAt, active-at}
 use Rattle.relabel_found.specs.Found.{begins, isActive, found, payloadAt, foreIn, typeIn, sizeIn, upidIn, postIn}
 use Rattle.relabel_laws.proofs.Lists.{head-then}
 use Rattle.relabel_loop.proofs.Moves.{step-moved}
@@ -35,7 +35,7 @@ module _ (loop : List ℕ) (offset : ℕ) (f : found loop offset ≡ true) where
   it = listed loop offset
 
   i : ActiveAt loop offset
-  i = activeWith loop offset f
+  i = active-at loop offset f
 
   pub pay-long : length pay ≡ L - 4
   pay-long = length-take-le (L - 4) (drop (offset + 6) loop) (omega (arith, length-drop (offset + 6) loop, i .stands .there, i .named))
@@ -130,7 +130,7 @@ module _ (loop : List ℕ) (offset : ℕ) (f : found loop offset ≡ true) where
     -- and a third one put in its place
     pub again : found then offset ≡ true → (third : List ℕ) → withItem then (listed then offset) third ≡ withItem loop it third
     again g third =
-        let j : ActiveAt then offset = activeWith then offset g in
+        let j : ActiveAt then offset = active-at then offset g in
         let end : offset + (stepOf then offset .next - offset) ≡ length (A ++ d) = omega (arith, j .next, length-byte, length-append A d, A-long) in
         let rest : drop (offset + (stepOf then offset .next - offset)) then ≡ behind =
         ap₂ drop end (sym (append-assoc A d behind)) ∙ drop-at (A ++ d) behind (length (A ++ d)) refl in

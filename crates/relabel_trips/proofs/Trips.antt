@@ -11,7 +11,7 @@ use Rattle.descriptor_loop.specs.Items.{listed, itemsOf}
 use Rattle.relabel.proofs.Cuts.{loop-there}
 use Rattle.relabel.proofs.Mades.{Framing, framing, section-accepted}
 use Rattle.relabel.specs.Relabel.{payloadIn, payloadThen, sectionThen, fitting, loopMade, relabelMade}
-use Rattle.relabel_found.proofs.Actives.{ActiveAt, activeWith, hole-at, byte-in, fore-in, type-in, upid-in, post-in, size-all}
+use Rattle.relabel_found.proofs.Actives.{ActiveAt, active-at, hole-at, byte-in, fore-in, type-in, upid-in, post-in, size-all}
 use Rattle.relabel_found.specs.Found.{isActive, found, payloadAt, foreIn, typeIn, sizeIn, upidIn, postIn}
 use Rattle.relabel_joined.specs.Relabel.{typeThen, itemThen}
 use Rattle.relabel_laws.proofs.Results.{result}
@@ -55,7 +55,7 @@ module _ (s : List ℕ) (offset : ℕ) (x : Section) (is : sectionOf s ≡ Secti
   loop-byte j = subst (λ (l : List ℕ). getD l j 0 < 256) (sym (loop-there s (framing s x is .fits))) (byte-in s (16 + commandLength s) (loopLength s) bytes j)
 
   i : ActiveAt (loopBytes s) offset
-  i = activeWith (loopBytes s) offset there
+  i = active-at (loopBytes s) offset there
 
   h : Holed pay (i .x .«segmentation_event_id») (i .i)
   h = hole-at (loopBytes s) offset loop-byte i

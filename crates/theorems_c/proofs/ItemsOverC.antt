@@ -256,9 +256,9 @@ module _ (number : ℕ) (id : List ℕ) (beside : Beside) (lent : List ℕ) (sma
     abbrev overall : Made
     overall = segmentationMade x id beside lent
 
-    insert-within : leb (view .at + view .len) (length lent) ≡ true → ltb (ticks (i .«segmentation_duration»)) (2 ^ 40) ≡ true → Within (Descriptor.Segmentation x)
+    active-within : leb (view .at + view .len) (length lent) ≡ true → ltb (ticks (i .«segmentation_duration»)) (2 ^ 40) ≡ true → Within (Descriptor.Segmentation x)
     unfolding within itemWidths itemWords flatDescriptor segmentationItem activeSegmentation
-    insert-within e d =
+    active-within e d =
         let v = view-small view lent short e in
         let r = restrictions-within (i .«delivery_restrictions») in
         let s = subs-within (i .«sub_segments») (ty .subs) in
@@ -313,9 +313,9 @@ module _ (number : ℕ) (id : List ℕ) (beside : Beside) (lent : List ℕ) (sma
         let b = and-true (writing.within (durationFields (i .«segmentation_duration»))) _ (a .1) in
         (components-fit (i .«segmentation_mode») (beside .components) (a .0), duration-fits (i .«segmentation_duration») (b .0))
 
-    insert-wide : Refuses (Descriptor.Segmentation x)
+    active-wide : Refuses (Descriptor.Segmentation x)
     unfolding payloadMade
-    insert-wide e = ⊎-elim (λ w. w) (λ f. let w = insert-within (f .0) (parts-fit (f .1) .1) in zero-one cc) insert-tests
+    active-wide e = ⊎-elim (λ w. w) (λ f. let w = active-within (f .0) (parts-fit (f .1) .1) in zero-one cc) insert-tests
 
     offsets-wide : writing.within (componentsFields listed) ≡ false → Wide overall
     offsets-wide e = ⊎-elim (λ w. w) (λ f. let w = parts-fit (f .1) .0 in zero-one cc) insert-tests
@@ -327,7 +327,7 @@ module _ (number : ℕ) (id : List ℕ) (beside : Beside) (lent : List ℕ) (sma
     where
       go : (event : ℕ) (d : DescriptorDetail) → event < 2 ^ 32 → TypedDetail d → Refuses (Descriptor.Segmentation (record { «segmentation_event_id» = event; «descriptor_detail» = d }))
       go event DescriptorDetail.Cancel v h e = let w = cancel-within event v in zero-one cc
-      go event (DescriptorDetail.Active i) v h e = insert-wide event i v h e
+      go event (DescriptorDetail.Active i) v h e = active-wide event i v h e
   item-wide (Descriptor.Time x) h e = time-wide x h e
   item-wide (Descriptor.Reserved tag v) h e = reserved-wide tag v h e
 

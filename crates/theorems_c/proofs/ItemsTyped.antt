@@ -68,10 +68,10 @@ upid-typed u w = go (eqb (u .«upid_type») 10) refl (eqb (u .«upid_type») 6) 
     go false e true f d w = omega (arith, eqb-true (u .«upid_type») 6 f)
     go false e false f d w = ltb-true _ _ (and-true (ltb (u .«upid_type») (2 ^ 8)) _ w .0)
 
-insert-typed : (event : ℕ) (i : SegmentationDetail) (cs : List SegmentationComponent) → within (segmentFields event (DescriptorDetail.Active i) cs) ≡ true → writableDetail (DescriptorDetail.Active i) ≡ true
+active-typed : (event : ℕ) (i : SegmentationDetail) (cs : List SegmentationComponent) → within (segmentFields event (DescriptorDetail.Active i) cs) ≡ true → writableDetail (DescriptorDetail.Active i) ≡ true
     → (event < 2 ^ 32) × TypedActive i
 unfolding segmentFields writableDetail writableFront
-insert-typed event i cs w f =
+active-typed event i cs w f =
     let delivery = deliveryFields (i .«delivery_restrictions») in
     let mode = modeFields (i .«segmentation_mode») cs in
     let lasts = durationFields (i .«segmentation_duration») in
@@ -109,7 +109,7 @@ insert-typed event i cs w f =
 detail-typed : (event : ℕ) (d : DescriptorDetail) (cs : List SegmentationComponent) → within (segmentFields event d cs) ≡ true → writableDetail d ≡ true → (event < 2 ^ 32) × TypedDetail d
 unfolding segmentFields
 detail-typed event DescriptorDetail.Cancel cs w f = (ltb-true _ _ (and-true (ltb event (2 ^ 32)) _ w .0), tt)
-detail-typed event (DescriptorDetail.Active i) cs w f = insert-typed event i cs w f
+detail-typed event (DescriptorDetail.Active i) cs w f = active-typed event i cs w f
 
 module _ (id : List ℕ) (beside : Beside) (lent : List ℕ) where
   segmentation-typed : (x : SegmentationDescriptor) (b : List ℕ) → countBeside (Descriptor.Segmentation x) ≤ length (beside .components) → segmentationMade x id beside lent ≡ made b → Typed (Descriptor.Segmentation x)

@@ -110,7 +110,7 @@ module _ (s : List ℕ) where
           (inside front (λ x. record { front = frontOf (x .descriptor .«descriptor_detail»); components = x .components }) λ f.
           inside back (λ x. table.backOf (x .descriptor .«descriptor_detail»)) λ k.
           done (record {
-            descriptor = record { «segmentation_event_id» = h .event; «descriptor_detail» = DescriptorDetail.Active (table.insertFrom (f .front) (f .front .«segmentation_upid») k) };
+            descriptor = record { «segmentation_event_id» = h .event; «descriptor_detail» = DescriptorDetail.Active (table.activeFrom (f .front) (f .front .«segmentation_upid») k) };
             components = f .components;
           }))) (bitsOf s) at ≡ got x m
           → Small (x .components)

@@ -150,9 +150,9 @@ pub record UpidOf (k : ℕ) (st : Step) : Type 0 where
   pub descriptor : SegmentationDescriptor
   pub active : SegmentationDetail
   pub is : st .item ≡ Item.Is (Descriptor.Segmentation descriptor)
-  pub detail : descriptor .«descriptor_detail» ≡ DescriptorDetail.Active insert
-  pub «upid_type» : insert .«segmentation_upid» .«upid_type» ≡ k
-  pub bytes : flatStep st .item .bytes ≡ flatView (insert .«segmentation_upid» .bytes)
+  pub detail : descriptor .«descriptor_detail» ≡ DescriptorDetail.Active active
+  pub «upid_type» : active .«segmentation_upid» .«upid_type» ≡ k
+  pub bytes : flatStep st .item .bytes ≡ flatView (active .«segmentation_upid» .bytes)
 
 module _ (k : ℕ) (id : List ℕ) (next : ℕ) where
   upid-detail : (event : ℕ) (d : DescriptorDetail) → segmentationItem event d .kind ≡ 4 → segmentationItem event d .segmentation .«segmentation_upid_type» ≡ k
@@ -160,7 +160,7 @@ module _ (k : ℕ) (id : List ℕ) (next : ℕ) where
   unfolding flatItem flatDescriptor segmentationItem blankItem activeSegmentation flatStep
   upid-detail event DescriptorDetail.Cancel e t = absurd (eqb-false 3 4 refl e)
   upid-detail event (DescriptorDetail.Active i) e t =
-      record { descriptor = record { «segmentation_event_id» = event; «descriptor_detail» = DescriptorDetail.Active i }; insert = i; is = refl; detail = refl; «upid_type» = t; bytes = refl }
+      record { descriptor = record { «segmentation_event_id» = event; «descriptor_detail» = DescriptorDetail.Active i }; active = i; is = refl; detail = refl; «upid_type» = t; bytes = refl }
 
   upid-by : (it : Item) → flatItem it .kind ≡ 4 → flatItem it .segmentation .«segmentation_upid_type» ≡ k → UpidOf k (record { item = it; identifier = id; next = next })
   unfolding flatItem flatDescriptor segmentationItem blankItem activeSegmentation flatStep

@@ -105,9 +105,9 @@ module _ (s : List ℕ) where
               }) n (activeFrom (f .front) (f .front .«segmentation_upid») b) k
               (takes-in head _ _ (bitsOf s) 0 h at eh ∙ rw off (takes-in front _ _ (bitsOf s) at f m ef ∙ takes-in back _ _ (bitsOf s) m b n eb)) refl fine
 
-      insert-reads : Reads (activeOf s (h .event) at)
+      active-reads : Reads (activeOf s (h .event) at)
       unfolding activeOf there
-      insert-reads =
+      active-reads =
           and-then (parse front (bitsOf s) at) _ no-front λ f m ef.
           let w : SegmentationUpid = f .front .«segmentation_upid» in
           if-fine (checkOf (w .«upid_type») (viewed s (w .bytes))) (w .bytes) _
@@ -116,7 +116,7 @@ module _ (s : List ℕ) where
 
   segmentation-reads : Reads (segmentationOf s)
   unfolding segmentationOf
-  segmentation-reads = and-then (parse head (bitsOf s) 0) _ no-head λ h m e. picked (h .cancel) _ _ (λ on. cancelled-reads h m e on) (λ off. insert-reads h m e off)
+  segmentation-reads = and-then (parse head (bitsOf s) 0) _ no-head λ h m e. picked (h .cancel) _ _ (λ on. cancelled-reads h m e on) (λ off. active-reads h m e off)
 
   -- ---- and in no other
 

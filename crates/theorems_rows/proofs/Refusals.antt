@@ -112,9 +112,9 @@ module _ (s : List ℕ) where
       kind-pick 3 (ltb (length s) 12) (DescriptorRead.Refused (Refusal.NotEnoughData 12 (length s))) (parse time (bitsOf s) 0 andThen λ x at. DescriptorRead.Is (Descriptor.Time x)) tt
       (kind-then 3 (parse time (bitsOf s) 0) (λ x at. DescriptorRead.Is (Descriptor.Time x)) (λ x at. refl))
 
-  insert-kind : (event at : ℕ) → KindIs 2 (activeOf s event at)
+  active-kind : (event at : ℕ) → KindIs 2 (activeOf s event at)
   unfolding activeOf activeWith
-  insert-kind event at =
+  active-kind event at =
       kind-then 2 (parse front (bitsOf s) at)
       (λ f at. ifFine (checkOf (f .front .«segmentation_upid» .«upid_type») (viewed s (f .front .«segmentation_upid» .bytes))) (f .front .«segmentation_upid» .bytes)
       (λ u. parse back (bitsOf s) at andThen λ b at. activeWith event (f .front) u b))
@@ -128,7 +128,7 @@ module _ (s : List ℕ) where
       kind-then 2 (parse head (bitsOf s) 0)
       (λ h at. pick (h .cancel) (DescriptorRead.Is (Descriptor.Segmentation (record { «segmentation_event_id» = h .event; «descriptor_detail» = DescriptorDetail.Cancel }))) (activeOf s (h .event) at))
       (λ h at. kind-pick 2 (h .cancel) (DescriptorRead.Is (Descriptor.Segmentation (record { «segmentation_event_id» = h .event; «descriptor_detail» = DescriptorDetail.Cancel }))) (activeOf s (h .event) at)
-      refl (insert-kind (h .event) at))
+      refl (active-kind (h .event) at))
 
   -- "CUEI", and a tag of 0 to 3
   pub cuei-kind : (tag : ℕ) (d : Descriptor) → tag ≤ 3 → descriptorOf tag cuei s ≡ DescriptorRead.Is d → kindOf d ≡ tag

@@ -19,7 +19,7 @@ use Rattle.upid.specs.Upid.{upidOf, checkOf, readOf, walkOf, _then_, plainOf, l
 use Rattle.theorems_rows.specs.Rows.{insertsAre, Holds, rows}
 
 pub every-row : All Holds rows
-unfolding rows itemsOf itemsFrom stepOf completeAt readAt numberOf valuesOf upid.numberOf upid.valuesOf descriptorOf isCuei availOf dtmfOf reservedOf avail dtmf privateBytes number bit reserved part remaining list viewed upidOf checkOf readOf walkOf _then_ plainOf lengthOf isText reportedOf listOf partsOf listed unlessRefused textOf done step within commandOf canonicalCommand canonicalBy componentsOf array insert active ending moded breakDuration timeUnless component spliceTime segmentationOf activeOf activeWith head front parts deliveryRestrictions mode duration writtenUpid back subSegments names.segmentationOf
+unfolding rows itemsOf itemsFrom stepOf completeAt readAt numberOf valuesOf upid.numberOf upid.valuesOf descriptorOf isCuei availOf dtmfOf reservedOf avail dtmf privateBytes number bit reserved part remaining list viewed upidOf checkOf readOf walkOf _then_ plainOf lengthOf isText reportedOf listOf partsOf listed unlessRefused textOf done step within commandOf canonicalCommand canonicalBy componentsOf array insert active ending moded breakDuration timeUnless component spliceTime segmentationOf activeOf activeWith head front parts deliveryRestrictions mode duration writtenUpid back subSegments names.segmentationTypeOf
 every-row =
     more refl (more refl (more refl (more refl (more refl (more refl (more refl
     (more refl (more refl (more refl

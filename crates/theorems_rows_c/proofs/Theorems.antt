@@ -141,7 +141,7 @@ descriptors-over-c-are-refused-with-31-and-34 = ((refl, refl), (refl, refl))
 pub descriptors-over-c-are-refused-with-33 : WriteRefused 33 (descriptorWordsMade (segmentHanded 0 1 0) [] []) (replicate 40 7) × WriteRefused 33 (descriptorWordsMade (segmentHanded 1 0 10) [] []) (replicate 40 7)
     × (flatWritten (answerOf (descriptorWordsMade (segmentHanded 0 1 0) (replicate 7 0) []) (replicate 40 7)) ≡ record { refusal = 0; length = 24 })
     × (flatWritten (answerOf (descriptorWordsMade (segmentHanded 1 0 10) (replicate 527 0) []) (replicate 40 7)) ≡ record { refusal = 0; length = 29 })
-unfolding flatWritten answerOf laterOf descriptorWordsMade descriptorRefusal item.wordsRefusal itemSeen besideThere ownItem itemIn segmentationIn restrictionsIn subSegmentsIn restrictionsFrom detailFrom descriptorFrom identifierFrom placesFrom eidrFrom besideFrom placeFrom placesWithin besideWithin eachPlace placesOf within same itemWidths placeWidths itemWords flatDescriptor activeSegmentation segmentationItem flatRestrictions flatSubSegments filled noLess descriptorMade payloadMade envelopedMade enveloped allZero segmentationMade writableSegment writableUpid writableDetail writableFront writing.writtenUpid writtenType upidSource segmentation head front parts deliveryRestrictions mode component duration writtenUpid back subSegments number bit reserved part remaining list viewed checkOf readOf walkOf _then_ plainOf lengthOf isText reportedOf deviceOf types.segmentationOf types.writableSegmentation
+unfolding flatWritten answerOf laterOf descriptorWordsMade descriptorRefusal item.wordsRefusal itemSeen besideThere ownItem itemIn segmentationIn restrictionsIn subSegmentsIn restrictionsFrom detailFrom descriptorFrom identifierFrom placesFrom eidrFrom besideFrom placeFrom placesWithin besideWithin eachPlace placesOf within same itemWidths placeWidths itemWords flatDescriptor activeSegmentation segmentationItem flatRestrictions flatSubSegments filled noLess descriptorMade payloadMade envelopedMade enveloped allZero segmentationMade writableSegment writableUpid writableDetail writableFront writing.writtenUpid writtenType upidSource segmentation head front parts deliveryRestrictions mode component duration writtenUpid back subSegments number bit reserved part remaining list viewed checkOf readOf walkOf _then_ plainOf lengthOf isText reportedOf deviceOf types.segmentationTypeOf types.writableSegmentation
 descriptors-over-c-are-refused-with-33 = ((refl, refl), (refl, refl), refl, refl)
 
 -- 35: a loop of one byte around a null; header and command are all 0
