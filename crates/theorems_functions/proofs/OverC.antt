@@ -84,7 +84,7 @@ use Rattle.theorems_functions.proofs.WrittenOverC as written-over-c
 abbrev pub ReadsSectionC : List ℕ → FlatSection → Type 0
 ReadsSectionC s f = May scte35-read-section.Learnt {S = List ℕ} {T = FlatSection} (λ κ a. drop (a .1 .0) (now (a .0))) (λ κ r e. r) s f
 
-reads-section-so : {s : List ℕ} {f : FlatSection} → ReadsSectionC s f → f ≡ flatSectionRead (sectionOf s)
+pub reads-section-so : {s : List ℕ} {f : FlatSection} → ReadsSectionC s f → f ≡ flatSectionRead (sectionOf s)
 reads-section-so d = sym (d .left) ∙ d .learnt-so ∙ ap (λ (v : List ℕ). flatSectionRead (sectionOf v)) (d .taken)
 
 abbrev pub ReadsItemC : List ℕ → ℕ → FlatStep → Type 0
@@ -109,13 +109,13 @@ reads-upid-so d = sym (d .left) ∙ d .learnt-so ∙ ap (λ (v : ℕ × List ℕ
 abbrev pub ReadsComponentsC : List ℕ → FlatInsertComponents → Type 0
 ReadsComponentsC payload f = May scte35-read-insert-components.Learnt {S = List ℕ} {T = FlatInsertComponents} (λ κ a. drop (a .1 .0) (now (a .0))) (λ κ r e. r) payload f
 
-reads-components-so : {payload : List ℕ} {f : FlatInsertComponents} → ReadsComponentsC payload f → f ≡ flatInsertComponents (commandOf 0x05 payload) (componentsOf payload)
+pub reads-components-so : {payload : List ℕ} {f : FlatInsertComponents} → ReadsComponentsC payload f → f ≡ flatInsertComponents (commandOf 0x05 payload) (componentsOf payload)
 reads-components-so d = sym (d .left) ∙ d .learnt-so ∙ ap (λ (v : List ℕ). flatInsertComponents (commandOf 0x05 v) (componentsOf v)) (d .taken)
 
 abbrev pub TellsCanonicalC : List ℕ → Bool → Type 0
 TellsCanonicalC s r = May scte35-is-canonical-section.Learnt {S = List ℕ} {T = Bool} (λ κ a. drop (a .1 .0) (now (a .0))) (λ κ r e. r) s r
 
-tells-canonical-so : {s : List ℕ} {r : Bool} → TellsCanonicalC s r → r ≡ canonicalSection s
+pub tells-canonical-so : {s : List ℕ} {r : Bool} → TellsCanonicalC s r → r ≡ canonicalSection s
 tells-canonical-so d = sym (d .left) ∙ d .learnt-so ∙ ap canonicalSection (d .taken)
 
 -- the words of header, command and components, lent bytes and loop; the target, the answer and the target's later bytes
@@ -125,7 +125,7 @@ WritesSectionC header command components lent loop target answer later =
     (λ κ a. (now (a .0), (now (a .1 .0), (now (a .1 .1 .0), (now (a .1 .1 .1 .0), (now (a .1 .1 .1 .1 .0), now (a .1 .1 .1 .1 .1 .0)))))))
     (λ κ r e. (r, now (e .1 .1 .1 .1 .1 .0))) (header, (command, (components, (lent, (loop, target))))) (answer, later)
 
-writes-section-so : {header command components lent loop target : List ℕ} {answer : FlatWritten} {later : List ℕ} → WritesSectionC header command components lent loop target answer later
+pub writes-section-so : {header command components lent loop target : List ℕ} {answer : FlatWritten} {later : List ℕ} → WritesSectionC header command components lent loop target answer later
     → (answer ≡ flatWritten (answerOf (sectionWordsMade header command components lent loop) target)) × (later ≡ laterOf (sectionWordsMade header command components lent loop) target)
 writes-section-so d = (
   sym (ap (λ (v : FlatWritten × List ℕ). v .0) (d .left)) ∙ d .learnt-so .0
@@ -140,7 +140,7 @@ WritesDescriptorC step beside lent target answer later =
     May scte35-write-descriptor-words.Learnt {S = List ℕ × (List ℕ × (List ℕ × List ℕ))} {T = FlatWritten × List ℕ}
     (λ κ a. (now (a .0), (now (a .1 .0), (now (a .1 .1 .0), now (a .1 .1 .1 .0))))) (λ κ r e. (r, now (e .1 .1 .1 .0))) (step, (beside, (lent, target))) (answer, later)
 
-writes-descriptor-so : {step beside lent target : List ℕ} {answer : FlatWritten} {later : List ℕ} → WritesDescriptorC step beside lent target answer later
+pub writes-descriptor-so : {step beside lent target : List ℕ} {answer : FlatWritten} {later : List ℕ} → WritesDescriptorC step beside lent target answer later
     → (answer ≡ flatWritten (answerOf (descriptorWordsMade step beside lent) target)) × (later ≡ laterOf (descriptorWordsMade step beside lent) target)
 writes-descriptor-so d = (
   sym (ap (λ (v : FlatWritten × List ℕ). v .0) (d .left)) ∙ d .learnt-so .0
@@ -163,13 +163,13 @@ scte35-read-section-refuses-in-order s f d = ap (λ (v : FlatSection). v .refusa
 -- ---- an accepted section
 
 -- what is read, where there is no refusal
-record Accepted (s : List ℕ) (f : FlatSection) : Type 0 where
-  section : Section
-  is : sectionOf s ≡ SectionRead.Is section
-  base : f .descriptors .at ≡ section .descriptors .at
-  loop : taken s (f .descriptors) ≡ loopIn s section
+pub record Accepted (s : List ℕ) (f : FlatSection) : Type 0 where
+  pub section : Section
+  pub is : sectionOf s ≡ SectionRead.Is section
+  pub base : f .descriptors .at ≡ section .descriptors .at
+  pub loop : taken s (f .descriptors) ≡ loopIn s section
 
-accepted : (s : List ℕ) (f : FlatSection) → ReadsSectionC s f → f .refusal ≡ 0 → Accepted s f
+pub accepted : (s : List ℕ) (f : FlatSection) → ReadsSectionC s f → f .refusal ≡ 0 → Accepted s f
 unfolding flatSectionRead
 accepted s f d z =
     let n : numberOf (sectionOf s) ≡ 0 = sym (flat-number (sectionOf s)) ∙ sym (ap (λ (v : FlatSection). v .refusal) (reads-section-so d)) ∙ z in
@@ -264,10 +264,10 @@ the-parts-of-a-mid-over-c-are-whole s f offset i u a d z q four mid r = mid-lies
 -- ---- writing
 
 -- the loop that a reading says is the section's
-laid-loop : (s : List ℕ) (x : Section) → sectionOf s ≡ SectionRead.Is x → loopIn s x ≡ loopBytes s
+pub laid-loop : (s : List ℕ) (x : Section) → sectionOf s ≡ SectionRead.Is x → loopIn s x ≡ loopBytes s
 laid-loop s x e = ap (viewed s) (reading.what-an-accepted-section-says s x e .2)
 
-puts-flat : (m : Made) (b target : List ℕ) (answer : FlatWritten) (later : List ℕ) → m ≡ made b → answer ≡ flatWritten (answerOf m target) → later ≡ laterOf m target → PutsFlat b target answer later
+pub puts-flat : (m : Made) (b target : List ℕ) (answer : FlatWritten) (later : List ℕ) → m ≡ made b → answer ≡ flatWritten (answerOf m target) → later ≡ laterOf m target → PutsFlat b target answer later
 unfolding flatWritten
 puts-flat m b target answer later e f g =
     let p = writes.puts b target in
@@ -280,19 +280,23 @@ puts-flat m b target answer later e f g =
       short = λ h. (ap (λ (v : FlatWritten). v .refusal) (a ∙ ap flatWritten (p .short h .0)), l ∙ p .short h .1);
     }
 
+-- what is made of the words that are read of a canonical section, and of its components
+pub made-of-its-words : (s : List ℕ) (f : FlatSection) (places : FlatInsertComponents) → AllBytes s → TellsCanonicalC s true → ReadsSectionC s f → f .refusal ≡ 0 → ReadsComponentsC (drop 14 (take (14 + commandLength s) s)) places
+    → sectionWordsMade (headerWords (f .header)) (commandWords (f .command)) (insertComponentsWords places) s (taken s (f .descriptors)) ≡ made s
+made-of-its-words s f places a t d z c =
+    let x = accepted s f d z in
+    ap (λ (v : FlatSection). sectionWordsMade (headerWords (v .header)) (commandWords (v .command)) (insertComponentsWords places) s (taken s (f .descriptors))) (reads-section-so d)
+    ∙ ap (λ (v : FlatInsertComponents). sectionWordsMade (headerWords (flatSectionRead (sectionOf s) .header)) (commandWords (flatSectionRead (sectionOf s) .command)) (insertComponentsWords v) s (taken s (f .descriptors))) (reads-components-so c)
+    ∙ ap (λ (l : List ℕ). sectionWordsMade (headerWords (flatSectionRead (sectionOf s) .header)) (commandWords (flatSectionRead (sectionOf s) .command)) (insertComponentsWords (componentsAnswered s)) s l) (x .loop)
+    ∙ over-c.a-canonical-section-is-what-is-written-of-its-words s (x .section) a (x .is) (sym (tells-canonical-so t))
+
 -- Demand 2 over C: the words that are read of a canonical section, its header's (without the last two) and its command's, those of its components, read of its bytes up to its command's end, and its loop, written, are that section
 pub a-canonical-section-over-c-is-written-back : (s : List ℕ) (f : FlatSection) (places : FlatInsertComponents) (target : List ℕ) (answer : FlatWritten) (later : List ℕ) → AllBytes s
     → TellsCanonicalC s true → ReadsSectionC s f → f .refusal ≡ 0 → ReadsComponentsC (drop 14 (take (14 + commandLength s) s)) places
     → WritesSectionC (headerWords (f .header)) (commandWords (f .command)) (insertComponentsWords places) s (taken s (f .descriptors)) target answer later → PutsFlat s target answer later
 a-canonical-section-over-c-is-written-back s f places target answer later a t d z c p =
-    let x = accepted s f d z in
     let w = writes-section-so p in
-    let m : sectionWordsMade (headerWords (f .header)) (commandWords (f .command)) (insertComponentsWords places) s (taken s (f .descriptors)) ≡ made s =
-    ap (λ (v : FlatSection). sectionWordsMade (headerWords (v .header)) (commandWords (v .command)) (insertComponentsWords places) s (taken s (f .descriptors))) (reads-section-so d)
-    ∙ ap (λ (v : FlatInsertComponents). sectionWordsMade (headerWords (flatSectionRead (sectionOf s) .header)) (commandWords (flatSectionRead (sectionOf s) .command)) (insertComponentsWords v) s (taken s (f .descriptors))) (reads-components-so c)
-    ∙ ap (λ (l : List ℕ). sectionWordsMade (headerWords (flatSectionRead (sectionOf s) .header)) (commandWords (flatSectionRead (sectionOf s) .command)) (insertComponentsWords (componentsAnswered s)) s l) (x .loop)
-    ∙ over-c.a-canonical-section-is-what-is-written-of-its-words s (x .section) a (x .is) (sym (tells-canonical-so t)) in
-    puts-flat _ s target answer later m (w .0) (w .1)
+    puts-flat _ s target answer later (made-of-its-words s f places a t d z c) (w .0) (w .1)
 
 -- and each of its items, of the words of its step and of what stands beside it, is its own bytes
 pub the-items-of-a-canonical-section-over-c-are-written-back : (s : List ℕ) (f : FlatSection) → AllBytes s → TellsCanonicalC s true → ReadsSectionC s f → f .refusal ≡ 0

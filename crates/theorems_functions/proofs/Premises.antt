@@ -33,7 +33,7 @@ use Rattle.theorems_functions.proofs.Contracts.{ReadsSection, ReadsFull
 use Rattle.theorems_functions.proofs.OverC.{ReadsSectionC, ReadsItemC, ReadsBesideC, ReadsUpidC, ReadsComponentsC, TellsCanonicalC, WritesSectionC, WritesDescriptorC}
 
 -- lent bytes, wherever they lie
-abbrev slice : List ℕ → RefT (List ℕ)
+abbrev pub slice : List ℕ → RefT (List ℕ)
 slice s = record { ptr = (0, 0); name = 0; now = s }
 
 -- ---- the readers

@@ -215,7 +215,7 @@ pub record WritesBytes (g : Given) (b : List ℕ) : Type 0 where
   pub writes : WritesDescriptor g target (Written.Wrote number) later
   pub bytes : b ≡ take number later
 
-made-of : {gs : List Given} {bs : List (List ℕ)} → Pairs WritesBytes gs bs → Pairs (λ (g : Given) (b : List ℕ). givenMade g ≡ made b) gs bs
+pub made-of : {gs : List Given} {bs : List (List ℕ)} → Pairs WritesBytes gs bs → Pairs (λ (g : Given) (b : List ℕ). givenMade g ≡ made b) gs bs
 made-of over = over
 made-of (pair {x = g} w ws) =
     let c = writing.an-accepted-write-changes-only-its-result (givenMade g) (w .target) (w .number) (sym (writes-descriptor-so (w .writes) .answer)) in
@@ -261,7 +261,7 @@ the-command-of-a-section-is-written s w x a d r ones =
     let m : commandMade (x .command) (w .components) s ≡ made (k .0) = ap (λ (l : List InsertComponent). commandMade (x .command) l s) c ∙ writes.beside-serves (x .command) (commandBytes s) s ∙ k .1 in
     (k .0, k .2, λ target answer later p. writes.puts-made _ (k .0) target answer later m (writes-command-so p))
 
-payload-of : (c : SpliceCommand) (places : List InsertComponent) (lent : List ℕ) {m : Made} → CommandMakes c places lent m → (b : List ℕ) → m ≡ made b → CommandPayload c places lent b
+pub payload-of : (c : SpliceCommand) (places : List InsertComponent) (lent : List ℕ) {m : Made} → CommandMakes c places lent m → (b : List ℕ) → m ≡ made b → CommandPayload c places lent b
 payload-of c places lent (CommandMakes.outside f) b e = zero-one cc
 payload-of c places lent (CommandMakes.over f g) b e = zero-one cc
 payload-of c places lent (CommandMakes.nobodys f g h) b e = zero-one cc

@@ -2,7 +2,7 @@
 use Prim.Native.Nat.{ℕ, zero, suc, _-_, _%_, _≤_}
 use mathlib.Core.Bool.{Bool, true, false, _&&_}
 use mathlib.Core.List.{List, [], _∷_}
-use mathlib.Core.Path.{_≡_, refl, ap, sym, subst, _∙_}
+use mathlib.Core.Path.{_≡_, refl, ap, sym, _∙_}
 use native.Mathlib.Omega.{arith}
 use borrow.Author.Tests.{eqb-true, eqb-false}
 use lib.Dec.{eqb, ltb, leb}
@@ -45,7 +45,7 @@ use Rattle.theorems_functions.specs.Flat.{WrittenOf}
 
 -- ---- words that are not refused
 
-unless-refused : (n : ℕ) (m : Made) (b : List ℕ) → noLess n m ≡ made b → (n ≡ 0) × (m ≡ made b)
+pub unless-refused : (n : ℕ) (m : Made) (b : List ℕ) → noLess n m ≡ made b → (n ≡ 0) × (m ≡ made b)
 unfolding noLess
 unless-refused n m b e = go (eqb n 0) refl e
   where
@@ -95,11 +95,29 @@ makes-some h d places lent loop (SectionMakes.long a b p x y g) n e z = let q : 
 makes-some h d places lent loop (SectionMakes.other a b p x y g i) n e z = let q : 35 ≡ n = cc in omega arith
 makes-some h d places lent loop (SectionMakes.its a b x) n e z = zero-one cc
 
-array-size : (cs : List InsertComponent) → length cs ≤ 255 → length (array cs) ≡ 255
+pub array-size : (cs : List InsertComponent) → length cs ≤ 255 → length (array cs) ≡ 255
 unfolding array
 array-size cs h = omega (arith, length-append cs (replicate (255 - length cs) blank), length-replicate (255 - length cs) blank)
 
 -- ---- what was made of them
+
+-- a command of words counts no more than a byte does
+pub few-given : (command : List ℕ) → countIn (commandGiven command) ≤ 255
+few-given command = few-typed (commandGiven command) (given-typed command)
+
+-- and words that are not refused are its own
+pub own-words : (command components lent : List ℕ) → commandRefusal (commandGiven command) command components lent ≡ 0
+    → CommandIs command components (commandGiven command) (command-answers.listed command components lent)
+unfolding commandRefusal wordsRefusal
+own-words command components lent e =
+    let s = seen-none (commandSeen command lent) (wordsRefusal (commandGiven command) command components) e in
+    let o = none-of (command-answers.fits command components lent) (command-answers.own command components lent) (s .1) in
+    command-answers.given-is command components lent (o .1)
+
+-- its places fill an array
+pub own-size : (command components lent : List ℕ) → length (array (command-answers.listed command components lent)) ≡ 255
+own-size command components lent =
+    array-size (command-answers.listed command components lent) (omega (arith, places-length componentFrom 3 (countIn (commandGiven command)) (insertComponentsIn components), few-given command))
 
 module _ (header command components lent loop : List ℕ) where
   abbrev c : SpliceCommand
@@ -108,30 +126,27 @@ module _ (header command components lent loop : List ℕ) where
   abbrev cs : List InsertComponent
   cs = command-answers.listed command components lent
 
-  record Made-of (b : List ℕ) : Type 0 where
-    head : same (headerWords (flatHeader (headerFrom header))) header ≡ true
-    its : CommandIs command components c cs
-    few : countIn c ≤ 255
-    overall : sectionMade (headerFrom header) (commandMade c (array cs) lent) (typeOf c) loop ≡ made b
+  pub record Made-of (b : List ℕ) : Type 0 where
+    pub head : same (headerWords (flatHeader (headerFrom header))) header ≡ true
+    -- no word of the command is refused
+    pub taken : commandRefusal c command components lent ≡ 0
+    pub overall : sectionMade (headerFrom header) (commandMade c (array cs) lent) (typeOf c) loop ≡ made b
 
-  few-of : countIn c ≤ 255
-  few-of = few-typed c (given-typed command)
-
-  made-so : (b : List ℕ) → sectionWordsMade header command components lent loop ≡ made b → Made-of b
-  unfolding sectionWordsMade headerRefusal commandRefusal wordsRefusal componentsFrom
+  pub made-so : (b : List ℕ) → sectionWordsMade header command components lent loop ≡ made b → Made-of b
+  unfolding sectionWordsMade headerRefusal componentsFrom
   made-so b e =
       let u = unless-refused _ _ b e in
       let v = both-none (headerRefusal header) (commandRefusal c command components lent) (u .0) in
       let h = none-of (within headerWidths header) (same (headerWords (flatHeader (headerFrom header))) header) (v .0) in
-      let s = seen-none (commandSeen command lent) (wordsRefusal c command components) (v .1) in
-      let o = none-of (command-answers.fits command components lent) (command-answers.own command components lent) (s .1) in
-      record { head = h .1; its = command-answers.given-is command components lent (o .1); few = few-of; overall = u .1 }
+      record { head = h .1; taken = v .1; overall = u .1 }
+
+  -- what is made of the value that they are
+  pub makes : AllBytes lent → AllBytes loop → SectionMakes (headerFrom header) c (array cs) lent loop (sectionMade (headerFrom header) (commandMade c (array cs) lent) (typeOf c) loop)
+  makes a l = writing.what-is-made-of-a-section (headerFrom header) c (array cs) lent loop (own-size command components lent) (few-given command) a l
 
   -- a refusal has a number
   section-some : (n : ℕ) → sectionMade (headerFrom header) (commandMade c (array cs) lent) (typeOf c) loop ≡ refused n → AllBytes lent → AllBytes loop → n ≡ 0 → ⊥
-  section-some n e a l =
-      makes-some (headerFrom header) c (array cs) lent loop
-      (writing.what-is-made-of-a-section (headerFrom header) c (array cs) lent loop (array-size cs (omega (arith, places-length componentFrom 3 (countIn c) (insertComponentsIn components), few-of))) few-of a l) n e
+  section-some n e a l = makes-some (headerFrom header) c (array cs) lent loop (makes a l) n e
 
   written-of : AllBytes lent → AllBytes loop → (b : List ℕ) → sectionWordsMade header command components lent loop ≡ made b → WrittenOf header command components lent loop b
   unfolding headerFrom
@@ -142,8 +157,8 @@ module _ (header command components lent loop : List ℕ) where
         own-command = c;
         own-components = cs;
         header-is = record { own = m .head; writable = algorithm-laws .is-writable (word header 3 % 256) };
-        command-is = m .its;
-        section = writing.what-is-written-reads-back (headerFrom header) c (array cs) lent loop (array-size cs (omega (arith, m .its .counts, m .few))) (m .few) a l b (m .overall);
+        command-is = own-words command components lent (m .taken);
+        section = writing.what-is-written-reads-back (headerFrom header) c (array cs) lent loop (own-size command components lent) (few-given command) a l b (m .overall);
       }
 
 -- ---- the answer
@@ -156,7 +171,7 @@ lowest-some k (refused n) f g e = go (ltb n k) e
     go true e = g n refl e
     go false e = f e
 
-less-some : (k : ℕ) (m : Made) → ((n : ℕ) → m ≡ refused n → n ≡ 0 → ⊥) → (n : ℕ) → noLess k m ≡ refused n → n ≡ 0 → ⊥
+pub less-some : (k : ℕ) (m : Made) → ((n : ℕ) → m ≡ refused n → n ≡ 0 → ⊥) → (n : ℕ) → noLess k m ≡ refused n → n ≡ 0 → ⊥
 unfolding noLess
 less-some k m g n e z = go (eqb k 0) refl e
   where
@@ -182,16 +197,29 @@ accepted-write m target some z = go (answerOf m target) refl z
     go (Written.Wrote n) e z = let c = writing.an-accepted-write-changes-only-its-result m target n e in (c .result, c .is, c .start)
     go (Written.Refused n) e z = absurd (answer-some m target some n e z)
 
+-- the bytes that an accepted write left are what was made
+pub written-bytes : (m : Made) (target : List ℕ) (answer : FlatWritten) (later : List ℕ) → ((n : ℕ) → m ≡ refused n → n ≡ 0 → ⊥) → answer ≡ flatWritten (answerOf m target) → later ≡ laterOf m target
+    → answer .refusal ≡ 0 → m ≡ made (take (answer .«length») later)
+written-bytes m target answer later some ea el z =
+    let w = accepted-write m target some (ap (λ (v : FlatWritten). v .refusal) (sym ea) ∙ z) in
+    let b : take (answer .«length») later ≡ w .0 = ap (λ (v : FlatWritten). take (v .«length») later) ea ∙ ap (take (flatWritten (answerOf m target) .«length»)) el ∙ w .2 in
+    w .1 ∙ ap made (sym b)
+
+-- of words that are accepted
+pub section-bytes : (header command components lent loop target : List ℕ) (answer : FlatWritten) (later : List ℕ) → AllBytes lent → AllBytes loop
+    → answer ≡ flatWritten (answerOf (sectionWordsMade header command components lent loop) target) → later ≡ laterOf (sectionWordsMade header command components lent loop) target → answer .refusal ≡ 0
+    → sectionWordsMade header command components lent loop ≡ made (take (answer .«length») later)
+unfolding sectionWordsMade componentsFrom
+section-bytes header command components lent loop target answer later a l ea el z =
+    let m : Made = sectionWordsMade header command components lent loop in
+    let some : (n : ℕ) → m ≡ refused n → n ≡ 0 → ⊥ = less-some _ _ (λ n e. section-some header command components lent loop n e a l) in
+    written-bytes m target answer later some ea el z
+
 pub written-back : (header command components lent loop target : List ℕ) (answer : FlatWritten) (later : List ℕ) → AllBytes lent → AllBytes loop
     → answer ≡ flatWritten (answerOf (sectionWordsMade header command components lent loop) target) → later ≡ laterOf (sectionWordsMade header command components lent loop) target → answer .refusal ≡ 0
     → WrittenOf header command components lent loop (take (answer .«length») later)
-unfolding sectionWordsMade componentsFrom
 written-back header command components lent loop target answer later a l ea el z =
-    let m : Made = sectionWordsMade header command components lent loop in
-    let some : (n : ℕ) → m ≡ refused n → n ≡ 0 → ⊥ = less-some _ _ (λ n e. section-some header command components lent loop n e a l) in
-    let w = accepted-write m target some (ap (λ (v : FlatWritten). v .refusal) (sym ea) ∙ z) in
-    let b : take (answer .«length») later ≡ w .0 = ap (λ (v : FlatWritten). take (v .«length») later) ea ∙ ap (take (flatWritten (answerOf m target) .«length»)) el ∙ w .2 in
-    subst (WrittenOf header command components lent loop) (sym b) (written-of header command components lent loop a l (w .0) (w .1))
+    written-of header command components lent loop a l _ (section-bytes header command components lent loop target answer later a l ea el z)
 
 -- the words of a header with equal values are equal
 pub same-words : (g h : SpliceInfoHeader) → SameHeader g h → headerWords (flatHeader g) ≡ headerWords (flatHeader h)
@@ -199,7 +227,7 @@ unfolding headerWords flatHeader
 same-words g h s = rw (s .version, s .encrypted, s .algorithm, s .adjustment, s .index, s .tiers)
 
 -- ---- the words of a command, but for its view's last two
-views-words : (f : View → View) (d : SpliceCommand) → take 19 (commandWords (flatCommand (withView f d))) ≡ take 19 (commandWords (flatCommand d))
+pub views-words : (f : View → View) (d : SpliceCommand) → take 19 (commandWords (flatCommand (withView f d))) ≡ take 19 (commandWords (flatCommand d))
 unfolding commandWords flatCommand noCommand
 views-words f SpliceCommand.SpliceNull = refl
 views-words f (SpliceCommand.SpliceInsert i) = refl

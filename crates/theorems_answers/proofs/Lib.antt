@@ -1,0 +1,10 @@
+pub mod Contracts
+pub mod Named
+pub mod Numbers
+pub mod Headers
+pub mod Commands
+pub mod Canonical
+pub mod Crc
+pub mod Theorems
+pub mod OverC
+pub mod Premises
