@@ -151,7 +151,7 @@ writes-descriptor-so d = (
 
 -- ---- acceptance
 
-flat-number : (r : SectionRead) → flatSectionRead r .refusal ≡ numberOf r
+pub flat-number : (r : SectionRead) → flatSectionRead r .refusal ≡ numberOf r
 unfolding flatSectionRead numberOf
 flat-number (SectionRead.Is x) = refl
 flat-number (SectionRead.Refused r) = refl
@@ -347,7 +347,7 @@ what-is-written-over-c-has-its-words header command components lent loop target 
     }
 
 -- "A refused write leaves the target's bytes"
-left : (m : Made) (target : List ℕ) (n : ℕ) → flatWritten (answerOf m target) .refusal ≡ n → (n ≡ 0 → ⊥) → laterOf m target ≡ target
+pub left : (m : Made) (target : List ℕ) (n : ℕ) → flatWritten (answerOf m target) .refusal ≡ n → (n ≡ 0 → ⊥) → laterOf m target ≡ target
 unfolding flatWritten
 left m target n e some = go (answerOf m target) refl e
   where

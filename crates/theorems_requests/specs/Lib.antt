@@ -1,0 +1,3 @@
+pub mod Adjustments
+pub mod Sections
+pub mod Packets
