@@ -374,7 +374,7 @@ detail-size : (d : DescriptorDetail) → detailView (withUpids placelessUpid d) 
 detail-size Cancel = refl
 detail-size (Active i) = refl
 
-size-is : (d : Descriptor) → viewIn (withoutPlaces d) .len ≡ viewIn d .len
+pub size-is : (d : Descriptor) → viewIn (withoutPlaces d) .len ≡ viewIn d .len
 size-is (Avail x) = refl
 size-is (Dtmf x) = refl
 size-is (Segmentation x) = detail-size (x .«descriptor_detail»)

@@ -2,6 +2,7 @@
 --     canonical-cut    a canonical loop is the join of canonical descriptors
 --     cut-canonical    and the other way round
 --     items-cut        the items of such a loop
+--     at-piece         a canonical descriptor that stands in any loop
 use Prim.Native.Nat.{ℕ, zero, suc, _+_, _-_, _≤_, _<_}
 use mathlib.Core.Bool.{Bool, true, _&&_}
 use mathlib.Core.List.{List, [], _∷_, _++_}
@@ -99,7 +100,7 @@ pub record At (loop : List ℕ) (offset : ℕ) (t : List ℕ) : Type 0 where
   pub inside : offset < length loop
 
 module _ (loop : List ℕ) (fits : length loop ≤ 4076) where
-  at-piece : (offset : ℕ) (t post : List ℕ) → offset ≤ length loop → drop offset loop ≡ t ++ post → Canonical t → At loop offset t
+  pub at-piece : (offset : ℕ) (t post : List ℕ) → offset ≤ length loop → drop offset loop ≡ t ++ post → Canonical t → At loop offset t
   at-piece o t post within is c =
       let z = said t c in
       let six : 6 ≤ length t = z .0 in

@@ -6,4 +6,6 @@ pub mod Theorems
 pub mod Flat
 pub mod WrittenOverC
 pub mod OverC
+pub mod WordsKept
+pub mod WordsOverC
 pub mod Premises

@@ -90,13 +90,13 @@ reads-section-so d = sym (d .left) ∙ d .learnt-so ∙ ap (λ (v : List ℕ). f
 abbrev pub ReadsItemC : List ℕ → ℕ → FlatStep → Type 0
 ReadsItemC loop offset f = May scte35-read-item.Learnt {S = List ℕ × ℕ} {T = FlatStep} (λ κ a. (now (a .0), a .1 .0)) (λ κ r e. r) (loop, offset) f
 
-reads-item-so : {loop : List ℕ} {offset : ℕ} {f : FlatStep} → ReadsItemC loop offset f → f ≡ flatStep (stepOf loop offset)
+pub reads-item-so : {loop : List ℕ} {offset : ℕ} {f : FlatStep} → ReadsItemC loop offset f → f ≡ flatStep (stepOf loop offset)
 reads-item-so d = sym (d .left) ∙ d .learnt-so ∙ ap (λ (v : List ℕ × ℕ). flatStep (stepOf (v .0) (v .1))) (d .taken)
 
 abbrev pub ReadsBesideC : List ℕ → ℕ → FlatBeside → Type 0
 ReadsBesideC loop offset f = May scte35-read-segmentation-components.Learnt {S = List ℕ × ℕ} {T = FlatBeside} (λ κ a. (now (a .0), a .1 .0)) (λ κ r e. r) (loop, offset) f
 
-reads-beside-so : {loop : List ℕ} {offset : ℕ} {f : FlatBeside} → ReadsBesideC loop offset f → f ≡ flatBeside (readingOf loop offset)
+pub reads-beside-so : {loop : List ℕ} {offset : ℕ} {f : FlatBeside} → ReadsBesideC loop offset f → f ≡ flatBeside (readingOf loop offset)
 reads-beside-so d = sym (d .left) ∙ d .learnt-so ∙ ap (λ (v : List ℕ × ℕ). flatBeside (readingOf (v .0) (v .1))) (d .taken)
 
 abbrev pub ReadsUpidC : ℕ → List ℕ → FlatUpid → Type 0

@@ -188,13 +188,13 @@ answer-some (made b) target g n e z = go (leb (length b) (length target)) e
     go true e = zero-one cc
     go false e = let q : 36 ≡ n = cc in omega arith
 
-accepted-write : (m : Made) (target : List ℕ) → ((n : ℕ) → m ≡ refused n → n ≡ 0 → ⊥) → flatWritten (answerOf m target) .refusal ≡ 0
-    → (b : List ℕ) × (m ≡ made b) × (take (flatWritten (answerOf m target) .«length») (laterOf m target) ≡ b)
+pub accepted-write : (m : Made) (target : List ℕ) → ((n : ℕ) → m ≡ refused n → n ≡ 0 → ⊥) → flatWritten (answerOf m target) .refusal ≡ 0
+    → (b : List ℕ) × (m ≡ made b) × (take (flatWritten (answerOf m target) .«length») (laterOf m target) ≡ b) × (length b ≡ flatWritten (answerOf m target) .«length»)
 unfolding flatWritten
 accepted-write m target some z = go (answerOf m target) refl z
   where
-    go : (w : Written) → answerOf m target ≡ w → flatWritten w .refusal ≡ 0 → (b : List ℕ) × (m ≡ made b) × (take (flatWritten w .«length») (laterOf m target) ≡ b)
-    go (Written.Wrote n) e z = let c = writing.an-accepted-write-changes-only-its-result m target n e in (c .result, c .is, c .start)
+    go : (w : Written) → answerOf m target ≡ w → flatWritten w .refusal ≡ 0 → (b : List ℕ) × (m ≡ made b) × (take (flatWritten w .«length») (laterOf m target) ≡ b) × (length b ≡ flatWritten w .«length»)
+    go (Written.Wrote n) e z = let c = writing.an-accepted-write-changes-only-its-result m target n e in (c .result, c .is, c .start, c .number)
     go (Written.Refused n) e z = absurd (answer-some m target some n e z)
 
 -- the bytes that an accepted write left are what was made

@@ -1,3 +1,4 @@
 pub mod Calls
 pub mod Slices
 pub mod Flat
+pub mod Words
