@@ -6,3 +6,4 @@ pub mod LoopsOverC
 pub mod SectionsOverC
 pub mod HandedOverC
 pub mod Theorems
+pub mod Premises

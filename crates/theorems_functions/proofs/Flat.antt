@@ -1,14 +1,16 @@
 -- The words of an answer over C say what the answer says.
 --     item-lies     an item whose identifier is whole
 --     parts-flat    the parts of a UPID, field by field
+--     upid-says     its type, and an EIDR
 use Prim.Native.Nat.{ℕ, zero, suc, _+_, _-_, _≤_, _<_}
 use mathlib.Core.Bool.{Bool, true, false}
 use mathlib.Core.List.{List, [], _∷_, _++_, map}
 use mathlib.Core.Path.{_≡_, refl, ap, sym, _∙_}
 use native.Mathlib.Omega.{arith}
-use lib.ListN.{length, take, drop, getD}
+use lib.Dec.{eqb}
+use lib.ListN.{length, take, drop, getD, replicate}
 use lib.Seq.{take-at}
-use borrow.Author.Tests.{eqb-false}
+use borrow.Author.Tests.{eqb-true, eqb-false}
 use Rattle.descriptor.specs.declared.Descriptor.{Descriptor}
 use Rattle.descriptor.specs.declared.segmentation.DescriptorDetail.{DescriptorDetail}
 use Rattle.descriptor.specs.declared.segmentation.SegmentationDescriptor.{SegmentationDescriptor}
@@ -24,18 +26,21 @@ use Rattle.descriptor_loop.specs.declared.Step.{Step}
 use Rattle.descriptor_loop.specs.declared.reading.Reading.{Reading}
 use Rattle.canonical_form.specs.Same.{Pairs}
 use Rattle.canonical_form.specs.Same.Pairs.{over, pair}
-use Rattle.table.specs.Bits.{bitsOf, field}
+use Rattle.table.specs.Bits.{pick, bitsOf, field}
 use Rattle.table.specs.declared.View.{View}
 use Rattle.theorems_reader.specs.Identifiers.{Identifier, inLent}
 use Rattle.theorems_reader.specs.Whole.{Exactly, WholeUpid}
 use Rattle.theorems_reader.proofs.WholeCases.{DetailCase, RefusalCase, ItemCase}
 use Rattle.upid.specs.Upid as upid
-use Rattle.upid.specs.Upid.{upidOf, checkOf, eidrOf, listOf, listed, unlessRefused, partsIn}
+use Rattle.upid.proofs.Reported.{check-none, reports, eidr-is-written}
+use Rattle.upid.specs.Upid.{upidOf, checkOf, readOf, plainOf, lengthOf, isText, reportedOf, eidrOf, listOf, listed, unlessRefused, partsIn}
 use Rattle.upid.specs.declared.Part.{Part}
 use Rattle.upid.specs.declared.Refusal.{Refusal}
 use Rattle.upid.specs.declared.Upid.{Upid}
 use Rattle.upid.specs.declared.UpidRead.{UpidRead}
-use Rattle.theorems_functions.specs.Flat.{Lies, UpidLies, TextLies, ItemLies, SamePart, upidRefusal}
+use Rattle.theorems_functions.specs.Flat.{Lies, UpidLies, TextLies, ItemLies, SamePart, upidRefusal, UpidSays}
+use Rattle.theorems_functions.specs.Slices.{reportedAs}
+use Rattle.theorems_functions.proofs.Slices.{reported-as}
 
 -- a refusal has a number
 numbered : (r : ItemRefusal) → 1 ≤ items.numberOf r
@@ -46,6 +51,10 @@ numbered (ItemRefusal.Other (Refusal.NotEnoughData expected actual)) = omega ari
 numbered (ItemRefusal.Other Refusal.UpidLengthTypeMismatch) = omega arith
 numbered (ItemRefusal.Other (Refusal.InvalidUpidContent «upid_type» v)) = omega arith
 numbered (ItemRefusal.Other (Refusal.InvalidUpidLength «upid_type» expected actual)) = omega arith
+
+some-number : (r : Refusal) → upid.numberOf r ≡ 0 → ⊥
+unfolding items.numberOf
+some-number r z = omega (arith, numbered (ItemRefusal.Other r))
 
 module _ (s : List ℕ) (base : ℕ) (loop : List ℕ) where
   lies-of : (at n : ℕ) (v : View) → Exactly s at n (inLent base loop v) → Lies s base at n (flatView v)
@@ -58,7 +67,6 @@ module _ (s : List ℕ) (base : ℕ) (loop : List ℕ) where
     -- an item of a kind without an identifier
     none-lies : (f : FlatStep) (k : ℕ) → f .item .kind ≡ k → k ≤ 5 → (k ≡ 2 → ⊥) → (k ≡ 4 → ⊥) → f .refusal ≡ 0 → ItemLies s (base + offset) base f
     none-lies f k e h two four z = record {
-      kinds = omega (arith, e);
       dtmf = λ d. absurd (two (sym e ∙ d));
       segmentation = λ d. absurd (four (sym e ∙ d));
       reserved = λ d. absurd (omega (arith, e));
@@ -75,7 +83,6 @@ module _ (s : List ℕ) (base : ℕ) (loop : List ℕ) where
     unfolding flatStep flatItem refusalIn flatDescriptor segmentationItem blankItem activeSegmentation
     detail-lies event DescriptorDetail.Cancel w = none-lies (flatStep (stepWith (withDetail event DescriptorDetail.Cancel))) 3 refl (omega arith) (eqb-false 3 2 refl) (eqb-false 3 4 refl) refl
     detail-lies event (DescriptorDetail.Active i) w = record {
-      kinds = omega arith;
       dtmf = λ d. absurd (eqb-false 4 2 refl d);
       segmentation = λ d. record { «upid_type» = w .«upid_type»; bytes = λ some plain. lies-of _ _ (i .«segmentation_upid» .bytes) (w .bytes some plain) };
       reserved = λ d. absurd (eqb-false 4 6 refl d);
@@ -88,7 +95,6 @@ module _ (s : List ℕ) (base : ℕ) (loop : List ℕ) where
     refused-lies : (q : ItemRefusal) → (items.numberOf q ≡ 24 → TextLies s (base + offset + 6) base (three (items.valuesOf q))) → ItemLies s (base + offset) base (flatStep (stepWith (Item.Refused q)))
     unfolding flatStep flatItem refusalIn valuesIn blankItem
     refused-lies q text = record {
-      kinds = omega arith;
       dtmf = λ d. absurd (eqb-false 7 2 refl d);
       segmentation = λ d. absurd (eqb-false 7 4 refl d);
       reserved = λ d. absurd (eqb-false 7 6 refl d);
@@ -121,7 +127,6 @@ module _ (s : List ℕ) (base : ℕ) (loop : List ℕ) where
     item-lies (Item.Refused q) w = refusal-lies q w
     item-lies (Item.Is (Descriptor.Avail x)) w = none-lies (flatStep (stepWith (Item.Is (Descriptor.Avail x)))) 1 refl (omega arith) (eqb-false 1 2 refl) (eqb-false 1 4 refl) refl
     item-lies (Item.Is (Descriptor.Dtmf x)) w = record {
-      kinds = omega arith;
       dtmf = λ d. lies-of _ _ (x .«dtmf_chars») w;
       segmentation = λ d. absurd (eqb-false 2 4 refl d);
       reserved = λ d. absurd (eqb-false 2 6 refl d);
@@ -132,7 +137,6 @@ module _ (s : List ℕ) (base : ℕ) (loop : List ℕ) where
     item-lies (Item.Is (Descriptor.Segmentation x)) w = detail-lies (x .«segmentation_event_id») (x .«descriptor_detail») w
     item-lies (Item.Is (Descriptor.Time x)) w = none-lies (flatStep (stepWith (Item.Is (Descriptor.Time x)))) 5 refl (omega arith) (eqb-false 5 2 refl) (eqb-false 5 4 refl) refl
     item-lies (Item.Is (Descriptor.Reserved tag v)) w = record {
-      kinds = omega arith;
       dtmf = λ d. absurd (eqb-false 6 2 refl d);
       segmentation = λ d. absurd (eqb-false 6 4 refl d);
       reserved = λ d. (lies-of _ _ v (w .0), ap (λ (l : List ℕ). field (bitsOf l) 0 32) (ap (λ (i : Identifier). i .bytes) (w .1 .is)));
@@ -194,3 +198,44 @@ pub parts-flat : («upid_type» : ℕ) (bytes : List ℕ) → (flatUpid (upidOf 
     × Pairs SamePart (take (flatUpid (upidOf «upid_type» bytes) .count) (flatUpid (upidOf «upid_type» bytes) .parts)) (partsIn (upidOf «upid_type» bytes))
 unfolding upidOf
 parts-flat «upid_type» bytes = by-read (checkOf «upid_type» bytes) (eidrOf «upid_type» bytes) (listOf «upid_type» 1 0 bytes)
+
+-- ---- the type of a UPID, and an EIDR
+
+-- an EIDR of twelve bytes is read
+eidr-fine : (bytes : List ℕ) → length bytes ≡ 12 → checkOf 10 bytes ≡ UpidRead.Fine 10
+unfolding checkOf readOf plainOf lengthOf isText reportedOf
+eidr-fine bytes n = rw n
+
+type-by : (k : ℕ) (bytes : List ℕ) (c : UpidRead) (eidr : List ℕ) (ps : List Part) → checkOf k bytes ≡ c → eidrOf k bytes ≡ eidr
+    → UpidSays k bytes (flatUpid (record { read = c; eidr = eidr; list = listed (unlessRefused c ps) }))
+unfolding flatUpid flatUpidRead eidrOf
+type-by k bytes (UpidRead.Fine q) eidr ps e held = record {
+  read = λ z. go (eqb (length bytes) 0) refl;
+  refused = λ n. absurd (n refl);
+  held = λ ten. sym held ∙ own (eidr-is-written k bytes (e ∙ ap UpidRead.Fine ten));
+  plain = λ other. sym held ∙ none other (eqb k 10) (eqb (length bytes) 12) refl refl;
+}
+  where
+    go : (t : Bool) → eqb (length bytes) 0 ≡ t → q ≡ pick t 0 (reportedAs k)
+    go true t = let z : UpidRead.Fine q ≡ UpidRead.Fine 0 = sym e ∙ check-none k bytes (eqb-true _ _ t) in cc
+    go false t =
+        let n : length bytes ≡ 0 → ⊥ = eqb-false _ _ t in
+        sym (reports k bytes q e (some n) .0) ∙ reported-as k
+      where
+        some : (length bytes ≡ 0 → ⊥) → 1 ≤ length bytes
+        some n = omega arith
+
+    own : (k ≡ 10) × (length bytes ≡ 12) → eidrOf k bytes ≡ bytes
+    own w = rw (w .0, w .1)
+
+    none : (q ≡ 10 → ⊥) → (a b : Bool) → eqb k 10 ≡ a → eqb (length bytes) 12 ≡ b → eidrOf k bytes ≡ replicate 12 0
+    none other true true ea eb =
+        let f : checkOf k bytes ≡ UpidRead.Fine 10 = rw (eqb-true k 10 ea) (eidr-fine bytes (eqb-true _ _ eb)) in
+        absurd (other (let z : UpidRead.Fine q ≡ UpidRead.Fine 10 = sym e ∙ f in cc))
+    none other true false ea eb = rw (ea, eb)
+    none other false b ea eb = rw ea
+type-by k bytes (UpidRead.Refused r) eidr ps e held = record { read = λ z. absurd (some-number r z); refused = λ n. refl; held = λ ten. absurd (eqb-false 0 10 refl ten); plain = λ other. refl }
+
+pub upid-says : («upid_type» : ℕ) (bytes : List ℕ) → UpidSays «upid_type» bytes (flatUpid (upidOf «upid_type» bytes))
+unfolding upidOf
+upid-says «upid_type» bytes = type-by «upid_type» bytes (checkOf «upid_type» bytes) (eidrOf «upid_type» bytes) (listOf «upid_type» 1 0 bytes) refl refl

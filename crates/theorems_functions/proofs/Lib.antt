@@ -4,6 +4,7 @@ pub mod Slices
 pub mod Writes
 pub mod Theorems
 pub mod Flat
+pub mod Standing
 pub mod WrittenOverC
 pub mod OverC
 pub mod WordsKept

@@ -30,7 +30,7 @@ use Rattle.c_command_writer.specs.Words.{same, flatWritten}
 use Rattle.c_command_writer.specs.declared.FlatWritten.{FlatWritten}
 use Rattle.descriptor_loop.proofs.Places.{all-into}
 use Rattle.descriptor_loop.specs.Items.{stepOf, readingOf, Listed, itemsOf}
-use Rattle.descriptor_loop.specs.Cover.{runOf}
+use Rattle.descriptor_loop.specs.Cover.{runOf, Covered}
 use Rattle.descriptor_loop.specs.declared.Item.{Item}
 use Rattle.descriptor_loop.specs.declared.Step.{Step}
 use Rattle.descriptor_loop.specs.declared.reading.Reading.{Reading}
@@ -44,16 +44,18 @@ use Rattle.section.specs.declared.Section.{Section}
 use Rattle.section.specs.declared.SectionRead.{SectionRead}
 use Rattle.canonical_form.specs.Section.{canonicalSection}
 use Rattle.table.specs.Bits.{AllBytes}
-use Rattle.table.specs.Lent.{viewed}
+use Rattle.table.specs.Lent.{viewed, filledTo}
+use Rattle.table.specs.declared.View.{View}
 use Rattle.table.specs.Writing.{Made, made}
 use Rattle.table.proofs.Lists.{zero-one}
-use Rattle.theorems_reader.proofs.Runs.{viewed-is, viewed-inside}
-use Rattle.theorems_reader.proofs.Sections.{loop-short}
+use Rattle.theorems_reader.proofs.Framed.{laid}
+use Rattle.theorems_reader.proofs.Runs.{viewed-is, viewed-inside, length-run}
+use Rattle.theorems_reader.proofs.Sections.{loop-run, loop-short}
 use Rattle.theorems_c.proofs.Theorems as over-c
 use Rattle.theorems_reader.proofs.Theorems as reading
 use Rattle.theorems_writer.proofs.Theorems as writing
 use Rattle.theorems_c.specs.Boards.{May}
-use Rattle.theorems_reader.specs.Identifiers.{Identifier, inLent, partsRead, Announced, Unsplit}
+use Rattle.theorems_reader.specs.Identifiers.{Identifier, inSection, inLent, partsRead, Announced, Unsplit}
 use Rattle.theorems_c.specs.OverC.{insertComponentsWords, componentsAnswered, stepWords, besideWords, wordsMadeAt}
 use Rattle.theorems_reader.specs.Whole.{upidAt}
 use Rattle.theorems_reader.proofs.Whole.{whole-case}
@@ -72,9 +74,11 @@ use Rattle.scte35.proofs.scte35_read_upid.Reads as scte35-read-upid
 use Rattle.scte35.proofs.writing.scte35_write_command_words.Reads as scte35-write-command-words
 use Rattle.scte35.proofs.writing.scte35_write_descriptor_words.Reads as scte35-write-descriptor-words
 use Rattle.scte35.proofs.writing.scte35_write_section_words.Reads as scte35-write-section-words
-use Rattle.theorems_functions.specs.Flat.{Lies, taken, ItemLies, upidRefusal, SamePart, PartLies, PutsFlat, WrittenOf, ReadsAgain}
+use Rattle.theorems_functions.specs.Flat.{Lies, taken, SectionLies, ItemLies, ItemStands, FlatListed, SteppedC, itemRefusal, itemValues, SameItem, upidRefusal, UpidSays, SamePart, PartLies, PutsFlat, WrittenOf, ReadsAgain}
 use Rattle.theorems_functions.specs.Slices.{Slice, reportedAs}
 use Rattle.theorems_functions.proofs.Flat as flat
+use Rattle.theorems_functions.proofs.Standing as standing
+use Rattle.theorems_functions.proofs.Steps as steps
 use Rattle.theorems_functions.proofs.Slices.{reported-as}
 use Rattle.theorems_functions.proofs.Writes as writes
 use Rattle.theorems_functions.proofs.WrittenOverC as written-over-c
@@ -167,7 +171,9 @@ pub record Accepted (s : List ℕ) (f : FlatSection) : Type 0 where
   pub section : Section
   pub is : sectionOf s ≡ SectionRead.Is section
   pub base : f .descriptors .at ≡ section .descriptors .at
+  pub long : f .descriptors .len ≡ section .descriptors .len
   pub loop : taken s (f .descriptors) ≡ loopIn s section
+  pub payload : f .payload ≡ flatView (section .payload)
 
 pub accepted : (s : List ℕ) (f : FlatSection) → ReadsSectionC s f → f .refusal ≡ 0 → Accepted s f
 unfolding flatSectionRead
@@ -179,8 +185,27 @@ accepted s f d z =
       section = r .0;
       is = r .1;
       base = ap (λ (y : FlatView). y .at) v;
+      long = ap (λ (y : FlatView). y .len) v;
       loop = ap (taken s) v ∙ sym (viewed-is s (r .0 .descriptors) (reading.the-loop-is-one-run-of-the-section s (r .0) (r .1) .inside));
+      payload = ap (λ (y : FlatSection). y .payload) (reads-section-so d ∙ ap flatSectionRead (r .1));
     }
+
+parts-lie-there : (s : List ℕ) (f : FlatSection) → Accepted s f → SectionLies s f
+unfolding loopPlace commandBytes
+parts-lie-there s f x =
+    let l = laid s (x .section) (x .is) in
+    let v : f .payload ≡ record { at = 14; len = commandLength s } = x .payload ∙ ap flatView (reading.what-an-accepted-section-says s (x .section) (x .is) .3) in
+    record {
+      payload = record { there = omega (arith, l .fits); starts = omega (arith, ap (λ (y : FlatView). y .at) v); long = ap (λ (y : FlatView). y .len) v };
+      command = ap (taken s) v;
+      descriptors = record { there = omega (arith, l .fits); starts = omega (arith, x .base, ap (λ (y : View). y .at) (l .place)); long = x .long ∙ ap (λ (y : View). y .len) (l .place) };
+    }
+
+-- The command's payload and the loop of a section that is not refused lie where its own bytes say, and what a caller takes of the payload is the command
+pub the-command-and-the-loop-over-c-are-the-sections : (s : List ℕ) (f : FlatSection) → ReadsSectionC s f → f .refusal ≡ 0 → SectionLies s f
+the-command-and-the-loop-over-c-are-the-sections s f d z = parts-lie-there s f (accepted s f d z)
+
+-- ---- an item
 
 items-lie : (s : List ℕ) (f : FlatSection) (offset : ℕ) (i : FlatStep) → AllBytes s → (x : Accepted s f) → ReadsItemC (taken s (f .descriptors)) offset i → ItemLies s (f .descriptors .at + offset) (f .descriptors .at) i
 unfolding readingOf
@@ -209,6 +234,38 @@ pub the-items-over-c-are-whole : (s : List ℕ) (f : FlatSection) (offset : ℕ)
     → ItemLies s (f .descriptors .at + offset) (f .descriptors .at) i
 the-items-over-c-are-whole s f offset i a d z q = items-lie s f offset i a (accepted s f d z) q
 
+items-stand : (s : List ℕ) (f : FlatSection) (offset : ℕ) (i : FlatStep) → AllBytes s → (x : Accepted s f) → ReadsItemC (taken s (f .descriptors)) offset i
+    → ItemStands s (f .descriptors .at + offset) (f .descriptors .at + f .descriptors .len) (f .descriptors .at) i
+items-stand s f offset i a x q =
+    let e : i ≡ flatStep (stepOf (loopIn s (x .section)) offset) = reads-item-so q ∙ ap (λ (l : List ℕ). flatStep (stepOf l offset)) (x .loop) in
+    rw (x .base, x .long, e) (standing.stands s a (inSection s (x .section .descriptors)) (loop-run s (x .section) (x .is)) offset (loop-short s (x .section) (x .is)))
+
+-- Its number is that of its tag and identifier, of its cancel bit, or of a refusal, and the next item starts where its own length byte says; what an ending rule refuses ends with the loop
+pub an-item-over-c-is-what-its-bytes-say : (s : List ℕ) (f : FlatSection) (offset : ℕ) (i : FlatStep) → AllBytes s → ReadsSectionC s f → f .refusal ≡ 0 → ReadsItemC (taken s (f .descriptors)) offset i
+    → ItemStands s (f .descriptors .at + offset) (f .descriptors .at + f .descriptors .len) (f .descriptors .at) i
+an-item-over-c-is-what-its-bytes-say s f offset i a d z q = items-stand s f offset i a (accepted s f d z) q
+
+-- It is refused exactly where the item is, with that refusal's number and values; 0 stands where there is none
+pub an-item-over-c-is-refused-as-the-item-is : (loop : List ℕ) (offset : ℕ) (i : FlatStep) → ReadsItemC loop offset i
+    → (i .refusal ≡ itemRefusal (stepOf loop offset .item)) × (i .values ≡ filledTo 3 0 (itemValues (stepOf loop offset .item)))
+unfolding flatStep
+an-item-over-c-is-refused-as-the-item-is loop offset i q = (
+  ap (λ (v : FlatStep). v .refusal) (reads-item-so q) ∙ steps.item-refusal (stepOf loop offset .item),
+  ap (λ (v : FlatStep). v .values) (reads-item-so q) ∙ steps.item-values (stepOf loop offset .item),
+)
+
+-- Covering over C: the items that a caller steps through, from 0 by `next` up to the loop's length, are those of the loop, in order, each where it starts and ends and with its refusal's number; and these
+-- cover the loop once
+pub the-items-over-c-cover-the-loop : (s : List ℕ) (f : FlatSection) (xs : List FlatListed) → ReadsSectionC s f → f .refusal ≡ 0 → SteppedC (ReadsItemC (taken s (f .descriptors))) (f .descriptors .len) 0 xs
+    → Covered (taken s (f .descriptors)) (itemsOf (taken s (f .descriptors))) × Pairs SameItem xs (itemsOf (taken s (f .descriptors)))
+the-items-over-c-cover-the-loop s f xs d z w =
+    let x = accepted s f d z in
+    let loop : List ℕ = taken s (f .descriptors) in
+    let fits : length loop ≤ 4076 = rw (x .loop) (loop-short s (x .section) (x .is)) in
+    let n : f .descriptors .len ≡ length loop = x .long ∙ sym (ap length (x .loop) ∙ length-run s (inSection s (x .section .descriptors)) (loop-run s (x .section) (x .is))) in
+    let v : SteppedC (ReadsItemC loop) (length loop) 0 xs = subst (λ (k : ℕ). SteppedC (ReadsItemC loop) k 0 xs) n w in
+    (rw (x .loop) (reading.the-items-cover-the-loop-of-the-section s (x .section) (x .is)), steps.stepped-items-over-c loop fits (ReadsItemC loop) (λ offset i. reads-item-so) v)
+
 -- An EIDR, which stands beside its item: `scte35_read_segmentation_components` at the same offset answers the very twelve bytes
 pub the-eidr-over-c-is-whole : (s : List ℕ) (f : FlatSection) (offset : ℕ) (i : FlatStep) (b : FlatBeside) → AllBytes s → ReadsSectionC s f → f .refusal ≡ 0
     → ReadsItemC (taken s (f .descriptors)) offset i → ReadsBesideC (taken s (f .descriptors)) offset b → i .item .kind ≡ 4 → i .item .segmentation .«segmentation_upid_type» ≡ 10
@@ -219,6 +276,10 @@ the-eidr-over-c-is-whole s f offset i b a d z q r four ten = eidr-lies s f offse
 pub the-parts-over-c-are-those-of-the-upid : (upid-type : ℕ) (bytes : List ℕ) (u : FlatUpid) → ReadsUpidC upid-type bytes u
     → (u .refusal ≡ upidRefusal (checkOf upid-type bytes)) × (u .count ≡ length (partsRead upid-type bytes)) × Pairs SamePart (take (u .count) (u .parts)) (partsRead upid-type bytes)
 the-parts-over-c-are-those-of-the-upid upid-type bytes u d = rw (reads-upid-so d) (flat.parts-flat upid-type bytes)
+
+-- and its type is the one that is reported, an EIDR the very twelve bytes
+pub the-type-and-the-eidr-over-c-are-those-of-the-upid : (upid-type : ℕ) (bytes : List ℕ) (u : FlatUpid) → ReadsUpidC upid-type bytes u → UpidSays upid-type bytes u
+the-type-and-the-eidr-over-c-are-those-of-the-upid upid-type bytes u d = rw (reads-upid-so d) (flat.upid-says upid-type bytes)
 
 -- a MID that is accepted has bytes
 some-byte : (b : List ℕ) → checkOf 13 b ≡ UpidRead.Fine 13 → 1 ≤ length b

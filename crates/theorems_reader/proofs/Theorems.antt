@@ -11,7 +11,6 @@ use Rattle.command.specs.declared.CommandRead.{CommandRead}
 use Rattle.command.specs.declared.SpliceCommand.{SpliceCommand}
 use Rattle.command.specs.declared.insert.InsertDetail.{InsertDetail}
 use Rattle.command.specs.declared.insert.SpliceDetail.{SpliceDetail}
-use Rattle.crc.specs.Crc.{crcOf}
 use Rattle.descriptor.proofs.Longer as longer
 use Rattle.descriptor.specs.Descriptor.{availOf, dtmfOf, timeOf, cuei, descriptorOf}
 use Rattle.descriptor.specs.Segmentation.{deviceOf, countOf, blankUpid, detailUpid, detailCount}
@@ -49,6 +48,7 @@ use Rattle.table.specs.Lent.{viewed}
 use Rattle.upid.specs.Cover.{All, topPart, Once}
 use Rattle.upid.proofs.Answers as upids
 use Rattle.upid.specs.Upid.{checkOf, listOf, unlessRefused}
+use Rattle.theorems_reader.specs.Around.{Around}
 use Rattle.theorems_reader.specs.Identifiers.{OneRun, inSection, inLent, partsRead, identifiersOf, Unsplit}
 use Rattle.theorems_reader.specs.Listing.{ListsItem, ListsCommand}
 use Rattle.theorems_reader.specs.Numbers.{OnlyBy}
@@ -74,9 +74,8 @@ refusals-1-to-11-in-order = acceptance.refusals-in-order
 pub a-section-is-refused-by-1-to-11-only : (s : List ℕ) → numberOf (sectionOf s) ≤ 11
 a-section-is-refused-by-1-to-11-only s = tolerated.eleven (sectionOf s)
 
--- "section_length is not tested": bytes 1 and 2 matter to the CRC and to nothing else
-pub the-section-length-is-not-tested : (table a b c d : ℕ) (rest : List ℕ) → crcOf (table ∷ a ∷ b ∷ rest) ≡ crcOf (table ∷ c ∷ d ∷ rest)
-    → sectionOf (table ∷ a ∷ b ∷ rest) ≡ sectionOf (table ∷ c ∷ d ∷ rest)
+-- "section_length is not tested": two sections that differ in nothing but it, and in the CRC that goes with it, are read as the same, or refused with the same number
+pub the-section-length-is-not-tested : (table : ℕ) (others s t : List ℕ) → Around table others s → Around table others t → sectionOf s ≡ sectionOf t
 the-section-length-is-not-tested = tolerated.length-untested
 
 -- "Bytes after insert or time signal are tolerated": the command is the same

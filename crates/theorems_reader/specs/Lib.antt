@@ -2,3 +2,4 @@ pub mod Identifiers
 pub mod Numbers
 pub mod Whole
 pub mod Listing
+pub mod Around

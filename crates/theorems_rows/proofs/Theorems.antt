@@ -45,6 +45,8 @@ use Rattle.table.specs.Bits.{bitsOf, field, AllBytes}
 use Rattle.table.specs.Table.{got, short, parse}
 use Rattle.table.specs.Writing.{made}
 use Rattle.canonical_form.specs.Same.{SameSections}
+use Rattle.theorems_reader.proofs.Theorems.{the-section-length-is-not-tested}
+use Rattle.theorems_reader.specs.Around.{Around}
 use Rattle.theorems_rows.specs.Examples.{EmptyCommand, Identified, spliceNull, eight, twelve, both, eightAndTwelve}
 use Rattle.upid.specs.Cover.{All}
 use Rattle.upid.specs.Text.{textOf}
@@ -52,8 +54,8 @@ use Rattle.upid.specs.Upid.{checkOf, readOf, lengthOf, reportedOf}
 use Rattle.upid.specs.declared.Refusal.{Refusal}
 use Rattle.upid.specs.declared.UpidRead.{UpidRead}
 use Rattle.theorems_rows.specs.Refusals.{StepRefused, endNumber, endValues, UpidRefused, kindOf, fixedLengths, texts, plainLengths}
-use Rattle.theorems_rows.specs.Sections.{eighteen, nineteen, insertSection, otherInsertSection, everyIdentifier, everyDescriptor, everyCommand}
-use Rattle.theorems_rows.specs.Payloads.{SegmentationReads, Unrefused, MidReads, partRead, kindsOf}
+use Rattle.theorems_rows.specs.Sections.{eighteen, nineteen, insertSection, otherInsertSection, longerInsertSection, everyIdentifier, anothersAvail, everyDescriptor, everyCommand}
+use Rattle.theorems_rows.specs.Payloads.{SegmentationReads, UnrefusedAt, MidReads, partRead, kindsOf}
 use Rattle.theorems_rows.specs.Rows.{Holds, rows}
 use Rattle.header.specs.Header as header
 use Rattle.theorems_rows.proofs.Mids as mids
@@ -86,6 +88,18 @@ all-identifiers-of-a-section = worked.every-identifier
 pub two-sections-with-equal-readings : (x : Section) × (y : Section) × (sectionOf insertSection ≡ SectionRead.Is x) × (sectionOf otherInsertSection ≡ SectionRead.Is y)
     × SameSections insertSection x otherInsertSection y × (insertSection ≡ otherInsertSection → ⊥)
 two-sections-with-equal-readings = (worked.insertReading, worked.insertReading, worked.insert-read, worked.other-insert-read, worked.same-insert, worked.other-bytes)
+
+-- there are two sections that differ in section_length only: they are other bytes, and read as one
+pub two-sections-with-other-lengths : (others : List ℕ) × Around 0xFC others insertSection × Around 0xFC others longerInsertSection × (insertSection ≡ longerInsertSection → ⊥)
+    × (x : Section) × (sectionOf longerInsertSection ≡ SectionRead.Is x)
+two-sections-with-other-lengths = (
+  worked.insertOthers,
+  worked.its-length,
+  worked.longer,
+  worked.another-length,
+  worked.insertReading,
+  the-section-length-is-not-tested 0xFC worked.insertOthers longerInsertSection insertSection worked.longer worked.its-length ∙ worked.insert-read,
+)
 
 -- there is a canonical section with an insert by components and every kind of descriptor
 pub a-canonical-section-with-every-descriptor : canonicalSection everyDescriptor ≡ true
@@ -252,9 +266,21 @@ nothing-else-is-read-of-a-segmentation = payloads.reads-one
 -- The other way round: an item whose payload nothing refuses is read, as the kind that its tag and identifier say
 pub an-item-that-nothing-refuses-is-read : (loop : List ℕ) (offset : ℕ) → length loop ≤ 4076 → offset + 6 ≤ length loop → getD loop (offset + 1) 0 + 2 ≤ length loop - offset
     → 4 ≤ getD loop (offset + 1) 0 → getD loop (offset + 1) 0 ≤ 254 → (kind : ℕ)
-    → Unrefused (getD loop offset 0) (take 4 (drop (offset + 2) loop)) (take (getD loop (offset + 1) 0 - 4) (drop (offset + 6) loop)) kind
-    → (d : Descriptor) × (stepOf loop offset .item ≡ Item.Is d) × (kindOf d ≡ kind)
+    → UnrefusedAt loop offset kind → (d : Descriptor) × (stepOf loop offset .item ≡ Item.Is d) × (kindOf d ≡ kind)
 an-item-that-nothing-refuses-is-read = payloads.item-read
+
+-- and there are such items of each kind: those of the loop with every kind of descriptor, and an avail that another identifier makes reserved
+pub items-of-every-kind-that-nothing-refuses : let loop : List ℕ = loopBytes everyDescriptor in
+    UnrefusedAt loop 0 0 × UnrefusedAt loop 10 1 × UnrefusedAt loop 19 2 × UnrefusedAt loop 58 2 × UnrefusedAt loop 69 3 × UnrefusedAt loop 87 4 × UnrefusedAt anothersAvail 0 4
+items-of-every-kind-that-nothing-refuses = (
+  worked.unrefused-avail,
+  worked.unrefused-dtmf,
+  worked.unrefused-segmentation,
+  worked.unrefused-cancelled,
+  worked.unrefused-time,
+  worked.unrefused-by-tag,
+  worked.unrefused-by-identifier,
+)
 
 -- ---- "Identifiers": a UPID alone (of a MID: below, and rows h to j)
 

@@ -1,9 +1,10 @@
 -- Sections that are worked out, by computation.
-use Prim.Native.Nat.{ℕ}
+use Prim.Native.Nat.{ℕ, _≤_}
 use mathlib.Core.Bool.{true, false}
 use mathlib.Core.List.{List, [], _∷_}
-use mathlib.Core.Path.{_≡_, refl, ap}
-use lib.ListN.{length, take, getD}
+use mathlib.Core.Path.{_≡_, refl, ap, sym, _∙_}
+use native.Mathlib.Omega.{arith}
+use lib.ListN.{length, take, drop, getD}
 use borrow.Author.Tests.{eqb-false}
 use Rattle.command.specs.Command.{commandOf, componentsOf, private, read, array}
 use Rattle.command.specs.Insert.{insert, active, moded, ending, timeUnless, component, blank}
@@ -20,7 +21,7 @@ use Rattle.canonical_form.specs.Section.{canonicalFrame, canonicalSection}
 use Rattle.crc.specs.Crc.{crcOf, crcBits, crcBit}
 use Rattle.descriptor.specs.Descriptor.{descriptorOf, isCuei, segmentationOf, activeOf, activeWith, availOf, dtmfOf, timeOf, reservedOf}
 use Rattle.descriptor.specs.Plain.{avail, dtmf, time, privateBytes}
-use Rattle.descriptor.specs.Segmentation.{deliveryRestrictions, mode, duration, writtenUpid, parts, front, subSegments, back, head, segmentation}
+use Rattle.descriptor.specs.Segmentation.{deliveryRestrictions, mode, duration, writtenUpid, parts, ListedFront, front, subSegments, back, Head, head, segmentation}
 use Rattle.descriptor.specs.Full.{besideOf, besideIn, filled}
 use Rattle.header.specs.Header.{headerOf, headerRead, spliceHeader}
 use Rattle.splice_time.specs.Time.{spliceTime}
@@ -32,16 +33,20 @@ use Rattle.names.specs.Command as names
 use Rattle.section.specs.Section.{commandLength, commandType, commandBytes, loopBytes, roomAfter, loopLength, loopPlace, frameIn, moved, movedRead, accepted, frameOf, sectionOf, numberOf}
 use Rattle.section.specs.declared.Section.{Section}
 use Rattle.section.specs.declared.SectionRead.{SectionRead}
+use Rattle.table.proofs.Lists.{zero-one}
+use Rattle.table.specs.Bits.{bitsOf}
 use Rattle.table.specs.Lent.{viewed}
-use Rattle.table.specs.Table.{number, bit, reserved, part, remaining, list, canonicalBy}
+use Rattle.table.specs.Table.{number, bit, reserved, part, remaining, list, canonicalBy, got, parse}
+use Rattle.theorems_reader.specs.Around.{Around}
 use Rattle.theorems_reader.specs.Identifiers.{identifiersOf}
 use Rattle.canonical_form.specs.Same.{SameSections}
 use Rattle.theorems_rows.specs.Examples.{EmptyCommand, Identified}
-use Rattle.theorems_rows.specs.Payloads.{kindsOf}
+use Rattle.theorems_rows.specs.Payloads.{UpidIn, writtenIn, checkedIn, Unrefused, UnrefusedAt, kindsOf}
 use Rattle.upid.specs.Cover.{All, none, more}
+use Rattle.upid.specs.declared.UpidRead.{UpidRead}
 use Rattle.upid.specs.Text.{textOf, done, step, within}
 use Rattle.upid.specs.Upid.{upidOf, checkOf, readOf, walkOf, _then_, plainOf, lengthOf, isText, reportedOf, listOf, partsOf, listed, unlessRefused, eidrOf}
-use Rattle.theorems_rows.specs.Sections.{eighteen, nineteen, insertSection, otherInsertSection, everyIdentifier, everyDescriptor, everyCommand, nullSection, programInsertSection, cancelledInsertSection, bandwidthSection, privateSection}
+use Rattle.theorems_rows.specs.Sections.{eighteen, nineteen, insertSection, otherInsertSection, longerInsertSection, everyIdentifier, anothersAvail, everyDescriptor, everyCommand, nullSection, programInsertSection, cancelledInsertSection, bandwidthSection, privateSection}
 
 pub eighteen-is-one : EmptyCommand eighteen × (length eighteen ≡ 18)
 unfolding crcOf crcBits crcBit commandLength
@@ -134,6 +139,22 @@ same-insert = record {
 pub other-bytes : insertSection ≡ otherInsertSection → ⊥
 other-bytes e = eqb-false 0x0F 0x1F refl (ap (λ (l : List ℕ). getD l 19 0) e)
 
+-- ---- another section_length
+
+abbrev pub insertOthers : List ℕ
+insertOthers = take 24 (drop 3 insertSection)
+
+pub its-length : Around 0xFC insertOthers insertSection
+unfolding crcOf crcBits crcBit
+its-length = record { byte-1 = 0x30; byte-2 = 0x1C; crc = drop 27 insertSection; is = refl; four = refl; right = refl }
+
+pub longer : Around 0xFC insertOthers longerInsertSection
+unfolding crcOf crcBits crcBit
+longer = record { byte-1 = 0x30; byte-2 = 0x1D; crc = drop 27 longerInsertSection; is = refl; four = refl; right = refl }
+
+pub another-length : insertSection ≡ longerInsertSection → ⊥
+another-length e = eqb-false 0x1C 0x1D refl (ap (λ (l : List ℕ). getD l 2 0) e)
+
 -- ---- a canonical section with every kind of descriptor
 pub every-descriptor-canonical : canonicalSection everyDescriptor ≡ true
 unfolding everyDescriptor canonicalSection canonicalFrame canonicalCommand canonicalLoop canonicalFrom canonicalDescriptor canonicalPayload canonicalSegmentation canonicalBy canonicalUpid numberOf sectionOf frameOf frameIn accepted movedRead moved commandLength commandType commandBytes roomAfter loopLength loopPlace crcOf crcBits crcBit headerOf headerRead spliceHeader spliceTime commandOf insert active moded ending breakDuration timeUnless component isCuei avail dtmf time privateBytes segmentation head front parts deliveryRestrictions mode segment.component duration writtenUpid back subSegments number bit reserved part remaining list viewed checkOf readOf walkOf _then_ plainOf lengthOf isText reportedOf textOf done step within
@@ -151,6 +172,56 @@ its-insert = (refl, refl)
 pub its-components : take 1 (readingOf (loopBytes everyDescriptor) 19 .beside .components) ≡ record { «component_tag» = 5; «pts_offset» = 7 } ∷ []
 unfolding everyDescriptor readingOf commandLength commandType commandBytes roomAfter loopLength loopPlace stepOf completeAt readAt descriptorOf isCuei segmentationOf activeOf activeWith besideOf besideIn filled segmentation head front parts deliveryRestrictions mode segment.component duration writtenUpid back subSegments number bit reserved part remaining list viewed checkOf readOf walkOf _then_ plainOf lengthOf isText reportedOf textOf done step within eidrOf
 its-components = refl
+
+-- nothing refuses them: avail, DTMF, segmentation, a cancelled one, time, reserved
+at-least : (n m : ℕ) → m ≡ n → n ≤ m
+at-least n m e = omega (arith, e)
+
+pub unrefused-avail : UnrefusedAt (loopBytes everyDescriptor) 0 0
+unfolding everyDescriptor commandLength loopLength loopPlace viewed
+unrefused-avail = Unrefused.an-avail refl refl (at-least 4 _ refl)
+
+pub unrefused-dtmf : UnrefusedAt (loopBytes everyDescriptor) 10 1
+unfolding everyDescriptor commandLength loopLength loopPlace viewed dtmf number reserved part
+unrefused-dtmf = Unrefused.a-dtmf refl refl (record { preroll = 0xB1; «dtmf_chars» = record { at = 2; len = 1 } }) 24 refl
+
+-- a UPID that its own rules read, where the tables up to it read these
+module _ (p : List ℕ) (h : Head) (m : ℕ) (heads : parse head (bitsOf p) 0 ≡ got h m) where
+  upid-read : (f : ListedFront) (n k : ℕ) → parse front (bitsOf p) m ≡ got f n → checkedIn p (f .front .«segmentation_upid») ≡ UpidRead.Fine k
+      → (u : UpidIn p) → (k : ℕ) × (checkedIn p (writtenIn u) ≡ UpidRead.Fine k)
+  upid-read f n k fronts fine u =
+      let z : got h m ≡ got (u .first) (u .seam) = sym heads ∙ u .heads in
+      let seam : m ≡ u .seam = cc in
+      let w : got f n ≡ got (u .fore) (u .end) = sym fronts ∙ ap (parse front (bitsOf p)) seam ∙ u .fronts in
+      let same : f ≡ u .fore = cc in
+      (k, ap (λ (x : ListedFront). checkedIn p (x .front .«segmentation_upid»)) (sym same) ∙ fine)
+
+  -- a cancelled one has none
+  no-upid : h .cancel ≡ true → (u : UpidIn p) → ⊥
+  no-upid on u =
+      let z : got h m ≡ got (u .first) (u .seam) = sym heads ∙ u .heads in
+      let same : h ≡ u .first = cc in
+      let b : true ≡ false = sym on ∙ ap (λ (x : Head). x .cancel) same ∙ u .active in
+      zero-one cc
+
+pub unrefused-segmentation : UnrefusedAt (loopBytes everyDescriptor) 19 2
+unfolding everyDescriptor commandLength loopLength loopPlace viewed segmentation head front parts deliveryRestrictions mode segment.component duration writtenUpid back subSegments number bit reserved part remaining list checkOf readOf plainOf lengthOf isText reportedOf
+unrefused-segmentation = Unrefused.a-segmentation refl refl _ _ refl (upid-read _ _ _ refl _ _ _ refl refl)
+
+pub unrefused-cancelled : UnrefusedAt (loopBytes everyDescriptor) 58 2
+unfolding everyDescriptor commandLength loopLength loopPlace viewed segmentation head front number bit reserved
+unrefused-cancelled = Unrefused.a-segmentation refl refl _ _ refl (λ u. absurd (no-upid _ _ _ refl refl u))
+
+pub unrefused-time : UnrefusedAt (loopBytes everyDescriptor) 69 3
+unfolding everyDescriptor commandLength loopLength loopPlace viewed
+unrefused-time = Unrefused.a-time refl refl (at-least 12 _ refl)
+
+pub unrefused-by-tag : UnrefusedAt (loopBytes everyDescriptor) 87 4
+unfolding everyDescriptor commandLength loopLength loopPlace viewed
+unrefused-by-tag = Unrefused.another-tag (omega arith)
+
+pub unrefused-by-identifier : UnrefusedAt anothersAvail 0 4
+unrefused-by-identifier = Unrefused.another-identifier 0x41 0x42 0x43 0x44 refl (λ a b c d. eqb-false 0x41 0x43 refl a)
 
 -- ---- and with every other command
 

@@ -1,9 +1,9 @@
 -- What is read of a descriptor's payload, by the table of its kind and the rules of its UPID: "Fields are taken in layout order and the first fault stands".
-use Prim.Native.Nat.{ℕ, _+_, _≤_, _<_}
+use Prim.Native.Nat.{ℕ, _+_, _-_, _≤_, _<_}
 use mathlib.Core.Bool.{false}
 use mathlib.Core.List.{List, [], _∷_, map}
 use mathlib.Core.Path.{_≡_}
-use lib.ListN.{length, take, drop}
+use lib.ListN.{length, take, drop, getD}
 use Rattle.descriptor.specs.Descriptor.{cuei, movedRefusal, reportedUpid}
 use Rattle.descriptor.specs.Plain.{dtmf}
 use Rattle.descriptor.specs.Segmentation as table
@@ -71,6 +71,10 @@ pub data Unrefused (tag : ℕ) (id p : List ℕ) : ℕ → Type 0 where
   a-time : tag ≡ 3 → id ≡ cuei → 12 ≤ length p → Unrefused tag id p 3
   another-tag : 3 < tag → Unrefused tag id p 4
   another-identifier : (a b c d : ℕ) → id ≡ a ∷ b ∷ c ∷ d ∷ [] → (a ≡ 0x43 → b ≡ 0x55 → c ≡ 0x45 → d ≡ 0x49 → ⊥) → Unrefused tag id p 4
+
+-- an item at an offset of a loop: its payload lies behind tag, length and identifier
+abbrev pub UnrefusedAt : List ℕ → ℕ → ℕ → Type 0
+UnrefusedAt loop offset kind = Unrefused (getD loop offset 0) (take 4 (drop (offset + 2) loop)) (take (getD loop (offset + 1) 0 - 4) (drop (offset + 6) loop)) kind
 
 -- ---- a MID "repeats type, length, payload": what is read of its bytes, from byte `start` of the top UPID on, part by part
 pub record MidReads (start : ℕ) : Type 0 where
